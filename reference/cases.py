@@ -5,7 +5,7 @@ is well.
 import sys
 from pathlib import Path
 
-sys.path[:0] = [str(Path(__file__).parent), str(Path(__file__).parent.parent)]
+sys.path[:0] = [str(Path(__file__).parent), str(Path(__file__).parent.parent / "tests")]
 import check  # noqa: E402
 import machine  # noqa: E402
 import pal  # noqa: E402
@@ -15,7 +15,7 @@ import tape  # noqa: E402
 import watch  # noqa: E402
 
 HELLO = second_reader.words(tape.written(pal.assemble([
-    (Path(__file__).parent.parent.parent / "examples" / "hello.pal").read_bytes()]).image))
+    (Path(__file__).parent.parent / "examples" / "hello.pal").read_bytes()]).image))
 HELLO_DECLARED = "start 0200\nmain 0200-0213\nsub 0214 body 0215-0221 returns 0\nvar 0010 0224\npause 0212\n"
 HELLO_CERTIFICATE = """PDP8-CERTIFICATE 1
 routine 0214 rank 00 sites 0207 writes -
@@ -73,6 +73,16 @@ DECLARATIONS = [
     ("start 0200\nmain 200\nsub 300 body 200 returns 0\n", "Overlap 0200"), ("start 201\nmain 200", "StartNotInMain"),
     ("start 200\nmain 200\nstop 204", "HaltNotInBody 0204"), ("profile 8e\nstart 0\nprofile 8e", "TwoProfiles 3"),
 ]
+TINY = "start 200\nmain 200\n"
+DECLARATIONS += [(TINY + line, f"Misplaced {at}") for line, at in (
+    ("skips 300 1", "0300"), ("moves 300", "0300"), ("returns 300 ac 0", "0300"), ("abandon 200 201", "0201"),
+    ("holds 200 204 ac 0", "0204"), ("moves 400\nskips 377 1", "0377"))]
+DECLARATIONS += [(line, "BadLine 1") for line in (
+    "skips 300", "skips 300 100", "skips 300 70-100", "moves", "abandon", "abandon 200-201", "holds ac 0", "holds 200 ac",
+    "holds 200", "holds 200 link", "holds 200 link 2", "holds 200 link 00", "holds 200 link 0 1", "holds 200 cell 5",
+    "holds 200-201 ac 0", "holds 200 mq 5-4", "returns ac 0", "returns 300 100 ac 0", "returns 300 0-1 ac 0")]
+DECLARATIONS += [("skips 1 1\n" * 65, "TooMany"), ("holds 1 ac 1\nreturns 1 ac 1\n" * 128 + "holds 1 ac 1", "TooMany"),
+                 ("skips 1 1\n" * 64, "NoStart"), ("holds 1 ac 1\nreturns 1 ac 1\n" * 128, "NoStart")]
 
 # The line of HELLO's certificate that is left out, and what is said then.
 LEFT_OUT = {2: "V7 at 0207", 3: "V1 at 0200", 4: "V4 at 0200", 5: "V4 at 0201", 6: "V4 at 0202", 7: "V4 at 0202",
@@ -149,6 +159,69 @@ def watched_cases():
     yield watched(waiting, "start 0200\nmain 0200-0202\nstop 0202", steps(1000)), None
 
 
+# What is added to HELLO's declaration, the first event that breaks rule 8, and the first condition that fails.
+ASSERTED = [("holds 0206 ac 0\nreturns 0214 0 ac 0", None, "yes"), ("holds 0207 ac 305", (21, 8), "V16 at 0207"),
+            ("returns 0214 0 ac 1", (33, 8), "V16 at 0214"), ("returns 0214 ac 0", None, "yes"),
+            ("holds 0206 cell 0224 7773-7777", None, "yes"), ("holds 0206 cell 224 7774-7777", (18, 8), "V16 at 0206"),
+            ("holds 0206 0207 link 0", None, "yes"), ("holds 0206 link 1", (18, 8), "V16 at 0206"),
+            ("holds 0200 ac 0", None, "V16 at 0200"), ("returns 0214 1 ac 1", None, "yes")]
+
+
+def moving(word="3210"):
+    """A routine that stores the word in AC in its entry, before which the return address was added."""
+    image = words(0o200, "7200 4210 7402") | words(0o210, f"0000 1210 {word} 5610 0210")
+    return image, "start 200\nmain 200-202\nsub 210 body 211-213 returns 0\nstop 202\n"
+
+
+def moving_certificate(ac):
+    return ("PDP8-CERTIFICATE 1\nroutine 0210 rank 00 sites 0201 writes -\n" + facts((0o200,)) +
+            "fact 0201 ac 0000 link 01 offsets -\nfact 0202 ac 0000 link 01 offsets -\nfact 0211 ac 0000 link 01 offsets 0\n"
+            f"fact 0212 ac {ac} link 01 offsets 0\nfact 0213 ac 0000 link 01 offsets 0\nexit 0210 0 ac 0000 link 01\nend\n")
+
+
+def leaving():
+    """A routine, two calls deep, that jumps to 0202 in main's body."""
+    image = words(0o200, "4210 7402 7402") | words(0o210, "0000 4220 5610") | words(0o220, "0000 5202")
+    return image, ("start 200\nmain 200-202\nsub 210 body 211-212 returns 0\nsub 220 body 221 returns\nstop 201 202\n")
+
+
+LEAVING_CERTIFICATE = ("PDP8-CERTIFICATE 1\nroutine 0210 rank 01 sites 0200 writes 0220\n"
+                       "routine 0220 rank 00 sites 0211 writes -\n" + f"fact 0200 {ANY} offsets -\nfact 0202 {ANY} offsets -\n"
+                       f"fact 0211 {ANY} offsets 0\nfact 0221 {ANY} offsets 0\nend\n")
+FALLING = words(0o200, "4207 7402") | words(0o207, "0000 7000 7402")
+FALLS = "start 200\nmain 200 201 211\nsub 207 body 210 returns\nabandon 211\nstop 201 211\n"
+FALLING_CERTIFICATE = ("PDP8-CERTIFICATE 1\nroutine 0207 rank 00 sites 0200 writes -\n"
+                       f"fact 0200 {ANY} offsets -\nfact 0210 {ANY} offsets 0\nfact 0211 {ANY} offsets -\nend\n")
+
+
+def further_cases():
+    rounds = [("step",), ("printer",), ("punch",)] * 46
+    for more, broken, said in ASSERTED:
+        yield watched(HELLO, HELLO_DECLARED + more, rounds), broken
+        yield judged(HELLO, HELLO_DECLARED + more, HELLO_CERTIFICATE), said
+    image, text = moving()
+    yield watched(image, text, steps(9)), (3, 2)
+    yield watched(image, text + "moves 210", steps(9)), None
+    yield watched(moving("3614")[0], text + "moves 210", steps(9)), (3, 2)
+    yield judged(image, text, moving_certificate("0202")), "V14 at 0212"
+    for ac, said in (("0202", "yes"), ("0202-0203", "V4 at 0212"), ("0202-0301", "V4 at 0212"), ("0202-0302", "V14 at 0212"),
+                     ("0201-0202", "V14 at 0212")):
+        yield judged(image, text + "moves 210", moving_certificate(ac)), said
+    yield judged(moving("3614")[0], text + "moves 210", moving_certificate("0202")), "V14 at 0212"
+    image, text = leaving()
+    yield watched(image, text, steps(9)), (3, 1)
+    yield watched(image, text + "abandon 202", steps(9)), None
+    yield judged(image, text, LEAVING_CERTIFICATE), "V4 at 0221"
+    yield judged(image, text + "abandon 202", LEAVING_CERTIFICATE), "yes"
+    yield watched(FALLING, FALLS, steps(9)), (2, 1)
+    yield judged(FALLING, FALLS, FALLING_CERTIFICATE), "V4 at 0210"
+    far = words(0o200, "4220") | {0o212: 0o7402} | words(0o220, "0000" + " 2220" * 9 + " 5620")
+    text = "start 200\nmain 200 212\nsub 220 body 221-232 returns 1\nstop 212\n"
+    yield watched(far, text, steps(20)), (10, 4)
+    yield watched(far, text + "skips 220 10 12-77", steps(20)), (10, 4)
+    yield watched(far, text + "skips 220 11", steps(20)), None
+
+
 def step_cases():
     world = machine.run(machine.World(HELLO), [("step",), ("printer",), ("punch",)] * 46)
     yield world.summary(), "HALT 0212 AC=0000 L=0 PC=0213 STEPS=46\nPRINTED 000 310 305 314 314 317\n"
@@ -199,7 +272,7 @@ def judged_cases():
 def main():
     cases = [(assembled(source), wanted) for source, wanted in SOURCES]
     cases += [(declared(text), wanted) for text, wanted in DECLARATIONS]
-    cases += [*step_cases(), *watched_cases(), *judged_cases()]
+    cases += [*step_cases(), *watched_cases(), *judged_cases(), *further_cases()]
     cases.append((check.text(check.parse(HELLO_CERTIFICATE)), HELLO_CERTIFICATE))
     cases.append((len(tape.written(HELLO)), 88))
     wrong = [f"wanted {wanted}, found {found}" for found, wanted in cases if found != wanted]

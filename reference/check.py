@@ -1,15 +1,15 @@
-"""The conditions V1 to V15 on a certificate, and its text, written from their description alone, for comparing.
+"""The conditions V1 to V16 on a certificate, and its text, written from their description alone, for comparing.
 
 A certificate is taken as well formed: faults of its text aren't told apart.
 """
-from dataclasses import dataclass, field
+from dataclasses import dataclass, field, replace
 
 import sets
-from facts import AC, Fact, Place, entails, joined, possible, post, supported, targets, values
+from facts import AC, Fact, Place, entails, in_reach, joined, possible, post, supported, targets, values
 from machine import named_cell
 from watch import is_halt
 
-ORDER = [2, 3, 5, 14, 6, 13, 7, 8, 9, 10, 12, 11, 4, 15]
+ORDER = [2, 3, 5, 14, 6, 13, 7, 8, 9, 10, 12, 11, 4, 15, 16]
 
 
 @dataclass
@@ -154,7 +154,9 @@ class Judge:
         own = lines.get(entry)
         if number in (5, 6, 14):
             written = self.cells_written(fact, at, word, place)
-            return getattr(self, f"holds_{number}")(written, fact, word, entry, own)
+            return getattr(self, f"holds_{number}")(written, fact, word, place, own)
+        if number == 16:
+            return all(self.asserted(said, fact, place) for said in self.declared.held_at(at))
         if number == 13:
             return not is_halt(word) or at in self.declared.stops | self.declared.pauses
         if number in (7, 8, 9, 10, 11):
@@ -167,20 +169,35 @@ class Judge:
         if number == 4:
             if word >> 9 == 4 or self.is_return(at, word):
                 return True
-            return all(self.lands(outcome.fact, following, entry)
+            return all(self.lands_beyond(outcome.fact, following, entry, word)
                        for outcome in post(fact, at, word, place) for following in outcome.nexts)
         return self.declared.reads is None or self.holds_15(fact, at, word, place)
 
-    def holds_5(self, written, fact, word, entry, own):
+    def lands_beyond(self, fact, at, entry, word):
+        """The fact lands in the same body; or as one of main's, where a JMP in a routine abandons all calls."""
+        if entry is not None and word >> 9 == 5 and at in self.declared.abandons:
+            return self.lands(replace(fact, offsets=frozenset()), at, None)
+        return self.lands(fact, at, entry)
+
+    def asserted(self, said, fact, place):
+        """By a fact what is asserted is so."""
+        if said.subject == "link":
+            return fact.link <= said.words
+        known = {"ac": fact.narrowed(AC), "mq": fact.mq}.get(said.subject)
+        return not (values(fact, said.subject, place) if known is None else known) & ~sets.of(said.words)
+
+    def holds_5(self, written, fact, word, place, own):
         return not written & ~sets.of(self.declared.variables | set(self.declared.routines))
 
-    def holds_14(self, written, fact, word, entry, own):
-        entries = written & sets.of(self.declared.routines)
-        counted = entry is not None and word >> 9 == 2 and sets.only(written) == entry and 7 not in fact.offsets
-        return not entries or counted
+    def holds_14(self, written, fact, word, place, own):
+        entries, entry = written & sets.of(self.declared.routines), place.entry
+        own_alone = entry is not None and sets.only(written) == entry
+        counted = word >> 9 == 2 and 7 not in fact.offsets
+        moved = word >> 9 == 3 and not word & 0o400 and entry in self.declared.moves and in_reach(fact, place)
+        return not entries or (own_alone and (counted or moved))
 
-    def holds_6(self, written, fact, word, entry, own):
-        return entry is None or not written & ~(own.writes | sets.one(entry))
+    def holds_6(self, written, fact, word, place, own):
+        return place.entry is None or not written & ~(own.writes | sets.one(place.entry))
 
     def holds_of_call(self, number, fact, at, callee, entry, own):
         line = self.certificate.routines.get(callee)
@@ -200,7 +217,7 @@ class Judge:
         if named_cell(word, at) != entry:
             return False
         exits = self.certificate.exits
-        return all(offset in self.declared.routines[entry][1] and (entry, offset) in exits and
+        return all(offset in self.declared.offsets(entry) and (entry, offset) in exits and
                    entails(fact, exits[entry, offset], offsets=False) for offset in fact.offsets)
 
     def holds_15(self, fact, at, word, place):
@@ -212,6 +229,13 @@ class Judge:
         listed = sets.of(self.declared.reads) | (sets.one(place.entry) if place.entry is not None else 0)
         return not read & ~listed
 
+    def exits_hold(self, entry):
+        """By each exit of a routine what is declared of its returns is so."""
+        line = self.certificate.routines.get(entry)
+        place = Place(self.image, self.declared, entry, line.sites if line else 0)
+        return all(self.asserted(said, fact, place) for (of, offset), fact in self.certificate.exits.items() if of == entry
+                   for said in self.declared.held_by(entry, offset))
+
     def fails_at(self, at):
         """The first condition that fails at an address, or None."""
         for number in ORDER:
@@ -221,7 +245,7 @@ class Judge:
                 continue
             fact = self.certificate.facts.get(at)
             if fact is None:
-                return None
+                return None if self.exits_hold(at) else 16
             place = self.place(at)
             members = possible(fact, at, place)
             if number == 3:
@@ -251,4 +275,5 @@ def counts(declared):
     cells = len(declared.main) + sum(len(body) for body, _ in declared.routines.values())
     said = (f"yes: {cells} body cells, {len(declared.variables)} variable cells, {len(declared.routines)} entries, "
             f"{len(declared.stops | declared.pauses)} halts")
-    return said + (f", {len(declared.reads)} read cells" if declared.reads is not None else "")
+    said += f", {len(declared.reads)} read cells" if declared.reads is not None else ""
+    return said + (f", {len(declared.asserted)} assertions" if declared.asserted else "")

@@ -1,4 +1,4 @@
-"""The text of certificates of version 3, with its faults, and the conditions V1 to V15 on them, written from
+"""The text of certificates of version 3, with its faults, and the conditions V1 to V16 on them, written from
 docs/FORMATS.md, docs/TRANSFER.md and docs/THEOREM.md alone, for comparing.
 """
 import re
@@ -6,7 +6,7 @@ from dataclasses import dataclass, field, replace
 
 import sets
 from check import ORDER, Routine, set_of, set_text
-from facts3 import AC, MINUS, Fact, Place, joined, lands_by, narrowed, order, parts, possible, post, spelled, targets, values
+from facts3 import AC, MINUS, Fact, Place, in_reach, joined, lands_by, narrowed, order, parts, possible, post, spelled, targets, values
 from machine import is_supported, named_cell
 from watch import is_halt
 
@@ -258,6 +258,26 @@ class Judge:
         found, known = parts(fact, place), self.certificate.facts.get(at, [])
         return not found or (at in self.declared.body(entry) and all(lands_by(part, known, place, True) for part in found))
 
+    def lands_beyond(self, fact, at, entry, word):
+        """The fact lands in the same body; or as one of main's, where a JMP in a routine abandons all calls."""
+        if entry is not None and word >> 9 == 5 and at in self.declared.abandons:
+            return self.lands(replace(fact, sites=0, offsets=frozenset()), at, None)
+        return self.lands(fact, at, entry)
+
+    def asserted(self, said, fact, place):
+        """By a narrowed fact what is asserted is so."""
+        if said.subject == "link":
+            return fact.link <= said.words
+        known = {"ac": fact.set_of(AC), "mq": fact.mq}.get(said.subject)
+        return not (values(fact, said.subject, place) if known is None else known) & ~sets.of(said.words)
+
+    def exits_hold(self, entry):
+        """By each exit of a routine that some state may satisfy what is declared of its returns is so."""
+        place = self.place(entry)
+        asked = [(offset, narrowed(fact, place)) for (of, offset), facts in self.certificate.exits.items() if of == entry for fact in facts]
+        return all(self.asserted(said, fact, place) for offset, fact in asked if fact is not None
+                   for said in self.declared.held_by(entry, offset))
+
     def returns_well(self, fact, offset, entry):
         """A fact lands among the exits of an offset."""
         place, known = self.place(entry), self.certificate.exits.get((entry, offset), [])
@@ -286,6 +306,8 @@ class Judge:
         """A condition on one possible word, from a narrowed fact."""
         entry, lines = place.entry, self.certificate.routines
         own = lines.get(entry)
+        if number == 16:
+            return all(self.asserted(said, fact, place) for said in self.declared.held_at(at))
         if number in (5, 6, 14):
             written = self.cells_written(fact, at, word, place)
             return getattr(self, f"holds_{number}")(written, fact, word, place, own)
@@ -302,7 +324,7 @@ class Judge:
             return not self.is_return(at, word) or self.holds_12(fact, at, word, entry)
         if number == 4:
             return word >> 9 == 4 or self.is_return(at, word) or all(
-                self.lands(outcome.fact, following, entry)
+                self.lands_beyond(outcome.fact, following, entry, word)
                 for outcome in post(fact, at, word, place) for following in outcome.nexts)
         return self.declared.reads is None or self.holds_15(fact, at, word, place)
 
@@ -313,7 +335,9 @@ class Judge:
         entries, entry = written & sets.of(self.declared.routines), place.entry
         counted = (entry is not None and word >> 9 == 2 and sets.only(written) == entry and 0o77 not in fact.offsets and
                    not values(fact, entry, place) >> 0o7777 & 1)
-        return not entries or counted
+        moved = (entry is not None and word >> 9 == 3 and not word & 0o400 and sets.only(written) == entry and
+                 entry in self.declared.moves and in_reach(fact))
+        return not entries or counted or moved
 
     def holds_6(self, written, fact, word, place, own):
         return place.entry is None or not written & ~(own.writes | sets.one(place.entry))
@@ -335,7 +359,7 @@ class Judge:
 
     def holds_12(self, fact, at, word, entry):
         return named_cell(word, at) == entry and all(
-            offset in self.declared.routines[entry][1] and self.returns_well(fact, offset, entry)
+            offset in self.declared.offsets(entry) and self.returns_well(fact, offset, entry)
             for offset in fact.offsets)
 
     def holds_15(self, fact, at, word, place):
@@ -361,7 +385,7 @@ class Judge:
                         return 3
                 elif not all(self.holds(number, fact, at, word, place) for word in sets.words(members)):
                     return number
-        return None
+        return None if self.exits_hold(at) else 16
 
 
 def judge(image, declared, certificate):

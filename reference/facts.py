@@ -149,8 +149,17 @@ def after_isz(fact, cells, place, at):
     return [Outcome(after, nexts)]
 
 
+def in_reach(fact, place):
+    """Each word of AC lies 0 to 77 behind the return address of each site."""
+    return all(site < word <= site + 0o100 for site in sets.words(place.sites) for word in sets.words(fact.narrowed(AC)))
+
+
 def after_dca(fact, cells, place, following):
     ac, cell = fact.narrowed(AC), variable(cells, place)
+    if sets.only(cells) is not None and sets.only(cells) == place.entry:
+        found = {word - site - 1 for site in sets.words(place.sites) for word in sets.words(ac)}
+        offsets = frozenset(offset for offset in found if 0 <= offset < 64)
+        return [Outcome(replace(fact.without({AC}), ac=1, offsets=offsets), [following])]
     if cell is not None:
         copied = {equation(cell, y, k) for x, y, k in fact.equations if x == AC and y != cell}
         after = fact.without({AC, cell})

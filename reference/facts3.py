@@ -345,7 +345,16 @@ def several(fact, after, cells, new):
     return after
 
 
+def in_reach(fact):
+    """Each word of AC lies 0 to 77 behind the return address of each site."""
+    return all(site < word <= site + 0o100 for site in sets.words(fact.sites) for word in sets.words(fact.set_of(AC)))
+
+
 def after_dca(fact, cells, place, following):
+    if sets.only(cells) is not None and sets.only(cells) == place.entry:
+        found = {word - site - 1 for site in sets.words(fact.sites) for word in sets.words(fact.set_of(AC))}
+        offsets = frozenset(offset for offset in found if 0 <= offset < 64)
+        return [Outcome(replace(fact.without(AC).with_set(AC, 1), offsets=offsets), [following])]
     y = variable(cells, place)
     if y is not None:
         after = replace(fact, relations=relations_after_dca(fact, y), chains={})

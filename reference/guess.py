@@ -106,7 +106,7 @@ class Guess:
             raise Stuck(f"{at:04o}")
         for word in sets.words(members):
             written = self.judge.cells_written(fact, at, word, place)
-            if not all(getattr(self.judge, f"holds_{n}")(written, fact, word, place.entry, None) for n in (5, 14)) \
+            if not all(getattr(self.judge, f"holds_{n}")(written, fact, word, place, None) for n in (5, 14)) \
                     or not self.judge.holds(15, fact, at, word, place):
                 raise Stuck(f"{at:04o}")
             self.write(place.entry, written & ~(sets.one(place.entry) if place.entry is not None else 0))
@@ -115,9 +115,11 @@ class Guess:
             elif self.judge.is_return(at, word):
                 self.come_back(fact, at, word, place)
             else:
+                leaves = place.entry is not None and word >> 9 == 5
                 for outcome in post(fact, at, word, place):
                     for following in outcome.nexts:
-                        self.reach(following, outcome.fact)
+                        abandons = leaves and following in self.declared.abandons
+                        self.reach(following, replace(outcome.fact, offsets=frozenset()) if abandons else outcome.fact)
 
     def write(self, entry, written):
         """A routine may write some cells: so may those that call it."""
@@ -148,7 +150,7 @@ class Guess:
         if named_cell(word, at) != entry:
             raise Stuck(f"{at:04o}")
         for offset in fact.offsets:
-            if offset not in self.declared.routines[entry][1]:
+            if offset not in self.declared.offsets(entry):
                 raise Stuck(f"{at:04o}")
             known = self.found.exits.get((entry, offset))
             grown = self.join(("exit", entry, offset), known, replace(self.plain(fact), offsets=frozenset()))

@@ -1,4 +1,4 @@
-"""A second watcher: declarations and the seven rules, written from their description alone, for comparing."""
+"""A second watcher: declarations and the eight rules, written from their description alone, for comparing."""
 from dataclasses import dataclass, field
 
 from machine import World, access, is_supported, lines_of, octal
@@ -9,9 +9,20 @@ class BadDeclaration(Exception):
 
 
 @dataclass
+class Assertion:
+    """What is to hold: of a subject (`ac`, `mq`, `link`, or the address of a cell) that it has one of some words, at
+    some places, or where `entry` isn't None when its routine returns by one of some offsets."""
+    subject: object
+    words: set
+    places: set = None
+    entry: int = None
+    offsets: set = None
+
+
+@dataclass
 class Declaration:
     """What a declaration says. Routines are a dictionary from entries to pairs of a body and offsets; `reads` is None
-    where there is no list of reads."""
+    where there is no list of reads; `skips` has pairs of an entry and further offsets."""
     start: int = None
     profile: str = None
     main: set = field(default_factory=set)
@@ -20,6 +31,22 @@ class Declaration:
     stops: set = field(default_factory=set)
     pauses: set = field(default_factory=set)
     reads: set = None
+    skips: list = field(default_factory=list)
+    moves: set = field(default_factory=set)
+    abandons: set = field(default_factory=set)
+    asserted: list = field(default_factory=list)
+
+    def offsets(self, entry):
+        """The offsets by which a routine may return."""
+        return self.routines[entry][1].union(*(offsets for of, offsets in self.skips if of == entry))
+
+    def held_at(self, at):
+        """What is to hold at an address."""
+        return [said for said in self.asserted if said.entry is None and at in said.places]
+
+    def held_by(self, entry, offset):
+        """What is to hold when a routine returns by an offset."""
+        return [said for said in self.asserted if said.entry == entry and offset in said.offsets]
 
     def body(self, entry):
         """The body of a routine, of main where there is none."""
@@ -41,6 +68,60 @@ def one_or_more(words):
     if not words:
         raise ValueError("none")
     return words
+
+
+SUBJECTS = ("ac", "mq", "link", "cell")
+
+
+def address(word):
+    return octal(word, 0o7777, 4)
+
+
+def offsets_in(found):
+    """The numbers, if each of them is an offset, 0 to 77."""
+    if any(offset > 0o77 for offset in found):
+        raise ValueError(found)
+    return found
+
+
+def assertion(words, **where):
+    """An assertion by the name of its subject and the words after it."""
+    name, rest = words[0], words[1:]
+    if name == "link":
+        if rest not in (["0"], ["1"]):
+            raise ValueError(rest)
+        return Assertion("link", {int(rest[0])}, **where)
+    if name == "cell":
+        return Assertion(address(one_or_more(rest)[0]), cells(one_or_more(rest[1:])), **where)
+    return Assertion(name, cells(one_or_more(rest)), **where)
+
+
+def add_further(found, name, rest):
+    """Adds what a line says on how routines return, or on what is to hold."""
+    if name == "skips" and rest:
+        entry, offsets = address(rest[0]), offsets_in(cells(one_or_more(rest[1:])))
+        if len(found.skips) == 64:
+            raise BadDeclaration("TooMany")
+        found.skips.append((entry, offsets))
+    elif name in ("moves", "abandon"):
+        named = {address(word) for word in one_or_more(rest)}
+        (found.moves if name == "moves" else found.abandons).update(named)
+    elif name in ("holds", "returns"):
+        subjects = [place for place, word in enumerate(rest) if word in SUBJECTS]
+        if not subjects:
+            raise ValueError(rest)
+        before, after = rest[:subjects[0]], rest[subjects[0]:]
+        if name == "holds":
+            said = assertion(after, places={address(word) for word in one_or_more(before)})
+        else:
+            entry, *named = one_or_more(before)
+            named = {address(word) for word in named} or set(range(64))
+            said = assertion(after, entry=address(entry), offsets=offsets_in(named))
+        if len(found.asserted) == 256:
+            raise BadDeclaration("TooMany")
+        found.asserted.append(said)
+    else:
+        raise ValueError(name)
 
 
 def add_line(found, twice, words):
@@ -74,7 +155,7 @@ def add_line(found, twice, words):
         else:
             found.routines[entry] = (body, offsets)
     else:
-        raise ValueError(name)
+        add_further(found, name, rest)
 
 
 def check(found, twice):
@@ -96,6 +177,12 @@ def check(found, twice):
     outside = (found.stops | found.pauses) - everywhere
     if outside:
         raise BadDeclaration(f"HaltNotInBody {min(outside):04o}")
+    named = {entry for entry, _ in found.skips} | found.moves
+    named |= {said.entry for said in found.asserted if said.entry is not None}
+    held = set().union(*(said.places for said in found.asserted if said.entry is None))
+    misplaced = (named - entries) | (found.abandons - found.main) | (held - everywhere)
+    if misplaced:
+        raise BadDeclaration(f"Misplaced {min(misplaced):04o}")
 
 
 def declaration(text):
@@ -124,20 +211,33 @@ def broken_rule(world, declared, calls):
         return 1
     done, operation = access(world.memory, at), word >> 9
     for cell in done.writes:
-        own = operation == 2 and cell == entry and cell == done.place
+        moves = operation == 3 and not word & 0o400 and cell in declared.moves
+        own = (operation == 2 or moves) and cell == entry and cell == done.place
         if cell not in declared.variables and not own:
             return 2
     if operation == 4 and done.place not in declared.routines:
         return 3
     if returns(done, word, declared):
-        offsets = declared.routines[done.named][1]
+        offsets = declared.offsets(done.named)
         if done.named != entry or done.place not in {(back + offset) % 4096 for offset in offsets}:
             return 4
     if is_halt(word) and at not in declared.stops | declared.pauses:
         return 5
     if declared.reads is not None and any(cell not in declared.reads and cell != entry for cell in done.reads):
         return 7
+    asserted = declared.held_at(at)
+    if returns(done, word, declared):
+        asserted += declared.held_by(entry, (done.place - back) % 4096)
+    if not all(word_of(said.subject, world) in said.words for said in asserted):
+        return 8
     return None
+
+
+def word_of(subject, world):
+    """The word of which an assertion speaks."""
+    if isinstance(subject, int):
+        return world.memory[subject]
+    return {"ac": world.ac, "mq": world.mq, "link": world.link}[subject]
 
 
 def is_halt(word):
@@ -165,5 +265,7 @@ def watch(image, declared, happening, **start):
                 calls.append((done.place, (world.pc + 1) % 4096))
             elif returns(done, word, declared):
                 calls.pop()
+            elif word >> 9 == 5 and done.place in declared.abandons:
+                calls.clear()
         world.apply(event)
     return None, world

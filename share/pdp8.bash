@@ -23,7 +23,7 @@ _pdp8() {
             COMPREPLY=($(compgen -W "$versions" -- "$word"))
             return
             ;;
-        --start | --steps | --continue | --seed | --save | --switches | --show | --until | --until-write | --until-read | --last)
+        --start | --steps | --continue | --seed | --save | --switches | --show | --until | --until-write | --until-read | --last | --interrupt)
             return
             ;;
     esac
@@ -36,10 +36,10 @@ _pdp8() {
         assemble) options='--output --profile --why --help' ;;
         list) options='--cross --profile --why --help' ;;
         source) options='--output --start --declaration --profile --force --why --help' ;;
-        dump) options='--source --profile --why --help' ;;
-        run) options='--source --start --steps --trace --profile --events --reader --punch --keys --mark --teletype --switches --until --until-write --until-read --last --show --why --help' ;;
-        teletype) options='--source --start --profile --reader --punch --switches --mark --raw --show --why --help' ;;
-        watch) options='--source --reader --keys --mark --switches --steps --continue --show --why --help' ;;
+        dump) options='--source --full --profile --why --help' ;;
+        run) options='--source --start --steps --trace --trace-long --profile --events --reader --punch --keys --mark --teletype --switches --until --until-write --until-read --last --show --why --help' ;;
+        teletype) options='--source --start --profile --reader --punch --switches --mark --raw --interrupt --until --until-write --until-read --last --show --why --help' ;;
+        watch) options='--source --reader --keys --mark --switches --steps --continue --until --until-write --until-read --last --show --why --help' ;;
         check) options='--source --why --help' ;;
         report) options='--output --source --text --why --help' ;;
         guess) options='--output --source --certificate --report --why --help' ;;

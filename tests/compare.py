@@ -21,7 +21,7 @@ from pathlib import Path
 TOP = Path(__file__).resolve().parent.parent
 SPEED = TOP / 'crates' / 'speed' / 'out' / 'speed'
 # The crates over which tests/facts/cases.rattle is built.
-FACTS = 'word12 instruct wordset processor streams bin_tape peripherals declaration policy domain facts testing'.split()
+FACTS = 'word12 instruct wordset processor streams bin_tape peripherals declaration policy domain transfer facts testing'.split()
 
 
 # The stack of a program that is built with checks, in bytes: each of its frames is larger than in a proved program.
@@ -114,6 +114,11 @@ def compare_verdicts(asked, folder):
     return all([worker('verdicts.py', asked.program, programs, folder, count, asked.seed) for programs in ('examples', 'tests/version3')])
 
 
+def compare_watched(asked, folder):
+    return all([worker('watched.py', asked.program, TOP / programs, asked.count or 1000, 1000, asked.seed)
+                for programs in ('tests/style-of-1970', 'tests/version3')])
+
+
 def compare_second_reader(asked, folder):
     tape = folder / 'fullest.bin'
     write_fullest_tape(tape)
@@ -160,6 +165,7 @@ COMPARISONS = {
     'assembler': (compare_assembler, 'generated sources with the assembler in reference/'),
     'watcher': (compare_watcher, 'generated programs and events with the watcher in reference/'),
     'facts': (compare_facts, 'generated facts of all versions and their outcomes with those in reference/'),
+    'watched': (compare_watched, 'what gets a yes of the programs in the style of 1970 and of version 3, in runs of chance'),
     'verdicts': (compare_verdicts, 'verdicts on changed programs and certificates of all versions with the checkers in reference/'),
     'second-reader': (compare_second_reader, 'the fullest tape with a reader in Python'),
     'palbart': (compare_palbart, 'images with palbart'),

@@ -1,12 +1,13 @@
 -- What a search came to.
-use Rattle.std.specs.Prelude.{◌≡◌, ◌<◌, ℕ, ⊤, true, List, Option}
+use Rattle.std.specs.Prelude.{◌≡◌, ◌<◌, ◌||◌, ℕ, ⊤, Bool, true, false, List, Option}
 use Rattle.declaration.specs.Declaration.{Declaration, Routine}
 use Rattle.declaration.specs.Kept as declared
-use Rattle.certificate.specs.Certificate.{Certificate, has_any, has_exits}
-use Rattle.certificate.specs.Kept.{Kept, claims, meaning}
+use Rattle.certificate_lines.specs.Certificate.{Certificate, has_any, has_exits}
+use Rattle.certificate_lines.specs.Kept.{Kept, claims, meaning}
 use Rattle.instruct.specs.declared.Profile.{Profile}
 use Rattle.analyser.specs.Accepted.{IsAccepted}
-use Rattle.analyser.specs.Versions.{version_of, IsVersionFor}
+use Rattle.certificate_lines.specs.declared.Version.{Version}
+use Rattle.analyser.specs.Versions.{version_of, drafted_version, IsVersionFor}
 use Rattle.analyser.specs.declared.Attempt.{Attempt}
 use Rattle.analyser.specs.declared.Attempt.TheVariants.{Found, Stuck}
 
@@ -30,10 +31,10 @@ pub record StandsRight (d : Declaration) (c : Certificate) (a : ℕ) : Type 0 wh
   pub routine : c.listed a ≡ true → d.entry a ≡ true
   pub exits : has_exits c a ≡ true → d.entry a ≡ true
 
--- A draft's lines are where they may be, and where it is stuck it has a fact.
+-- A draft's lines are where they may be. Where it is stuck it has a fact; or an exit, where what is declared of a return is not shown.
 pub record IsDraft (d : Declaration) (at : ℕ) (c : Certificate) : Type 0 where
   pub stands : (a : ℕ) → a < 4096 → StandsRight d c a
-  pub there : has_any (c.facts at) ≡ true
+  pub there : (has_any (c.facts at) || has_exits c at) ≡ true
 
 -- This is promised of a draft; nothing is said here of what was found.
 abbrev pub IsDraftIfStuck : {A : Type 0} → Declaration → Attempt A → Type 0
@@ -44,3 +45,13 @@ IsDraftIfStuck d (Stuck at c) = IsDraft d at (claims c)
 abbrev pub HasVersionFor : {A : Type 0} → Profile → Attempt A → Type 0
 HasVersionFor p (Found c) = IsVersionFor p (meaning c).version
 HasVersionFor p (Stuck at c) = (meaning c).version ≡ version_of p
+
+-- What a search for one version found is of that version, and a draft is of the version in which such a search drafts.
+abbrev pub HasVersion : {A : Type 0} → Profile → Version → Attempt A → Type 0
+HasVersion p v (Found c) = (meaning c).version ≡ v
+HasVersion p v (Stuck at c) = (meaning c).version ≡ drafted_version p v
+
+-- A certificate is found; it serves private contracts.
+abbrev pub is_found : {A : Type 0} → Attempt A → Bool
+is_found (Found c) = true
+is_found (Stuck at c) = false

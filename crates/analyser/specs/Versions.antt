@@ -2,8 +2,8 @@
 use Rattle.std.specs.Prelude.{◌≡◌, ◌⊎◌}
 use Rattle.instruct.specs.declared.Profile.{Profile}
 use Rattle.instruct.specs.declared.Profile.TheVariants.{Pdp8I, Pdp8E}
-use Rattle.certificate.specs.declared.Version.{Version}
-use Rattle.certificate.specs.declared.Version.TheVariants.{One, Two, Three}
+use Rattle.certificate_lines.specs.declared.Version.{Version}
+use Rattle.certificate_lines.specs.declared.Version.TheVariants.{One, Two, Three}
 
 -- The first search makes certificates of version 1 for a PDP-8/I, and of version 2 for a PDP-8/E.
 abbrev pub version_of : Profile → Version
@@ -13,3 +13,9 @@ version_of Pdp8E = Two
 -- What is found is of the version of the machine, or of version 3.
 abbrev pub IsVersionFor : Profile → Version → Type 0
 IsVersionFor p v = (v ≡ version_of p) ⊎ (v ≡ Three)
+
+-- A search for version 1 or 2 drafts in that version, and one for version 3 in the version of the machine.
+abbrev pub drafted_version : Profile → Version → Version
+drafted_version p One = One
+drafted_version p Two = Two
+drafted_version p Three = version_of p

@@ -1,4 +1,4 @@
--- Each rule is broken by a step that keeps the six others.
+-- Each rule is broken by a step that keeps the seven others.
 use Rattle.std.proofs.Common.{◌≡◌, ℕ, ◌<◌, ◌==◌, Bool, true, false, Option, Some, None, [], ◌∷◌, refl, inl, inr, arith}
 use Rattle.std.specs.Prelude.{if◌then◌else◌}
 use Rattle.std.proofs.lemmas.Bool.{false≢true}
@@ -10,9 +10,10 @@ use Rattle.processor.specs.Runs.{IsStart}
 use Rattle.policy.specs.Rules as rules
 use Rattle.certified_example.specs.Broken.{image_with, bare}
 use Rattle.policy.specs.declared.rules.Rule.{Rule}
-use Rattle.policy.specs.declared.rules.Rule.TheVariants.{StaysInBody, WritesDeclared, CallsEntries, ReturnsToItsCall, HaltsDeclared, KeepsCode, ReadsListed}
+use Rattle.policy.specs.declared.rules.Rule.TheVariants.{StaysInBody, WritesDeclared, CallsEntries, ReturnsToItsCall, HaltsDeclared, KeepsCode, ReadsListed, AssertionsHold}
 use Rattle.policy.specs.Watching.{Keeps}
-use Rattle.certified_example.specs.Forbidden.{BreaksAlone, changing, two_cells}
+use Rattle.policy.proofs.LegalLemmas.{unasserted}
+use Rattle.certified_example.specs.Forbidden.{BreaksAlone, asserting, changing, two_cells}
 use Rattle.certified_example.proofs.Breaks.{begun, is_start, no_routine}
 
 -- the tape's word is there at the start
@@ -47,10 +48,11 @@ stays = at_once 0o7401 None StaysInBody (omega arith) (λ k. k.supported) others
     others HaltsDeclared n = tt
     others KeepsCode n = loaded_code 0o7401 None (omega arith)
     others ReadsListed n = λ a h. inl tt
+    others AssertionsHold n = unasserted _ _ _ _ refl refl
 
 pub writes : BreaksAlone WritesDeclared (image_with 0o3202) (bare None)
 unfolding meaning_of
-writes = at_once 0o3202 None WritesDeclared (omega arith) (λ k. elim (k 0o202 refl) [ inl e ↦ false≢true e | inr e ↦ e ]) others
+writes = at_once 0o3202 None WritesDeclared (omega arith) (λ k. elim (k 0o202 refl) [ inl e ↦ false≢true e | inr e ↦ false≢true e.1 ]) others
   where
     others : (other : Rule) → (other ≡ WritesDeclared → ⊥) → Keeps other (image_with 0o3202) (bare None) (begun 0o3202) []
     others StaysInBody n = record { in_body = refl; supported = tt }
@@ -60,6 +62,7 @@ writes = at_once 0o3202 None WritesDeclared (omega arith) (λ k. elim (k 0o202 r
     others HaltsDeclared n = tt
     others KeepsCode n = loaded_code 0o3202 None (omega arith)
     others ReadsListed n = λ a h. inl tt
+    others AssertionsHold n = unasserted _ _ _ _ refl refl
 
 pub calls : BreaksAlone CallsEntries (image_with 0o4205) (bare None)
 unfolding meaning_of
@@ -73,6 +76,7 @@ calls = at_once 0o4205 None CallsEntries (omega arith) (λ k. false≢true k) ot
     others HaltsDeclared n = tt
     others KeepsCode n = loaded_code 0o4205 None (omega arith)
     others ReadsListed n = λ a h. inl tt
+    others AssertionsHold n = unasserted _ _ _ _ refl refl
 
 pub returns_alone : BreaksAlone ReturnsToItsCall (image_with 0o5610) (bare None)
 unfolding meaning_of
@@ -86,6 +90,7 @@ returns_alone = at_once 0o5610 None ReturnsToItsCall (omega arith) (λ k. k refl
     others HaltsDeclared n = tt
     others KeepsCode n = loaded_code 0o5610 None (omega arith)
     others ReadsListed n = λ a h. inl tt
+    others AssertionsHold n = unasserted _ _ _ _ refl refl
 
 pub halts : BreaksAlone HaltsDeclared (image_with 0o7402) (bare None)
 unfolding meaning_of
@@ -99,6 +104,7 @@ halts = at_once 0o7402 None HaltsDeclared (omega arith) (λ k. false≢true (k r
     others HaltsDeclared n = absurd (n refl)
     others KeepsCode n = loaded_code 0o7402 None (omega arith)
     others ReadsListed n = λ a h. inl tt
+    others AssertionsHold n = unasserted _ _ _ _ refl refl
 
 pub reads : BreaksAlone ReadsListed (image_with 0o1205) (bare (Some nothing))
 unfolding meaning_of
@@ -112,6 +118,7 @@ reads = at_once 0o1205 (Some nothing) ReadsListed (omega arith) (λ k. elim (k 0
     others HaltsDeclared n = tt
     others KeepsCode n = loaded_code 0o1205 (Some nothing) (omega arith)
     others ReadsListed n = absurd (n refl)
+    others AssertionsHold n = unasserted _ _ _ _ refl refl
 
 -- the two words, before and after the first of them was carried out
 abbrev two_words : State
@@ -161,3 +168,41 @@ code = record {
     others HaltsDeclared n = tt
     others KeepsCode n = absurd (n refl)
     others ReadsListed n = λ a h. inl tt
+    others AssertionsHold n = unasserted _ _ _ _ refl refl
+
+-- a NOP where AC is 1
+abbrev begun_with_one : State
+begun_with_one = record { ac = 1; link = 0; mq = 0; pc = 0o200; memory = (begun 0o7000).memory }
+
+is_start_with_one : IsStart (image_with 0o7000) 0o200 begun_with_one
+is_start_with_one = record {
+  pc = refl;
+  ac = omega arith;
+  link = omega arith;
+  mq = omega arith;
+  words = (is_start 0o7000 (omega arith)).words;
+  loaded = (is_start 0o7000 (omega arith)).loaded;
+}
+
+pub assertions : BreaksAlone AssertionsHold (image_with 0o7000) asserting
+unfolding meaning_of
+assertions = record {
+  first = begun_with_one;
+  start = is_start_with_one;
+  answers = [];
+  before = begun_with_one;
+  calls = [];
+  run = (refl, refl);
+  broken = λ k. false≢true (k.places.0 refl);
+  others = others;
+}
+  where
+    others : (other : Rule) → (other ≡ AssertionsHold → ⊥) → Keeps other (image_with 0o7000) asserting begun_with_one []
+    others StaysInBody n = record { in_body = refl; supported = tt }
+    others WritesDeclared n = λ a h. absurd (false≢true h)
+    others CallsEntries n = tt
+    others ReturnsToItsCall n = tt
+    others HaltsDeclared n = tt
+    others KeepsCode n = loaded_code 0o7000 None (omega arith)
+    others ReadsListed n = λ a h. inl tt
+    others AssertionsHold n = absurd (n refl)

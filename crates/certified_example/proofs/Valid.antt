@@ -11,15 +11,16 @@ use Rattle.domain.specs.TrackedCells.{TrackedCell}
 use Rattle.domain.specs.Facts.{Fact, Place, OfEquations}
 use Rattle.domain.specs.Narrowing.{narrowed, words_known}
 use Rattle.domain.specs.Moves.{joined}
-use Rattle.facts.specs.declared.Condition.TheVariants.{V1, V2, V3, V4, V5, V6, V7, V8, V9, V10, V11, V12, V13, V14, V15}
-use Rattle.facts.specs.References.{possible}
-use Rattle.facts.specs.Outcomes.{Successor, Goes, given, dca_case, stored_by}
-use Rattle.facts.specs.Operations.{operated2, part2}
+use Rattle.facts.specs.declared.Condition.TheVariants.{V1, V2, V3, V4, V5, V6, V7, V8, V9, V10, V11, V12, V13, V14, V15, V16}
+use Rattle.transfer.specs.References.{possible}
+use Rattle.transfer.specs.Outcomes.{Successor, Goes, given, dca_case, stored_by}
+use Rattle.transfer.specs.Operations.{operated2, part2}
 use Rattle.facts.specs.Entailment.{Entails}
 use Rattle.facts.specs.Starts.{start_fact}
-use Rattle.certificate.specs.Certificate.{has_exits}
-use Rattle.certificate.specs.Reading.{all_offsets, sets_of}
-use Rattle.judge.specs.Landing.{place_in, sited, asked, asked_at, called_from, LandsAt, EachLandsAfter, EachSuccessor, SuccessorLands}
+use Rattle.certificate_lines.specs.Certificate.{has_exits}
+use Rattle.certificate_lines.specs.Reading.{all_offsets, sets_of}
+use Rattle.facts.specs.Conditions.{EachIsHeldBy}
+use Rattle.judge.specs.Landing.{exits_of, place_in, sited, asked, asked_at, called_from, LandsAt, EachLandsAfter, EachSuccessor, SuccessorLands}
 use Rattle.judge.specs.Conditions.{EachFact, HoldsForWords, IsPlaced, IsValid, MayReturn}
 use Rattle.judge.proofs.Fine.{Fine}
 use Rattle.certified_example.specs.Example.{main_cells, body, declaration, image, certificate, example}
@@ -37,6 +38,8 @@ is_declared = record {
   entry_not_index = λ e h. (let q : e ≡ 0o210 = eqb-true e 0o210 h in rw q refl);
   stop_not_pause = λ a h. refl;
   halt_in_body = halts;
+  moves_entry = λ e h. absurd (false≢true h);
+  abandon_in_main = λ a h. absurd (false≢true h);
 }
   where
     not_in_body : (e : ℕ) (r : Routine) → (e == 0o210) ≡ true → body r e ≡ false
@@ -197,7 +200,7 @@ first_fine : Fine example None 0o200 plain (meaning_of Pdp8I 0o200 0o3202)
 unfolding meaning_of narrowed
 first_fine = record {
   v3 = tt;
-  v4 = subst (λ o. EachSuccessor (SuccessorLands example None) (dca_case (place_in example None) 0o200 plain (one 0o202) o)) (sym (only_one 0o202 (omega arith))) deposits;
+  v4 = subst (λ o. EachSuccessor (SuccessorLands example None (meaning_of Pdp8I 0o200 0o3202)) (dca_case (place_in example None) 0o200 plain (one 0o202) o)) (sym (only_one 0o202 (omega arith))) deposits;
   v5 = λ a lt h. inl (let q : a ≡ 0o202 = eqb-true a 0o202 h in rw q refl);
   v6 = λ a lt h. tt;
   v7 = (tt, tt);
@@ -209,6 +212,7 @@ first_fine = record {
   v13 = tt;
   v14 = λ a lt h e. absurd (let q : a ≡ 0o202 = eqb-true a 0o202 h in false≢true (rw q at e));
   v15 = λ a lt h. inl tt;
+  v16 = tt;
 }
   where
     after : Fact
@@ -221,15 +225,15 @@ first_fine = record {
     lands_there : LandsAt example None 0o201 after
     lands_there = inr (refl, inl (record { sets = sets; mq = λ v lt g. g; link = λ l lt g. g; relations = tt; chains = tt; sites = λ v lt g. g; offsets = λ n lt g. g }))
 
-    deposits : EachSuccessor (SuccessorLands example None) (dca_case (place_in example None) 0o200 plain (one 0o202) (Some 0o202))
-    deposits = each_given (SuccessorLands example None) _ (Goes (one 0o201) after) (one_lands 0o201 after lands_there)
+    deposits : EachSuccessor (SuccessorLands example None (meaning_of Pdp8I 0o200 0o3202)) (dca_case (place_in example None) 0o200 plain (one 0o202) (Some 0o202))
+    deposits = each_given (SuccessorLands example None (meaning_of Pdp8I 0o200 0o3202)) _ (Goes (one 0o201) after) (one_lands 0o201 after lands_there)
 
 -- 0201: DCA 0202, with the accumulator 0
 second_fine : Fine example None 0o201 cleared (meaning_of Pdp8I 0o201 0o3202)
 unfolding meaning_of narrowed
 second_fine = record {
   v3 = tt;
-  v4 = subst (λ o. EachSuccessor (SuccessorLands example None) (dca_case (place_in example None) 0o201 cleared (one 0o202) o)) (sym (only_one 0o202 (omega arith))) deposits;
+  v4 = subst (λ o. EachSuccessor (SuccessorLands example None (meaning_of Pdp8I 0o201 0o3202)) (dca_case (place_in example None) 0o201 cleared (one 0o202) o)) (sym (only_one 0o202 (omega arith))) deposits;
   v5 = λ a lt h. inl (let q : a ≡ 0o202 = eqb-true a 0o202 h in rw q refl);
   v6 = λ a lt h. tt;
   v7 = (tt, tt);
@@ -241,6 +245,7 @@ second_fine = record {
   v13 = tt;
   v14 = λ a lt h e. absurd (let q : a ≡ 0o202 = eqb-true a 0o202 h in false≢true (rw q at e));
   v15 = λ a lt h. inl tt;
+  v16 = tt;
 }
   where
     after : Fact
@@ -260,15 +265,15 @@ second_fine = record {
     lands_there : LandsAt example None 0o202 after
     lands_there = inr (refl, inl (record { sets = sets; mq = λ v lt g. g; link = λ l lt g. g; relations = tt; chains = tt; sites = λ v lt g. g; offsets = λ n lt g. g }))
 
-    deposits : EachSuccessor (SuccessorLands example None) (dca_case (place_in example None) 0o201 cleared (one 0o202) (Some 0o202))
-    deposits = each_given (SuccessorLands example None) _ (Goes (one 0o202) after) (one_lands 0o202 after lands_there)
+    deposits : EachSuccessor (SuccessorLands example None (meaning_of Pdp8I 0o201 0o3202)) (dca_case (place_in example None) 0o201 cleared (one 0o202) (Some 0o202))
+    deposits = each_given (SuccessorLands example None (meaning_of Pdp8I 0o201 0o3202)) _ (Goes (one 0o202) after) (one_lands 0o202 after lands_there)
 
 -- 0202: AND 0000, in the cell of changeable code
 third_fine : Fine example None 0o202 with_cell (meaning_of Pdp8I 0o202 0)
 unfolding meaning_of
 third_fine = record {
   v3 = tt;
-  v4 = each_given (SuccessorLands example None) _ _ (one_lands 0o203 _ (lands _ (λ v lt g. g) (λ n lt g. g) 0o203 refl refl));
+  v4 = each_given (SuccessorLands example None (meaning_of Pdp8I 0o202 0)) _ _ (one_lands 0o203 _ (lands _ (λ v lt g. g) (λ n lt g. g) 0o203 refl refl));
   v5 = λ a lt h. absurd (false≢true h);
   v6 = λ a lt h. tt;
   v7 = (tt, tt);
@@ -280,6 +285,7 @@ third_fine = record {
   v13 = tt;
   v14 = λ a lt h e. absurd (false≢true h);
   v15 = λ a lt h. inl tt;
+  v16 = tt;
 }
 
 -- 0203: JMS 0210
@@ -287,7 +293,7 @@ fourth_fine : Fine example None 0o203 plain (meaning_of Pdp8I 0o203 0o4210)
 unfolding meaning_of joined
 fourth_fine = record {
   v3 = tt;
-  v4 = each_given (SuccessorLands example None) _ _ tt;
+  v4 = each_given (SuccessorLands example None (meaning_of Pdp8I 0o203 0o4210)) _ _ tt;
   v5 = λ a lt h. absurd (false≢true h);
   v6 = λ a lt h. tt;
   v7 = (refl, λ e lt h. record { entry = h; listed = subst (λ x. certificate.listed x ≡ true) (sym (eqb-true e 0o210 h)) refl; lower = tt });
@@ -299,6 +305,7 @@ fourth_fine = record {
   v13 = tt;
   v14 = λ a lt h e. absurd (false≢true h);
   v15 = λ a lt h. inl tt;
+  v16 = tt;
 }
   where
     enters : LandsAt example (Some 0o210) 0o211 (called_from 0o203 plain)
@@ -316,7 +323,7 @@ fifth_fine : Fine example None 0o204 plain (meaning_of Pdp8I 0o204 0o1410)
 unfolding meaning_of
 fifth_fine = record {
   v3 = tt;
-  v4 = each_given (SuccessorLands example None) _ _ (one_lands 0o205 _ (lands _ (λ v lt g. g) (λ n lt g. g) 0o205 refl refl));
+  v4 = each_given (SuccessorLands example None (meaning_of Pdp8I 0o204 0o1410)) _ _ (one_lands 0o205 _ (lands _ (λ v lt g. g) (λ n lt g. g) 0o205 refl refl));
   v5 = λ a lt h. inl (pointer a h);
   v6 = λ a lt h. tt;
   v7 = (tt, tt);
@@ -328,6 +335,7 @@ fifth_fine = record {
   v13 = tt;
   v14 = λ a lt h e. absurd (let q : a ≡ 8 = at a h in false≢true (rw q at e));
   v15 = λ a lt h. inl tt;
+  v16 = tt;
 }
   where
     at : (a : ℕ) → ((a == 8) || false) ≡ true → a ≡ 8
@@ -353,10 +361,11 @@ sixth_fine = record {
   v13 = λ h. refl;
   v14 = λ a lt h e. absurd (false≢true h);
   v15 = λ a lt h. inl tt;
+  v16 = tt;
 }
   where
     p : Successor → Type 0
-    p = SuccessorLands example None
+    p = SuccessorLands example None (meaning_of Pdp8I 0o205 0o7402)
 
     skips : (l : ℕ) → EachSuccessor p (operated2 (place_in example None) 0o205 0o7402 plain l true)
     skips l = none_given p _ _ (none_right (all_links l) _ (and_none _ _ (none_in 4096 (part2 (place_in example None) 0o7402 plain l true) (λ k lt. and_false (words_known (place_in example None) plain Ac k)))))
@@ -369,7 +378,7 @@ seventh_fine : Fine example None 0o206 plain (meaning_of Pdp8I 0o206 0o5200)
 unfolding meaning_of
 seventh_fine = record {
   v3 = tt;
-  v4 = each_given (SuccessorLands example None) _ _ (one_lands 0o200 _ (lands _ (λ v lt g. g) (λ n lt g. g) 0o200 refl refl));
+  v4 = each_given (SuccessorLands example None (meaning_of Pdp8I 0o206 0o5200)) _ _ (one_lands 0o200 _ (lands _ (λ v lt g. g) (λ n lt g. g) 0o200 refl refl));
   v5 = λ a lt h. absurd (false≢true h);
   v6 = λ a lt h. tt;
   v7 = (tt, tt);
@@ -381,6 +390,7 @@ seventh_fine = record {
   v13 = tt;
   v14 = λ a lt h e. absurd (false≢true h);
   v15 = λ a lt h. inl tt;
+  v16 = tt;
 }
 
 -- 0211: JMP I 0210
@@ -388,7 +398,7 @@ return_fine : Fine example (Some 0o210) 0o211 returning (meaning_of Pdp8I 0o211 
 unfolding meaning_of
 return_fine = record {
   v3 = tt;
-  v4 = each_given (SuccessorLands example (Some 0o210)) _ _ tt;
+  v4 = each_given (SuccessorLands example (Some 0o210) (meaning_of Pdp8I 0o211 0o5610)) _ _ tt;
   v5 = λ a lt h. absurd (false≢true h);
   v6 = λ a lt h. absurd (false≢true h);
   v7 = (tt, tt);
@@ -400,10 +410,11 @@ return_fine = record {
   v13 = tt;
   v14 = λ a lt h e. absurd (false≢true h);
   v15 = λ a lt h. inl tt;
+  v16 = tt;
 }
   where
     returns : MayReturn example 0o210 returning 0
-    returns = (omega arith, refl, inl (any_entailed (place_in example (Some 0o210)) returning (one 0o203) all_offsets (λ v lt g. g) (λ o lt g. lt-ltb o 64 lt)))
+    returns = (refl, inl (any_entailed (place_in example (Some 0o210)) returning (one 0o203) all_offsets (λ v lt g. g) (λ o lt g. lt-ltb o 64 lt)))
 
 -- of a fact at an address, in a body, few words are possible, and of each all conditions hold
 pub record IsFine (r : Routine) (a : ℕ) (f : Fact) : Type 0 where
@@ -465,8 +476,8 @@ swapped a h = elim (cases_eq a 0o210) [
   | inr n ↦ (let other : (0o210 == a) ≡ false = left 0o210 a n in absurd (false≢true (rw other at h)))
 ]
 
-exits_of : (a : ℕ) → has_exits certificate a ≡ true → declaration.entry a ≡ true
-exits_of a h = elim (cases_eq a 0o210) [
+exits_at_entry : (a : ℕ) → has_exits certificate a ≡ true → declaration.entry a ≡ true
+exits_at_entry a h = elim (cases_eq a 0o210) [
   | inl e ↦ rw e refl
   | inr n ↦ absurd (true≢false (sym h ∙ none_in 64 _ (λ o lt. let other : (0o210 == a) ≡ false = left 0o210 a n in rw other refl)))
 ]
@@ -480,9 +491,14 @@ each_by : (p q : Fact → Type 0) (fs : List Fact) → ((f : Fact) → p f → q
 each_by p q [] h e = tt
 each_by p q (f ∷ fs) h e = (h f e.0, each_by p q fs h e.1)
 
+-- where nothing is to hold when a routine returns, it holds of each exit
+all_held : (e o : ℕ) (fs : List Fact) → EachFact (λ x. EachIsHeldBy (place_in example (Some e)) x e o []) fs
+all_held e o [] = tt
+all_held e o (f ∷ fs) = (tt, all_held e o fs)
+
 pub is_valid : IsValid example
 is_valid V1 a asked = subst (λ x. LandsAt example None x (start_fact image)) (sym asked) starts
-is_valid V2 a asked = record { facts = placed_of a; routine = swapped a; exits = exits_of a }
+is_valid V2 a asked = record { facts = placed_of a; routine = swapped a; exits = exits_at_entry a }
 is_valid V3 a asked = (
   λ r b. each_by (IsFine r a) (λ f. how_many 4096 (possible (place_in example r) f a) ≤ 64) (asked_at example r a) (λ f h. h.few_words) (all_fine a r b),
   λ r b. each_by (IsFine r a) (HoldsForWords example V3 r a) (asked_at example r a) (λ f h w lw p. (h.each_word w p).v3) (all_fine a r b),
@@ -499,3 +515,7 @@ is_valid V12 a asked = λ r b. each_by (IsFine r a) (HoldsForWords example V12 r
 is_valid V13 a asked = λ r b. each_by (IsFine r a) (HoldsForWords example V13 r a) (asked_at example r a) (λ f h w lw p. (h.each_word w p).v13) (all_fine a r b)
 is_valid V14 a asked = λ r b. each_by (IsFine r a) (HoldsForWords example V14 r a) (asked_at example r a) (λ f h w lw p. (h.each_word w p).v14) (all_fine a r b)
 is_valid V15 a asked = λ r b. each_by (IsFine r a) (HoldsForWords example V15 r a) (asked_at example r a) (λ f h w lw p. (h.each_word w p).v15) (all_fine a r b)
+is_valid V16 a here = (
+  λ r b. each_by (IsFine r a) (HoldsForWords example V16 r a) (asked_at example r a) (λ f h w lw p. (h.each_word w p).v16) (all_fine a r b),
+  λ o lt. all_held a o (asked OfEquations image (exits_of example a o)),
+)

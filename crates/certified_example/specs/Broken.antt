@@ -1,5 +1,5 @@
 -- Programs of one word, each of which isn't safe: its one word breaks a rule.
-use Rattle.std.specs.Prelude.{ℕ, ◌==◌, false, if◌then◌else◌, Option, Some, None}
+use Rattle.std.specs.Prelude.{ℕ, ◌==◌, false, if◌then◌else◌, Option, Some, None, []}
 use Rattle.instruct.specs.declared.Profile.TheVariants.{Pdp8I}
 use Rattle.wordset.specs.Words.{Words, nothing, one}
 use Rattle.processor.specs.Runs.{Image}
@@ -27,6 +27,10 @@ bare reads = record {
   pause = nothing;
   profile = Pdp8I;
   reads = reads;
+  moves = nothing;
+  abandon = nothing;
+  holds = [];
+  returns = [];
 }
 
 -- The program of this word isn't safe.

@@ -17,7 +17,7 @@ use Rattle.machine_commands.specs.Follows.{Follows, Ended, Stuck, Stopped, Went,
 use Rattle.bin_tape.specs.Laws.{TapeImageIsOne}
 use Rattle.command_laws.specs.Laws.{RunsAreOne, SessionsAreOne, TypedAreOne, WatchedAsRun, as_declared}
 use Rattle.machine_commands.specs.Running.{IsRunOf, fresh, status_of}
-use Rattle.machine_commands.specs.Schedule.{Comes, Over, Cut, Final, Then, Schedule, Whole, first_place, operating}
+use Rattle.machine_commands.specs.Schedule.{Comes, Over, Cut, Due, Final, Then, Schedule, Whole, first_place, operating}
 use Rattle.machine_commands.specs.Session.{IsHeld, plan_for, printed_in, summary_where}
 use Rattle.machine_commands.specs.Teletype.{run_of}
 use Rattle.machine_commands.specs.Typing.{first_sitting, typing}
@@ -81,9 +81,13 @@ some_one is = cc
 
 comes_one : {S : Type 0} (schedule : Schedule S) (p : Profile) (s : S) (w : WorldState) (es fs : List Event) → Comes schedule p Whole s w es → Comes schedule p Whole s w fs → es ≡ fs
 comes_one schedule p s w es fs (Cut _ _ may) b = absurd may
+comes_one schedule p s w es fs (Due _ _ is may) b = absurd may
 comes_one schedule p s w es fs (Over _ _ none) (Cut _ _ may) = absurd may
 comes_one schedule p s w es fs (Final _ _ e is off) (Cut _ _ may) = absurd may
 comes_one schedule p s w es fs (Then _ _ m e more is on a f) (Cut _ _ may) = absurd may
+comes_one schedule p s w es fs (Over _ _ none) (Due _ _ is' may) = absurd may
+comes_one schedule p s w es fs (Final _ _ e is off) (Due _ _ is' may) = absurd may
+comes_one schedule p s w es fs (Then _ _ m e more is on a f) (Due _ _ is' may) = absurd may
 comes_one schedule p s w es fs (Over _ _ none) (Over _ _ none') = refl
 comes_one schedule p s w es fs (Over _ _ none) (Final _ _ e due' off') = absurd (let both : None ≡ Some e = sym none ∙ due' in cc)
 comes_one schedule p s w es fs (Over _ _ none) (Then _ _ m e more due' on' a' f') = absurd (let both : None ≡ Some e = sym none ∙ due' in cc)

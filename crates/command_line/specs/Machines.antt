@@ -24,6 +24,7 @@ pub record IsRunGiven (found : ArgMatches) (run : RunRequest) : Type 0 where
   pub tape : option_map (λ name. name.now) run.tape ≡ tape_given found
   pub events : option_map (λ name. name.now) run.events ≡ value found (codes "events")
   pub options : AreRunOptions found run.options
+  pub long : IsFlagGiven found (codes "trace-long") run.long
 
 -- A run with an operator is of the tape, the frames and the keys that are given, punches where the option says, and is made as the
 -- options ask.
@@ -46,6 +47,7 @@ pub record IsTeletypeGiven (found : ArgMatches) (session : TeletypeSession) : Ty
 pub record IsDumpGiven (found : ArgMatches) (dump : DumpRequest) : Type 0 where
   pub tape : option_map (λ name. name.now) dump.tape ≡ tape_given found
   pub machine : machine_given found ≡ Some dump.profile
+  pub full : IsFlagGiven found (codes "full") dump.full
 
 -- The source is of the tape and of the declaration that are given, for the start and the machine that are asked for.
 pub record IsSourceGiven (found : ArgMatches) (source : SourceRequest) : Type 0 where
@@ -54,8 +56,7 @@ pub record IsSourceGiven (found : ArgMatches) (source : SourceRequest) : Type 0 
   pub start : start_given found ≡ Ok source.start
   pub machine : machine_given found ≡ Some source.profile
 
--- The certificate that is migrated and the declaration are those that are given: a declaration stands for version 3, and without one the
--- certificate is to be of version 2.
+-- The certificate that is migrated and the declaration are those that are given. Nothing is said here of the version that is asked for.
 pub record IsMigrateGiven (found : ArgMatches) (migrate : MigrateRequest) : Type 0 where
   pub certificate : migrate.certificate.now ≡ operand found (codes "CERTIFICATE")
   pub declaration : option_map (λ name. name.now) migrate.declaration ≡ value found (codes "declaration")

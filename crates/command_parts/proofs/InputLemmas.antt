@@ -67,6 +67,7 @@ declaration_fault_is (fault.Overlap a) failed had left text taken is fails = at_
 declaration_fault_is (fault.EntryInAutoIndex a) failed had left text taken is fails = at_rule (fault.EntryInAutoIndex a) had text is fails
 declaration_fault_is fault.StartNotInMain failed had left text taken is fails = at_rule fault.StartNotInMain had text is fails
 declaration_fault_is (fault.HaltNotInBody a) failed had left text taken is fails = at_rule (fault.HaltNotInBody a) had text is fails
+declaration_fault_is (fault.Misplaced a) failed had left text taken is fails = at_rule (fault.Misplaced a) had text is fails
 
 -- of a source that isn't read nothing is taken
 pub takes_no_text : (most : ℕ) (had : Option (List ℕ)) → TakesAtMost most had had

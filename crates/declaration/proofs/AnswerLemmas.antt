@@ -2,19 +2,19 @@
 use Rattle.std.proofs.Common.{◌≡◌, ◌≢◌, ℕ, ◌+◌, ◌<◌, ◌≤◌, ◌==◌, Bool, true, false, List, [], ◌∷◌, ◌++◌, length, map, Option, Some, None, refl, sym, ap, ◌∙◌, subst, inl, inr, ◌⊎◌, arith, append_assoc, append-nil}
 use Rattle.std.proofs.Math.Path.{fun_ext}
 use Rattle.std.proofs.lemmas.Bool.{cases_lt}
-use Rattle.std.specs.Prelude.{◌&&◌, MatchOption}
+use Rattle.std.specs.Prelude.{◌&&◌, ◌||◌, MatchOption}
 use Rattle.std.specs.List.{list_any}
 use Rattle.instruct.specs.declared.Profile.{Profile}
 use Rattle.streams.specs.Text.{text_lines}
 use Rattle.wordset.specs.Words.{Words, first_below, IsFirstFrom, HasNoneFrom}
 use Rattle.wordset.proofs.Firsts.{first_of}
-use Rattle.declaration.specs.Declaration.{Routine, Declaration}
+use Rattle.declaration.specs.Declaration.{Routine, Declaration, PlaceAssertion, ReturnAssertion}
 use Rattle.declaration.specs.Drafts.{with_line, MayFollow}
 use Rattle.declaration.specs.Laws.{DeclarationIsOne, DeclarationFaultIsOne, DeclarationIsNoFault, EachTextIsAnswered}
-use Rattle.declaration.specs.Lines.{Line, Nothing, Start, Main, Sub, Variables, Stops, Pauses, Machine, Reads, line_of}
-use Rattle.declaration.specs.Text.{Contents, contents, Says, Declares, StandsAfter, FailsAtLine, FailsAtRule, LineFails, RuleFails, AreGood, HasGoodLines, Fails, profile_of, overlaps, entry_in_index, halt_outside, most_bytes, most_routines}
+use Rattle.declaration.specs.Lines.{Line, Nothing, Start, Main, Sub, Variables, Stops, Pauses, Machine, Reads, Skips, Moves, Abandon, Holds, Returns, line_of}
+use Rattle.declaration.specs.Text.{Contents, contents, Says, Declares, StandsAfter, FailsAtLine, FailsAtRule, LineFails, RuleFails, AreGood, HasGoodLines, Fails, profile_of, overlaps, entry_in_index, halt_outside, misplaced, assertions_in, most_bytes, most_routines, most_skips, most_assertions}
 use Rattle.declaration.specs.declared.DeclarationFault.{DeclarationFault}
-use Rattle.declaration.specs.declared.DeclarationFault.TheVariants.{BadLine, TwoStarts, TwoProfiles, NoStart, Overlap, EntryInAutoIndex, StartNotInMain, TooMany, HaltNotInBody, NoMemory}
+use Rattle.declaration.specs.declared.DeclarationFault.TheVariants.{BadLine, TwoStarts, TwoProfiles, NoStart, Overlap, EntryInAutoIndex, StartNotInMain, TooMany, HaltNotInBody, Misplaced, NoMemory}
 use Rattle.declaration.proofs.DraftLemmas.{Gathers, Gathers-none, Gathers-push}
 use Rattle.declaration.proofs.FaultLemmas.{at_line}
 use Rattle.declaration.proofs.VerdictLemmas.{verdict-fails, only_memory, too_long}
@@ -31,12 +31,26 @@ all_some (x ∷ xs) (y ∷ ys) e =
     let rest : xs ≡ ys = all_some xs ys others in
     cc
 
-abbrev declared : ℕ → (Routine → Words) → Words → (ℕ → Words) → Words → Words → Words → Profile → Option Words → Declaration
-declared s b e o v t u p q = record { start = s; body = b; entry = e; offset = o; variable = v; stop = t; pause = u; profile = p; reads = q }
+abbrev declared : ℕ → (Routine → Words) → Words → (ℕ → Words) → Words → Words → Words → Profile → Option Words → Words → Words → List PlaceAssertion → List ReturnAssertion → Declaration
+declared s b e o v t u p q m a h r = record {
+  start = s;
+  body = b;
+  entry = e;
+  offset = o;
+  variable = v;
+  stop = t;
+  pause = u;
+  profile = p;
+  reads = q;
+  moves = m;
+  abandon = a;
+  holds = h;
+  returns = r;
+}
 
-same_declared : {s s' : ℕ} {b b' : Routine → Words} {e e' : Words} {o o' : ℕ → Words} {v v' t t' u u' : Words} {p p' : Profile} {q q' : Option Words}
-    → s ≡ s' → b ≡ b' → e ≡ e' → o ≡ o' → v ≡ v' → t ≡ t' → u ≡ u' → p ≡ p' → q ≡ q' → declared s b e o v t u p q ≡ declared s' b' e' o' v' t' u' p' q'
-same_declared es eb ee eo ev et eu ep eq = rw (es, eb, ee, eo, ev, et, eu, ep, eq) refl
+same_declared : {s s' : ℕ} {b b' : Routine → Words} {e e' : Words} {o o' : ℕ → Words} {v v' t t' u u' : Words} {p p' : Profile} {q q' : Option Words} {m m' a a' : Words} {h h' : List PlaceAssertion} {r r' : List ReturnAssertion}
+    → s ≡ s' → b ≡ b' → e ≡ e' → o ≡ o' → v ≡ v' → t ≡ t' → u ≡ u' → p ≡ p' → q ≡ q' → m ≡ m' → a ≡ a' → h ≡ h' → r ≡ r' → declared s b e o v t u p q m a h r ≡ declared s' b' e' o' v' t' u' p' q' m' a' h' r'
+same_declared es eb ee eo ev et eu ep eq em ea eh er = rw (es, eb, ee, eo, ev, et, eu, ep, eq, em, ea, eh, er) refl
 
 one_start : {s t : ℕ} {xs : List ℕ} → xs ≡ s ∷ [] → xs ≡ t ∷ [] → s ≡ t
 one_start e h = cc
@@ -52,8 +66,13 @@ says_one c d e s t =
     let pause : d.pause ≡ e.pause = s.pause ∙ sym t.pause in
     let profile : d.profile ≡ e.profile = s.profile ∙ sym t.profile in
     let reads : d.reads ≡ e.reads = s.reads ∙ sym t.reads in
-    let all : declared d.start d.body d.entry d.offset d.variable d.stop d.pause d.profile d.reads ≡ declared e.start e.body e.entry e.offset e.variable e.stop e.pause e.profile e.reads =
-    same_declared start body entry offset variable stop pause profile reads in
+    let moves : d.moves ≡ e.moves = s.moves ∙ sym t.moves in
+    let abandon : d.abandon ≡ e.abandon = s.abandon ∙ sym t.abandon in
+    let holds : d.holds ≡ e.holds = s.holds ∙ sym t.holds in
+    let returns : d.returns ≡ e.returns = s.returns ∙ sym t.returns in
+    let all : declared d.start d.body d.entry d.offset d.variable d.stop d.pause d.profile d.reads d.moves d.abandon d.holds d.returns
+    ≡ declared e.start e.body e.entry e.offset e.variable e.stop e.pause e.profile e.reads e.moves e.abandon e.holds e.returns =
+    same_declared start body entry offset variable stop pause profile reads moves abandon holds returns in
     all
   where
     bodies : (r : Routine) → d.body r ≡ e.body r
@@ -98,8 +117,8 @@ bodies_of c None = c.main
 bodies_of c (Some e) = λ a. list_any (λ r. r.entry == e && r.body a) c.routines
 
 abbrev said : Contents → ℕ → Declaration
-said c s = declared s (bodies_of c) (λ e. list_any (λ r. r.entry == e) c.routines) (λ e o. list_any (λ r. r.entry == e && r.offsets o) c.routines)
-    c.variable c.stop c.pause (profile_of c.profiles) c.reads
+said c s = declared s (bodies_of c) (λ e. list_any (λ r. r.entry == e) c.routines) (λ e o. list_any (λ r. r.entry == e && r.offsets o) c.routines || list_any (λ s. s.entry == e && s.offsets o) c.skips)
+    c.variable c.stop c.pause (profile_of c.profiles) c.reads c.moves c.abandon c.holds c.returns
 
 says_it : (c : Contents) (s : ℕ) → c.starts ≡ s ∷ [] → Says c (said c s)
 says_it c s is = record {
@@ -113,6 +132,10 @@ says_it c s is = record {
   stop = refl;
   pause = refl;
   reads = refl;
+  moves = refl;
+  abandon = refl;
+  holds = refl;
+  returns = refl;
 }
 
 -- lines that are good keep the rules, or break a first one
@@ -126,7 +149,8 @@ by_rules text lines good s is =
     in_main apart outside false here = inr (StartNotInMain, (λ e. cc), record { lines = lines; good = good; fails = record { start = s; starts = is; apart = apart; outside_index = outside; outside = here } })
     in_main apart outside true here =
         by_first (halt_outside (contents lines)) text (λ a first. inr (HaltNotInBody a, (λ e. cc), record { lines = lines; good = good; fails = record { start = s; starts = is; apart = apart; outside_index = outside; start_in_main = here; least = first } }))
-        (λ inside. inl (said (contents lines) s, record { lines = lines; good = good; says = says_it (contents lines) s is; rules = record { apart = apart; outside_index = outside; start_in_main = here; halts_inside = inside } }))
+        (λ inside. by_first (misplaced (contents lines)) text (λ a first. inr (Misplaced a, (λ e. cc), record { lines = lines; good = good; fails = record { start = s; starts = is; apart = apart; outside_index = outside; start_in_main = here; halts_inside = inside; least = first } }))
+        (λ placed. inl (said (contents lines) s, record { lines = lines; good = good; says = says_it (contents lines) s is; rules = record { apart = apart; outside_index = outside; start_in_main = here; halts_inside = inside; placed = placed } })))
 
 by_starts : (text : List ℕ) (lines : List Line) → HasGoodLines text lines → (starts : List ℕ) → (contents lines).starts ≡ starts → length starts ≤ 1 → IsAnswered text
 by_starts text lines good [] is few = inr (NoStart, (λ e. cc), record { lines = lines; good = good; fails = is })
@@ -150,7 +174,7 @@ may_follow c number (Start x) starts profiles = elim (none_or_one c.starts start
 may_follow c number (Main x) starts profiles = inl tt
 may_follow c number (Sub x) starts profiles = elim (cases_lt (length c.routines) most_routines) [
   | inl fits ↦ inl fits
-  | inr full ↦ inr (TooMany, (λ e. cc), (x, refl, full))
+  | inr full ↦ inr (TooMany, (λ e. cc), (Sub x, refl, full))
 ]
 may_follow c number (Variables x) starts profiles = inl tt
 may_follow c number (Stops x) starts profiles = inl tt
@@ -160,6 +184,20 @@ may_follow c number (Machine x) starts profiles = elim (none_or_one c.profiles p
   | inr one ↦ inr (TwoProfiles number, (λ e. cc), (refl, x, refl, one))
 ]
 may_follow c number (Reads x) starts profiles = inl tt
+may_follow c number (Skips x) starts profiles = elim (cases_lt (length c.skips) most_skips) [
+  | inl fits ↦ inl fits
+  | inr full ↦ inr (TooMany, (λ e. cc), (Skips x, refl, full))
+]
+may_follow c number (Moves x) starts profiles = inl tt
+may_follow c number (Abandon x) starts profiles = inl tt
+may_follow c number (Holds x) starts profiles = elim (cases_lt (assertions_in c) most_assertions) [
+  | inl fits ↦ inl fits
+  | inr full ↦ inr (TooMany, (λ e. cc), (Holds x, refl, full))
+]
+may_follow c number (Returns x) starts profiles = elim (cases_lt (assertions_in c) most_assertions) [
+  | inl fits ↦ inl fits
+  | inr full ↦ inr (TooMany, (λ e. cc), (Returns x, refl, full))
+]
 
 at_next : (text : List ℕ) → length text ≤ most_bytes → (before : List (List ℕ)) (t : List ℕ) (ts : List (List ℕ)) → text_lines text ≡ before ++ t ∷ ts → (c : Contents) → Gathers before c
     → (o : Option Line) → line_of t ≡ o → ((d : Contents) → Gathers (before ++ t ∷ []) d → IsAnswered text) → IsAnswered text

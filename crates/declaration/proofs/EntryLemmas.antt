@@ -1,7 +1,7 @@
 -- The entries of good lines are words.
 use Rattle.std.proofs.Common.{ℕ, ◌≡◌, ◌<◌, ◌==◌, Bool, true, false, ◌||◌, ◌⊎◌, List, [], ◌∷◌, ◌++◌, length, map, arith, refl, sym, ◌∙◌, ap, Option, Some, None, inl, inr}
 use Rattle.std.specs.Prelude.{nat_le, nat_lt, if◌then◌else◌}
-use Rattle.std.specs.List.{list_any, list_all, flat_map, after_first}
+use Rattle.std.specs.List.{list_any, list_all, flat_map, after_first, before_first}
 use Rattle.std.specs.Option.{option_map}
 use Rattle.std.specs.Result.{result_ok}
 use Rattle.std.proofs.lemmas.Bool.{cases_Bool, eqb-true, ltb-true}
@@ -11,7 +11,8 @@ use Rattle.instruct.specs.declared.Profile.{Profile}
 use Rattle.instruct.specs.declared.Profile.TheVariants.{Pdp8I, Pdp8E}
 use Rattle.wordset.specs.Words.{Words}
 use Rattle.streams.specs.Text.{octal_word, words_of}
-use Rattle.declaration.specs.Lines.{Subroutine, Line, Nothing, Start, Main, Sub, Variables, Stops, Pauses, Machine, Reads, routine, start_line, sub_line, profile_line, line_by, line_of, body_read, offsets_read, ranges_of, addresses_of, is_returns, all_read, range_of, any_of}
+use Rattle.declaration.specs.Lines.{Subroutine, Line, Nothing, Start, Main, Sub, Variables, Stops, Pauses, Machine, Reads, Skips, Moves, Abandon, Holds, Returns, further, skips_line, if_offsets, holding, holds_line, returning, returns_line, offsets_named, assertion_in, further_line, is_subject, routine, start_line, sub_line, profile_line, line_by, line_of, body_read, offsets_read, ranges_of, addresses_of, is_returns, all_read, range_of, any_of}
+use Rattle.declaration.specs.Declaration.{Assertion}
 use Rattle.declaration.specs.Text.{contents, is_entry, routine_in}
 
 reading_below : (digits : List ℕ) (v : ℕ) → result_ok (octal_reading digits) ≡ Some v → v < 4096
@@ -102,12 +103,49 @@ fits_sub [] r is = absurd (cc)
 fits_sub (w ∷ []) r is = absurd (cc)
 fits_sub (w ∷ x ∷ more) r is = fits_if _ _ _ (fits_routine w (octal_word w) (body_read more) (offsets_read (after_first is_returns more)) refl) fits_none r is
 
+fits_moves : (o : Option Words) → EntryFits (option_map Moves o)
+fits_moves None r is = absurd (cc)
+fits_moves (Some w) r is = absurd (cc)
+
+fits_abandon : (o : Option Words) → EntryFits (option_map Abandon o)
+fits_abandon None r is = absurd (cc)
+fits_abandon (Some w) r is = absurd (cc)
+
+fits_further : (e : Option ℕ) (offsets : Option Words) → EntryFits (further e offsets)
+fits_further None offsets r is = absurd (cc)
+fits_further (Some e) None r is = absurd (cc)
+fits_further (Some e) (Some offsets) r is = absurd (cc)
+
+fits_skips : (ws : List (List ℕ)) → EntryFits (skips_line ws)
+fits_skips [] r is = absurd (cc)
+fits_skips (w ∷ more) r is = fits_further (octal_word w) (if_offsets (ranges_of more)) r is
+
+fits_holding : (places : Option Words) (assertion : Option Assertion) → EntryFits (holding places assertion)
+fits_holding None assertion r is = absurd (cc)
+fits_holding (Some places) None r is = absurd (cc)
+fits_holding (Some places) (Some assertion) r is = absurd (cc)
+
+fits_returning : (e : Option ℕ) (offsets : Option Words) (assertion : Option Assertion) → EntryFits (returning e offsets assertion)
+fits_returning None offsets assertion r is = absurd (cc)
+fits_returning (Some e) None assertion r is = absurd (cc)
+fits_returning (Some e) (Some offsets) None r is = absurd (cc)
+fits_returning (Some e) (Some offsets) (Some assertion) r is = absurd (cc)
+
+fits_returns : (ws : List (List ℕ)) → EntryFits (returns_line ws)
+fits_returns [] r is = absurd (cc)
+fits_returns (w ∷ more) r is = fits_returning (octal_word w) (offsets_named (before_first is_subject more)) (assertion_in more) r is
+
+fits_more : (name : List ℕ) (rest : List (List ℕ)) → EntryFits (further_line name rest)
+fits_more name rest r is =
+    fits_if _ _ _ (fits_skips rest) (fits_if _ _ _ (fits_moves (addresses_of rest)) (fits_if _ _ _ (fits_abandon (addresses_of rest))
+    (fits_if _ _ _ (fits_holding (addresses_of (before_first is_subject rest)) (assertion_in rest)) (fits_if _ _ _ (fits_returns rest) fits_none)))) r is
+
 fits_line : (ws : List (List ℕ)) → EntryFits (line_by ws)
 fits_line [] r is = absurd (cc)
 fits_line (name ∷ rest) r is =
     fits_if _ _ _ (fits_start rest) (fits_if _ _ _ (fits_main (ranges_of rest)) (fits_if _ _ _ (fits_sub rest) (fits_if _ _ _ (fits_variables (ranges_of rest))
     (fits_if _ _ _ (fits_stops (addresses_of rest)) (fits_if _ _ _ (fits_pauses (addresses_of rest)) (fits_if _ _ _ (fits_profile rest)
-    (fits_if _ _ _ (fits_reads (all_read range_of rest)) fits_none))))))) r is
+    (fits_if _ _ _ (fits_reads (all_read range_of rest)) (fits_more name rest)))))))) r is
 
 alone : (b : Bool) → (b || false) ≡ true → b ≡ true
 alone true h = refl
@@ -131,6 +169,11 @@ routine_fits text (Stops x) e is has = absurd (cc)
 routine_fits text (Pauses x) e is has = absurd (cc)
 routine_fits text (Machine x) e is has = absurd (cc)
 routine_fits text (Reads x) e is has = absurd (cc)
+routine_fits text (Skips x) e is has = absurd (cc)
+routine_fits text (Moves x) e is has = absurd (cc)
+routine_fits text (Abandon x) e is has = absurd (cc)
+routine_fits text (Holds x) e is has = absurd (cc)
+routine_fits text (Returns x) e is has = absurd (cc)
 
 some_list : (xs ys : List Subroutine) (e : ℕ) → list_any (λ r. r.entry == e) (xs ++ ys) ≡ true → (list_any (λ r. r.entry == e) xs ≡ true) ⊎ (list_any (λ r. r.entry == e) ys ≡ true)
 some_list xs ys e has = or_cases (list_any (λ r. r.entry == e) xs) (list_any (λ r. r.entry == e) ys) (sym (list_any-append (λ r. r.entry == e) xs ys) ∙ has)

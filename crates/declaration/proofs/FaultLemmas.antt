@@ -7,7 +7,7 @@ use Rattle.declaration.specs.Lines.{line_of}
 use Rattle.declaration.specs.Text.{Contents, contents, LineFails, FailsAtLine, Fails, is_entry, most_bytes}
 use Rattle.declaration.specs.Drafts.{Adds, HasLines}
 use Rattle.declaration.specs.declared.DeclarationFault.{DeclarationFault}
-use Rattle.declaration.specs.declared.DeclarationFault.TheVariants.{BadLine, TwoStarts, TwoProfiles, NoStart, Overlap, EntryInAutoIndex, StartNotInMain, TooMany, HaltNotInBody, NoMemory}
+use Rattle.declaration.specs.declared.DeclarationFault.TheVariants.{BadLine, TwoStarts, TwoProfiles, NoStart, Overlap, EntryInAutoIndex, StartNotInMain, TooMany, HaltNotInBody, Misplaced, NoMemory}
 use Rattle.declaration.proofs.DraftLemmas.{Gathers, Gathers-none, Gathers-push}
 use Rattle.declaration.proofs.EntryLemmas.{entries_fit}
 
@@ -36,6 +36,7 @@ at_line text (Overlap a) f = absurd f.fails
 at_line text (EntryInAutoIndex a) f = absurd f.fails
 at_line text StartNotInMain f = absurd f.fails
 at_line text (HaltNotInBody a) f = absurd f.fails
+at_line text (Misplaced a) f = absurd f.fails
 
 -- what is refused first is a fault of the text
 pub fails_text : {S : Type 0} (say : S → Contents) (s u : S) (text : List ℕ) (fault : DeclarationFault) → length text ≤ most_bytes → say s ≡ contents []

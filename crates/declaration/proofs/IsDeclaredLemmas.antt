@@ -7,7 +7,7 @@ use Rattle.wordset.specs.Words.{Words, HasNoneFrom}
 use Rattle.processor.specs.Machine.{is_auto_index}
 use Rattle.declaration.specs.Declaration.{Routine, Declaration, IsDeclared}
 use Rattle.declaration.specs.Lines.{Subroutine}
-use Rattle.declaration.specs.Text.{Contents, Says, KeepsRules, is_entry, in_bodies, in_two_bodies, is_entry_twice, bodies_at, overlaps, halt_outside}
+use Rattle.declaration.specs.Text.{Contents, Says, KeepsRules, is_entry, in_bodies, in_two_bodies, is_entry_twice, bodies_at, overlaps, halt_outside, is_named_entry, is_held, misplaced}
 use Rattle.declaration.proofs.RuleLemmas.{count-cons, some_counted}
 
 -- All cells that are spoken of are words.
@@ -16,6 +16,8 @@ pub record AreWords (c : Contents) : Type 0 where
   pub entries : (a : ℕ) → is_entry c a ≡ true → a < 4096
   pub stops : (a : ℕ) → c.stop a ≡ true → a < 4096
   pub pauses : (a : ℕ) → c.pause a ≡ true → a < 4096
+  pub moves : (a : ℕ) → c.moves a ≡ true → a < 4096
+  pub abandons : (a : ℕ) → c.abandon a ≡ true → a < 4096
 
 or_no_first : (a b : Bool) → (a || b) ≡ false → a ≡ false
 or_no_first true b e = e
@@ -163,6 +165,18 @@ halt_of c d s w halts a (inr pause) =
     let is : c.pause a ≡ true = sym (ap (λ (m : Words). m a) s.pause) ∙ pause in
     body_of_cell c d s a (halt_inside c halts a (w.pauses a is) (or_yes (c.stop a) (c.pause a) is))
 
+-- an entry in which its routine may store, and a place for which calls may be abandoned
+moves_an_entry : (c : Contents) → HasNoneFrom 0 (misplaced c) → (a : ℕ) → a < 4096 → c.moves a ≡ true → is_entry c a ≡ true
+moves_an_entry c placed a h is =
+    let none : (is_named_entry c a && not (is_entry c a)) ≡ false = or_no_first _ _ (or_no_first _ _ (placed a (omega arith) h)) in
+    let named : is_named_entry c a ≡ true = or_yes_first (list_any (λ s. s.entry == a) c.skips || c.moves a) _ (or_yes (list_any (λ s. s.entry == a) c.skips) (c.moves a) is) in
+    not_false (is_entry c a) (and_no (is_named_entry c a) (not (is_entry c a)) none named)
+
+abandons_in_main : (c : Contents) → HasNoneFrom 0 (misplaced c) → (a : ℕ) → a < 4096 → c.abandon a ≡ true → c.main a ≡ true
+abandons_in_main c placed a h is =
+    let none : (c.abandon a && not (c.main a)) ≡ false = or_no_second (is_named_entry c a && not (is_entry c a)) _ (or_no_first _ _ (placed a (omega arith) h)) in
+    not_false (c.main a) (and_no (c.abandon a) (not (c.main a)) none is)
+
 -- What is said and keeps the rules is a declaration.
 pub IsDeclared-from : (c : Contents) (d : Declaration) → Says c d → KeepsRules c d.start → AreWords c → IsDeclared d
 IsDeclared-from c d s k w =
@@ -180,4 +194,10 @@ IsDeclared-from c d s k w =
           let is : c.pause a ≡ true = sym (ap (λ (m : Words). m a) s.pause) ∙ pause in
           ap (λ (m : Words). m a) s.stop ∙ and_turned (c.stop a) (c.pause a) (halts_differ c k.apart a (w.pauses a is)) is;
       halt_in_body = halt_of c d s w k.halts_inside;
+      moves_entry = λ e moves.
+          let is : c.moves e ≡ true = sym (ap (λ (m : Words). m e) s.moves) ∙ moves in
+          s.entry e ∙ moves_an_entry c k.placed e (w.moves e is) is;
+      abandon_in_main = λ a abandons.
+          let is : c.abandon a ≡ true = sym (ap (λ (m : Words). m a) s.abandon) ∙ abandons in
+          ap (λ (m : Words). m a) s.main ∙ abandons_in_main c k.placed a (w.abandons a is) is;
     }

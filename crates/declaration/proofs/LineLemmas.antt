@@ -1,6 +1,6 @@
 -- Lists of cells and of offsets, read a word at a time.
 use Rattle.std.proofs.Common.{ℕ, ◌≡◌, ◌<◌, suc, ◌≤◌, ◌+◌, ◌-◌, leb, ◌==◌, Bool, true, false, ◌||◌, List, [], ◌∷◌, length, drop, arith, refl, sym, ◌∙◌, ap, Option, Some, None, inl, inr}
-use Rattle.std.specs.List.{list_any, position_or_len, after_first}
+use Rattle.std.specs.List.{list_any, find, position_or_len, before_first, after_first}
 use Rattle.std.specs.Prelude.{IfSome}
 use Rattle.std.specs.Option.{option_map}
 use Rattle.std.proofs.Math.Path.{fun_ext}
@@ -8,8 +8,8 @@ use Rattle.std.proofs.lemmas.Bool.{cases_Bool, and_parts, leb-true, lt-ltb}
 use Rattle.word12.specs.Octal.{is_octal_digit, octal_value}
 use Rattle.wordset.specs.Words.{Words, nothing, union}
 use Rattle.streams.specs.Text.{octal_word}
-use Rattle.declaration.specs.Lines.{read_first, all_read, range_of, offset_of, any_of, these, is_returns, body_read}
-use Rattle.declaration.specs.Drafts.{ranges_before}
+use Rattle.declaration.specs.Lines.{read_first, all_read, address_of, range_of, offset_of, any_of, these, is_returns, is_subject, body_read}
+use Rattle.declaration.specs.Drafts.{cells_before, ranges_before}
 
 or_assoc : (a b c : Bool) → (a || (b || c)) ≡ ((a || b) || c)
 or_assoc true b c = refl
@@ -112,6 +112,45 @@ body_none ws none = rw none refl
 
 pub body_empty : (ws others : List (List ℕ)) (w : List ℕ) → ws ≡ w ∷ others → is_returns w ≡ true → None ≡ body_read ws
 body_empty ws others w left is = rw (left, is) refl
+
+-- ---- up to the name of a subject
+
+before_other : (w : List ℕ) (ws : List (List ℕ)) → is_subject w ≡ false → before_first is_subject (w ∷ ws) ≡ w ∷ before_first is_subject ws
+before_other w ws not = rw (not, one_suc (position_or_len is_subject ws)) refl
+
+before_named : (w : List ℕ) (ws : List (List ℕ)) → is_subject w ≡ true → before_first is_subject (w ∷ ws) ≡ []
+before_named w ws is = rw is refl
+
+-- an address more before it
+pub places_step : (set new c : Words) (ws others : List (List ℕ)) (w : List ℕ) (all : Option Words) → ws ≡ w ∷ others → is_subject w ≡ false → Some c ≡ address_of w → new ≡ union set c → with_cells set (cells_before ws) ≡ all → with_cells new (cells_before others) ≡ all
+places_step set new c ws others w all left not is grown so_far =
+    cells_step address_of set new c (before_first is_subject ws) (before_first is_subject others) w all (ap (λ vs. before_first is_subject vs) left ∙ before_other w others not) is grown so_far
+
+-- a word before it that is no address
+pub places_fail : (set : Words) (ws others : List (List ℕ)) (w : List ℕ) (all : Option Words) → ws ≡ w ∷ others → is_subject w ≡ false → None ≡ address_of w → with_cells set (cells_before ws) ≡ all → None ≡ all
+places_fail set ws others w all left not is so_far =
+    cells_fail address_of set (before_first is_subject ws) (before_first is_subject others) w all (ap (λ vs. before_first is_subject vs) left ∙ before_other w others not) is so_far
+
+-- the name itself, and the end where there is none
+pub places_end : (set : Words) (ws others : List (List ℕ)) (w : List ℕ) (all : Option Words) → ws ≡ w ∷ others → is_subject w ≡ true → with_cells set (cells_before ws) ≡ all → Some set ≡ all
+places_end set ws others w all left is so_far =
+    cells_end address_of set (before_first is_subject ws) all (ap (λ vs. before_first is_subject vs) left ∙ before_named w others is) so_far
+
+pub places_done : (set : Words) (ws : List (List ℕ)) (all : Option Words) → ws ≡ [] → with_cells set (cells_before ws) ≡ all → Some set ≡ all
+places_done set ws all none so_far = cells_end address_of set (before_first is_subject ws) all (ap (λ vs. before_first is_subject vs) none) so_far
+
+-- the name that is found, and what follows it
+pub found_other : (ws others : List (List ℕ)) (w : List ℕ) → ws ≡ w ∷ others → is_subject w ≡ false → find is_subject ws ≡ find is_subject others
+found_other ws others w left not = rw (left, not) refl
+
+pub found_named : (ws others : List (List ℕ)) (w : List ℕ) → ws ≡ w ∷ others → is_subject w ≡ true → find is_subject ws ≡ Some w
+found_named ws others w left is = rw (left, is) refl
+
+pub after_unnamed : (ws others : List (List ℕ)) (w : List ℕ) → ws ≡ w ∷ others → is_subject w ≡ false → after_first is_subject ws ≡ after_first is_subject others
+after_unnamed ws others w left not = rw (left, not) (ap (λ n. drop n (w ∷ others)) (one_more (position_or_len is_subject others)))
+
+pub after_named : (ws others : List (List ℕ)) (w : List ℕ) → ws ≡ w ∷ others → is_subject w ≡ true → after_first is_subject ws ≡ others
+after_named ws others w left is = rw (left, is) refl
 
 -- ---- offsets
 

@@ -7,13 +7,17 @@ use Rattle.instruct.specs.declared.Profile.{Profile}
 use Rattle.instruct.specs.declared.Profile.TheVariants.{Pdp8I}
 use Rattle.std.proofs.lemmas.Bool.{cases_Bool, cases_eq, ne_eqb, le-leb}
 use Rattle.std.proofs.lemmas.List.Sums.{sum_by_more, sum_by-cons}
-use Rattle.wordset.specs.Words.{Words, SameWords, IsFirstFrom, HasNoneFrom}
+use Rattle.std.proofs.Math.Path.{fun_ext}
+use Rattle.wordset.specs.Words.{Words, nothing, SameWords, IsFirstFrom, HasNoneFrom}
 use Rattle.wordset.specs.Lanes.{words}
 use Rattle.wordset.proofs.SetLemmas.{word_small}
-use Rattle.declaration.specs.Kept.{subroutine_of}
-use Rattle.declaration.specs.Text.{Contents, profile_of, is_entry, in_bodies, bodies_at, entries_at, overlaps, entry_in_index, halt_outside}
+use Rattle.declaration.specs.Kept.{offsets_of, subroutine_of, further_of, place_assertion_of, return_assertion_of}
+use Rattle.declaration.specs.declared.FurtherOffsets.{FurtherOffsets as KeptFurtherOffsets}
+use Rattle.declaration.specs.declared.PlaceAssertion.{PlaceAssertion}
+use Rattle.declaration.specs.declared.ReturnAssertion.{ReturnAssertion}
+use Rattle.declaration.specs.Text.{Contents, profile_of, is_entry, in_bodies, bodies_at, entries_at, overlaps, entry_in_index, halt_outside, is_named_entry, is_held, misplaced}
 use Rattle.processor.specs.Machine.{is_auto_index}
-use Rattle.declaration.specs.Drafts.{Counts, kept_bodies, kept_entries}
+use Rattle.declaration.specs.Drafts.{Counts, kept_bodies, kept_entries, named_entries}
 use Rattle.declaration.specs.declared.coverage.Coverage.{Coverage}
 use Rattle.declaration.specs.declared.Routine.{Routine as KeptRoutine}
 
@@ -61,6 +65,11 @@ count_map f p (x ∷ xs) = count-cons p (f x) (map f xs) ∙ (ap (λ n. (if p (f
 pub any_map : {X Y : Type 0} (f : X → Y) (p : Y → Bool) (xs : List X) → list_any p (map f xs) ≡ list_any (λ x. p (f x)) xs
 any_map f p [] = refl
 any_map f p (x ∷ xs) = ap (λ b. p (f x) || b) (any_map f p xs)
+
+-- the offsets of a routine, by its own line and by others
+pub offsets_said : (routines : List KeptRoutine) (skips : List KeptFurtherOffsets) (e o : ℕ) → (list_any (λ r. r.entry == e && offsets_of r.offsets o) routines || list_any (λ s. s.entry == e && words s.offsets o) skips)
+    ≡ (list_any (λ r. r.entry == e && r.offsets o) (map subroutine_of routines) || list_any (λ s. s.entry == e && s.offsets o) (map further_of skips))
+offsets_said routines skips e o = rw (any_map subroutine_of (λ r. r.entry == e && r.offsets o) routines, any_map further_of (λ s. s.entry == e && s.offsets o) skips) refl
 
 -- counts that agree below 4096
 pub Counts-same : (coverage : Coverage) (n m : ℕ → ℕ) → Counts coverage n → ((a : ℕ) → a < 4096 → n a ≡ m a) → Counts coverage m
@@ -149,6 +158,55 @@ entry_in_index_found c entries index v h e is = rw (e.once v h, is_entry_once c 
 pub halt_outside_found : (c : Contents) (bodies : Coverage) (v : ℕ) → v < 4096 → Counts bodies (bodies_at c) → (stop pause : Bool) → stop ≡ c.stop v → pause ≡ c.pause v
     → ((stop || pause) && not (words bodies.once v)) ≡ halt_outside c v
 halt_outside_found c bodies v h b stop pause is_stop is_pause = rw (b.once v h, in_bodies_once c v, is_stop, is_pause) refl
+
+-- ---- what is misplaced
+
+-- the cells that are named as entries, and those at which something is to hold, as they are kept
+pub named_kept : (c : Contents) (moves : List ℕ) (skips skipped : List KeptFurtherOffsets) (returns returned : List ReturnAssertion) (a : ℕ) → c.moves ≡ words moves → skips ≡ skipped → c.skips ≡ map further_of skipped → returns ≡ returned → c.returns ≡ map return_assertion_of returned
+    → named_entries (words moves) skips returns a ≡ is_named_entry c a
+named_kept c moves skips skipped returns returned a is_moves same_skips is_skips same_returns is_returns =
+    rw (is_moves, same_skips, is_skips, same_returns, is_returns, any_map further_of (λ s. s.entry == a) skipped, any_map return_assertion_of (λ r. r.entry == a) returned) refl
+
+pub held_kept : (c : Contents) (holds held : List PlaceAssertion) (a : ℕ) → holds ≡ held → c.holds ≡ map place_assertion_of held → list_any (λ h. words h.places a) holds ≡ is_held c a
+held_kept c holds held a same is = rw (same, is, any_map place_assertion_of (λ h. h.places a) held) refl
+
+pub misplaced_found : (c : Contents) (bodies entries : Coverage) (v : ℕ) → v < 4096 → Counts bodies (bodies_at c) → Counts entries (entries_at c) → (named abandon main held : Bool) → named ≡ is_named_entry c v → abandon ≡ c.abandon v → main ≡ c.main v → held ≡ is_held c v
+    → ((named && not (words entries.once v)) || (abandon && not main) || (held && not (words bodies.once v))) ≡ misplaced c v
+misplaced_found c bodies entries v h b e named abandon main held is_named is_abandon is_main holds =
+    rw (b.once v h, in_bodies_once c v, e.once v h, is_entry_once c v, is_named, is_abandon, is_main, holds) refl
+
+-- one of a list more
+pub any_more : {X : Type 0} (p : X → Bool) (xs : List X) (i : ℕ) (x : X) → i < length xs → x ≡ get_or xs i x → list_any p (take (i + 1) xs) ≡ (list_any p (take i xs) || p x)
+any_more p xs i x h is =
+    let more : count_by p (take (i + 1) xs) ≡ count_by p (take i xs) + (if p (get_or xs i x) then 1 else 0) = sum_by_more (λ y. cond (p y) 1 0) xs i x h in
+    let same : (if p (get_or xs i x) then 1 else 0) ≡ (if p x then 1 else 0) = ap (λ y. if p y then 1 else 0) (sym is) in
+    sym (some_counted p (take (i + 1) xs)) ∙ (ap (λ n. nat_le 1 n) (more ∙ ap (λ n. count_by p (take i xs) + n) same) ∙ (or_some (count_by p (take i xs)) (p x) ∙ ap (λ b. b || p x) (some_counted p (take i xs))))
+  where
+    or_truth : (b : Bool) → (b || true) ≡ true
+    or_truth true = refl
+    or_truth false = refl
+
+    or_falsity : (b : Bool) → (b || false) ≡ b
+    or_falsity true = refl
+    or_falsity false = refl
+
+    or_some : (n : ℕ) (b : Bool) → nat_le 1 (n + (if b then 1 else 0)) ≡ (nat_le 1 n || b)
+    or_some n true = le-leb 1 (n + 1) (omega arith) ∙ sym (or_truth (nat_le 1 n))
+    or_some n false = ap (λ k. nat_le 1 k) (add-zero n) ∙ sym (or_falsity (nat_le 1 n))
+
+-- a cell of each of them more, and a set of each of them more
+pub cell_more : {X : Type 0} (cell : X → ℕ) (set new : Words) (xs : List X) (i : ℕ) (x : X) → i < length xs → x ≡ get_or xs i x → set ≡ (λ a. list_any (λ y. cell y == a) (take i xs)) → new ≡ (λ a. set a || a == cell x)
+    → new ≡ (λ a. list_any (λ y. cell y == a) (take (i + 1) xs))
+cell_more cell set new xs i x h is so_far grown =
+    grown ∙ fun_ext (λ a. ap (λ (s : Words). s a || a == cell x) so_far ∙ (ap (λ b. list_any (λ y. cell y == a) (take i xs) || b) (eqb-turned a (cell x)) ∙ sym (any_more (λ y. cell y == a) xs i x h is)))
+
+pub set_more : {X : Type 0} (cells : X → Words) (set new : Words) (xs : List X) (i : ℕ) (x : X) → i < length xs → x ≡ get_or xs i x → set ≡ (λ a. list_any (λ y. cells y a) (take i xs)) → new ≡ (λ a. set a || cells x a)
+    → new ≡ (λ a. list_any (λ y. cells y a) (take (i + 1) xs))
+set_more cells set new xs i x h is so_far grown =
+    grown ∙ fun_ext (λ a. ap (λ (s : Words). s a || cells x a) so_far ∙ sym (any_more (λ y. cells y a) xs i x h is))
+
+pub none_yet : {X : Type 0} (p : X → ℕ → Bool) (set : Words) (xs : List X) → set ≡ nothing → set ≡ (λ a. list_any (λ y. p y a) (take 0 xs))
+none_yet p set xs none = none ∙ fun_ext (λ a. refl)
 
 -- the machine, or the 8/I
 pub profile_or : (p : Option Profile) → unwrap_or p Pdp8I ≡ profile_of (option_to_list p)

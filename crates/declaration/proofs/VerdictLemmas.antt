@@ -8,11 +8,11 @@ use Rattle.wordset.specs.Words.{Words, first_below, IsFirstFrom, HasNoneFrom}
 use Rattle.wordset.proofs.Firsts.{first_is}
 use Rattle.streams.specs.Text.{text_lines}
 use Rattle.declaration.specs.Declaration.{Declaration}
-use Rattle.declaration.specs.Lines.{Line, Nothing, Start, Main, Sub, Variables, Stops, Pauses, Machine, Reads, line_of}
-use Rattle.declaration.specs.Text.{Contents, contents, start_in, profile_in, routine_in, overlaps, entry_in_index, halt_outside, LineFails, RuleFails, AreGood, HasGoodLines, Declares, StandsAfter, FailsAtLine, FailsAtRule, Fails, most_bytes, most_routines}
+use Rattle.declaration.specs.Lines.{Line, Nothing, Start, Main, Sub, Variables, Stops, Pauses, Machine, Reads, Skips, Moves, Abandon, Holds, Returns, line_of}
+use Rattle.declaration.specs.Text.{Contents, contents, start_in, profile_in, routine_in, skips_in, holds_in, returns_in, assertions_in, IsOneTooMany, overlaps, entry_in_index, halt_outside, misplaced, LineFails, RuleFails, AreGood, HasGoodLines, Declares, StandsAfter, FailsAtLine, FailsAtRule, Fails, most_bytes, most_routines, most_skips, most_assertions}
 use Rattle.declaration.specs.Drafts.{with_line}
 use Rattle.declaration.specs.declared.DeclarationFault.{DeclarationFault}
-use Rattle.declaration.specs.declared.DeclarationFault.TheVariants.{BadLine, TwoStarts, TwoProfiles, NoStart, Overlap, EntryInAutoIndex, StartNotInMain, TooMany, HaltNotInBody, NoMemory}
+use Rattle.declaration.specs.declared.DeclarationFault.TheVariants.{BadLine, TwoStarts, TwoProfiles, NoStart, Overlap, EntryInAutoIndex, StartNotInMain, TooMany, HaltNotInBody, Misplaced, NoMemory}
 use Rattle.declaration.proofs.DraftLemmas.{contents-push}
 
 -- a fault, or else another
@@ -37,6 +37,11 @@ line_fault c n (Some (Stops x)) = None
 line_fault c n (Some (Pauses x)) = None
 line_fault c n (Some (Machine x)) = if nat_le 1 (length c.profiles) then Some (TwoProfiles n) else None
 line_fault c n (Some (Reads x)) = None
+line_fault c n (Some (Skips x)) = if nat_le most_skips (length c.skips) then Some TooMany else None
+line_fault c n (Some (Moves x)) = None
+line_fault c n (Some (Abandon x)) = None
+line_fault c n (Some (Holds x)) = if nat_le most_assertions (assertions_in c) then Some TooMany else None
+line_fault c n (Some (Returns x)) = if nat_le most_assertions (assertions_in c) then Some TooMany else None
 
 abbrev said_after : Contents → Option Line → Contents
 said_after c None = c
@@ -47,7 +52,8 @@ abbrev rule_fault : Contents → List ℕ → Option DeclarationFault
 rule_fault c [] = Some NoStart
 rule_fault c (s ∷ more) =
     or_else (at_cell Overlap (first_below 4096 (overlaps c))) (or_else (at_cell EntryInAutoIndex (first_below 4096 (entry_in_index c)))
-    (or_else (if c.main s then None else Some StartNotInMain) (at_cell HaltNotInBody (first_below 4096 (halt_outside c)))))
+    (or_else (if c.main s then None else Some StartNotInMain) (or_else (at_cell HaltNotInBody (first_below 4096 (halt_outside c)))
+    (at_cell Misplaced (first_below 4096 (misplaced c))))))
 
 abbrev scan : ℕ → Contents → List (List ℕ) → Option DeclarationFault
 scan n c [] = rule_fault c c.starts
@@ -62,15 +68,28 @@ record Within (c : Contents) : Type 0 where
   starts : length c.starts ≤ 1
   profiles : length c.profiles ≤ 1
   few : length c.routines ≤ most_routines
+  few_skips : length c.skips ≤ most_skips
+  few_assertions : assertions_in c ≤ most_assertions
 
 fewer : {X : Type 0} (part : Line → List X) (xs ys : List Line) (n : ℕ) → length (flat_map part (xs ++ ys)) ≤ n → length (flat_map part xs) ≤ n
 fewer part xs ys n h = omega (arith, ap length (flat_map-append part xs ys), length-append (flat_map part xs) (flat_map part ys))
+
+fewer_assertions : (xs ys : List Line) (n : ℕ) → assertions_in (contents (xs ++ ys)) ≤ n → assertions_in (contents xs) ≤ n
+fewer_assertions xs ys n h = omega (
+  arith,
+  ap length (flat_map-append holds_in xs ys),
+  length-append (flat_map holds_in xs) (flat_map holds_in ys),
+  ap length (flat_map-append returns_in xs ys),
+  length-append (flat_map returns_in xs) (flat_map returns_in ys),
+)
 
 Within-front : (xs ys : List Line) → Within (contents (xs ++ ys)) → Within (contents xs)
 Within-front xs ys w = record {
   starts = fewer start_in xs ys 1 w.starts;
   profiles = fewer profile_in xs ys 1 w.profiles;
   few = fewer routine_in xs ys most_routines w.few;
+  few_skips = fewer skips_in xs ys most_skips w.few_skips;
+  few_assertions = fewer_assertions xs ys most_assertions w.few_assertions;
 }
 
 not_first : (a b : ℕ) → b < a → nat_le a b ≡ false
@@ -86,6 +105,11 @@ no_fault c n (Stops x) w = refl
 no_fault c n (Pauses x) w = refl
 no_fault c n (Machine x) w = rw (not_first 1 (length c.profiles) (omega (arith, w.profiles, length-append c.profiles (x ∷ [])))) refl
 no_fault c n (Reads x) w = refl
+no_fault c n (Skips x) w = rw (not_first most_skips (length c.skips) (omega (arith, w.few_skips, length-append c.skips (x ∷ [])))) refl
+no_fault c n (Moves x) w = refl
+no_fault c n (Abandon x) w = refl
+no_fault c n (Holds x) w = rw (not_first most_assertions (assertions_in c) (omega (arith, w.few_assertions, length-append c.holds (x ∷ [])))) refl
+no_fault c n (Returns x) w = rw (not_first most_assertions (assertions_in c) (omega (arith, w.few_assertions, length-append c.returns (x ∷ [])))) refl
 
 scan-good : (n : ℕ) (before rest : List (List ℕ)) (so_far lines : List Line) → map line_of before ≡ map Some lines → Within (contents (so_far ++ lines))
     → scan n (contents so_far) (before ++ rest) ≡ scan (n + length before) (contents (so_far ++ lines)) rest
@@ -107,7 +131,7 @@ scan-good n (t ∷ ts) rest so_far (l ∷ ls) say w =
     ∙ (ih ∙ (ap (λ k. scan k (contents ((so_far ++ l ∷ []) ++ ls)) rest) count ∙ ap (λ xs. scan (n + length (t ∷ ts)) (contents xs) rest) together))))
 
 Within-good : (texts : List (List ℕ)) (lines : List Line) → AreGood texts lines → Within (contents lines)
-Within-good texts lines g = record { starts = g.starts; profiles = g.profiles; few = g.few }
+Within-good texts lines g = record { starts = g.starts; profiles = g.profiles; few = g.few; few_skips = g.few_skips; few_assertions = g.few_assertions }
 
 -- where a line stands after good ones, the fault is that of its line or after it
 verdict-at : (text : List ℕ) (lines : List Line) (number : ℕ) (line : List ℕ) (s : StandsAfter text lines number line) → verdict text ≡ or_else (line_fault (contents lines) number (line_of line)) (scan number (said_after (contents lines) (line_of line)) s.stands.after)
@@ -125,6 +149,14 @@ verdict-all text lines g =
 
 -- ---- each fault
 
+-- a line that is one too many fails so
+one-too-many : (c : Contents) (number : ℕ) (l : Line) → IsOneTooMany c l → line_fault c number (Some l) ≡ Some TooMany
+one-too-many c number (Sub r) full = rw (le-leb most_routines (length c.routines) full) refl
+one-too-many c number (Skips s) full = rw (le-leb most_skips (length c.skips) full) refl
+one-too-many c number (Holds h) full = rw (le-leb most_assertions (assertions_in c) full) refl
+one-too-many c number (Returns r) full = rw (le-leb most_assertions (assertions_in c) full) refl
+one-too-many c number _ full = absurd full
+
 -- the fault of a line that fails is its fault
 line-fails : (c : Contents) (number : ℕ) (line : Option Line) (fault : DeclarationFault) → LineFails c number line fault → fault ≢ NoMemory → line_fault c number line ≡ Some fault
 line-fails c number line (BadLine n) f known = ap (line_fault c number) f.1 ∙ ap (λ k. Some (BadLine k)) (sym f.0)
@@ -132,13 +164,14 @@ line-fails c number line (TwoStarts n) f known =
     ap (line_fault c number) f.2 ∙ (ap (λ k. if nat_le 1 k then Some (TwoStarts number) else None) f.3 ∙ ap (λ k. Some (TwoStarts k)) (sym f.0))
 line-fails c number line (TwoProfiles n) f known =
     ap (line_fault c number) f.2 ∙ (ap (λ k. if nat_le 1 k then Some (TwoProfiles number) else None) f.3 ∙ ap (λ k. Some (TwoProfiles k)) (sym f.0))
-line-fails c number line TooMany f known = ap (line_fault c number) f.1 ∙ (rw (le-leb most_routines (length c.routines) f.2) refl)
+line-fails c number line TooMany f known = ap (line_fault c number) f.1 ∙ one-too-many c number f.0 f.2
 line-fails c number line NoMemory f known = absurd (known refl)
 line-fails c number line NoStart f known = absurd f
 line-fails c number line (Overlap a) f known = absurd f
 line-fails c number line (EntryInAutoIndex a) f known = absurd f
 line-fails c number line StartNotInMain f known = absurd f
 line-fails c number line (HaltNotInBody a) f known = absurd f
+line-fails c number line (Misplaced a) f known = absurd f
 
 verdict-line : (text : List ℕ) (fault : DeclarationFault) → FailsAtLine text fault → fault ≢ NoMemory → verdict text ≡ Some fault
 verdict-line text fault f known =
@@ -157,6 +190,7 @@ rule-broken c (Overlap a) b = ap (rule_fault c) b.starts ∙ (rw (found_first (o
 rule-broken c (EntryInAutoIndex a) b = ap (rule_fault c) b.starts ∙ (rw (found_none (overlaps c) b.apart, found_first (entry_in_index c) a b.least) refl)
 rule-broken c StartNotInMain b = ap (rule_fault c) b.starts ∙ (rw (found_none (overlaps c) b.apart, found_none (entry_in_index c) b.outside_index, b.outside) refl)
 rule-broken c (HaltNotInBody a) b = ap (rule_fault c) b.starts ∙ (rw (found_none (overlaps c) b.apart, found_none (entry_in_index c) b.outside_index, b.start_in_main, found_first (halt_outside c) a b.least) refl)
+rule-broken c (Misplaced a) b = ap (rule_fault c) b.starts ∙ (rw (found_none (overlaps c) b.apart, found_none (entry_in_index c) b.outside_index, b.start_in_main, found_none (halt_outside c) b.halts_inside, found_first (misplaced c) a b.least) refl)
 rule-broken c (BadLine n) b = absurd b
 rule-broken c (TwoStarts n) b = absurd b
 rule-broken c (TwoProfiles n) b = absurd b
@@ -179,13 +213,14 @@ verdict-fails text (Overlap a) short f known = verdict-rule text (Overlap a) f
 verdict-fails text (EntryInAutoIndex a) short f known = verdict-rule text (EntryInAutoIndex a) f
 verdict-fails text StartNotInMain short f known = verdict-rule text StartNotInMain f
 verdict-fails text (HaltNotInBody a) short f known = verdict-rule text (HaltNotInBody a) f
+verdict-fails text (Misplaced a) short f known = verdict-rule text (Misplaced a) f
 
 -- a declaration has none
 verdict-declares : (text : List ℕ) (d : Declaration) → Declares text d → verdict text ≡ None
 verdict-declares text d s =
     verdict-all text s.lines s.good
     ∙ (ap (rule_fault (contents s.lines)) s.says.start
-    ∙ (rw (found_none (overlaps (contents s.lines)) s.rules.apart, found_none (entry_in_index (contents s.lines)) s.rules.outside_index, s.rules.start_in_main, found_none (halt_outside (contents s.lines)) s.rules.halts_inside) refl))
+    ∙ (rw (found_none (overlaps (contents s.lines)) s.rules.apart, found_none (entry_in_index (contents s.lines)) s.rules.outside_index, s.rules.start_in_main, found_none (halt_outside (contents s.lines)) s.rules.halts_inside, found_none (misplaced (contents s.lines)) s.rules.placed) refl))
 
 is_memory : (fault : DeclarationFault) → (fault ≡ NoMemory) ⊎ (fault ≢ NoMemory)
 is_memory NoMemory = inl refl
@@ -198,6 +233,7 @@ is_memory (Overlap a) = inr (λ e. cc)
 is_memory (EntryInAutoIndex a) = inr (λ e. cc)
 is_memory StartNotInMain = inr (λ e. cc)
 is_memory (HaltNotInBody a) = inr (λ e. cc)
+is_memory (Misplaced a) = inr (λ e. cc)
 
 -- a text that has a declaration fails by want of memory alone
 pub only_memory : (text : List ℕ) (d : Declaration) (fault : DeclarationFault) → Declares text d → Fails text fault → fault ≡ NoMemory
@@ -231,3 +267,4 @@ too_long text (Overlap a) long f known = absurd (omega (arith, f.good.short))
 too_long text (EntryInAutoIndex a) long f known = absurd (omega (arith, f.good.short))
 too_long text StartNotInMain long f known = absurd (omega (arith, f.good.short))
 too_long text (HaltNotInBody a) long f known = absurd (omega (arith, f.good.short))
+too_long text (Misplaced a) long f known = absurd (omega (arith, f.good.short))

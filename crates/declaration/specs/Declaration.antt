@@ -1,16 +1,34 @@
 -- A declaration: what the author of a program promises of its runs.
-use Rattle.std.specs.Prelude.{◌≡◌, ℕ, ◌<◌, true, false, ◌⊎◌, Option, Some, None}
+use Rattle.std.specs.Prelude.{◌≡◌, ℕ, ◌<◌, true, false, ◌⊎◌, Option, Some, None, List}
 use Rattle.instruct.specs.declared.Profile.{Profile}
 use Rattle.wordset.specs.Words.{Words}
 use Rattle.processor.specs.Machine.{is_auto_index}
+use Rattle.declaration.specs.declared.Subject.{Subject}
 
 -- A routine is known by its entry; None is the main program.
 abbrev pub Routine : Type 0
 Routine = Option ℕ
 
+-- An assertion: the subject has one of these words.
+pub record Assertion : Type 0 where
+  pub subject : Subject
+  pub words : Words
+
+-- What is to hold whenever control is at one of these places, before the instruction there.
+pub record PlaceAssertion : Type 0 where
+  pub places : Words
+  pub assertion : Assertion
+
+-- What is to hold whenever the routine of the entry returns by one of these offsets.
+pub record ReturnAssertion : Type 0 where
+  pub entry : ℕ
+  pub offsets : Words
+  pub assertion : Assertion
+
 -- The start; for each routine the cells of its body; the entries, and for each the offsets at which it may return; the
--- variable cells; the declared halts, at a stop or at a pause; the machine; and the cells that may be read, if they are
--- listed.
+-- variable cells; the declared halts, at a stop or at a pause; the machine; the cells that may be read, if they are
+-- listed; the entries of the routines that may store in them; the places for which all open calls may be abandoned; and
+-- what is to hold at places and at returns.
 pub record Declaration : Type 0 where
   pub start : ℕ
   pub body : Routine → Words
@@ -21,9 +39,14 @@ pub record Declaration : Type 0 where
   pub pause : Words
   pub profile : Profile
   pub reads : Option Words
+  pub moves : Words
+  pub abandon : Words
+  pub holds : List PlaceAssertion
+  pub returns : List ReturnAssertion
 
 -- The overlap rules. Bodies are disjoint; an entry is in no body, no variable and no auto-index cell; no cell is both a
--- stop and a pause; the program starts in main's body and halts in bodies.
+-- stop and a pause; the program starts in main's body and halts in bodies; each cell that
+-- `moves` names is an entry; and each place for which calls may be abandoned is in main's body.
 pub record IsDeclared (d : Declaration) : Type 0 where
   pub start_is_word : d.start < 4096
   pub entry_is_word : (e : ℕ) → d.entry e ≡ true → e < 4096
@@ -35,6 +58,8 @@ pub record IsDeclared (d : Declaration) : Type 0 where
   pub entry_not_index : (e : ℕ) → d.entry e ≡ true → is_auto_index e ≡ false
   pub stop_not_pause : (a : ℕ) → d.pause a ≡ true → d.stop a ≡ false
   pub halt_in_body : (a : ℕ) → (d.stop a ≡ true) ⊎ (d.pause a ≡ true) → (r : Routine) × (d.body r a ≡ true)
+  pub moves_entry : (e : ℕ) → d.moves e ≡ true → d.entry e ≡ true
+  pub abandon_in_main : (a : ℕ) → d.abandon a ≡ true → d.body None a ≡ true
 
 -- Where reads are listed, the cell is on the list.
 abbrev pub IsListed : Option Words → ℕ → Type 0

@@ -1,12 +1,15 @@
 -- What each line of a declaration says, by its words.
-use Rattle.std.specs.Prelude.{ℕ, ◌+◌, ◌==◌, nat_le, Bool, if◌then◌else◌, codes, List, [], ◌∷◌, length, take, drop, Option, Some, None}
-use Rattle.std.specs.List.{list_any, position, before_first, after_first}
+use Rattle.std.specs.Prelude.{ℕ, ◌+◌, ◌==◌, ◌||◌, nat_le, Bool, if◌then◌else◌, codes, List, [], ◌∷◌, length, take, drop, Option, Some, None}
+use Rattle.std.specs.List.{list_any, position, before_first, after_first, find}
 use Rattle.std.specs.Option.{option_map}
 use Rattle.std.specs.Str.{bytes_eq}
 use Rattle.instruct.specs.declared.Profile.{Profile}
 use Rattle.instruct.specs.declared.Profile.TheVariants.{Pdp8I, Pdp8E}
-use Rattle.wordset.specs.Words.{Words, one, between}
+use Rattle.wordset.specs.Words.{Words, one, between, difference, has_some}
 use Rattle.streams.specs.Text.{words_of, octal_word}
+use Rattle.declaration.specs.Declaration.{Assertion, PlaceAssertion, ReturnAssertion}
+use Rattle.declaration.specs.declared.Subject.{Subject}
+use Rattle.declaration.specs.declared.Subject.TheVariants.{Accumulator, Link, Mq, Cell}
 
 -- A routine as a line gives it: its entry, the cells of its body, and the offsets at which it may return.
 pub record Subroutine : Type 0 where
@@ -14,8 +17,14 @@ pub record Subroutine : Type 0 where
   pub body : Words
   pub offsets : Words
 
+-- Further offsets of a routine as a line gives them: its entry, and the offsets.
+pub record FurtherOffsets : Type 0 where
+  pub entry : ℕ
+  pub offsets : Words
+
 -- What a line says: nothing, where it's empty; the start; cells of main's body; a routine; variable cells; stops;
--- pauses; the machine; cells that may be read.
+-- pauses; the machine; cells that may be read; further offsets of a routine; entries in which their routines may store;
+-- places for which calls may be abandoned; what is to hold at places; what is to hold at returns.
 pub data Line : Type 0 where
   Nothing : Line
   Start : ℕ → Line
@@ -26,6 +35,11 @@ pub data Line : Type 0 where
   Pauses : Words → Line
   Machine : Profile → Line
   Reads : Words → Line
+  Skips : FurtherOffsets → Line
+  Moves : Words → Line
+  Abandon : Words → Line
+  Holds : PlaceAssertion → Line
+  Returns : ReturnAssertion → Line
 
 -- The list of a first word and of others as they read; none where one of them doesn't read.
 abbrev pub read_first : {X : Type 0} → Option X → Option (List X) → Option (List X)
@@ -131,6 +145,114 @@ profile_line (word ∷ []) =
     else (if bytes_eq word (codes "8e") then Some (Machine Pdp8E) else None)
 profile_line (word ∷ other ∷ others) = None
 
+-- All offsets, 0 to 77.
+abbrev pub every_offset : Words
+every_offset = between 0 63
+
+-- The set, if each of its words is an offset; none otherwise.
+abbrev pub if_offsets : Option Words → Option Words
+if_offsets None = None
+if_offsets (Some set) = if has_some (difference set every_offset) then None else Some set
+
+-- Further offsets, where the entry and they read.
+abbrev pub further : Option ℕ → Option Words → Option Line
+further None offsets = None
+further (Some entry) None = None
+further (Some entry) (Some offsets) = Some (Skips (record { entry = entry; offsets = offsets }))
+
+-- The words after `skips`: an entry, and ranges of offsets.
+abbrev pub skips_line : List (List ℕ) → Option Line
+skips_line [] = None
+skips_line (entry ∷ rest) = further (octal_word entry) (if_offsets (ranges_of rest))
+
+-- The word names the subject of an assertion.
+abbrev pub is_subject : List ℕ → Bool
+is_subject word =
+    bytes_eq word (codes "ac") || bytes_eq word (codes "mq") || bytes_eq word (codes "link") || bytes_eq word (codes "cell")
+
+-- The assertion on a subject, where its words read.
+abbrev pub asserted : Subject → Option Words → Option Assertion
+asserted subject None = None
+asserted subject (Some words) = Some (record { subject = subject; words = words })
+
+-- The set of the bit that a word spells, `0` or `1`.
+abbrev pub bit_of : List ℕ → Option Words
+bit_of word =
+    if bytes_eq word (codes "0") then Some (one 0) else (if bytes_eq word (codes "1") then Some (one 1) else None)
+
+-- The one word after `link`.
+abbrev pub link_of : List (List ℕ) → Option Words
+link_of [] = None
+link_of (word ∷ []) = bit_of word
+link_of (word ∷ other ∷ others) = None
+
+-- The assertion on a cell, where its address and its words read.
+abbrev pub asserted_of_cell : Option ℕ → Option Words → Option Assertion
+asserted_of_cell None words = None
+asserted_of_cell (Some a) words = asserted (Cell a) words
+
+-- The words after `cell`: an address, and ranges of words.
+abbrev pub cell_assertion : List (List ℕ) → Option Assertion
+cell_assertion [] = None
+cell_assertion (cell ∷ rest) = asserted_of_cell (octal_word cell) (ranges_of rest)
+
+-- An assertion by the name of its subject and the words after it.
+abbrev pub named_assertion : List ℕ → List (List ℕ) → Option Assertion
+named_assertion name rest =
+    if bytes_eq name (codes "ac") then asserted Accumulator (ranges_of rest)
+    else (if bytes_eq name (codes "mq") then asserted Mq (ranges_of rest)
+    else (if bytes_eq name (codes "link") then asserted Link (link_of rest)
+    else (if bytes_eq name (codes "cell") then cell_assertion rest
+    else None)))
+
+-- The assertion of a name, if there is one.
+abbrev pub assertion_by : Option (List ℕ) → List (List ℕ) → Option Assertion
+assertion_by None rest = None
+assertion_by (Some name) rest = named_assertion name rest
+
+-- The assertion that begins with the first word that names a subject.
+abbrev pub assertion_in : List (List ℕ) → Option Assertion
+assertion_in words = assertion_by (find is_subject words) (after_first is_subject words)
+
+-- What is to hold at places, where they and the assertion read.
+abbrev pub holding : Option Words → Option Assertion → Option Line
+holding None assertion = None
+holding (Some places) None = None
+holding (Some places) (Some assertion) = Some (Holds (record { places = places; assertion = assertion }))
+
+-- The words after `holds`: addresses, and an assertion.
+abbrev pub holds_line : List (List ℕ) → Option Line
+holds_line words = holding (addresses_of (before_first is_subject words)) (assertion_in words)
+
+-- The offsets that these words spell, each of them one; all offsets where there is no word.
+abbrev pub offsets_named : List (List ℕ) → Option Words
+offsets_named [] = Some every_offset
+offsets_named (word ∷ words) = if_offsets (addresses_of (word ∷ words))
+
+-- What is to hold at returns, where the entry, the offsets and the assertion read.
+abbrev pub returning : Option ℕ → Option Words → Option Assertion → Option Line
+returning None offsets assertion = None
+returning (Some entry) None assertion = None
+returning (Some entry) (Some offsets) None = None
+returning (Some entry) (Some offsets) (Some assertion) =
+    Some (Returns (record { entry = entry; offsets = offsets; assertion = assertion }))
+
+-- The words after `returns`: an entry, offsets, and an assertion.
+abbrev pub returns_line : List (List ℕ) → Option Line
+returns_line [] = None
+returns_line (entry ∷ words) =
+    returning (octal_word entry) (offsets_named (before_first is_subject words)) (assertion_in words)
+
+-- A line on how routines return, or on what is to hold, by its first word and those after it.
+abbrev pub further_line : List ℕ → List (List ℕ) → Option Line
+further_line name rest =
+    if bytes_eq name (codes "skips") then skips_line rest
+    else (if bytes_eq name (codes "moves") then option_map Moves (addresses_of rest)
+    else (if bytes_eq name (codes "abandon") then option_map Abandon (addresses_of rest)
+    else (if bytes_eq name (codes "holds") then holds_line rest
+    else (if bytes_eq name (codes "returns") then returns_line rest
+    else None))))
+
 -- A line by its first word and those after it. `read` alone brings a list of reads with no cell.
 abbrev pub named_line : List ℕ → List (List ℕ) → Option Line
 named_line name rest =
@@ -142,7 +264,7 @@ named_line name rest =
     else (if bytes_eq name (codes "pause") then option_map Pauses (addresses_of rest)
     else (if bytes_eq name (codes "profile") then profile_line rest
     else (if bytes_eq name (codes "read") then option_map (λ sets. Reads (any_of sets)) (all_read range_of rest)
-    else None)))))))
+    else further_line name rest)))))))
 
 -- A line by its words. Any other line is bad.
 abbrev pub line_by : List (List ℕ) → Option Line

@@ -7,12 +7,12 @@ use Rattle.wordset.specs.Words.{Words, nothing, IsFirstFrom, HasNoneFrom}
 use Rattle.processor.specs.Machine.{is_auto_index}
 use Rattle.streams.specs.Taking.{StandsAt}
 use Rattle.streams.specs.Text.{text_lines}
-use Rattle.declaration.specs.Declaration.{Declaration}
-use Rattle.declaration.specs.Lines.{Subroutine, Line, Start, Main, Sub, Variables, Stops, Pauses, Machine, Reads, line_of}
+use Rattle.declaration.specs.Declaration.{Declaration, PlaceAssertion, ReturnAssertion}
+use Rattle.declaration.specs.Lines.{Subroutine, FurtherOffsets, Line, Start, Main, Sub, Variables, Stops, Pauses, Machine, Reads, Skips, Moves, Abandon, Holds, Returns, line_of}
 use Rattle.declaration.specs.Kept.{subroutine_of}
 use Rattle.declaration.specs.declared.Routine.{Routine as KeptRoutine}
 use Rattle.declaration.specs.declared.DeclarationFault.{DeclarationFault}
-use Rattle.declaration.specs.declared.DeclarationFault.TheVariants.{BadLine, TwoStarts, TwoProfiles, NoStart, Overlap, EntryInAutoIndex, StartNotInMain, TooMany, HaltNotInBody, NoMemory}
+use Rattle.declaration.specs.declared.DeclarationFault.TheVariants.{BadLine, TwoStarts, TwoProfiles, NoStart, Overlap, EntryInAutoIndex, StartNotInMain, TooMany, HaltNotInBody, Misplaced, NoMemory}
 
 -- A text of a declaration has at most so many bytes.
 abbrev pub most_bytes : ℕ
@@ -22,8 +22,18 @@ most_bytes = 16384
 abbrev pub most_routines : ℕ
 most_routines = 64
 
+-- A text has at most so many lines of further offsets.
+abbrev pub most_skips : ℕ
+most_skips = 64
+
+-- A text asserts at most so much, at places and at returns.
+abbrev pub most_assertions : ℕ
+most_assertions = 256
+
 -- What lines say together: the starts, the machines and the routines in the order of their lines; the cells of main's
--- body, the variables, the stops and the pauses; and the cells that may be read, if some line lists them.
+-- body, the variables, the stops and the pauses; the cells that may be read, if some line lists them; further offsets in
+-- the order of their lines; the entries in which their routines may store; the places for which calls may be abandoned;
+-- and what is to hold at places and at returns, in the order of the lines.
 pub record Contents : Type 0 where
   pub starts : List ℕ
   pub profiles : List Profile
@@ -33,6 +43,11 @@ pub record Contents : Type 0 where
   pub stop : Words
   pub pause : Words
   pub reads : Option Words
+  pub skips : List FurtherOffsets
+  pub moves : Words
+  pub abandon : Words
+  pub holds : List PlaceAssertion
+  pub returns : List ReturnAssertion
 
 -- The start that this line gives, as a list: none where it gives another thing.
 abbrev pub start_in : Line → List ℕ
@@ -79,6 +94,31 @@ abbrev pub lists_reads : Line → Bool
 lists_reads (Reads cells) = true
 lists_reads _ = false
 
+-- The further offsets that this line gives, as a list: none where it says another thing.
+abbrev pub skips_in : Line → List FurtherOffsets
+skips_in (Skips s) = s ∷ []
+skips_in _ = []
+
+-- The entries that this line lets be stored in, no cell where it says another thing.
+abbrev pub moves_in : Line → Words
+moves_in (Moves cells) = cells
+moves_in _ = nothing
+
+-- The places for which this line lets calls be abandoned, no cell where it says another thing.
+abbrev pub abandon_in : Line → Words
+abandon_in (Abandon cells) = cells
+abandon_in _ = nothing
+
+-- What is to hold at places by this line, as a list: none where it says another thing.
+abbrev pub holds_in : Line → List PlaceAssertion
+holds_in (Holds h) = h ∷ []
+holds_in _ = []
+
+-- What is to hold at returns by this line, as a list: none where it says another thing.
+abbrev pub returns_in : Line → List ReturnAssertion
+returns_in (Returns r) = r ∷ []
+returns_in _ = []
+
 -- The cells that some line gives.
 abbrev pub in_some : (Line → Words) → List Line → Words
 in_some cells_in lines a = list_any (λ line. cells_in line a) lines
@@ -94,7 +134,16 @@ contents lines = record {
   stop = in_some stop_in lines;
   pause = in_some pause_in lines;
   reads = if list_any lists_reads lines then Some (in_some reads_in lines) else None;
+  skips = flat_map skips_in lines;
+  moves = in_some moves_in lines;
+  abandon = in_some abandon_in lines;
+  holds = flat_map holds_in lines;
+  returns = flat_map returns_in lines;
 }
+
+-- How much is asserted, at places and at returns.
+abbrev pub assertions_in : Contents → ℕ
+assertions_in c = length c.holds + length c.returns
 
 -- The machine that is meant: the 8/I where no line says.
 abbrev pub profile_of : List Profile → Profile
@@ -108,11 +157,15 @@ pub record Says (c : Contents) (d : Declaration) : Type 0 where
   pub main : d.body None ≡ c.main
   pub body : (e a : ℕ) → d.body (Some e) a ≡ list_any (λ r. r.entry == e && r.body a) c.routines
   pub entry : (e : ℕ) → d.entry e ≡ list_any (λ r. r.entry == e) c.routines
-  pub offset : (e o : ℕ) → d.offset e o ≡ list_any (λ r. r.entry == e && r.offsets o) c.routines
+  pub offset : (e o : ℕ) → d.offset e o ≡ (list_any (λ r. r.entry == e && r.offsets o) c.routines || list_any (λ s. s.entry == e && s.offsets o) c.skips)
   pub variable : d.variable ≡ c.variable
   pub stop : d.stop ≡ c.stop
   pub pause : d.pause ≡ c.pause
   pub reads : d.reads ≡ c.reads
+  pub moves : d.moves ≡ c.moves
+  pub abandon : d.abandon ≡ c.abandon
+  pub holds : d.holds ≡ c.holds
+  pub returns : d.returns ≡ c.returns
 
 -- Some routine has this cell as its entry.
 abbrev pub is_entry : Contents → Words
@@ -153,13 +206,30 @@ entry_in_index c a = is_entry c a && is_auto_index a
 abbrev pub halt_outside : Contents → Words
 halt_outside c a = (c.stop a || c.pause a) && not (in_bodies c a)
 
--- What is said keeps the rules: nothing overlaps, no entry is an auto-index cell, the start is in main's body, and each
--- declared halt is in some body.
+-- The cell is named as an entry, by further offsets, as one in which its routine may store, or by what is to hold at its
+-- returns.
+abbrev pub is_named_entry : Contents → Words
+is_named_entry c a =
+    (list_any (λ s. s.entry == a) c.skips || c.moves a) || list_any (λ r. r.entry == a) c.returns
+
+-- Something is to hold at the cell.
+abbrev pub is_held : Contents → Words
+is_held c a = list_any (λ h. h.places a) c.holds
+
+-- The cell is named as an entry and is none; or calls may be abandoned for it, and it isn't in main's body; or something is
+-- to hold at it, and it is in no body.
+abbrev pub misplaced : Contents → Words
+misplaced c a =
+    (is_named_entry c a && not (is_entry c a)) || (c.abandon a && not (c.main a)) || (is_held c a && not (in_bodies c a))
+
+-- What is said keeps the rules: nothing overlaps, no entry is an auto-index cell, the start is in main's body, each
+-- declared halt is in some body, and nothing is misplaced.
 pub record KeepsRules (c : Contents) (start : ℕ) : Type 0 where
   pub apart : HasNoneFrom 0 (overlaps c)
   pub outside_index : HasNoneFrom 0 (entry_in_index c)
   pub start_in_main : c.main start ≡ true
   pub halts_inside : HasNoneFrom 0 (halt_outside c)
+  pub placed : HasNoneFrom 0 (misplaced c)
 
 -- There is a start, and this is the least cell that overlaps.
 pub record HasOverlap (c : Contents) (a : ℕ) : Type 0 where
@@ -191,6 +261,16 @@ pub record HasHaltOutside (c : Contents) (a : ℕ) : Type 0 where
   pub start_in_main : c.main start ≡ true
   pub least : IsFirstFrom 0 (halt_outside c) a
 
+-- All declared halts are in bodies, all before is well too, and this is the least cell that is misplaced.
+pub record HasMisplaced (c : Contents) (a : ℕ) : Type 0 where
+  pub start : ℕ
+  pub starts : c.starts ≡ start ∷ []
+  pub apart : HasNoneFrom 0 (overlaps c)
+  pub outside_index : HasNoneFrom 0 (entry_in_index c)
+  pub start_in_main : c.main start ≡ true
+  pub halts_inside : HasNoneFrom 0 (halt_outside c)
+  pub least : IsFirstFrom 0 (misplaced c) a
+
 -- The first rule that is broken by what all lines say, and where.
 abbrev pub RuleFails : Contents → DeclarationFault → Type 0
 RuleFails c NoStart = c.starts ≡ []
@@ -198,6 +278,7 @@ RuleFails c (Overlap a) = HasOverlap c a
 RuleFails c (EntryInAutoIndex a) = HasIndexEntry c a
 RuleFails c StartNotInMain = StartsOutside c
 RuleFails c (HaltNotInBody a) = HasHaltOutside c a
+RuleFails c (Misplaced a) = HasMisplaced c a
 RuleFails c (BadLine number) = ⊥
 RuleFails c (TwoStarts number) = ⊥
 RuleFails c (TwoProfiles number) = ⊥
@@ -205,12 +286,14 @@ RuleFails c TooMany = ⊥
 RuleFails c NoMemory = ⊥
 
 -- Each of these texts of lines says what it stands for here: none is bad, there is at most one start and one machine,
--- and there aren't too many routines.
+-- and there aren't too many routines, lines of further offsets and assertions.
 pub record AreGood (texts : List (List ℕ)) (lines : List Line) : Type 0 where
   pub say : map line_of texts ≡ map Some lines
   pub starts : length (contents lines).starts ≤ 1
   pub profiles : length (contents lines).profiles ≤ 1
   pub few : length (contents lines).routines ≤ most_routines
+  pub few_skips : length (contents lines).skips ≤ most_skips
+  pub few_assertions : assertions_in (contents lines) ≤ most_assertions
 
 -- All lines of a text that isn't too long are good, and they say these.
 pub record HasGoodLines (text : List ℕ) (lines : List Line) : Type 0 where
@@ -237,19 +320,36 @@ pub record StandsAfter (text : List ℕ) (lines : List Line) (number : ℕ) (lin
   pub stands : StandsAt (text_lines text) before line number
   pub good : AreGood before lines
 
+-- The line says a routine, further offsets or an assertion, of which there are as many as are taken.
+abbrev pub IsOneTooMany : Contents → Line → Type 0
+IsOneTooMany c (Sub r) = most_routines ≤ length c.routines
+IsOneTooMany c (Skips s) = most_skips ≤ length c.skips
+IsOneTooMany c (Holds h) = most_assertions ≤ assertions_in c
+IsOneTooMany c (Returns r) = most_assertions ≤ assertions_in c
+IsOneTooMany c _ = ⊥
+
+-- The line says a routine, further offsets or an assertion, for which memory is asked.
+abbrev pub AsksForRoom : Contents → Line → Type 0
+AsksForRoom c (Sub r) = length c.routines < most_routines
+AsksForRoom c (Skips s) = length c.skips < most_skips
+AsksForRoom c (Holds h) = assertions_in c < most_assertions
+AsksForRoom c (Returns r) = assertions_in c < most_assertions
+AsksForRoom c _ = ⊥
+
 -- After what was said, the line with this number, which says this, fails so: it is bad; it says a second start, a second
--- machine, or a routine more than are taken; or, where memory is refused, it says a routine.
+-- machine, or a routine, further offsets or an assertion more than are taken; or, where memory is refused, it asks for some.
 abbrev pub LineFails : Contents → ℕ → Option Line → DeclarationFault → Type 0
 LineFails c number line (BadLine n) = (n ≡ number) × (line ≡ None)
 LineFails c number line (TwoStarts n) = (n ≡ number) × (a : ℕ) × (line ≡ Some (Start a)) × (length c.starts ≡ 1)
 LineFails c number line (TwoProfiles n) = (n ≡ number) × (p : Profile) × (line ≡ Some (Machine p)) × (length c.profiles ≡ 1)
-LineFails c number line TooMany = (r : Subroutine) × (line ≡ Some (Sub r)) × (most_routines ≤ length c.routines)
-LineFails c number line NoMemory = (r : Subroutine) × (line ≡ Some (Sub r)) × (length c.routines < most_routines)
+LineFails c number line TooMany = (l : Line) × (line ≡ Some l) × IsOneTooMany c l
+LineFails c number line NoMemory = (l : Line) × (line ≡ Some l) × AsksForRoom c l
 LineFails c number line NoStart = ⊥
 LineFails c number line (Overlap a) = ⊥
 LineFails c number line (EntryInAutoIndex a) = ⊥
 LineFails c number line StartNotInMain = ⊥
 LineFails c number line (HaltNotInBody a) = ⊥
+LineFails c number line (Misplaced a) = ⊥
 
 -- The first line of the text that isn't good fails so.
 pub record FailsAtLine (text : List ℕ) (fault : DeclarationFault) : Type 0 where
@@ -278,3 +378,4 @@ Fails text (Overlap a) = FailsAtRule text (Overlap a)
 Fails text (EntryInAutoIndex a) = FailsAtRule text (EntryInAutoIndex a)
 Fails text StartNotInMain = FailsAtRule text StartNotInMain
 Fails text (HaltNotInBody a) = FailsAtRule text (HaltNotInBody a)
+Fails text (Misplaced a) = FailsAtRule text (Misplaced a)

@@ -1,17 +1,20 @@
 //! What the lines of a declaration say together, and the rules that it keeps.
 
-ghost use Rattle.std.specs.Prelude.{ℕ, Some, ◌≡◌, ◌<◌, ◌+◌, [], ◌∷◌, if◌then◌else◌, map, IsTrue, OnOk, IfOk, IfErr};
+ghost use Rattle.std.specs.Prelude.{ℕ, Some, ◌≡◌, ◌<◌, ◌≤◌, ◌+◌, ◌==◌, ◌↔◌, [], ◌∷◌, if◌then◌else◌, map, IsTrue, OnOk, IfOk, IfErr};
+ghost use Rattle.std.specs.List.{list_any};
 ghost use Rattle.wordset.specs.Words.{SameWords};
 ghost use Rattle.wordset.specs.Lanes.{words};
 ghost use Rattle.processor.specs.Machine.{is_auto_index};
 ghost use Rattle.declaration.specs.Declaration.{IsDeclared};
 ghost use Rattle.declaration.specs.Kept.{meaning, routines_of, subroutine_of};
-ghost use Rattle.declaration.specs.Text.{contents, is_entry, Says, KeepsRules, LineFails, RuleFails, overlaps, entry_in_index, halt_outside, bodies_at, entries_at};
-ghost use Rattle.declaration.specs.Drafts.{gathered, said, with_line, MayFollow, Counts, kept_bodies, kept_entries};
+ghost use Rattle.declaration.specs.Text.{contents, is_entry, Says, KeepsRules, LineFails, RuleFails, overlaps, entry_in_index, halt_outside, misplaced, bodies_at, entries_at, assertions_in, most_assertions};
+ghost use Rattle.declaration.specs.Drafts.{gathered, said, with_line, MayFollow, Counts, kept_bodies, kept_entries, named_entries};
 
 use super::coverage::Coverage;
 use super::lines::{Line, read_line};
-use super::{Declaration, DeclarationFault, Routine};
+use super::{
+    Declaration, DeclarationFault, FurtherOffsets, PlaceAssertion, ReturnAssertion, Routine,
+};
 use instruct::Profile;
 use std::alloc::Allocator;
 use streams::taking::LineTaker;
@@ -20,6 +23,12 @@ use wordset::WordSet;
 
 /// The most routines of a declaration.
 const MOST_ROUTINES: usize = 64;
+
+/// The most lines of further offsets.
+const MOST_SKIPS: usize = 64;
+
+/// The most assertions.
+const MOST_ASSERTIONS: usize = 256;
 
 /// What was said so far.
 #[derive(Drop)]
@@ -32,11 +41,18 @@ pub struct Draft<A: Allocator> {
     stops: WordSet,
     pauses: WordSet,
     reads: Option<WordSet>,
+    skips: Vec<FurtherOffsets, A>,
+    moves: WordSet,
+    abandons: WordSet,
+    holds: Vec<PlaceAssertion, A>,
+    returns: Vec<ReturnAssertion, A>,
 }
 
 impl<A: Allocator> Draft<A> {
     /// Nothing was said yet.
     pub fn new(alloc: A) -> Draft<A>
+    where
+        A: Copy,
         ensures { gathered result ≡ contents [] }
     {
         Draft {
@@ -48,6 +64,11 @@ impl<A: Allocator> Draft<A> {
             stops: WordSet::empty(),
             pauses: WordSet::empty(),
             reads: None,
+            skips: Vec::new(alloc),
+            moves: WordSet::empty(),
+            abandons: WordSet::empty(),
+            holds: Vec::new(alloc),
+            returns: Vec::new(alloc),
         }
     }
 
@@ -69,6 +90,11 @@ impl<A: Allocator> Draft<A> {
             Line::Pauses(set) => self.pauses = self.pauses.union(set),
             Line::Machine(profile) => return self.add_profile(*profile, number),
             Line::Reads(set) => self.add_reads(set),
+            Line::Skips(skips) => return self.add_skips(skips, number),
+            Line::Moves(set) => self.moves = self.moves.union(set),
+            Line::Abandon(set) => self.abandons = self.abandons.union(set),
+            Line::Holds(holding) => return self.add_holding(holding, number),
+            Line::Returns(returning) => return self.add_returning(returning, number),
         }
         Ok(())
     }
@@ -130,6 +156,73 @@ impl<A: Allocator> Draft<A> {
         self.reads = Some(reads.union(set));
     }
 
+    fn add_skips(&mut self, skips: &FurtherOffsets, number: usize) -> Result<(), DeclarationFault>
+        ensures added { OnOk result
+            (gathered self.new ≡ with_line (gathered self.old) (said (Line.Skips skips.now))) }
+        ensures follows { OnOk result
+            (MayFollow (gathered self.old) (said (Line.Skips skips.now))) }
+        ensures refused { IfErr result
+            (LineFails (gathered self.old) number (Some (said (Line.Skips skips.now)))) }
+    {
+        if self.skips.len() >= MOST_SKIPS {
+            return Err(DeclarationFault::TooMany);
+        }
+        match self.skips.push(*skips) {
+            Ok(()) => Ok(()),
+            Err(_) => Err(DeclarationFault::NoMemory),
+        }
+    }
+
+    /// Whether there are as many assertions as there may be.
+    fn has_all_assertions(&self) -> bool
+        ensures { IsTrue result ↔ (most_assertions ≤ assertions_in (gathered self.now)) }
+    {
+        self.holds.len() >= MOST_ASSERTIONS
+            || self.returns.len() >= MOST_ASSERTIONS - self.holds.len()
+    }
+
+    fn add_holding(
+        &mut self,
+        holding: &PlaceAssertion,
+        number: usize,
+    ) -> Result<(), DeclarationFault>
+        ensures added { OnOk result
+            (gathered self.new ≡ with_line (gathered self.old) (said (Line.Holds holding.now))) }
+        ensures follows { OnOk result
+            (MayFollow (gathered self.old) (said (Line.Holds holding.now))) }
+        ensures refused { IfErr result
+            (LineFails (gathered self.old) number (Some (said (Line.Holds holding.now)))) }
+    {
+        if self.has_all_assertions() {
+            return Err(DeclarationFault::TooMany);
+        }
+        match self.holds.push(*holding) {
+            Ok(()) => Ok(()),
+            Err(_) => Err(DeclarationFault::NoMemory),
+        }
+    }
+
+    fn add_returning(
+        &mut self,
+        returning: &ReturnAssertion,
+        number: usize,
+    ) -> Result<(), DeclarationFault>
+        ensures added { OnOk result
+            (gathered self.new ≡ with_line (gathered self.old) (said (Line.Returns returning.now))) }
+        ensures follows { OnOk result
+            (MayFollow (gathered self.old) (said (Line.Returns returning.now))) }
+        ensures refused { IfErr result
+            (LineFails (gathered self.old) number (Some (said (Line.Returns returning.now)))) }
+    {
+        if self.has_all_assertions() {
+            return Err(DeclarationFault::TooMany);
+        }
+        match self.returns.push(*returning) {
+            Ok(()) => Ok(()),
+            Err(_) => Err(DeclarationFault::NoMemory),
+        }
+    }
+
     /// The declaration, where all that was said keeps the rules.
     pub fn finish(self) -> Result<Declaration<A>, DeclarationFault>
         requires { (e : ℕ) → IsTrue (is_entry (gathered self) e) → e < 4096 }
@@ -155,6 +248,11 @@ impl<A: Allocator> Draft<A> {
             stops: self.stops,
             pauses: self.pauses,
             reads: self.reads,
+            skips: self.skips,
+            moves: self.moves,
+            abandons: self.abandons,
+            holds: self.holds,
+            returns: self.returns,
         })
     }
 
@@ -177,6 +275,9 @@ impl<A: Allocator> Draft<A> {
         }
         if let Some(at) = self.halts_outside(&bodies).first_from(0) {
             return Err(DeclarationFault::HaltNotInBody(at));
+        }
+        if let Some(at) = self.misplaced(&bodies, &entries).first_from(0) {
+            return Err(DeclarationFault::Misplaced(at));
         }
         Ok(())
     }
@@ -209,6 +310,22 @@ impl<A: Allocator> Draft<A> {
         ensures { SameWords (words result) (halt_outside (gathered self.now)) }
     {
         self.stops.union(&self.pauses).minus(&bodies.once)
+    }
+}
+
+impl<A: Allocator> Draft<A> {
+    /// The cells of which something is said that they aren't there for.
+    fn misplaced(&self, bodies: &Coverage, entries: &Coverage) -> WordSet
+        requires bodies { Counts bodies.now (bodies_at (gathered self.now)) }
+        requires entries { Counts entries.now (entries_at (gathered self.now)) }
+        ensures { SameWords (words result) (misplaced (gathered self.now)) }
+    {
+        let named = named_entries(&self.moves, &self.skips, &self.returns);
+        let held = held_places(&self.holds);
+        named
+            .minus(&entries.once)
+            .union(&self.abandons.minus(&self.main))
+            .union(&held.minus(&bodies.once))
     }
 }
 
@@ -259,4 +376,46 @@ fn index_cells() -> WordSet
     ensures { SameWords (words result) is_auto_index }
 {
     WordSet::range(Word::from_index(0o10), Word::from_index(0o17))
+}
+
+/// The cells that are named as entries.
+fn named_entries(moves: &WordSet, skips: &[FurtherOffsets], returns: &[ReturnAssertion]) -> WordSet
+    ensures { words result ≡ named_entries (words moves.now) skips.now returns.now }
+{
+    skipping_entries(skips)
+        .union(moves)
+        .union(&returning_entries(returns))
+}
+
+/// The entries of further offsets.
+fn skipping_entries(skips: &[FurtherOffsets]) -> WordSet
+    ensures { words result ≡ (λ a. list_any (λ s. s.entry == a) skips.now) }
+{
+    let mut entries = WordSet::empty();
+    for skip in skips {
+        entries.insert(skip.entry);
+    }
+    entries
+}
+
+/// The entries of what is to hold at returns.
+fn returning_entries(returns: &[ReturnAssertion]) -> WordSet
+    ensures { words result ≡ (λ a. list_any (λ r. r.entry == a) returns.now) }
+{
+    let mut entries = WordSet::empty();
+    for returning in returns {
+        entries.insert(returning.entry);
+    }
+    entries
+}
+
+/// The places at which something is to hold.
+fn held_places(holds: &[PlaceAssertion]) -> WordSet
+    ensures { words result ≡ (λ a. list_any (λ h. words h.places a) holds.now) }
+{
+    let mut places = WordSet::empty();
+    for holding in holds {
+        places = places.union(&holding.places);
+    }
+    places
 }

@@ -1,7 +1,7 @@
 //! Declarations: as a text gives them, as they are kept, and their readers.
 #![tactic(auto)]
 
-ghost use Rattle.std.specs.Prelude.{ℕ, ◌≡◌, ◌≢◌, ◌⊎◌, ◌<◌, ◌≤◌, ◌↔◌, ◌==◌, length, IsTrue, true, false, IfSome, IfNone, IfOk, IfErr, IsErrOf, None, Some, is_some};
+ghost use Rattle.std.specs.Prelude.{ℕ, ◌≡◌, ◌≢◌, ◌⊎◌, ◌<◌, ◌≤◌, ◌↔◌, ◌==◌, length, map, IsTrue, true, false, IfSome, IfNone, IfOk, IfErr, IsErrOf, None, Some, is_some};
 ghost use Rattle.std.specs.List.{find};
 ghost use Rattle.std.specs.Option.{option_map};
 ghost use Rattle.declaration.specs.Declaration.{Declaration as Declared, Routine as MainOrEntry, IsDeclared, IsListed};
@@ -10,7 +10,7 @@ ghost use Rattle.declaration.specs.Drafts.{gathered, HasLines};
 ghost use Rattle.declaration.specs.declared.DeclarationFault.{DeclarationFault};
 ghost use Rattle.declaration.specs.declared.DeclarationFault.TheVariants.{NoMemory};
 ghost use Rattle.wordset.specs.Lanes.{words};
-ghost use Rattle.declaration.specs.Kept.{offsets_of, subroutine_of, routine_of, routines_of, meaning};
+ghost use Rattle.declaration.specs.Kept.{offsets, offsets_of, subroutine_of, routine_of, routines_of, further_of, assertion_of, place_assertion_of, return_assertion_of, skips_of, further_offsets, meaning};
 
 use crate::drafts::Draft;
 use instruct::Profile;
@@ -54,13 +54,18 @@ pub enum DeclarationFault {
     /// The start isn't in main's body.
     #[error("StartNotInMain")]
     StartNotInMain,
-    /// The text has more than 16,384 bytes or more than 64 routines.
+    /// The text has more than 16,384 bytes, or more than 64 `sub` lines, 64 `skips` lines or 256
+    /// assertions.
     #[error("TooMany")]
     TooMany,
     /// The declared halt is in no body.
     #[error("HaltNotInBody {0}")]
     HaltNotInBody(Word),
-    /// A growth of the list of routines was refused.
+    /// `skips`, `moves` or `returns` names the cell, which is no entry; or `abandon` names it, and it
+    /// isn't in main's body; or something is to hold at it, and it's in no body.
+    #[error("Misplaced {0}")]
+    Misplaced(Word),
+    /// A growth of a list of routines, of offsets or of assertions was refused.
     #[error("NoMemory")]
     NoMemory,
 }
@@ -81,6 +86,56 @@ pub struct Routine {
     offsets: Offsets,
 }
 
+/// Further offsets of a routine, none of them beyond 77.
+///
+/// Contracts see them as `further_of` gives them.
+#[derive(Clone, Copy, PartialEq, Eq, Debug)]
+pub struct FurtherOffsets {
+    entry: Word,
+    offsets: WordSet,
+}
+
+/// Of what an assertion speaks.
+#[derive(Clone, Copy, PartialEq, Eq, Debug)]
+pub enum Subject {
+    /// The accumulator.
+    Accumulator,
+    /// The link, 0 or 1.
+    Link,
+    /// MQ.
+    Mq,
+    /// This cell.
+    Cell(Word),
+}
+
+/// That the subject has one of some words.
+///
+/// Contracts see it as `assertion_of` gives it.
+#[derive(Clone, Copy, PartialEq, Eq, Debug)]
+pub struct Assertion {
+    subject: Subject,
+    words: WordSet,
+}
+
+/// What is to hold whenever control is at one of some places.
+///
+/// Contracts see it as `place_assertion_of` gives it.
+#[derive(Clone, Copy, PartialEq, Eq, Debug)]
+pub struct PlaceAssertion {
+    places: WordSet,
+    assertion: Assertion,
+}
+
+/// What is to hold whenever the routine of an entry returns by one of some offsets.
+///
+/// Contracts see it as `return_assertion_of` gives it.
+#[derive(Clone, Copy, PartialEq, Eq, Debug)]
+pub struct ReturnAssertion {
+    entry: Word,
+    offsets: WordSet,
+    assertion: Assertion,
+}
+
 /// Whose body a cell is in.
 #[derive(Clone, Copy, PartialEq, Eq, Debug)]
 pub enum Owner {
@@ -91,8 +146,9 @@ pub enum Owner {
 }
 
 /// What the author of a program promises of its runs: the start, the bodies of main and of the
-/// routines, the variables, the declared halts, the machine, and the cells that may be read, if
-/// they are listed.
+/// routines, the variables, the declared halts, the machine, the cells that may be read, if they
+/// are listed, the routines that may move their return word, the places for which all calls may be
+/// abandoned, and what is to hold.
 ///
 /// Contracts see it as `meaning` gives it.
 #[derive(Drop)]
@@ -105,6 +161,11 @@ pub struct Declaration<A: Allocator> {
     stops: WordSet,
     pauses: WordSet,
     reads: Option<WordSet>,
+    skips: Vec<FurtherOffsets, A>,
+    moves: WordSet,
+    abandons: WordSet,
+    holds: Vec<PlaceAssertion, A>,
+    returns: Vec<ReturnAssertion, A>,
 }
 
 impl<A: Allocator> Model for Declaration<A> {
@@ -122,6 +183,11 @@ impl<A: Allocator> Model for Declaration<A> {
       stops = d.stops;
       pauses = d.pauses;
       reads = d.reads;
+      skips = d.skips.items;
+      moves = d.moves;
+      abandons = d.abandons;
+      holds = d.holds.items;
+      returns = d.returns.items;
     } };
 
     // Each declaration keeps the overlap rules.
@@ -134,6 +200,11 @@ impl<A: Allocator> Model for Declaration<A> {
       stops = d.stops;
       pauses = d.pauses;
       reads = d.reads;
+      skips = d.skips.items;
+      moves = d.moves;
+      abandons = d.abandons;
+      holds = d.holds.items;
+      returns = d.returns.items;
     })) };
 }
 
@@ -162,7 +233,8 @@ impl Routine {
         &self.body
     }
 
-    /// The offsets from the address after a call at which the routine may return.
+    /// The offsets from the address after a call at which the routine may return by its own line.
+    /// `Declaration::has_offset` knows those of other lines too.
     pub fn offsets(&self) -> Offsets
         ensures { offsets_of result ≡ (subroutine_of self.now).offsets }
     {
@@ -170,25 +242,100 @@ impl Routine {
     }
 }
 
+impl FurtherOffsets {
+    /// The routine's entry.
+    pub fn entry(&self) -> Word
+        ensures { result ≡ (further_of self.now).entry }
+    {
+        self.entry
+    }
+
+    /// The offsets.
+    pub fn offsets(&self) -> &WordSet
+        ensures { words result.now ≡ (further_of self.now).offsets }
+    {
+        &self.offsets
+    }
+}
+
+impl Assertion {
+    /// Of what it speaks.
+    pub fn subject(&self) -> &Subject
+        ensures { result.now ≡ (assertion_of self.now).subject }
+    {
+        &self.subject
+    }
+
+    /// The words of which the subject has one.
+    pub fn words(&self) -> &WordSet
+        ensures { words result.now ≡ (assertion_of self.now).words }
+    {
+        &self.words
+    }
+}
+
+impl PlaceAssertion {
+    /// The places.
+    pub fn places(&self) -> &WordSet
+        ensures { words result.now ≡ (place_assertion_of self.now).places }
+    {
+        &self.places
+    }
+
+    /// What is to hold there.
+    pub fn assertion(&self) -> &Assertion
+        ensures { assertion_of result.now ≡ (place_assertion_of self.now).assertion }
+    {
+        &self.assertion
+    }
+}
+
+impl ReturnAssertion {
+    /// The routine's entry.
+    pub fn entry(&self) -> Word
+        ensures { result ≡ (return_assertion_of self.now).entry }
+    {
+        self.entry
+    }
+
+    /// The offsets.
+    pub fn offsets(&self) -> &WordSet
+        ensures { words result.now ≡ (return_assertion_of self.now).offsets }
+    {
+        &self.offsets
+    }
+
+    /// What is to hold when the routine returns by one of them.
+    pub fn assertion(&self) -> &Assertion
+        ensures { assertion_of result.now ≡ (return_assertion_of self.now).assertion }
+    {
+        &self.assertion
+    }
+}
+
 impl<A: Allocator> Declaration<A> {
     /// The declaration of a text.
     ///
     /// Each line is one of `start A`, `main R..`, `sub E body R.. returns d..`, `var R..`,
-    /// `stop A..`, `pause A..`, `profile 8i` or `profile 8e`, and `read R..`, or empty. A range `R`
-    /// is an address `A` or two, `A-B`; an address is one to four octal digits, an offset `d` one
-    /// octal digit. There may be no offsets, and no ranges after `read`. Words stand between spaces
-    /// and tabs, and a `/` begins a comment. Lines of one kind add to one another, but each `sub`
-    /// line is a routine of its own, and there is one start and at most one machine, which is the 8/I
-    /// without a line.
+    /// `stop A..`, `pause A..`, `profile 8i` or `profile 8e`, `read R..`, `skips E R..`, `moves E..`,
+    /// `abandon A..`, `holds A..` with an assertion, and `returns E d..` with one, or empty. A range
+    /// `R` is an address `A` or two, `A-B`; an address is one to four octal digits, an offset `d` of
+    /// a `sub` line one octal digit. There may be no offsets, and no ranges after `read`. Those of
+    /// `skips` and `returns` are 0 to 77; `returns` without one means all. An assertion is `ac R..`,
+    /// `mq R..`, `link 0`, `link 1` or `cell C R..`. Words stand between spaces and tabs, and a `/`
+    /// begins a comment. Lines of one kind add to one another, but each `sub` line is a routine of
+    /// its own, and there is one start and at most one machine, which is the 8/I without a line.
     ///
     /// # Errors
     ///
     /// `TooMany` first for a text of more than 16,384 bytes. Then, by the first line at which one
     /// of them is due, `BadLine`, `TwoStarts` or `TwoProfiles` with the line's number, `TooMany`
-    /// for a 65th routine, or `NoMemory` where a growth was refused, in this order. Then `NoStart`,
-    /// `Overlap`, `EntryInAutoIndex`, `StartNotInMain` and `HaltNotInBody`, in this order, with the
-    /// least address that shows the fault.
+    /// for a 65th routine, a 65th `skips` line or a 257th assertion, or `NoMemory` where a growth
+    /// was refused, in this order. Then `NoStart`, `Overlap`, `EntryInAutoIndex`, `StartNotInMain`,
+    /// `HaltNotInBody` and `Misplaced`, in this order, with the least address that shows the fault.
     pub fn parse(alloc: A, text: &[u8]) -> Result<Declaration<A>, DeclarationFault>
+    where
+        A: Copy,
         ensures found { IfOk result (λ d. Declares text.now (meaning d)) }
         ensures declared { IfOk result (λ d. IsDeclared (meaning d)) }
         ensures routines { IfOk result (λ d. ListsRoutines text.now (routines_of d)) }
@@ -267,6 +414,41 @@ impl<A: Allocator> Declaration<A> {
         self.reads.as_ref()
     }
 
+    /// The further offsets of routines, in the order of their lines.
+    pub fn skips(&self) -> &[FurtherOffsets]
+        ensures { result.now ≡ skips_of self.now }
+    {
+        &self.skips
+    }
+
+    /// The entries of the routines that may store in them.
+    pub fn moves(&self) -> &WordSet
+        ensures { words result.now ≡ (meaning self.now).moves }
+    {
+        &self.moves
+    }
+
+    /// The places for which all open calls may be abandoned.
+    pub fn abandons(&self) -> &WordSet
+        ensures { words result.now ≡ (meaning self.now).abandon }
+    {
+        &self.abandons
+    }
+
+    /// What is to hold at places, in the order of the lines.
+    pub fn holds(&self) -> &[PlaceAssertion]
+        ensures { map place_assertion_of result.now ≡ (meaning self.now).holds }
+    {
+        &self.holds
+    }
+
+    /// What is to hold at returns, in the order of the lines.
+    pub fn returns(&self) -> &[ReturnAssertion]
+        ensures { map return_assertion_of result.now ≡ (meaning self.now).returns }
+    {
+        &self.returns
+    }
+
     /// Whether a cell is in main's body.
     pub fn in_main(&self, at: Word) -> bool
         ensures { result ≡ (meaning self.now).body None at }
@@ -306,8 +488,36 @@ impl<A: Allocator> Declaration<A> {
     pub fn has_offset(&self, entry: Word, offset: Word) -> bool
         ensures { result ≡ (meaning self.now).offset entry offset }
     {
+        self.lists_offset(entry, offset) || self.skips_by(entry, offset)
+    }
+
+    /// Whether a routine has an offset by its `sub` line.
+    fn lists_offset(&self, entry: Word, offset: Word) -> bool
+        ensures { result ≡ offsets (routines_of self.now) entry offset }
+    {
         self.routines.iter().any(|routine| routine.entry == entry
             && routine.offsets.contains(offset))
+    }
+
+    /// Whether a routine has an offset by a `skips` line.
+    fn skips_by(&self, entry: Word, offset: Word) -> bool
+        ensures { result ≡ further_offsets (skips_of self.now) entry offset }
+    {
+        self.skips.iter().any(|skips| skips.entry == entry && skips.offsets.contains(offset))
+    }
+
+    /// Whether the routine of an entry may store in it.
+    pub fn may_move(&self, entry: Word) -> bool
+        ensures { result ≡ (meaning self.now).moves entry }
+    {
+        self.moves.contains(entry)
+    }
+
+    /// Whether all open calls may be abandoned for a place.
+    pub fn is_abandon(&self, at: Word) -> bool
+        ensures { result ≡ (meaning self.now).abandon at }
+    {
+        self.abandons.contains(at)
     }
 
     /// Whether a cell is a variable.
@@ -361,7 +571,10 @@ fn routine_with(routines: &[Routine], at: Word) -> Option<Owner>
 }
 
 /// The declaration of a text that isn't too long.
-fn parse_lines<A: Allocator>(alloc: A, text: &[u8]) -> Result<Declaration<A>, DeclarationFault>
+fn parse_lines<A: Allocator + Copy>(
+    alloc: A,
+    text: &[u8],
+) -> Result<Declaration<A>, DeclarationFault>
     requires { length text.now ≤ most_bytes }
     ensures found { IfOk result (λ d. Declares text.now (meaning d)) }
     ensures declared { IfOk result (λ d. IsDeclared (meaning d)) }
@@ -375,7 +588,7 @@ fn parse_lines<A: Allocator>(alloc: A, text: &[u8]) -> Result<Declaration<A>, De
 }
 
 /// What the lines of a text that isn't too long say together.
-fn read_lines<A: Allocator>(alloc: A, text: &[u8]) -> Result<Draft<A>, DeclarationFault>
+fn read_lines<A: Allocator + Copy>(alloc: A, text: &[u8]) -> Result<Draft<A>, DeclarationFault>
     requires { length text.now ≤ most_bytes }
     ensures found { IfOk result (λ draft. HasLines text.now (gathered draft)) }
     ensures fit { IfOk result (λ draft.

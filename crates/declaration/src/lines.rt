@@ -2,15 +2,17 @@
 
 ghost use Rattle.std.specs.Prelude.{◌≡◌, ◌<◌, ◌==◌, ◌||◌, [], ◌∷◌, IfSome, OnSome};
 ghost use Rattle.streams.specs.Text.{octal_word};
-ghost use Rattle.std.specs.List.{after_first, position};
+ghost use Rattle.std.specs.List.{after_first, before_first, find, position};
 ghost use Rattle.std.specs.Option.{option_map};
 ghost use Rattle.streams.specs.TextLeft.{words_left};
 ghost use Rattle.wordset.specs.Lanes.{words};
-ghost use Rattle.declaration.specs.Kept.{offsets_of};
-ghost use Rattle.declaration.specs.Lines.{is_dash, range_of, address_of, offset_of, any_of, these, all_read, some_read, span, is_returns, body_read, offsets_read, routine, start_line, sub_line, profile_line, named_line, line_of};
-ghost use Rattle.declaration.specs.Drafts.{cells_read, ranges_before, said};
+ghost use Rattle.declaration.specs.Kept.{offsets_of, assertion_of};
+ghost use Rattle.declaration.specs.Lines.{is_dash, range_of, address_of, offset_of, any_of, these, all_read, some_read, span, is_returns, body_read, offsets_read, routine, start_line, sub_line, profile_line, named_line, further_line, skips_line, every_offset, if_offsets, holds_line, returns_line, is_subject, addresses_of, offsets_named, assertion_in, named_assertion, asserted, link_of, bit_of, cell_assertion, line_of};
+ghost use Rattle.declaration.specs.Drafts.{cells_read, ranges_before, cells_before, said};
 
-use super::{Offsets, Routine};
+use super::{
+    Assertion, FurtherOffsets, Offsets, PlaceAssertion, ReturnAssertion, Routine, Subject,
+};
 use instruct::Profile;
 use streams::text::{self, Words};
 use word12::Word;
@@ -28,6 +30,11 @@ pub enum Line {
     Pauses(WordSet),
     Machine(Profile),
     Reads(WordSet),
+    Skips(FurtherOffsets),
+    Moves(WordSet),
+    Abandon(WordSet),
+    Holds(PlaceAssertion),
+    Returns(ReturnAssertion),
 }
 
 /// What a word of a list of cells may be.
@@ -70,6 +77,25 @@ fn named_line(name: &[u8], rest: Words<'_>) -> Option<Line>
         profile_line(rest)
     } else if text::is(name, "read") {
         all_cells(Form::Range, rest).map(Line::Reads)
+    } else {
+        further_line(name, rest)
+    }
+}
+
+/// What a line of another first word says: on how routines return, or on what is to hold.
+fn further_line(name: &[u8], rest: Words<'_>) -> Option<Line>
+    ensures { option_map said result ≡ further_line name.now (words_left rest.entry) }
+{
+    if text::is(name, "skips") {
+        skips_line(rest)
+    } else if text::is(name, "moves") {
+        some_cells(Form::Address, rest).map(Line::Moves)
+    } else if text::is(name, "abandon") {
+        some_cells(Form::Address, rest).map(Line::Abandon)
+    } else if text::is(name, "holds") {
+        holds_line(rest)
+    } else if text::is(name, "returns") {
+        returns_line(rest)
     } else {
         None
     }
@@ -307,4 +333,232 @@ fn span(low: &[u8], high: &[u8]) -> Option<WordSet>
     } else {
         None
     }
+}
+
+/// Further offsets: an entry and ranges of offsets.
+fn skips_line(rest: Words<'_>) -> Option<Line>
+    ensures { option_map said result ≡ skips_line (words_left rest.entry) }
+{
+    let mut words = rest;
+    let Some(word) = words.next() else {
+        return None;
+    };
+    let Some(entry) = text::octal_word(word) else {
+        return None;
+    };
+    let Some(set) = some_cells(Form::Range, words) else {
+        return None;
+    };
+    let Some(offsets) = if_offsets(&set) else {
+        return None;
+    };
+    Some(Line::Skips(FurtherOffsets { entry, offsets }))
+}
+
+/// All offsets, 0 to 77.
+fn every_offset() -> WordSet
+    ensures { words result ≡ every_offset }
+{
+    WordSet::range(Word::from_index(0), Word::from_index(0o77))
+}
+
+/// The set, if each of its words is an offset.
+fn if_offsets(set: &WordSet) -> Option<WordSet>
+    ensures { option_map words result ≡ if_offsets (Some (words set.now)) }
+{
+    if set.minus(&every_offset()).is_empty() {
+        Some(*set)
+    } else {
+        None
+    }
+}
+
+/// What is to hold at places: addresses and an assertion.
+fn holds_line(rest: Words<'_>) -> Option<Line>
+    ensures { option_map said result ≡ holds_line (words_left rest.entry) }
+{
+    let Some(places) = places(rest) else {
+        return None;
+    };
+    let Some(assertion) = assertion(rest) else {
+        return None;
+    };
+    Some(Line::Holds(PlaceAssertion { places, assertion }))
+}
+
+/// What is to hold at returns: an entry, offsets and an assertion.
+fn returns_line(rest: Words<'_>) -> Option<Line>
+    ensures { option_map said result ≡ returns_line (words_left rest.entry) }
+{
+    let mut words = rest;
+    let Some(word) = words.next() else {
+        return None;
+    };
+    let Some(entry) = text::octal_word(word) else {
+        return None;
+    };
+    let Some(offsets) = returned_by(words) else {
+        return None;
+    };
+    let Some(assertion) = assertion(words) else {
+        return None;
+    };
+    Some(Line::Returns(ReturnAssertion {
+        entry,
+        offsets,
+        assertion,
+    }))
+}
+
+/// Whether a word names the subject of an assertion.
+fn is_subject(word: &[u8]) -> bool
+    ensures { result ≡ is_subject word.now }
+{
+    text::is(word, "ac") || text::is(word, "mq") || text::is(word, "link") || text::is(word, "cell")
+}
+
+/// The cells of addresses, one or more, up to the name of a subject.
+fn places(rest: Words<'_>) -> Option<WordSet>
+    ensures { option_map words result
+        ≡ addresses_of (before_first is_subject (words_left rest.entry)) }
+{
+    let mut ahead = rest;
+    match ahead.next() {
+        Some(first) if !is_subject(first) => cells_before(rest),
+        _ => None,
+    }
+}
+
+/// The offsets up to the name of a subject; all where there is none.
+fn returned_by(rest: Words<'_>) -> Option<WordSet>
+    ensures { option_map words result
+        ≡ offsets_named (before_first is_subject (words_left rest.entry)) }
+{
+    let mut ahead = rest;
+    match ahead.next() {
+        Some(first) if !is_subject(first) => offsets_before(rest),
+        _ => Some(every_offset()),
+    }
+}
+
+/// The offsets up to the name of a subject, each of them one.
+fn offsets_before(rest: Words<'_>) -> Option<WordSet>
+    ensures { option_map words result
+        ≡ if_offsets (option_map any_of (cells_before (words_left rest.entry))) }
+{
+    let Some(set) = cells_before(rest) else {
+        return None;
+    };
+    if_offsets(&set)
+}
+
+/// The cells of addresses, of which there may be none, up to the name of a subject.
+fn cells_before(rest: Words<'_>) -> Option<WordSet>
+    ensures { option_map words result ≡ option_map any_of (cells_before (words_left rest.entry)) }
+{
+    let mut words = rest;
+    let mut set = WordSet::empty();
+    while let Some(word) = words.next() {
+        if is_subject(word) {
+            return Some(set);
+        }
+        match address(word) {
+            Some(more) => set = set.union(&more),
+            None => return None,
+        }
+    }
+    Some(set)
+}
+
+/// The assertion from the name of its subject on.
+fn assertion(rest: Words<'_>) -> Option<Assertion>
+    ensures { option_map assertion_of result ≡ assertion_in (words_left rest.entry) }
+{
+    let mut words = rest;
+    match subject_name(&mut words) {
+        Some(name) => named_assertion(name, words),
+        None => None,
+    }
+}
+
+/// The first word that names a subject, which is taken, with those before it.
+fn subject_name<'x>(rest: &mut Words<'x>) -> Option<&'x [u8]>
+    ensures name { option_map (λ name. name.now) result ≡ find is_subject (words_left rest.old) }
+    ensures rest { words_left rest.new ≡ after_first is_subject (words_left rest.old) }
+{
+    while let Some(word) = rest.next() {
+        if is_subject(word) {
+            return Some(word);
+        }
+    }
+    None
+}
+
+/// The assertion on the subject of a name.
+fn named_assertion(name: &[u8], rest: Words<'_>) -> Option<Assertion>
+    ensures { option_map assertion_of result
+        ≡ named_assertion name.now (words_left rest.entry) }
+{
+    if text::is(name, "ac") {
+        asserted(Subject::Accumulator, some_cells(Form::Range, rest))
+    } else if text::is(name, "mq") {
+        asserted(Subject::Mq, some_cells(Form::Range, rest))
+    } else if text::is(name, "link") {
+        asserted(Subject::Link, link(rest))
+    } else if text::is(name, "cell") {
+        cell_assertion(rest)
+    } else {
+        None
+    }
+}
+
+/// The assertion on a subject, if its words read.
+fn asserted(subject: Subject, set: Option<WordSet>) -> Option<Assertion>
+    ensures { option_map assertion_of result ≡ asserted subject (option_map words set) }
+{
+    match set {
+        Some(words) => Some(Assertion { subject, words }),
+        None => None,
+    }
+}
+
+/// The link of a line of one word, `0` or `1`.
+fn link(rest: Words<'_>) -> Option<WordSet>
+    ensures { option_map words result ≡ link_of (words_left rest.entry) }
+{
+    let mut words = rest;
+    let Some(word) = words.next() else {
+        return None;
+    };
+    match words.next() {
+        None => bit(word),
+        Some(_) => None,
+    }
+}
+
+/// The set of the bit that a word spells.
+fn bit(word: &[u8]) -> Option<WordSet>
+    ensures { option_map words result ≡ bit_of word.now }
+{
+    if text::is(word, "0") {
+        Some(WordSet::one(Word::from_index(0)))
+    } else if text::is(word, "1") {
+        Some(WordSet::one(Word::from_index(1)))
+    } else {
+        None
+    }
+}
+
+/// The assertion on a cell: its address and ranges.
+fn cell_assertion(rest: Words<'_>) -> Option<Assertion>
+    ensures { option_map assertion_of result ≡ cell_assertion (words_left rest.entry) }
+{
+    let mut words = rest;
+    let Some(word) = words.next() else {
+        return None;
+    };
+    let Some(cell) = text::octal_word(word) else {
+        return None;
+    };
+    asserted(Subject::Cell(cell), some_cells(Form::Range, words))
 }

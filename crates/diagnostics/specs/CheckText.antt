@@ -1,5 +1,5 @@
 -- What `check` writes.
-use Rattle.std.specs.Prelude.{ℕ, ◌≡◌, ◌||◌, ◌++◌, codes, decimal, List, [], Option, Some, None, Result, Ok, Err}
+use Rattle.std.specs.Prelude.{ℕ, ◌≡◌, ◌+◌, ◌==◌, ◌||◌, ◌++◌, if◌then◌else◌, codes, decimal, length, List, [], Option, Some, None, Result, Ok, Err}
 use Rattle.word12.specs.Words.{octal_text}
 use Rattle.wordset.specs.Words.{Words, some_below, how_many}
 use Rattle.peripherals.specs.Loading.{image_of}
@@ -7,7 +7,7 @@ use Rattle.declaration.specs.Declaration.{Declaration}
 use Rattle.policy.specs.Runs.{IsSafe}
 use Rattle.facts.specs.declared.Condition.{Condition}
 use Rattle.facts.specs.declared.Condition.TheVariants as condition
-use Rattle.certificate.specs.Reading.{Text, certificate_of}
+use Rattle.certificate_lines.specs.Reading.{Text, certificate_of}
 use Rattle.judge.specs.Landing.{Case}
 use Rattle.judge.specs.Conditions.{IsValid, IsFirst}
 use Rattle.judge.specs.declared.judging.Refusal.{Refusal}
@@ -32,6 +32,7 @@ condition_text condition.V12 = codes "V12"
 condition_text condition.V13 = codes "V13"
 condition_text condition.V14 = codes "V14"
 condition_text condition.V15 = codes "V15"
+condition_text condition.V16 = codes "V16"
 
 -- Some body has the cell, main's or a routine's.
 abbrev pub in_bodies : Declaration → Words
@@ -50,11 +51,16 @@ abbrev pub reads_text : Option Words → List ℕ
 reads_text None = []
 reads_text (Some cells) = codes ", " ++ counted cells (codes " read cells")
 
+-- Where something is declared to hold, how many lines declare it.
+abbrev pub assertions_text : ℕ → List ℕ
+assertions_text n = if n == 0 then [] else codes ", " ++ decimal n ++ codes " assertions"
+
 -- The line of a program that is safe.
 abbrev pub yes_text : Declaration → List ℕ
 yes_text d =
     codes "yes: " ++ counted (in_bodies d) (codes " body cells, ") ++ counted d.variable (codes " variable cells, ") ++
-    counted d.entry (codes " entries, ") ++ counted (is_halt d) (codes " halts") ++ reads_text d.reads ++ codes "\n"
+    counted d.entry (codes " entries, ") ++ counted (is_halt d) (codes " halts") ++ reads_text d.reads ++
+    assertions_text (length d.holds + length d.returns) ++ codes "\n"
 
 -- The line of a condition that fails at an address.
 abbrev pub no_text : Refusal → List ℕ
@@ -75,7 +81,7 @@ abbrev pub IsVerdict : Case → Result (Unit {0}) Refusal → Type 0
 IsVerdict j (Ok _) = IsYes j
 IsVerdict j (Err r) = IsFirst j r.condition r.address
 
--- The line of a verdict: a yes with how many cells, entries and halts are declared, or a no with the condition that
+-- The line of a verdict: a yes with how many cells, entries, halts and assertions are declared, or a no with the condition that
 -- fails and its address.
 abbrev pub verdict_text : Declaration → Result (Unit {0}) Refusal → List ℕ
 verdict_text d (Ok _) = yes_text d

@@ -1,11 +1,13 @@
 -- What `check --why` writes after the verdict: the word that violates the condition, what the condition asks, and why it
 -- fails. Of the rules of equations, by which certificates of versions 1 and 2 are judged, some of it reads otherwise.
-use Rattle.std.specs.Prelude.{ℕ, ◌≡◌, ◌+◌, ◌==◌, nat_lt, ◌&&◌, if◌then◌else◌, Bool, ◌++◌, codes, decimal, true, List, [], ◌∷◌, flat_map, length, min, false, Option, Some, None, is_some, IfSome, Result, Ok, Err}
+use Rattle.std.specs.Prelude.{ℕ, ◌≡◌, ◌+◌, ◌/◌, ◌%◌, ◌==◌, nat_lt, ◌&&◌, if◌then◌else◌, Bool, ◌++◌, codes, decimal, true, List, [], ◌∷◌, flat_map, length, min, false, Option, Some, None, is_some, IfSome, Result, Ok, Err}
 use Rattle.word12.specs.Words.{octal_text}
 use Rattle.wordset.specs.Words.{minus}
 use Rattle.instruct.specs.declared.Profile.{Profile}
 use Rattle.bin_tape.specs.Image.{word_at}
 use Rattle.declaration.specs.Declaration.{Declaration}
+use Rattle.declaration.specs.declared.Subject.{Subject}
+use Rattle.declaration.specs.declared.Subject.TheVariants as subject
 use Rattle.facts.specs.declared.Condition.{Condition}
 use Rattle.facts.specs.declared.Condition.TheVariants as condition
 use Rattle.domain.specs.Locations.{Location, Ac, Cell}
@@ -14,7 +16,7 @@ use Rattle.domain.specs.Terms.{Term, Holding, Behind, Summand, Sum}
 use Rattle.domain.specs.InCode.{sum_of, summand_at}
 use Rattle.domain.specs.declared.sum_fact.Rules.{Rules}
 use Rattle.domain.specs.declared.sum_fact.Rules.TheVariants.{OfEquations, OfSums}
-use Rattle.certificate.specs.Reading.{Text, certificate_of}
+use Rattle.certificate_lines.specs.Reading.{Text, certificate_of}
 use Rattle.judge.specs.Landing.{Case}
 use Rattle.judge.specs.Conditions.{IsFirst}
 use Rattle.judge.specs.declared.judging.Refusal.{Refusal}
@@ -35,11 +37,11 @@ use Rattle.command_parts.specs.declared.status.Status.{Status}
 use Rattle.command_parts.specs.Dumping.{dump_line}
 use Rattle.command_parts.specs.LinkText.{link_text}
 use Rattle.diagnostics.specs.CheckText.{IsVerdict, checked_case, condition_text, verdict_status, verdict_text}
-use Rattle.certificate.specs.Written.{fact_text_at}
-use Rattle.diagnostics.specs.Telling.{IsTellingOf, place_of_reason}
-use Rattle.diagnostics.specs.declared.verdicts.telling.Mark.{Mark}
-use Rattle.diagnostics.specs.declared.verdicts.telling.Mark.TheVariants as mark
-use Rattle.diagnostics.specs.declared.verdicts.telling.Telling.{Telling}
+use Rattle.certificate_lines.specs.Written.{fact_text_at}
+use Rattle.diagnostics.specs.ReasonContexts.{IsTellingOf, place_of_reason}
+use Rattle.diagnostics.specs.declared.verdicts.reason_context.Distinction.{Distinction}
+use Rattle.diagnostics.specs.declared.verdicts.reason_context.Distinction.TheVariants as mark
+use Rattle.diagnostics.specs.declared.verdicts.reason_context.ReasonContext.{ReasonContext}
 
 -- What each condition asks by the rules of equations.
 abbrev pub asked_text : Condition → List ℕ
@@ -56,8 +58,9 @@ asked_text condition.V10 = codes "the fact at the callee's first address allows 
 asked_text condition.V11 = codes "the fact at each return address allows what is possible"
 asked_text condition.V12 = codes "a return is through the routine's own entry, by declared offsets, and the exit lines allow what is possible"
 asked_text condition.V13 = codes "a HLT is at a declared halt"
-asked_text condition.V14 = codes "no word writes an entry, except that a JMS stores its return address there and an ISZ may increment the routine's own"
+asked_text condition.V14 = codes "no word writes an entry, except that a JMS stores its return address there, an ISZ may increment the routine's own, and a DCA may store in it where a `moves` line names it"
 asked_text condition.V15 = codes "each cell that a word may read is on the list of reads or is the routine's entry"
+asked_text condition.V16 = codes "what is declared to hold here, or when the routine of this entry returns, holds"
 
 -- What each condition asks by the rules of sums, by which several facts may stand at an address. Most ask the same as by those of
 -- equations.
@@ -77,6 +80,7 @@ sums_asked_text condition.V12 = asked_text condition.V12
 sums_asked_text condition.V13 = asked_text condition.V13
 sums_asked_text condition.V14 = asked_text condition.V14
 sums_asked_text condition.V15 = asked_text condition.V15
+sums_asked_text condition.V16 = asked_text condition.V16
 
 -- What each condition asks, by the rules.
 abbrev pub asked_by : Rules → Condition → List ℕ
@@ -90,6 +94,14 @@ around before at after = before ++ octal_text at ++ after
 -- A text, a number in decimal digits, and a text.
 abbrev pub around_number : List ℕ → ℕ → List ℕ → List ℕ
 around_number before number after = before ++ decimal number ++ after
+
+-- An offset in octal digits, of which there is one below 10.
+abbrev pub offset_text : ℕ → List ℕ
+offset_text o = (if nat_lt o 8 then [] else decimal (o / 8)) ++ decimal (o % 8)
+
+-- A text, an offset, and a text.
+abbrev pub around_offset : List ℕ → ℕ → List ℕ → List ℕ
+around_offset before o after = before ++ offset_text o ++ after
 
 -- AC, or the address of a cell.
 abbrev pub name_text : Location → List ℕ
@@ -169,7 +181,7 @@ gap_text (gap.Accumulator w) = codes "AC may be " ++ octal_text w
 gap_text (gap.Mq w) = codes "MQ may be " ++ octal_text w
 gap_text (gap.Link l) = codes "the link may be " ++ link_text l
 gap_text (gap.Site a) = codes "the routine may have been called from " ++ octal_text a
-gap_text (gap.Offset o) = around_number (codes "the return word may have been incremented by ") o (codes "")
+gap_text (gap.Offset o) = around_offset (codes "the return word may have been incremented by ") o (codes "")
 gap_text (gap.Cell c w) = (codes "the cell " ++ octal_text c) ++ (codes " may hold " ++ octal_text w)
 gap_text (gap.Sum s w) = sum_may_be (sum_of s) w
 gap_text (gap.Equation s w) = word_told (sum_of s) w ++ codes " may be false"
@@ -233,8 +245,8 @@ from_one i = min (i + 1) 18446744073709551615
 
 -- By which offset a callee returns, and by the rules of sums, by which several exit lines may stand for an offset, which of them.
 abbrev pub returned_text : Rules → ℕ → ℕ → List ℕ
-returned_text OfEquations o i = around_number (codes ", which returns with offset ") o (codes ": ")
-returned_text OfSums o i = around_number (codes ", which returns with offset ") o (codes " by exit ") ++ around_number (codes "") (from_one i) (codes ": ")
+returned_text OfEquations o i = around_offset (codes ", which returns with offset ") o (codes ": ")
+returned_text OfSums o i = around_offset (codes ", which returns with offset ") o (codes " by exit ") ++ around_number (codes "") (from_one i) (codes ": ")
 
 -- What a call violates.
 abbrev pub call_text : Rules → CallBreach → List ℕ
@@ -250,27 +262,69 @@ call_text rules call.TooHigh = too_high_text rules
 call_text rules (call.Enters l) = codes " and continues after the entry: " ++ landing_text l
 call_text rules (call.Returns o i l) = returned_text rules o i ++ landing_text l
 
--- What a return violates.
-abbrev pub return_text : ReturnBreach → List ℕ
-return_text return.OtherRoutine = codes ", which is not its own entry"
-return_text (return.NotDeclared o) = around_number (codes " with offset ") o (codes ", which is not declared")
-return_text (return.NotAllowed o l) = around_number (codes " with offset ") o (codes "") ++ exit_text l
+-- That an offset of the routine of an entry is not declared. One above 7 can be declared by a `skips` line alone.
+abbrev pub undeclared_text : ℕ → ℕ → List ℕ
+undeclared_text e o =
+    if nat_lt o 8 then codes ", which is not declared"
+    else (codes ", which is not declared: add `skips " ++ octal_text e) ++ around_offset (codes " ") o (codes "`")
+
+-- What a return through an entry violates.
+abbrev pub return_text : ℕ → ReturnBreach → List ℕ
+return_text e return.OtherRoutine = codes ", which is not its own entry"
+return_text e (return.NotDeclared o) = around_offset (codes " with offset ") o (codes "") ++ undeclared_text e o
+return_text e (return.NotAllowed o l) = around_offset (codes " with offset ") o (codes "") ++ exit_text l
+
+-- Of what an assertion speaks.
+abbrev pub subject_text : Subject → List ℕ
+subject_text subject.Accumulator = codes "AC"
+subject_text subject.Link = codes "the link"
+subject_text subject.Mq = codes "MQ"
+subject_text (subject.Cell a) = octal_text a
+
+-- A word of it: the digit of a link, or four octal digits.
+abbrev pub subject_word : Subject → ℕ → List ℕ
+subject_word subject.Link w = if w == 0 then codes "0" else codes "1"
+subject_word _ w = octal_text w
+
+-- That it may have a word that a line of this name excludes.
+abbrev pub denied_text : Subject → ℕ → List ℕ → List ℕ
+denied_text s w line = subject_text s ++ (codes " may be " ++ (subject_word s w ++ (codes ", which a `" ++ (line ++ codes "` line excludes"))))
+
+-- How far an ISZ may count up the return word in its routine's own entry, by the rules.
+abbrev pub counting_text : Rules → List ℕ
+counting_text OfEquations = codes ", the routine's own entry, past offset 7, the most in certificates of versions 1 and 2"
+counting_text OfSums = codes ", the routine's own entry, past offset 77 or past 7777"
+
+-- That a DCA may store a word in its routine's own entry that is out of reach of a return address.
+abbrev pub moving_text : ℕ → ℕ → ℕ → List ℕ
+moving_text e w s =
+    (codes "it may store " ++ octal_text w) ++ (around (codes " in ") e (codes "") ++
+    around (codes ", which is not 0 to 77 behind the return address of the call at ") s (codes ""))
+
+-- An address, and behind it that a line with it is to be added, up to its end.
+abbrev pub advised_text : List ℕ → ℕ → List ℕ → List ℕ
+advised_text before at line = (before ++ octal_text at) ++ ((line ++ octal_text at) ++ codes "`")
 
 -- What a word violates.
 abbrev pub breach_text : Rules → Breach → List ℕ
 breach_text rules breach.NotSupported = codes "this word is not supported"
 breach_text rules (breach.WritesUndeclared c) = around (codes "it may write ") c (codes ", which is neither a variable nor an entry")
 breach_text rules (breach.WritesEntry c) = around (codes "it may write ") c (codes ", which is an entry")
+breach_text rules (breach.CountsTooFar c) = around (codes "it may increment ") c (counting_text rules)
+breach_text rules (breach.StoresInOwn c) = advised_text (codes "it may write ") c (codes ", the routine's own entry: add `moves ")
+breach_text rules (breach.MovesTooFar c w s) = moving_text c w s
 breach_text rules (breach.WritesUnlisted c) = around (codes "it may write ") c (codes ", which is not in the routine's written set")
 breach_text rules breach.HaltsUndeclared = codes "it halts, and no halt is declared there"
 breach_text rules breach.CallsThroughIndex = codes "it calls through an auto-index cell"
 breach_text rules (breach.Calls e b) = (codes "it calls " ++ octal_text e) ++ call_text rules b
-breach_text rules (breach.Returns e b) = (codes "it returns through " ++ octal_text e) ++ return_text b
+breach_text rules (breach.Returns e b) = (codes "it returns through " ++ octal_text e) ++ return_text e b
+breach_text rules (breach.JumpsToMain a) = advised_text (codes "it may continue at ") a (codes ", which is in main's body: add `abandon ")
 breach_text rules (breach.GoesOn a l) = around (codes "it may continue at ") a (codes ": ") ++ landing_text l
 breach_text rules (breach.ReadsUnlisted c) = around (codes "it may read ") c (codes ", which is not on the list of reads")
+breach_text rules (breach.DeniesAssertion s w) = denied_text s w (codes "holds")
 
 -- What tells a fact from another at its address.
-abbrev pub mark_text : Mark → List ℕ
+abbrev pub mark_text : Distinction → List ℕ
 mark_text (mark.CalledFrom a) = codes ", called from " ++ octal_text a
 mark_text mark.LinkClear = codes ", link 0"
 mark_text mark.LinkSet = codes ", link 1"
@@ -278,33 +332,39 @@ mark_text (mark.Accumulator w) = codes ", AC = " ++ octal_text w
 mark_text (mark.Cell c w) = (codes ", " ++ octal_text c) ++ (codes " = " ++ octal_text w)
 
 -- The same, if something tells it.
-abbrev pub told_mark : Option Mark → List ℕ
+abbrev pub told_mark : Option Distinction → List ℕ
 told_mark None = []
 told_mark (Some m) = mark_text m
 
 -- All that tells it.
-abbrev pub marks_text : Telling → List ℕ
+abbrev pub marks_text : ReasonContext → List ℕ
 marks_text t = ((told_mark t.site ++ told_mark t.link) ++ told_mark t.accumulator) ++ told_mark t.cell
 
 -- Which fact it is, where several stand at the address: its place among their lines, and what tells it.
-abbrev pub which_text : Telling → Option ℕ → List ℕ
+abbrev pub which_text : ReasonContext → Option ℕ → List ℕ
 which_text t None = []
 which_text t (Some i) =
     if nat_lt t.count 2 then []
     else (around_number (codes "fact ") (from_one i) (codes " of ") ++ around_number (codes "") t.count (codes " there")) ++ (marks_text t ++ codes ": ")
+
+-- By which offset a routine returns, and by the rules of sums by which of its exit lines.
+abbrev pub exit_named : Rules → ℕ → ℕ → List ℕ
+exit_named OfEquations o i = around_offset (codes "when it returns with offset ") o (codes ", ")
+exit_named OfSums o i = around_offset (codes "when it returns with offset ") o (codes " by exit ") ++ around_number (codes "") (from_one i) (codes ", ")
 
 -- Why the condition fails.
 abbrev pub reason_text : Rules → Reason → List ℕ
 reason_text rules (reason.AtStart l) = start_text l
 reason_text rules reason.LineAtNoEntry = codes "a routine or exit line names the address, which is not an entry"
 reason_text rules reason.InNoBody = codes "there is a fact at this address, which is not in any body"
-reason_text rules (reason.OffsetInMain i o) = around_number (codes "the fact is in main's body but has the offset ") o (codes "")
+reason_text rules (reason.OffsetInMain i o) = around_offset (codes "the fact is in main's body but has the offset ") o (codes "")
 reason_text rules (reason.SitesInMain i) = codes "the fact is in main's body but has sites"
 reason_text rules (reason.NoOffset i e) = around (codes "the fact is in the body of ") e (codes " but has no offset")
 reason_text rules (reason.NoSites i e) = around (codes "the fact is in the body of ") e (codes " but has no sites")
 reason_text rules (reason.RoutineNotListed e) = around (codes "the fact is in the body of ") e (codes ", which has no routine line")
 reason_text rules (reason.TooManyWords i n) = around_number (codes "") n (codes " words are possible")
 reason_text rules (reason.ByWord i w b) = breach_text rules b
+reason_text rules (reason.ExitDeniesAssertion o i s w) = exit_named rules o i ++ denied_text s w (codes "returns")
 
 -- The word that is shown: the one that breaks the condition, or else the tape's.
 abbrev pub word_shown : List (Option ℕ) → ℕ → Option Reason → Option ℕ
@@ -312,12 +372,12 @@ word_shown image at (Some (reason.ByWord i w b)) = Some w
 word_shown image at _ = word_at image at
 
 -- The line of a reason, if there is one, told by which fact it is so.
-abbrev pub reason_line : Telling → Option Reason → List ℕ
+abbrev pub reason_line : ReasonContext → Option Reason → List ℕ
 reason_line t None = []
 reason_line t (Some r) = (which_text t t.place ++ reason_text t.rules r) ++ codes "\n"
 
 -- The address with its word and its name, what the condition asks, and why it fails. After a yes there is nothing.
-abbrev pub why_text : Profile → List (Option ℕ) → Result (Unit {0}) Refusal → Option Reason → Telling → List ℕ
+abbrev pub why_text : Profile → List (Option ℕ) → Result (Unit {0}) Refusal → Option Reason → ReasonContext → List ℕ
 why_text profile image (Ok _) reason t = []
 why_text profile image (Err r) reason t =
     dump_line profile r.address (word_shown image r.address reason) ++
@@ -349,6 +409,11 @@ abbrev pub IsReason : Case → Result (Unit {0}) Refusal → Option Reason → T
 IsReason j (Ok _) reason = reason ≡ None
 IsReason j (Err r) reason = IsReasonFor j r reason
 
+-- Behind a no nothing more is told.
+abbrev pub IsOnlyAfterYes : Result (Unit {0}) Refusal → List ℕ → Type 0
+IsOnlyAfterYes (Ok _) more = Unit {0}
+IsOnlyAfterYes (Err r) more = more ≡ []
+
 -- The text is the line of the verdict on an image, a declaration and the lines of a certificate, why it is, and the fact there; and
 -- the status is that of the verdict.
 pub record IsExplanationOf (image : List (Option ℕ)) (declaration : Declaration) (lines : Text) (status : Status) (text : List ℕ) : Type 0 where
@@ -356,15 +421,17 @@ pub record IsExplanationOf (image : List (Option ℕ)) (declaration : Declaratio
   pub is : IsVerdict (checked_case image declaration lines) verdict
   pub reason : Option Reason
   pub why : IsReason (checked_case image declaration lines) verdict reason
-  pub telling : Telling
+  pub telling : ReasonContext
   pub told : IsTellingOf (certificate_of lines) verdict reason telling
-  pub text_is : text ≡ (verdict_text declaration verdict ++ why_text declaration.profile image verdict reason telling) ++ fact_shown lines verdict reason
+  pub more : List ℕ
+  pub only : IsOnlyAfterYes verdict more
+  pub text_is : text ≡ ((verdict_text declaration verdict ++ why_text declaration.profile image verdict reason telling) ++ fact_shown lines verdict reason) ++ more
   pub status_is : status ≡ verdict_status verdict
 
 -- To a text were added the line of the verdict on an image, a declaration and the lines of a certificate, why it is, and the fact there.
 pub record AddsExplanation (image : List (Option ℕ)) (declaration : Declaration) (lines : Text) (verdict : Result (Unit {0}) Refusal) (old new : List ℕ) : Type 0 where
   pub reason : Option Reason
   pub why : IsReason (checked_case image declaration lines) verdict reason
-  pub telling : Telling
+  pub telling : ReasonContext
   pub told : IsTellingOf (certificate_of lines) verdict reason telling
   pub text_is : new ≡ old ++ ((verdict_text declaration verdict ++ why_text declaration.profile image verdict reason telling) ++ fact_shown lines verdict reason)

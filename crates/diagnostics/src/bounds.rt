@@ -1,23 +1,26 @@
-//! What is said about a pointer where a search for a certificate is stuck: the words that it may hold there, and the
-//! last place where fewer were known. It is tested, not proved.
+//! What is said about a pointer where a search for a certificate is stuck: the words that it may hold there, those that would be
+//! enough, and the last place where fewer were known. It is tested, not proved.
 
-mod known;
+mod draft_facts;
 mod losses;
 mod relations;
 mod sets;
+mod sufficient;
 
-use crate::bounds::known::Known;
-use crate::bounds::losses::{Loss, loss_at, may_go_on, refers_to_memory};
+use crate::bounds::draft_facts::DraftFacts;
+use crate::bounds::losses::{PrecisionLoss, loss_at, may_go_on, refers_to_memory};
 use crate::bounds::relations::{Relation, lost_relation};
 use crate::bounds::sets::push_set;
+use crate::bounds::sufficient::{sufficient_words, test_of_pointer};
 use bin_tape::Image;
 use certificate::Certificate;
-use command_parts::message::{Lines, push_text_and_address};
+use command_parts::message::{MessageWriter, push_text_and_address};
 use declaration::Declaration;
 use domain::Location;
 use instruct::{name, refers_indirectly, target};
 use std::alloc::{AllocError, Allocator};
 use word12::Word;
+use wordset::WordSet;
 
 /// How many addresses there are.
 const ADDRESSES: usize = 4096;
@@ -37,7 +40,7 @@ fn pointer_at<D: Allocator>(image: &Image, declaration: &Declaration<D>, at: Wor
 struct LostBound {
     from: Word,
     to: Word,
-    loss: Loss,
+    loss: PrecisionLoss,
 }
 
 /// Looks at the addresses from which a run may come to this one: gives the first where the bound of the
@@ -46,7 +49,7 @@ fn step_back<A: Allocator, D: Allocator, C: Allocator>(
     seen: &mut Vec<Word, A>,
     image: &Image,
     declaration: &Declaration<D>,
-    known: &mut Known<'_, C>,
+    known: &mut DraftFacts<'_, C>,
     pointer: Word,
     here: Word,
 ) -> Result<Option<LostBound>, AllocError> {
@@ -81,7 +84,7 @@ fn lost_before<A: Allocator + Copy, D: Allocator, C: Allocator>(
     alloc: A,
     image: &Image,
     declaration: &Declaration<D>,
-    known: &mut Known<'_, C>,
+    known: &mut DraftFacts<'_, C>,
     pointer: Word,
     at: Word,
 ) -> Result<Option<LostBound>, AllocError> {
@@ -107,7 +110,7 @@ fn lost_before<A: Allocator + Copy, D: Allocator, C: Allocator>(
 /// # Errors
 ///
 /// `AllocError` if memory was refused.
-pub fn push_bound<A: Allocator + Copy, L: Lines, D: Allocator, C: Allocator>(
+pub fn push_bound<A: Allocator + Copy, L: MessageWriter, D: Allocator, C: Allocator>(
     alloc: A,
     text: &mut L,
     image: &Image,
@@ -118,23 +121,69 @@ pub fn push_bound<A: Allocator + Copy, L: Lines, D: Allocator, C: Allocator>(
     let Some(pointer) = pointer_at(image, declaration, at) else {
         return Ok(());
     };
-    let mut known = Known::of(image, draft);
+    let mut known = DraftFacts::of(image, draft);
     if !known.has_fact(at) {
         return Ok(());
     }
     push_text_and_address(text, b"the pointer ", pointer)?;
     text.push_text(b" may hold ")?;
-    push_set(text, &known.words_at(at, &Location::Cell(pointer)))?;
+    let words = known.words_at(at, &Location::Cell(pointer));
+    push_set(text, &words)?;
     text.push_text(b" there\n")?;
+    push_sufficient(text, image, declaration, at, pointer, &words)?;
     let Some(lost) = lost_before(alloc, image, declaration, &mut known, pointer, at)? else {
         return Ok(());
     };
     push_lost(alloc, text, image, declaration, draft, pointer, &lost)
 }
 
+/// Adds which of the words that a pointer may hold would be enough for the instruction at an address, if they are fewer, and which test
+/// in the same body could show it.
+fn push_sufficient<L: MessageWriter, D: Allocator>(
+    text: &mut L,
+    image: &Image,
+    declaration: &Declaration<D>,
+    at: Word,
+    pointer: Word,
+    words: &WordSet,
+) -> Result<(), AllocError> {
+    let Some(word) = image.get(at) else {
+        return Ok(());
+    };
+    let sufficient = sufficient_words(declaration, at, word).meet(words);
+    if sufficient.is_empty() || words.is_subset(&sufficient) {
+        return Ok(());
+    }
+    text.push_text(b"for this instruction it would be enough if it held only ")?;
+    push_set(text, &sufficient)?;
+    text.push_text(b"\n")?;
+    push_test(text, image, declaration, at, pointer)
+}
+
+/// Adds the skip in the same body that tests a sum with a pointer, or that there is none.
+fn push_test<L: MessageWriter, D: Allocator>(
+    text: &mut L,
+    image: &Image,
+    declaration: &Declaration<D>,
+    at: Word,
+    pointer: Word,
+) -> Result<(), AllocError> {
+    match test_of_pointer(image, declaration, at, pointer) {
+        Some(test) => {
+            push_text_and_address(text, b"the skip at ", test)?;
+            text.push_text(b" ")?;
+            push_name(text, image, declaration, test)?;
+            text.push_text(b" tests a sum with it and could show that\n")
+        }
+        None => text.push_text(
+            b"no skip in this body tests a sum with it; a test or a mask before the instruction could show that\n",
+        ),
+    }
+}
+
 /// Adds the relation that a loop loses, if the bound was lost where paths meet and there is one; otherwise where the
 /// bound was lost, and why.
-fn push_lost<A: Allocator + Copy, L: Lines, D: Allocator, C: Allocator>(
+fn push_lost<A: Allocator + Copy, L: MessageWriter, D: Allocator, C: Allocator>(
     alloc: A,
     text: &mut L,
     image: &Image,
@@ -143,7 +192,7 @@ fn push_lost<A: Allocator + Copy, L: Lines, D: Allocator, C: Allocator>(
     pointer: Word,
     lost: &LostBound,
 ) -> Result<(), AllocError> {
-    if lost.loss != Loss::Meeting {
+    if lost.loss != PrecisionLoss::Meeting {
         return push_loss(text, image, declaration, pointer, lost);
     }
     let (from, head) = (lost.from, lost.to);
@@ -155,7 +204,7 @@ fn push_lost<A: Allocator + Copy, L: Lines, D: Allocator, C: Allocator>(
 }
 
 /// Adds the name of the word at an address, if the tape has one.
-fn push_name<L: Lines, D: Allocator>(
+fn push_name<L: MessageWriter, D: Allocator>(
     text: &mut L,
     image: &Image,
     declaration: &Declaration<D>,
@@ -168,7 +217,7 @@ fn push_name<L: Lines, D: Allocator>(
 }
 
 /// Adds a relation that a loop keeps on one way, and the instruction at which it is lost on another.
-fn push_relation<L: Lines, D: Allocator>(
+fn push_relation<L: MessageWriter, D: Allocator>(
     text: &mut L,
     image: &Image,
     declaration: &Declaration<D>,
@@ -186,7 +235,7 @@ fn push_relation<L: Lines, D: Allocator>(
 }
 
 /// Adds where the bound of a pointer was lost, and why.
-fn push_loss<L: Lines, D: Allocator>(
+fn push_loss<L: MessageWriter, D: Allocator>(
     text: &mut L,
     image: &Image,
     declaration: &Declaration<D>,

@@ -8,6 +8,11 @@ use Rattle.wordset.specs.Words.{Words, between, one, nothing, with_word, meet, h
 use Rattle.wordset.proofs.Tests.{some_from, some_none_of}
 use Rattle.wordset.proofs.Firsts.{only_next, only_two, only_nothing}
 
+pub same_if : (p q : Bool) → (p ≡ true → q ≡ true) → (q ≡ true → p ≡ true) → p ≡ q
+same_if true q f g = sym (f refl)
+same_if false true f g = g refl
+same_if false false f g = refl
+
 pub in_row : (a b v : ℕ) → a ≤ v → v ≤ b → between a b v ≡ true
 in_row a b v h g = grind (arith, nat_tests)
 

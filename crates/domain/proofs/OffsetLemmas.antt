@@ -1,12 +1,12 @@
 -- Offsets as the bits of a number.
-use Rattle.std.proofs.Common.{◌≡◌, ℕ, zero, suc, ◌+◌, ◌-◌, ◌*◌, ◌/◌, ◌%◌, ◌^◌, ◌<◌, ◌≤◌, ◌==◌, Bool, true, false, not, ◌&&◌, ◌||◌, refl, sym, ap, ◌∙◌, arith, inl, inr, w64}
+use Rattle.std.proofs.Common.{◌≡◌, ◌≢◌, ℕ, zero, suc, ◌+◌, ◌-◌, ◌*◌, ◌/◌, ◌%◌, ◌^◌, ◌<◌, ◌≤◌, ◌==◌, Bool, true, false, not, ◌&&◌, ◌||◌, refl, sym, ap, ◌∙◌, arith, inl, inr, w64}
 use Rattle.std.specs.Prelude.{nat_lt, bit_and, bit_or, if◌then◌else◌}
 use Rattle.std.specs.Int.{bit_at, bit_not}
 use Rattle.std.proofs.Math.Path.{fun_ext}
-use Rattle.std.proofs.lemmas.Bool.{cases_eq, cases_lt, eq-eqb, ne_eqb}
+use Rattle.std.proofs.lemmas.Bool.{cases_eq, cases_lt, eq-eqb, ne_eqb, lt-ltb, le-ltb}
 use Rattle.std.proofs.lemmas.Bool.Decides.{nat_tests}
 use Rattle.std.proofs.lemmas.Nat.Bits.{bit_at-zero, bit_at_ones, bit_at_set_same, bit_at_set_other, shr_and_one, bit_at-lt, same_from_bits_below, bit_at-suc, bit_at_lowest, bit_at_cat_low}
-use Rattle.wordset.specs.Words.{Words, nothing, with_word}
+use Rattle.wordset.specs.Words.{Words, nothing, with_word, shifted, meet, has_some}
 use Rattle.wordset.proofs.LaneBits.{and_bit, not_bit, or_false}
 use Rattle.domain.specs.Moves.{counted_up}
 use Rattle.domain.specs.Offsets.{every_offset}
@@ -120,3 +120,45 @@ moved_up n = fun_ext at
           (let large : 64 ≤ suc k = omega arith in
           none_past (n * 2 ^ 1 % 2 ^ 64) (suc k) large ∙ sym (ap (λ b. b && (if suc k == 0 then false else of_bits n (suc k - 1))) (ge_is (suc k) large)))
     ]
+
+-- ---- offsets found one after the other
+
+pub none_below : (test : ℕ → Bool) (set : Words) → set ≡ nothing → set ≡ (λ v. nat_lt v 0 && test v)
+none_below test set none = none ∙ fun_ext (λ v. ap (λ b. b && test v) (sym (le-ltb v 0 (omega arith))))
+
+below_next : (v o : ℕ) → v ≢ o → nat_lt v (o + 1) ≡ nat_lt v o
+below_next v o other = grind (arith, nat_tests)
+
+and_falsity : (b : Bool) → (b && false) ≡ false
+and_falsity true = refl
+and_falsity false = refl
+
+-- one more that passes, and one that does not
+taken_at : (test : ℕ → Bool) (o : ℕ) → test o ≡ true → (v : ℕ) → ((nat_lt v o && test v) || v == o) ≡ (nat_lt v (o + 1) && test v)
+taken_at test o passes v = elim (cases_eq v o) [
+  | inl e ↦ rw (e, eq-eqb o o refl, lt-ltb o (o + 1) (omega arith), passes, le-ltb o o (omega arith)) refl
+  | inr n ↦ rw (ne_eqb v o n, below_next v o n) (or_false (nat_lt v o && test v))
+]
+
+left_at : (test : ℕ → Bool) (o : ℕ) → test o ≡ false → (v : ℕ) → (nat_lt v o && test v) ≡ (nat_lt v (o + 1) && test v)
+left_at test o fails v = elim (cases_eq v o) [
+  | inl e ↦ rw (e, fails) (and_falsity (nat_lt o o) ∙ sym (and_falsity (nat_lt o (o + 1))))
+  | inr n ↦ rw (below_next v o n) refl
+]
+
+pub one_next : (test : ℕ → Bool) (set new : Words) (o : ℕ) (chosen : Bool) → chosen ≡ test o → set ≡ (λ v. nat_lt v o && test v) → new ≡ (if chosen then with_word o set else set) → new ≡ (λ v. nat_lt v (o + 1) && test v)
+one_next test set new o true is so_far grown = grown ∙ fun_ext (λ v. ap (λ (s : Words). s v || v == o) so_far ∙ taken_at test o (sym is) v)
+one_next test set new o false is so_far grown = grown ∙ (so_far ∙ fun_ext (left_at test o (sym is)))
+
+pub all_below : (test : ℕ → Bool) (n : ℕ) → n ≡ 64 → (let found : Words = λ v. nat_lt v n && test v in found) ≡ (λ v. nat_lt v 64 && test v)
+all_below test n same = ap (λ k. let found : Words = λ v. nat_lt v k && test v in found) same
+
+-- what a set and another have in common
+pub reaches : (sites to shifted_sites both : Words) (k o : ℕ) (empty chosen : Bool) → k ≡ o + 1 → shifted_sites ≡ shifted sites k → both ≡ meet shifted_sites to → empty ≡ not (has_some both) → chosen ≡ not empty
+    → chosen ≡ has_some (meet (shifted sites (o + 1)) to)
+reaches sites to shifted_sites both k o empty chosen is_k is_shifted is_both is_empty is =
+    rw (is, is_empty, is_both, is_shifted, is_k) (not_not (has_some (meet (shifted sites (o + 1)) to)))
+  where
+    not_not : (b : Bool) → not (not b) ≡ b
+    not_not true = refl
+    not_not false = refl

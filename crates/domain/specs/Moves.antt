@@ -1,7 +1,7 @@
 -- What may happen to a fact: a cell's word is counted up, a name takes a new word, or one of several cells does.
-use Rattle.std.specs.Prelude.{ℕ, ◌-◌, ◌==◌, nat_lt, Bool, false, not, ◌&&◌, if◌then◌else◌, Option, Some, None, List, [], ◌∷◌, ◌++◌, map, filter, flat_map}
+use Rattle.std.specs.Prelude.{ℕ, ◌+◌, ◌-◌, ◌==◌, nat_lt, Bool, false, not, ◌&&◌, if◌then◌else◌, Option, Some, None, List, [], ◌∷◌, ◌++◌, map, filter, flat_map}
 use Rattle.std.specs.List.{list_any}
-use Rattle.wordset.specs.Words.{minus, Words, one, union, shifted, sums, meet, only}
+use Rattle.wordset.specs.Words.{minus, Words, one, union, shifted, sums, meet, only, has_some}
 use Rattle.domain.specs.Locations.{Location, Ac, Cell, same, has_cell, is_outside}
 use Rattle.domain.specs.Terms.{Term, Holding, Behind, Sum, coefficient_in, speaks_of}
 use Rattle.domain.specs.Chains.{Chain, after_count}
@@ -85,6 +85,11 @@ weakly_updated cells new f =
 -- The offsets after the return word went up by one: each of them is one more then, and 77 is the last that is kept.
 abbrev pub counted_up : Words → Words
 counted_up offsets o = nat_lt o 64 && (if o == 0 then false else offsets (o - 1))
+
+-- The offsets from the return addresses of some sites to some words: those o for which the sum of a site, 1 and o, modulo 4096,
+-- is one of the words. V14 sees to it that no sum passes 7777.
+abbrev pub offsets_between : Words → Words → Words
+offsets_between sites to o = nat_lt o 64 && has_some (meet (shifted sites (o + 1)) to)
 
 -- The relations of which all names are outside the written set; so they do not speak of the accumulator.
 abbrev pub outside : Words → List Relation → List Relation

@@ -1,7 +1,7 @@
 //! Sets of words that are quick to write where their words are in a row.
 
 ghost use Rattle.std.specs.Prelude.{◌≡◌, ◌↔◌, IsTrue, not};
-ghost use Rattle.wordset.specs.Words.{IsWithin, all_words, between, meet, nothing, one, has_some, only};
+ghost use Rattle.wordset.specs.Words.{IsWithin, SameWords, all_words, between, meet, nothing, one, has_some, only};
 ghost use Rattle.wordset.specs.Lanes.{words};
 
 use crate::rows::{is_range_within, put_row};
@@ -202,6 +202,32 @@ impl BriefSet {
             Kept::Row(first, last) => other.has_row(*first, *last),
             Kept::Whole => other.has_all(&self.whole),
         }
+    }
+
+    /// Whether it is kept as a row, and another as the same one.
+    fn is_same_row(&self, other: &BriefSet) -> bool
+        ensures { IsTrue result → brief_words self.now ≡ brief_words other.now }
+    {
+        match &self.kept {
+            Kept::Whole => false,
+            Kept::Row(first, last) => match &other.kept {
+                Kept::Whole => false,
+                Kept::Row(low, high) => *first == *low && *last == *high,
+            },
+        }
+    }
+
+    /// Whether it has the words of another and no others; of two rows that are the same this is seen at once.
+    pub fn is_same(&self, other: &BriefSet) -> bool
+        ensures { IsTrue result ↔ SameWords (brief_words self.now) (brief_words other.now) }
+    {
+        if self.is_same_row(other) {
+            return true;
+        }
+        if !self.is_subset(other) {
+            return false;
+        }
+        other.is_subset(self)
     }
 
     /// Lets it have the words from one up to another, both of them; none where the second is the lesser.

@@ -22,11 +22,13 @@ pub struct CellSet {
 
 /// At most so many cells with their words, in the order in which they were told. A cell without an entry may hold any word.
 ///
+/// The count stands before the entries, so that nothing lies between it and them: room for them is then made where it stays.
+///
 /// Contracts see them as the list that `cell_sets_of` gives, or as the words of each cell, `words_in_cells`.
 #[derive(Drop)]
 pub struct CellSets<const CAP: usize> {
-    entries: [CellSet; CAP],
     count: usize,
+    entries: [CellSet; CAP],
     ghost few: { count ≤ CAP },
     ghost long: { length entries ≡ CAP },
 }
@@ -55,11 +57,11 @@ impl<const CAP: usize> CellSets<CAP> {
         ensures { cell_sets_of result ≡ [] }
     {
         CellSets {
+            count: 0,
             entries: [CellSet {
                 cell: Word::ZERO,
                 set: BriefSet::zero(),
             }; CAP],
-            count: 0,
         }
     }
 

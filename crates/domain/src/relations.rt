@@ -35,11 +35,13 @@ pub struct Relation {
 
 /// At most so many relations, in the order in which they were told.
 ///
+/// The count stands before the relations, so that nothing lies between it and them: room for them is then made where it stays.
+///
 /// Contracts see them as the list that `relations_of` gives.
 #[derive(Drop)]
 pub struct Relations<const CAP: usize> {
-    relations: [Relation; CAP],
     count: usize,
+    relations: [Relation; CAP],
     ghost few: { count ≤ CAP },
     ghost long: { length relations ≡ CAP },
 }
@@ -74,6 +76,14 @@ fn add_times_each(c: Word, by: &WordSet, set: &mut BriefSet)
 impl Relation {
     ghost use Rattle.domain.specs.InCode.{sum_of};
     ghost use Rattle.domain.specs.RelationsInCode.{relation_of};
+
+    /// What stands where there is no relation. All its bits are 0, so that room for many is made at once, where it stays.
+    fn zero() -> Relation {
+        Relation {
+            sum: Sum::zero(),
+            set: BriefSet::zero(),
+        }
+    }
 
     /// Keeps those words of a set that all of some relations of a sum allow.
     fn keep_among(relations: &[Relation], sum: &Sum, place: &mut WordSet)
@@ -183,11 +193,8 @@ impl<const CAP: usize> Relations<CAP> {
         ensures { relations_of result ≡ [] }
     {
         Relations {
-            relations: [Relation {
-                sum: Sum::zero(),
-                set: BriefSet::zero(),
-            }; CAP],
             count: 0,
+            relations: [Relation::zero(); CAP],
         }
     }
 

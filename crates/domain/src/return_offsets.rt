@@ -1,8 +1,12 @@
 //! How far a return word may have been counted up, for counts up to 77.
 
-ghost use Rattle.std.specs.Prelude.{◌≡◌, ◌<◌, ◌↔◌, ℕ, IsTrue, true, false};
+ghost use Rattle.std.specs.Prelude.{◌≡◌, ◌<◌, ◌↔◌, ℕ, IsTrue, true, false, if◌then◌else◌};
 ghost use Rattle.wordset.specs.Words.{nothing, with_word};
-ghost use Rattle.domain.specs.Moves.{counted_up};
+ghost use Rattle.wordset.specs.Lanes.{words};
+ghost use Rattle.domain.specs.Moves.{counted_up, offsets_between};
+
+use word12::Word;
+use wordset::WordSet;
 
 /// Some of the offsets 0 to 77, by which a routine's return word may have been counted up.
 ///
@@ -59,6 +63,29 @@ impl ReturnOffsets {
             offsets_in other o ≡ true) }
     {
         self.bits & !other.bits == 0
+    }
+
+    /// The offsets from the return addresses of some sites to some words.
+    pub fn between(sites: &WordSet, to: &WordSet) -> ReturnOffsets
+        ensures { offsets_in result ≡ offsets_between (words sites.now) (words to.now) }
+    {
+        let mut offsets = ReturnOffsets::none();
+        for o in 0..64usize {
+            let reached = sites.shift(Word::from_index(o + 1)).meet(to);
+            offsets.insert_if(!reached.is_empty(), o);
+        }
+        offsets
+    }
+
+    /// Puts an offset in, where it is chosen.
+    fn insert_if(&mut self, chosen: bool, offset: usize)
+        requires { offset < 64 }
+        ensures { offsets_in self.new ≡
+            (if chosen then with_word offset (offsets_in self.old) else offsets_in self.old) }
+    {
+        if chosen {
+            self.insert(offset);
+        }
     }
 
     /// The offsets after the return word went up by one.

@@ -13,7 +13,7 @@ use Rattle.wordset.specs.Words.{Words, IsWithin, nothing, one}
 use Rattle.wordset.proofs.Tests.{or_left, or_right}
 use Rattle.declaration.specs.Declaration.{Declaration}
 use Rattle.domain.specs.Facts.{Place}
-use Rattle.facts.specs.Instructions.{calls, jumps, is_call, calls_through_index, returned_through, MayWrite}
+use Rattle.facts.specs.Instructions.{calls, jumps, is_call, is_jump, calls_through_index, returned_through, MayWrite}
 use Rattle.facts.specs.PlaceInCode.{meaning_in}
 use Rattle.policy.specs.Rules.{HaltsDeclared}
 use Rattle.std.proofs.Math.Path.{fun_ext}
@@ -98,6 +98,15 @@ reference_call _ i c = refl
 pub call_if : (r : Bool) (pl : Place) (at w : ℕ) → kind_of (meaning_in pl at w) ≡ Memory → r ≡ calls (operation_of w) → r ≡ is_call (meaning_in pl at w)
 call_if r pl at w k er =
     er ∙ reference_call (operation_of w) (is_indirect w) (named_cell w at) ∙ ap is_call (refers_in pl at w (named_cell w at) (is_indirect w) k refl refl)
+
+-- whether a word is a JMP
+reference_jump : (o : Operation) (i : Bool) (c : ℕ) → jumps o ≡ is_jump (reference o i c)
+reference_jump operation.And i c = refl
+reference_jump _ i c = refl
+
+pub jump_if : (r : Bool) (pl : Place) (at w : ℕ) → kind_of (meaning_in pl at w) ≡ Memory → r ≡ jumps (operation_of w) → r ≡ is_jump (meaning_in pl at w)
+jump_if r pl at w k er =
+    er ∙ reference_jump (operation_of w) (is_indirect w) (named_cell w at) ∙ ap is_jump (refers_in pl at w (named_cell w at) (is_indirect w) k refl refl)
 
 -- a word that is no JMS calls through no cell
 pub calls_none : (m : Meaning) → is_call m ≡ false → false ≡ calls_through_index m

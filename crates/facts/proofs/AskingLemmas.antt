@@ -1,22 +1,24 @@
 -- What is asked of a word: the cells that it reads, writes and calls.
-use Rattle.std.proofs.Common.{◌≡◌, ℕ, ◌==◌, Bool, true, false, ◌&&◌, ◌||◌, Option, Some, None, refl, sym, ap, ◌∙◌, subst, inl}
-use Rattle.std.proofs.lemmas.Bool.{eqb-true, eq-eqb, false≢true}
+use Rattle.std.proofs.Common.{◌≡◌, ℕ, ◌+◌, ◌<◌, arith, ◌==◌, Bool, true, false, ◌&&◌, ◌||◌, Option, Some, None, ◌⊎◌, refl, sym, ap, ◌∙◌, subst, inl, inr}
+use Rattle.std.proofs.lemmas.Bool.{eqb-true, eq-eqb, lt-ltb, le-ltb, cases_lt, false≢true}
+use Rattle.std.proofs.lemmas.Bool.Decides.{nat_tests}
 use Rattle.std.proofs.Math.Path.{fun_ext}
-use Rattle.std.specs.Prelude.{IsTrue, ◌↔◌, is_some}
+use Rattle.std.specs.Prelude.{IsTrue, ◌↔◌, is_some, nat_lt, if◌then◌else◌}
 use Rattle.instruct.specs.declared.Instruction.TheVariants.{Memory}
 use Rattle.instruct.specs.declared.Operation.{Operation}
 use Rattle.instruct.specs.declared.Operation.TheVariants as operation
 use Rattle.instruct.specs.Bits.{is_indirect, named_cell}
 use Rattle.instruct.specs.Instructions.{Meaning, kind_of, operation_of, reference}
-use Rattle.wordset.specs.Words.{Words, one, only, union}
+use Rattle.wordset.specs.Words.{Words, nothing, one, only, between, union, IsWithin, SameWords}
 use Rattle.wordset.proofs.LaneBits.{or_false}
 use Rattle.processor.specs.Machine.{steps_pointer}
 use Rattle.declaration.specs.Declaration.{IsListed}
 use Rattle.domain.specs.Locations.{is_routine}
 use Rattle.domain.specs.Facts.{Fact, Place}
-use Rattle.facts.specs.Instructions.{reads_operand, stores, counts, calls}
-use Rattle.facts.specs.References.{targets}
-use Rattle.facts.specs.Conditions.{may_read, may_write, called, MayCount, CountsItsReturn, ReadsAreListed}
+use Rattle.facts.specs.Instructions.{reads_operand, stores, counts, deposits, calls}
+use Rattle.transfer.specs.References.{targets}
+use Rattle.facts.specs.Conditions.{may_read, may_write, called, MayCount, CountsItsReturn, reach, AreInReach, MovesItsReturn, ReadsAreListed}
+use Rattle.transfer.specs.Outcomes.{ac_of}
 use Rattle.facts.specs.PlaceInCode.{meaning_in}
 pub use Rattle.facts.proofs.AskedLemmas.{refers_in, unless_memory}
 
@@ -109,6 +111,46 @@ counts_in {i} {n} pl f at w a k ei en =
     go : (o : Operation) → CountsItsReturn pl f (reference o i n) a ↔ ((counts o ≡ true) × (is_routine pl.routine a ≡ true) × (only (targets pl i n f) ≡ Some a) × MayCount pl.rules f)
     go operation.Isz = (λ q. (refl, ap (λ r. is_routine r a) q.0 ∙ eq-eqb a a refl, q.1, q.2), λ p. (is_own pl.routine p.1, p.2, p.3))
     go _ = (λ q. absurd q, λ p. absurd (false≢true p.0))
+
+-- a DCA moves the return word where all of these are so
+pub moves_in : {i : Bool} {n : ℕ} (pl : Place) (f : Fact) (at w a : ℕ) → kind_of (meaning_in pl at w) ≡ Memory → i ≡ is_indirect w → n ≡ named_cell w at →
+    MovesItsReturn pl f (meaning_in pl at w) a ↔ ((deposits (operation_of w) ≡ true) × (i ≡ false) × (is_routine pl.routine a ≡ true) × (pl.declaration.moves a ≡ true) × AreInReach f (ac_of pl f))
+moves_in {i} {n} pl f at w a k ei en =
+    subst (λ m. MovesItsReturn pl f m a ↔ ((deposits (operation_of w) ≡ true) × (i ≡ false) × (is_routine pl.routine a ≡ true) × (pl.declaration.moves a ≡ true) × AreInReach f (ac_of pl f)))
+    (refers_in pl at w n i k ei en) (go (operation_of w))
+  where
+    is_own : (r : Option ℕ) → is_routine r a ≡ true → r ≡ Some a
+    is_own None e = absurd (false≢true e)
+    is_own (Some k) e = ap (λ n. Some n) (sym (eqb-true a k e))
+
+    go : (o : Operation) → MovesItsReturn pl f (reference o i n) a ↔ ((deposits o ≡ true) × (i ≡ false) × (is_routine pl.routine a ≡ true) × (pl.declaration.moves a ≡ true) × AreInReach f (ac_of pl f))
+    go operation.Dca = (λ q. (refl, q.0, ap (λ r. is_routine r a) q.1 ∙ eq-eqb a a refl, q.2, q.3), λ p. (p.1, is_own pl.routine p.2, p.3, p.4))
+    go _ = (λ q. absurd q, λ p. absurd (false≢true p.0))
+
+-- of two ways to change an entry
+pub either_way : {E P Q : Type 0} (a b : Bool) → (IsTrue a ↔ P) → (IsTrue b ↔ Q) → E → IsTrue (a || b) ↔ (E → P ⊎ Q)
+either_way true b told more here = (λ q e. inl (told.0 refl), λ h. refl)
+either_way false b told more here = (λ q e. inr (more.0 q), λ h. elim (h here) [ inl p ↦ absurd (false≢true (told.1 p)) | inr q ↦ more.1 q ])
+
+pub no_entry : {e : Bool} {X : Type 0} (known : Bool) → known ≡ e → known ≡ false → IsTrue true ↔ (e ≡ true → X)
+no_entry known same lacks = (λ q is. absurd (false≢true (sym lacks ∙ (same ∙ is))), λ h. refl)
+
+-- the words within reach of a site
+pub within_reach : (known near : Words) (a : ℕ) → SameWords near (reach a) → IsWithin known near → IsWithin known (reach a)
+within_reach known near a same h w lt has = sym (same w lt) ∙ h w lt has
+
+pub not_within_reach : (known near : Words) (a : ℕ) → SameWords near (reach a) → IsWithin known (reach a) → IsWithin known near
+not_within_reach known near a same h w lt has = same w lt ∙ h w lt has
+
+-- the words behind an address, by the row that has them
+pub reach_row : (a first last : ℕ) → a < 4095 → first ≡ a + 1 → last ≡ (if nat_lt a 4032 then a + 64 else 4095) → SameWords (between first last) (reach a)
+reach_row a first last low is_first is_last v lt = elim (cases_lt a 4032) [
+  | inl under ↦ (let e : last ≡ a + 64 = is_last ∙ rw (lt-ltb a 4032 under) refl in rw (is_first, e) (grind (arith, nat_tests)))
+  | inr over ↦ (let e : last ≡ 4095 = is_last ∙ rw (le-ltb a 4032 over) refl in rw (is_first, e) (grind (arith, nat_tests)))
+]
+
+pub reach_none : (a : ℕ) → a ≡ 4095 → SameWords nothing (reach a)
+reach_none a is v lt = rw is (grind (arith, nat_tests))
 
 -- without a list of reads
 pub reads_unlisted : (pl : Place) (f : Fact) (m : Meaning) (b : Bool) → b ≡ is_some pl.declaration.reads → b ≡ false → IsTrue true ↔ ReadsAreListed pl f m

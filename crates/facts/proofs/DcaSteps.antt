@@ -1,8 +1,8 @@
 -- The steps by DCA.
-use Rattle.std.proofs.Common.{◌≡◌, ℕ, ◌*◌, ◌<◌, true, false, not, ◌&&◌, Option, Some, None, [], ◌∷◌, refl, sym, ap, ◌∙◌, arith, lit<}
-use Rattle.std.specs.Prelude.{if◌then◌else◌, flat_map}
-use Rattle.std.proofs.lemmas.Bool.{and_parts, cond_both, eq-eqb, lt-ltb, not-true}
-use Rattle.wordset.specs.Words.{plus, minus, Words, all_words, one, only}
+use Rattle.std.proofs.Common.{◌≡◌, ℕ, ◌+◌, ◌-◌, ◌*◌, ◌<◌, ◌≤◌, true, false, not, ◌&&◌, Option, Some, None, [], ◌∷◌, refl, sym, ap, ◌∙◌, inr, arith, lit<, lit≤}
+use Rattle.std.specs.Prelude.{if◌then◌else◌, flat_map, nat_lt, nat_le}
+use Rattle.std.proofs.lemmas.Bool.{and_parts, and_from, cond_both, eq-eqb, lt-ltb, ltb-true, leb-true, not-true, true≢false}
+use Rattle.wordset.specs.Words.{plus, minus, Words, all_words, one, only, meet, shifted}
 use Rattle.wordset.proofs.Firsts.{only_word}
 use Rattle.processor.specs.Cells.{Cells, updated}
 use Rattle.processor.specs.Machine.{State}
@@ -10,22 +10,24 @@ use Rattle.declaration.specs.Declaration.{IsDeclared}
 use Rattle.policy.specs.Calls.{Calls}
 use Rattle.domain.specs.Locations.{Location, Ac, Cell, same, Values}
 use Rattle.domain.specs.Terms.{Holding, sum_value, sum_of_name, difference_of, without_term}
-use Rattle.domain.specs.Facts.{Relation, Fact, Place, Rules, OfEquations, OfSums, IsTrueOf, AllTrue, Holds, Means}
+use Rattle.domain.specs.Facts.{Relation, Fact, Place, Rules, OfEquations, OfSums, IsTrueOf, AllTrue, Holds, OwnWord, last_site, Means}
 use Rattle.domain.specs.Adding.{with_set, set_of_sum}
 use Rattle.domain.specs.Moves.{moved_relation, taking, weakly_updated}
-use Rattle.domain.specs.Laws.{IsBegun, AreValues, GoesUp, SameButSets}
+use Rattle.domain.specs.Laws.{IsBegun, AreValues, KeepsOthers, GoesUp, SameButSets}
 use Rattle.domain.proofs.Numbers.{plus_lt}
 use Rattle.domain.proofs.SumLemmas.{same_name}
 use Rattle.domain.proofs.AddingLemmas.{given_is_so, adding_keeps, all_added_is_so, name_val}
 use Rattle.domain.proofs.MoveLemmas.{taking_holds, moved_is_so, weakly_updated_holds, sum_kept}
 use Rattle.facts.specs.States.{IsState, TopIsEntry}
-use Rattle.facts.specs.Additions.{names, has_ac}
-use Rattle.facts.specs.Stores.{with_cell_for_ac, has_all_words, after_store, all_after_store, stored, copied_for, copied}
-use Rattle.facts.specs.Outcomes.{ac_of, goes, stored_by, dca_case}
+use Rattle.transfer.specs.Additions.{names, has_ac}
+use Rattle.transfer.specs.Stores.{with_cell_for_ac, has_all_words, after_store, all_after_store, stored, copied_for, copied}
+use Rattle.facts.specs.Conditions.{AreInReach}
+use Rattle.transfer.specs.Outcomes.{ac_of, goes, stored_by, moved, dca_case}
 use Rattle.facts.specs.Laws.{LandsIn, SomeOutcome}
-use Rattle.facts.proofs.WordLemmas.{once, minus_lt, some_from, has_all}
+use Rattle.transfer.proofs.OneTarget.{direct_only}
+use Rattle.facts.proofs.WordLemmas.{once, minus_lt, some_from, has_all, shift_true}
 use Rattle.facts.proofs.TermLemmas.{without_less}
-use Rattle.facts.proofs.StateLemmas.{ac_values, updated_values, updated_same, value_of, values_words, words_updated, vals, means_updated, ac_true, names_words, goes_to, some_target}
+use Rattle.facts.proofs.StateLemmas.{ac_values, updated_values, updated_same, hidden_values, rest_updated, stands_like, value_of, values_words, words_updated, vals, means_updated, ac_true, names_words, goes_to, some_target}
 use Rattle.facts.proofs.RelationLemmas.{true_flat, still_true, rest_of, with_ac, rest_kept}
 
 gap_number : (a x : ℕ) → a < 4096 → x < 4096 → plus (1 * a) (plus (4095 * x) 0) ≡ minus a x
@@ -33,6 +35,10 @@ gap_number a x h g = omega arith
 
 back_number : (a x : ℕ) → a < 4096 → x < 4096 → a ≡ plus x (minus a x)
 back_number a x h g = omega arith
+
+last_word : (rules : Rules) → last_site rules ≤ 4094
+last_word OfEquations = lit≤ tt
+last_word OfSums = lit≤ tt
 
 module _ (pl : Place) (dd : IsDeclared pl.declaration) (start : Cells) (begun : IsBegun pl.image start) where
   -- the names before, with the accumulator at 0, and after
@@ -202,4 +208,56 @@ module _ (pl : Place) (dd : IsDeclared pl.declaration) (start : Cells) (begun : 
       go None q = dca_many f s ks p y ss top h lt e var
       go (Some z) q =
           let zy : z ≡ y = sym ((only_word p z q).lone y lt e) in
-          rw zy (dca_one f (stored_by pl.rules y (ac_of pl f) f) s ks p y ss top h lt e var (stored_by_right pl.rules f s ks y ss h var))
+          rw (zy, var) (dca_one f (stored_by pl.rules y (ac_of pl f) f) s ks p y ss top h lt e var (stored_by_right pl.rules f s ks y ss h var))
+
+  -- ---- the running routine's own entry
+
+  -- nothing that is said of names changes but the accumulator's word
+  others_kept : (s : State) (y : ℕ) → pl.declaration.variable y ≡ false → KeepsOthers (λ n. same n Ac) (was s) (now s y)
+  others_kept s y fixed Ac q = absurd (true≢false q)
+  others_kept s y fixed (Cell a) q = hidden_values pl.declaration start 0 s.memory y s.ac fixed (Cell a) refl
+
+  moved_own : (f : Fact) (s : State) (ks : Calls) (y : ℕ) → IsState s → Means pl start f s ks → pl.routine ≡ Some y → AreInReach f (ac_of pl f) → OwnWord (moved (ac_of pl f) f) (updated s.memory y s.ac) ks
+  moved_own f s [] y ss h own reach = tt
+  moved_own f s (k ∷ ks) y ss h own reach =
+      let ky : k.entry ≡ y = (let q : Some k.entry ≡ Some y = sym h.stands.0 ∙ own in cc) in
+      let pos : 0 < k.after = h.stands.1 in
+      let last : last_site pl.rules ≤ 4094 = last_word pl.rules in
+      let high : k.after ≤ last_site pl.rules + 1 = h.stands.2 in
+      let site : k.after - 1 < 4096 = omega arith in
+      let ac : ac_of pl f s.ac ≡ true = ac_true pl dd start begun f s (k ∷ ks) ss h in
+      let both = and_parts (nat_lt (k.after - 1) s.ac) (nat_le s.ac (k.after - 1 + 64)) (reach (k.after - 1) site h.stands.3 s.ac ss.ac ac) in
+      let above : k.after - 1 < s.ac = ltb-true (k.after - 1) s.ac both.0 in
+      let below : s.ac ≤ k.after - 1 + 64 = leb-true s.ac (k.after - 1 + 64) both.1 in
+      let small : s.ac < 4096 = ss.ac in
+      let o : ℕ = s.ac - k.after in
+      let lo : o < 64 = omega arith in
+      let word : s.ac ≡ k.after + o = omega arith in
+      let back : minus s.ac (o + 1) ≡ k.after - 1 = omega arith in
+      let from : shifted f.sites (o + 1) s.ac ≡ true = shift_true f.sites (o + 1) s.ac small (rw back h.stands.3) in (
+        o,
+        lo,
+        and_from (nat_lt o 64) _ (lt-ltb o 64 lo) (some_from 4096 (meet (shifted f.sites (o + 1)) (ac_of pl f)) s.ac small (and_from (shifted f.sites (o + 1) s.ac) (ac_of pl f s.ac) from ac)),
+        (rw ky (updated_same s.memory y s.ac)) ∙ word,
+      )
+
+  moved_means : (f : Fact) (s : State) (ks : Calls) (y : ℕ) → IsState s → Means pl start f s ks → pl.declaration.variable y ≡ false → pl.declaration.entry y ≡ true → pl.routine ≡ Some y → AreInReach f (ac_of pl f) →
+      Means pl start (moved (ac_of pl f) f) (deposited_state s y) ks
+  moved_means f s ks y ss h fixed en own reach =
+      let taken : Holds (taking Ac (one 0) f) (now s y) start s.link = taking_holds Ac (one 0) start f (was s) (now s y) s.link (others_kept s y fixed) refl h.holds in
+      record {
+        holds = record { sets = taken.sets; relations = taken.relations; chains = taken.chains };
+        mq = h.mq;
+        link = h.link;
+        rest = rest_updated pl.declaration start s.memory y s.ac (inr en) h.rest;
+        stands = stands_like pl f (moved (ac_of pl f) f) ks refl h.stands;
+        own = moved_own f s ks y ss h own reach;
+      }
+
+  pub dca_own : (f : Fact) (s : State) (ks : Calls) (y : ℕ) → IsState s → Means pl start f s ks → y < 4096 → pl.declaration.variable y ≡ false → pl.declaration.entry y ≡ true → pl.routine ≡ Some y → AreInReach f (ac_of pl f) →
+      SomeOutcome (LandsIn pl start (deposited_state s y) ks) (dca_case pl s.pc f (one y) (only (one y)))
+  dca_own f s ks y ss h lt fixed en own reach =
+      rw (← direct_only y lt, fixed)
+      (goes_to pl dd start begun (one y) (ac_of pl f) (one (plus s.pc 1)) f (moved (ac_of pl f) f) s (deposited_state s y) ks ss (deposited_word s y ss) h
+      (moved_means f s ks y ss h fixed en own reach)
+      (some_target pl dd start begun (one y) y lt (eq-eqb y y refl)) (some_from 4096 (ac_of pl f) s.ac ss.ac (ac_true pl dd start begun f s ks ss h)) (eq-eqb (plus s.pc 1) (plus s.pc 1) refl))

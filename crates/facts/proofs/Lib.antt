@@ -1,8 +1,5 @@
-pub mod EntailLemmas
 pub mod StartLemmas
 pub mod PlaceLemmas
-pub mod OutcomeLemmas
-pub mod SkipLemmas
 pub mod DispatchLemmas
 pub mod EachLemmas
 pub mod AskedLemmas
@@ -18,20 +15,18 @@ pub mod DcaSteps
 pub mod StepLemmas
 pub mod EntailedLemmas
 pub mod LandedLemmas
+pub mod HeldLemmas
 pub mod JoinedLemmas
 pub mod StartedLemmas
 pub mod ForeseenLemmas
 pub mod ShowingLemmas
 pub mod SplitLemmas
 pub mod BeginningLemmas
-pub mod EachRelation
-pub mod CarryingLemmas
-pub mod RowsLemmas
 pub mod OperandLemmas
 pub mod CountedLemmas
 pub mod AskingLemmas
-pub mod ComesLemmas
 pub mod DeviceLemmas
 pub mod KeepingLemmas
 pub mod ExactLemmas
-pub mod OneTarget
+pub mod AssertedLemmas
+mod MovedLemmas

@@ -8,7 +8,7 @@ use Rattle.instruct.specs.Bits.{has_bit, named_cell}
 use Rattle.instruct.specs.Operates.{is_halt, MqOperate, mq_operate_of}
 use Rattle.instruct.specs.Instructions.{Meaning, And, Tad, Isz, Dca, Jms, Jmp, Group1, Group2, Group3, Device, Undefined, DeviceAction, Skips, Ors, Clears, Takes, Leaves, device_action, device_meaning, is_group1, mq_meaning, group3_meaning, operate_meaning, meaning_of}
 use Rattle.wordset.specs.Words.{plus, one, or_any}
-use Rattle.processor.specs.Cells.{Cells}
+use Rattle.processor.specs.Cells.{Cells, updated}
 use Rattle.processor.specs.Machine.{State, Answer, Answers, seen, place, steps_pointer, next_pc, Does, instruction}
 use Rattle.declaration.specs.Declaration.{IsDeclared}
 use Rattle.policy.specs.Calls.{Calls}
@@ -19,10 +19,10 @@ use Rattle.domain.specs.Moves.{counted}
 use Rattle.domain.specs.Laws.{IsBegun}
 use Rattle.domain.proofs.Numbers.{plus_lt}
 use Rattle.facts.specs.States.{IsState, TopIsEntry, IsOrdinary}
-use Rattle.facts.specs.References.{stepped, targets}
-use Rattle.facts.specs.Conditions.{may_write, WritesAreDeclared, MayCount, EntriesAreKept}
-use Rattle.facts.specs.Outcomes.{ac_of}
-use Rattle.facts.specs.Operations.{ac_after, link_after, all_operated2, outcomes_of}
+use Rattle.transfer.specs.References.{stepped, targets}
+use Rattle.facts.specs.Conditions.{may_write, WritesAreDeclared, MayCount, AreInReach, EntriesAreKept}
+use Rattle.transfer.specs.Outcomes.{ac_of}
+use Rattle.transfer.specs.Operations.{ac_after, link_after, all_operated2, outcomes_of}
 use Rattle.facts.specs.Laws.{LandsIn, SomeOutcome, StepLaw}
 use Rattle.facts.proofs.WordLemmas.{next_word, if_below, or_left, or_right, and_word, or_word, or_byte_true, ac_after_word, link_after_bit, operate2_word, mq_words}
 use Rattle.facts.proofs.StateLemmas.{words_updated, seen_words, seen_place, after_pointer, pointer_state, pointer_means, target_true, ac_true}
@@ -30,7 +30,7 @@ use Rattle.facts.proofs.OperateSteps.{operate3_step, skip_step, ac_step, go_step
 use Rattle.facts.proofs.GroupSteps.{operate1_step, operate2_step}
 use Rattle.facts.proofs.ReferenceSteps.{jmp_step, and_step, MayBeCounted, isz_step}
 use Rattle.facts.proofs.TadSteps.{tad_step}
-use Rattle.facts.proofs.DcaSteps.{dca_step}
+use Rattle.facts.proofs.DcaSteps.{dca_step, dca_own}
 
 -- an instruction names a word
 abbrev pub NamesWord : Meaning → Type 0
@@ -181,6 +181,15 @@ module _ (pl : Place) (dd : IsDeclared pl.declaration) (start : Cells) (begun : 
   not_return f false ks c st t e = refl
   not_return f true ks c st t e = false_from_ne_true (is_routine pl.routine c) (λ q. true≢false (sym (routine_entry f ks c st t q) ∙ e refl))
 
+  -- a direct DCA of the own entry
+  own_moved : (f : Fact) (s t : State) (ks : Calls) (i : Bool) (c : ℕ) → IsState s → Means pl start f s ks → i ≡ false → c < 4096 →
+      t ≡ record s { ac = 0; pc = plus s.pc 1; memory = updated (seen i c s.memory) (place i c s.memory) s.ac } →
+      pl.declaration.variable (place i c s.memory) ≡ false → pl.declaration.entry (place i c s.memory) ≡ true → pl.routine ≡ Some (place i c s.memory) → AreInReach f (ac_of pl f) →
+      SomeOutcome (LandsIn pl start t ks) (outcomes_of pl f s.pc (Dca i c))
+  own_moved f s t ks true c ss h direct n is fixed entry own reach = absurd (true≢false direct)
+  own_moved f s t ks false c ss h direct n is fixed entry own reach =
+      subst (λ x. SomeOutcome (LandsIn pl start x ks) (outcomes_of pl f s.pc (Dca false c))) (sym is) (dca_own pl dd start begun f s ks c ss h n fixed entry own reach)
+
   pub covered : (m : Meaning) (f : Fact) (s t : State) (q : Answer) (ks : Calls) → NamesWord m → IsState s → TopIsEntry pl.declaration ks → Means pl start f s ks →
       WritesAreDeclared pl f m → EntriesAreKept pl f m → GoesOn pl.declaration m s.pc → IsOrdinary pl.declaration m → Does m s q t → SomeOutcome (LandsIn pl start t ks) (outcomes_of pl f s.pc m)
   covered (And i c) f s t q ks n ss top h wd ek on plain does =
@@ -197,7 +206,10 @@ module _ (pl : Place) (dd : IsDeclared pl.declaration) (start : Cells) (begun : 
       let hits : may_write pl f (Isz i c) y ≡ true = or_right _ _ a.target in
       let may : MayBeCounted pl dd start begun (stepped pl i c f) (targets pl i c f) y = elim (wd y a.word hits) [
         | inl x ↦ inl x
-        | inr x ↦ inr (dd.entry_not_variable y x, x, (ek y a.word hits x).0, (ek y a.word hits x).1, stepped_may_count pl.rules i c f (ek y a.word hits x).2)
+        | inr x ↦ elim (ek y a.word hits x) [
+          | inl up ↦ inr (dd.entry_not_variable y x, x, up.0, up.1, stepped_may_count pl.rules i c f up.2)
+          | inr on ↦ absurd on
+        ]
       ] in
       subst (λ x. SomeOutcome (LandsIn pl start x ks) (outcomes_of pl f s.pc (Isz i c))) (sym does.1)
       (isz_step pl dd start begun (stepped pl i c f) (after_pointer i c s) ks (targets pl i c f) y a.state top a.means a.word a.target may)
@@ -205,9 +217,14 @@ module _ (pl : Place) (dd : IsDeclared pl.declaration) (start : Cells) (begun : 
       let a : Accessed f s ks i c = accessed f s ks i c ss top h n (λ e. wd c n (or_left _ _ (pointer_written i c e))) in
       let y : ℕ = place i c s.memory in
       let hits : may_write pl f (Dca i c) y ≡ true = or_right _ _ a.target in
-      let var : pl.declaration.variable y ≡ true = elim (wd y a.word hits) [ inl x ↦ x | inr x ↦ absurd (ek y a.word hits x) ] in
-      subst (λ x. SomeOutcome (LandsIn pl start x ks) (outcomes_of pl f s.pc (Dca i c))) (sym does.1)
-      (dca_step pl dd start begun (stepped pl i c f) (after_pointer i c s) ks (targets pl i c f) y a.state top a.means a.word a.target var)
+      elim (wd y a.word hits) [
+        | inl var ↦ subst (λ x. SomeOutcome (LandsIn pl start x ks) (outcomes_of pl f s.pc (Dca i c))) (sym does.1)
+            (dca_step pl dd start begun (stepped pl i c f) (after_pointer i c s) ks (targets pl i c f) y a.state top a.means a.word a.target var)
+        | inr entry ↦ elim (ek y a.word hits entry) [
+          | inl up ↦ absurd up
+          | inr moves ↦ own_moved f s t ks i c ss h moves.0 n does.1 (dd.entry_not_variable y entry) entry moves.1 moves.3
+        ]
+      ]
   covered (Jms i c) f s t q ks n ss top h wd ek on plain does = absurd plain
   covered (Jmp i c) f s t q ks n ss top h wd ek on plain does =
       let a : Accessed f s ks i c = accessed f s ks i c ss top h n (λ e. wd c n (or_left _ _ (pointer_written i c e))) in

@@ -1,12 +1,15 @@
 -- What is asked of one word at the address of a fact before its outcomes are looked at.
-use Rattle.std.specs.Prelude.{◌≡◌, ℕ, ◌<◌, ◌≤◌, ◌==◌, true, false, ◌&&◌, ◌||◌, ◌⊎◌, Some}
+use Rattle.std.specs.Prelude.{◌≡◌, ℕ, ◌+◌, ◌<◌, ◌≤◌, ◌==◌, nat_lt, nat_le, true, false, ◌&&◌, ◌||◌, ◌⊎◌, Some, List, [], ◌∷◌}
 use Rattle.instruct.specs.Instructions.{Meaning, And, Tad, Isz, Dca, Jms, Jmp}
-use Rattle.wordset.specs.Words.{Words, only}
-use Rattle.declaration.specs.Declaration.{IsListed}
+use Rattle.wordset.specs.Words.{Words, only, IsWithin}
+use Rattle.declaration.specs.Declaration.{Assertion, PlaceAssertion, ReturnAssertion, IsListed}
+use Rattle.declaration.specs.declared.Subject.{Subject}
+use Rattle.declaration.specs.declared.Subject.TheVariants as subject
 use Rattle.policy.specs.Rules.{pointer_of}
 use Rattle.domain.specs.Facts.{Fact, Place, Rules, OfEquations, OfSums}
 use Rattle.facts.specs.Instructions.{MayWrite}
-use Rattle.facts.specs.References.{targets, own_words}
+use Rattle.transfer.specs.References.{targets, own_words, words_in}
+use Rattle.transfer.specs.Outcomes.{ac_of}
 
 -- The cells in which ISZ or DCA may store.
 abbrev pub may_store : Place → Fact → Meaning → Words
@@ -51,10 +54,26 @@ CountsItsReturn pl f (Isz i c) a =
     (pl.routine ≡ Some a) × (only (targets pl i c f) ≡ Some a) × MayCount pl.rules f
 CountsItsReturn pl f _ a = ⊥
 
--- No cell that the word may write is an entry, save under such an ISZ.
+-- The 64 words above an address, none of them beyond 7777: the return address, one above it, and more by the offsets 1 to 77.
+abbrev pub reach : ℕ → Words
+reach a w = nat_lt a w && nat_le w (a + 64)
+
+-- Each of these words lies 0 to 77 behind the return address of each of the fact's sites.
+abbrev pub AreInReach : Fact → Words → Type 0
+AreInReach f known = (a : ℕ) → a < 4096 → f.sites a ≡ true → IsWithin known (reach a)
+
+-- DCA that names the running routine's own entry directly, where the declaration lets the routine store there, and each word of
+-- the accumulator lies 0 to 77 behind each return address.
+abbrev pub MovesItsReturn : Place → Fact → Meaning → ℕ → Type 0
+MovesItsReturn pl f (Dca i c) a =
+    (i ≡ false) × (pl.routine ≡ Some a) × (pl.declaration.moves a ≡ true) × AreInReach f (ac_of pl f)
+MovesItsReturn pl f _ a = ⊥
+
+-- No cell that the word may write is an entry, save under such an ISZ or such a DCA.
 abbrev pub EntriesAreKept : Place → Fact → Meaning → Type 0
 EntriesAreKept pl f m =
-    (a : ℕ) → a < 4096 → may_write pl f m a ≡ true → pl.declaration.entry a ≡ true → CountsItsReturn pl f m a
+    (a : ℕ) → a < 4096 → may_write pl f m a ≡ true → pl.declaration.entry a ≡ true →
+    CountsItsReturn pl f m a ⊎ MovesItsReturn pl f m a
 
 -- Each cell that the word may write is one that the routine may write.
 abbrev pub WritesAreListed : Place → Words → Fact → Meaning → Type 0
@@ -65,3 +84,35 @@ WritesAreListed pl writes f m =
 abbrev pub ReadsAreListed : Place → Fact → Meaning → Type 0
 ReadsAreListed pl f m =
     (a : ℕ) → a < 4096 → may_read pl f m a ≡ true → IsListed pl.declaration.reads a ⊎ (pl.routine ≡ Some a)
+
+-- Some links, 0 and 1, as words.
+abbrev pub link_words : Words → Words
+link_words links w = nat_lt w 2 && links w
+
+-- The words that the subject of an assertion may have by the fact.
+abbrev pub may_be : Place → Fact → Subject → Words
+may_be pl f subject.Accumulator = ac_of pl f
+may_be pl f subject.Link = link_words f.link
+may_be pl f subject.Mq = f.mq
+may_be pl f (subject.Cell a) = words_in pl f a
+
+-- By the fact what is asserted is so: each word that the subject may have is asserted.
+abbrev pub IsAsserted : Place → Fact → Assertion → Type 0
+IsAsserted pl f a = IsWithin (may_be pl f a.subject) a.words
+
+-- By the fact the subject of an assertion may have this word, which is not asserted.
+pub record IsDenied (pl : Place) (f : Fact) (a : Assertion) (w : ℕ) : Type 0 where
+  pub small : w < 4096
+  pub possible : may_be pl f a.subject w ≡ true
+  pub excluded : a.words w ≡ false
+
+-- By the fact all is so that is to hold at an address.
+abbrev pub EachIsHeld : Place → Fact → ℕ → List PlaceAssertion → Type 0
+EachIsHeld pl f a [] = Unit {0}
+EachIsHeld pl f a (h ∷ hs) = (h.places a ≡ true → IsAsserted pl f h.assertion) × EachIsHeld pl f a hs
+
+-- By the exit all is so that is to hold when the routine of an entry returns by an offset.
+abbrev pub EachIsHeldBy : Place → Fact → ℕ → ℕ → List ReturnAssertion → Type 0
+EachIsHeldBy pl f e o [] = Unit {0}
+EachIsHeldBy pl f e o (r ∷ rs) =
+    (r.entry ≡ e → r.offsets o ≡ true → IsAsserted pl f r.assertion) × EachIsHeldBy pl f e o rs

@@ -25,6 +25,11 @@ abbrev pub counts : Operation → Bool
 counts operation.Isz = true
 counts _ = false
 
+-- DCA deposits.
+abbrev pub deposits : Operation → Bool
+deposits operation.Dca = true
+deposits _ = false
+
 -- JMS calls.
 abbrev pub calls : Operation → Bool
 calls operation.Jms = true
@@ -39,6 +44,11 @@ jumps _ = false
 abbrev pub is_call : Meaning → Bool
 is_call (Jms i c) = true
 is_call _ = false
+
+-- The word is a JMP.
+abbrev pub is_jump : Meaning → Bool
+is_jump (Jmp i c) = true
+is_jump _ = false
 
 -- A JMS through an auto-index cell, which it steps first.
 abbrev pub calls_through_index : Meaning → Bool

@@ -4,7 +4,7 @@ ghost use Rattle.std.specs.Prelude.{ℕ, ◌≡◌, ◌↔◌, IsTrue};
 ghost use Rattle.instruct.specs.declared.Instruction.TheVariants.{Memory, Operate2};
 ghost use Rattle.instruct.specs.Instructions.{kind_of};
 ghost use Rattle.policy.specs.Rules.{IsSupported, HaltsDeclared};
-ghost use Rattle.facts.specs.Instructions.{is_call, calls_through_index, returned_through};
+ghost use Rattle.facts.specs.Instructions.{is_call, is_jump, calls_through_index, returned_through};
 ghost use Rattle.facts.specs.PlaceInCode.{place_in_code, meaning_in};
 
 use crate::instructions::{is_jmp, is_jms, steps_pointer};
@@ -66,6 +66,16 @@ impl<A: Allocator> Place<'_, A> {
             return false;
         }
         is_jms(word)
+    }
+
+    /// Whether a word is a JMP.
+    pub fn is_jump(&self, word: Word) -> bool
+        ensures { (at : ℕ) → result ≡ is_jump (meaning_in (place_in_code self.now) at word) }
+    {
+        if !self.is_reference(word) {
+            return false;
+        }
+        is_jmp(word)
     }
 
     /// Whether a word is a JMS through an auto-index cell, which it steps first.

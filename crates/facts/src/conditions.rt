@@ -1,7 +1,7 @@
 //! The cells that one word at the address of a fact may read, write or call, and what is asked of them.
 
 ghost use Rattle.std.specs.Prelude.{ℕ, ◌≡◌, ◌<◌, ◌≤◌, ◌==◌, ◌&&◌, ◌||◌, ◌↔◌, ◌⊎◌, IsTrue, IfSome, Some, true, false};
-ghost use Rattle.wordset.specs.Words.{one};
+ghost use Rattle.wordset.specs.Words.{one, SameWords};
 ghost use Rattle.wordset.specs.Lanes.{words};
 ghost use Rattle.declaration.specs.Declaration.{IsListed};
 ghost use Rattle.domain.specs.Locations.{is_routine};
@@ -9,16 +9,16 @@ ghost use Rattle.domain.specs.Facts as said;
 ghost use Rattle.domain.specs.FactInCode.{fact_in_code, rules_of};
 ghost use Rattle.domain.specs.Offsets.{offsets_in};
 ghost use Rattle.facts.specs.Instructions.{MayWrite};
-ghost use Rattle.facts.specs.Conditions.{may_read, may_write, called, WritesAreDeclared, EntriesAreKept, WritesAreListed, ReadsAreListed, MayCount, CountsItsReturn};
+ghost use Rattle.facts.specs.Conditions.{may_read, may_write, called, WritesAreDeclared, EntriesAreKept, WritesAreListed, ReadsAreListed, MayCount, CountsItsReturn, reach, AreInReach, MovesItsReturn};
 ghost use Rattle.facts.specs.PlaceInCode.{place_in_code, meaning_in};
 
-use crate::instructions::{counts, is_jms, reads_operand, steps_pointer, stores};
+use crate::instructions::{counts, deposits, is_jms, reads_operand, steps_pointer, stores};
 use crate::place::Place;
 use crate::references::put_own_words;
-use crate::sets::named_if;
-use domain::{ReturnOffsets, Rules, SumFact};
+use domain::{Location, ReturnOffsets, Rules, SumFact};
 use instruct::{refers_indirectly, target};
 use std::alloc::Allocator;
+use transfer::named_if;
 use word12::Word;
 use wordset::WordSet;
 
@@ -57,6 +57,35 @@ fn may_count<const C: usize, const R: usize>(rules: &Rules, fact: &SumFact<C, R>
         Rules::OfEquations => are_below_seven(fact.offsets()),
         Rules::OfSums => may_go_up(fact),
     }
+}
+
+/// The words that lie 1 to 100 behind an address.
+fn reach(at: Word) -> WordSet
+    ensures { SameWords (words result) (reach at) }
+{
+    if at.index() == 0o7777 {
+        return WordSet::empty();
+    }
+    let last = if at.index() < 0o7700 {
+        at.index() + 64
+    } else {
+        0o7777
+    };
+    WordSet::range(Word::from_index(at.index() + 1), Word::from_index(last))
+}
+
+/// Whether each of some words lies 0 to 77 behind the return address of each of a fact's sites.
+fn are_in_reach<const C: usize, const R: usize>(fact: &SumFact<C, R>, known: &WordSet) -> bool
+    ensures { IsTrue result ↔ AreInReach (fact_in_code fact.now) (words known.now) }
+{
+    let mut sites = WordSet::empty();
+    fact.sites().put(&mut sites);
+    for site in sites.iter() {
+        if !known.is_subset(&reach(site)) {
+            return false;
+        }
+    }
+    true
 }
 
 impl<A: Allocator> Place<'_, A> {
@@ -245,7 +274,39 @@ impl<A: Allocator> Place<'_, A> {
         }
     }
 
-    /// Whether a cell is no entry, or the one in which a word counts the running routine's return word up.
+    /// Whether a word stores in the running routine's own entry, and may do so: a DCA that names it directly, where the declaration
+    /// lets the routine store there, and each word of the accumulator lies 0 to 77 behind each return address.
+    fn moves_its_return<const C: usize, const R: usize>(
+        &self,
+        fact: &SumFact<C, R>,
+        at: Word,
+        word: Word,
+        entry: Word,
+    ) -> bool
+        ensures { IsTrue result ↔ MovesItsReturn (place_in_code self.now) (fact_in_code fact.now)
+            (meaning_in (place_in_code self.now) at word) entry }
+    {
+        if !self.is_reference(word) {
+            return false;
+        }
+        if !deposits(word) {
+            return false;
+        }
+        if refers_indirectly(word) {
+            return false;
+        }
+        if !self.is_own(entry) {
+            return false;
+        }
+        if !self.declaration.may_move(entry) {
+            return false;
+        }
+        let mut known = WordSet::all();
+        self.put_words_known(fact, &Location::Accumulator, &mut known);
+        are_in_reach(fact, &known)
+    }
+
+    /// Whether a cell is no entry, or the one in which a word changes the running routine's return word.
     fn keeps_entry<const C: usize, const R: usize>(
         &self,
         fact: &SumFact<C, R>,
@@ -253,18 +314,19 @@ impl<A: Allocator> Place<'_, A> {
         word: Word,
         cell: Word,
     ) -> bool
-        ensures { IsTrue result ↔ ((place_in_code self.now).declaration.entry cell ≡ true →
-            CountsItsReturn (place_in_code self.now) (fact_in_code fact.now)
-            (meaning_in (place_in_code self.now) at word) cell) }
+        ensures { let pl = place_in_code self.now in let m = meaning_in pl at word in
+            IsTrue result ↔ (pl.declaration.entry cell ≡ true →
+            CountsItsReturn pl (fact_in_code fact.now) m cell
+            ⊎ MovesItsReturn pl (fact_in_code fact.now) m cell) }
     {
         if !self.declaration.is_entry(cell) {
             return true;
         }
-        self.counts_its_return(fact, at, word, cell)
+        self.counts_its_return(fact, at, word, cell) || self.moves_its_return(fact, at, word, cell)
     }
 
     /// Whether no cell that a word may write is an entry, save that ISZ may count the running routine's own up, as its only
-    /// target, where that may be counted up once more.
+    /// target, where that may be counted up once more, and that DCA may store in it by its name, where that may be moved so.
     pub fn entries_are_kept<const C: usize, const R: usize>(
         &self,
         fact: &SumFact<C, R>,

@@ -38,10 +38,7 @@ fn is_same_relation(a: &Relation, b: &Relation) -> bool
     if !a.sum.is_same(&b.sum) {
         return false;
     }
-    if !a.set.is_subset(&b.set) {
-        return false;
-    }
-    b.set.is_subset(&a.set)
+    a.set.is_same(&b.set)
 }
 
 /// Whether the relation at a place of some is this one.

@@ -3,7 +3,7 @@
 ghost use Rattle.std.specs.Prelude.{◌≡◌};
 ghost use Rattle.instruct.specs.Instructions.{operation_of};
 ghost use Rattle.processor.specs.Machine.{steps_pointer};
-ghost use Rattle.facts.specs.Instructions.{reads_operand, stores, counts, calls, jumps};
+ghost use Rattle.facts.specs.Instructions.{reads_operand, stores, counts, deposits, calls, jumps};
 
 use instruct::Operation;
 use processor::is_auto_index;
@@ -31,6 +31,13 @@ pub(crate) fn counts(word: Word) -> bool
     ensures { result ≡ counts (operation_of word) }
 {
     matches!(Operation::of(word), Operation::Isz)
+}
+
+/// Whether a memory reference is DCA.
+pub(crate) fn deposits(word: Word) -> bool
+    ensures { result ≡ deposits (operation_of word) }
+{
+    matches!(Operation::of(word), Operation::Dca)
 }
 
 /// Whether a memory reference is JMS.

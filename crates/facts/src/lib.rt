@@ -3,12 +3,11 @@
 
 ghost use Rattle.facts.specs.Access.{CallsAreForeseen, ReadsAreForeseen, WordsAreForeseen, WritesAreForeseen};
 ghost use Rattle.facts.specs.Laws.{EntailedFactsHold, IdleNeverHolds, JoinedHolds, OneLandedHolds, StepLaw};
-ghost use Rattle.facts.specs.Shaped.{NarrowingKeepsShape};
+ghost use Rattle.transfer.specs.Shaped.{NarrowingKeepsShape};
 ghost use Rattle.facts.specs.Starts.{StartFactHolds, StartsAreExact, StartsLand};
 
-mod additions;
 mod asked;
-mod carrying;
+mod assertions;
 mod conditions;
 mod dispatch;
 mod entailment;
@@ -16,19 +15,14 @@ mod instructions;
 mod known;
 mod landing;
 mod memory;
-mod operations;
-mod outcomes;
 mod parts;
 mod place;
 mod references;
 mod registers;
 mod rooms;
-mod sets;
-mod skipping;
 mod source;
 mod start_fact;
 mod starts;
-mod stores;
 
 pub use domain::{
     BriefSet, CellSet, CellSets, Chain, Location, Relation, Relations, ReturnOffsets, Rules, Step,
@@ -37,12 +31,9 @@ pub use domain::{
 pub use entailment::Allowed;
 pub use known::KnownFact;
 pub use landing::{LandingRooms, cells_told};
-pub use outcomes::{Kind, Outcome, Outcomes};
 pub use parts::{LinkPart, Part};
 pub use place::Place;
-pub use rooms::{
-    ChosenFact, Fact, MetFact, NarrowedFact, NextFact, PartFact, SteppedFact, TestedFact,
-};
+pub use rooms::{ChosenFact, Fact, MetFact, NarrowedFact, PartFact};
 pub use source::FactSource;
 pub use start_fact::StartFact;
 pub use starts::{StartPart, start_part};
@@ -57,7 +48,8 @@ pub enum Condition {
     V2,
     /// At most 64 words are possible, and each is supported.
     V3,
-    /// Each outcome entails the fact at each next address, in the same body.
+    /// Each outcome entails the fact at each next address, in the same body; or, by a JMP in a
+    /// routine to a place for which calls may be abandoned, the fact there as main's.
     V4,
     /// Each cell that may be written, a JMS's own apart, is a variable or an entry.
     V5,
@@ -79,11 +71,16 @@ pub enum Condition {
     /// A HLT is at a declared halt.
     V13,
     /// No entry may be written, a JMS's own cell apart, save that ISZ may count the routine's own
-    /// as its only target where 7 is none of the offsets.
+    /// as its only target where 7 is none of the offsets, and that DCA may store in it by its name,
+    /// where the declaration lets the routine do so and the word lies 0 to 77 behind each return
+    /// address.
     V14,
     /// Each cell that may be read is on the list of reads, where there is one, or the routine's own
     /// entry.
     V15,
+    /// What is declared to hold at the address holds by each fact there; what is declared of returns
+    /// holds by the routine's exits.
+    V16,
 }
 
 /// The step law: from a state of a fact, a step by the word at the program counter lands in one of

@@ -9,19 +9,19 @@ ghost use Rattle.domain.specs.CellsInCode.{cell_sets_of};
 ghost use Rattle.domain.specs.RelationsInCode.{relations_of};
 ghost use Rattle.domain.specs.ChainsInCode.{AreShort};
 ghost use Rattle.domain.specs.FactInCode.{fact_in_code, rules_of};
-ghost use Rattle.facts.specs.Shaped.{has_last_or_other};
-ghost use Rattle.facts.specs.Outcomes.{anded, chains_after_and, tad, isz_case, dca_case, stored_by, jmp, call};
-ghost use Rattle.facts.specs.Shaped.{HaveFewTerms};
+ghost use Rattle.transfer.specs.Shaped.{has_last_or_other};
+ghost use Rattle.transfer.specs.Outcomes.{anded, chains_after_and, tad, isz_case, dca_case, deposited, moved, stored_by, jmp, call};
+ghost use Rattle.transfer.specs.Shaped.{HaveFewTerms};
 ghost use Rattle.facts.specs.PlaceInCode.{place_in_code};
-ghost use Rattle.facts.specs.OutcomesInCode.{outcome_in};
+ghost use Rattle.transfer.specs.OutcomesInCode.{outcome_in};
 
-use crate::additions::{put_added, put_added_under};
-use crate::outcomes::{Outcome, is_alive};
 use crate::place::Place;
-use crate::sets::has_some;
-use crate::stores::{put_begun_longer, put_copied, put_stored};
-use domain::{Location, Rules, Step, SumFact};
+use domain::{Location, ReturnOffsets, Rules, Step, SumFact};
 use std::alloc::Allocator;
+use transfer::{
+    Outcome, has_some, is_alive, put_added, put_added_under, put_begun_longer, put_copied,
+    put_stored,
+};
 use word12::{Link, Word};
 use wordset::WordSet;
 
@@ -42,6 +42,22 @@ fn put_chains_after_and<const C: usize, const R: usize, const D: usize, const S:
         None => after.clear_chains(),
         Some(word) => put_begun_longer(rules, &Step::Ands(*word), fact, after),
     }
+}
+
+/// Lets a fact be another after DCA stored one of some words of the accumulator in the running routine's own entry.
+fn put_moved<const C: usize, const R: usize, const D: usize, const S: usize>(
+    held: &WordSet,
+    fact: &SumFact<D, S>,
+    after: &mut SumFact<C, R>,
+)
+    requires cells { length (cell_sets_of fact.now.cells) ≤ C }
+    requires relations { length (relations_of fact.now.relations) ≤ R }
+    ensures { fact_in_code after.new ≡ moved (words held.now) (fact_in_code fact.now) }
+{
+    let mut sites = WordSet::empty();
+    fact.sites().put(&mut sites);
+    after.take_for_accumulator(fact, &WordSet::one(Word::ZERO));
+    after.set_offsets(ReturnOffsets::between(&sites, held));
 }
 
 impl<A: Allocator> Place<'_, A> {
@@ -124,7 +140,28 @@ impl<A: Allocator> Place<'_, A> {
         }
     }
 
-    /// What is known after DCA of the one target.
+    /// What is known after DCA of the one target: of a variable, or else of the running routine's own entry.
+    fn put_deposited<const C: usize, const R: usize>(
+        &self,
+        cell: Word,
+        held: &WordSet,
+        fact: &SumFact<C, R>,
+        outcome: &mut Outcome,
+    )
+        requires cells { length (cell_sets_of fact.now.cells) ≤ 133 }
+        requires relations { length (relations_of fact.now.relations) ≤ 68 }
+        requires terms { HaveFewTerms (fact_in_code fact.now).relations }
+        ensures { fact_in_code outcome.new.fact ≡
+            deposited (place_in_code self.now) cell (words held.now) (fact_in_code fact.now) }
+    {
+        if self.declaration.is_variable(cell) {
+            self.put_stored_by(cell, held, fact, outcome);
+            return;
+        }
+        put_moved(held, fact, &mut outcome.fact);
+    }
+
+    /// What is known after DCA of the one target, a variable.
     fn put_stored_by<const C: usize, const R: usize>(
         &self,
         cell: Word,
@@ -167,7 +204,7 @@ impl<A: Allocator> Place<'_, A> {
         let reached = has_some(targets);
         match single {
             Some(cell) => {
-                self.put_stored_by(*cell, &held, fact, outcome);
+                self.put_deposited(*cell, &held, fact, outcome);
                 let comes = is_alive(&self.rules, reached, &held, has_some(&held), &outcome.fact);
                 outcome.go_to(comes, at.increment());
             }

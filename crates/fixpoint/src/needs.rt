@@ -1,8 +1,9 @@
 //! Which cells are needed at an address: those that the words from there on may look at before they
-//! are written. Only of these a quick search keeps what is known.
+//! are written, and those of which something is declared to hold there. Only of these a quick search keeps what is known.
 
 use crate::halt::Halt;
 use crate::program::{AnalysedProgram, is_reference};
+use declaration::{Assertion, Subject};
 use instruct::{Operation, refers_indirectly, target};
 use std::alloc::Allocator;
 use std::collections::BTreeMap;
@@ -16,11 +17,14 @@ const MOST_ROUNDS: usize = 64;
 type Sets<A> = BTreeMap<usize, WordSet, A>;
 
 /// The cells that are needed at each address of a body, and at each entry those that are needed when
-/// its routine returns; at each entry, too, the cells that the routine's words name to write.
+/// its routine returns; at each entry, too, the cells that the routine's words name to write. Some
+/// cells may be partners: where a routine writes one of them that is needed when it returns, all of
+/// them that are needed then are needed in it too, as what is known of them may be how they differ.
 #[derive(Drop)]
 pub(crate) struct Needs<A: Allocator> {
     cells: Sets<A>,
     writes: Sets<A>,
+    partners: WordSet,
 }
 
 /// The set of an address.
@@ -63,6 +67,15 @@ fn without(cells: &WordSet, cell: Option<Word>) -> WordSet {
     }
 }
 
+/// Some of the cells that are needed after a call, with all partners that are needed then if one is among them.
+fn with_partners(after: &WordSet, cells: &WordSet, partners: &WordSet) -> WordSet {
+    if cells.meet(partners).is_empty() {
+        *cells
+    } else {
+        cells.union(&after.meet(partners))
+    }
+}
+
 /// Whether a word that refers to no memory may skip.
 fn may_skip(word: Word) -> bool {
     word.index() < 0o7000 || word.index() >= 0o7400
@@ -92,17 +105,53 @@ fn written_by<A: Allocator, D: Allocator>(
     }
 }
 
+/// The cell that is the subject of an assertion, if a cell is.
+fn subject_cell(assertion: &Assertion) -> WordSet {
+    match assertion.subject() {
+        Subject::Cell(cell) => WordSet::one(*cell),
+        _ => WordSet::empty(),
+    }
+}
+
+/// The cells of which something is declared to hold at an address.
+fn asserted_at<D: Allocator>(program: &AnalysedProgram<'_, D>, at: Word) -> WordSet {
+    let mut cells = WordSet::empty();
+    for holding in program.declaration.holds() {
+        if holding.places().contains(at) {
+            cells = cells.union(&subject_cell(holding.assertion()));
+        }
+    }
+    cells
+}
+
+/// The cells of which something is declared to hold when the routine of an entry returns.
+pub(crate) fn returned_cells<D: Allocator>(
+    program: &AnalysedProgram<'_, D>,
+    entry: Word,
+) -> WordSet {
+    let mut cells = WordSet::empty();
+    for returning in program.declaration.returns() {
+        if returning.entry() == entry {
+            cells = cells.union(&subject_cell(returning.assertion()));
+        }
+    }
+    cells
+}
+
 impl<A: Allocator + Copy> Needs<A> {
-    /// What the words of a program need.
+    /// What the words of a program need, where some cells are partners.
     pub(crate) fn of<D: Allocator>(
         alloc: A,
         program: &AnalysedProgram<'_, D>,
+        partners: &WordSet,
     ) -> Result<Needs<A>, Halt> {
         let mut needs = Needs {
             cells: BTreeMap::new(alloc),
             writes: BTreeMap::new(alloc),
+            partners: *partners,
         };
         needs.find_writes(program)?;
+        needs.add_returned(program)?;
         needs.find_cells(program)?;
         Ok(needs)
     }
@@ -129,6 +178,15 @@ impl<A: Allocator + Copy> Needs<A> {
         Ok(grew)
     }
 
+    /// Adds to what is needed when routines return the cells of which something is to hold then.
+    fn add_returned<D: Allocator>(&mut self, program: &AnalysedProgram<'_, D>) -> Result<(), Halt> {
+        for returning in program.declaration.returns() {
+            let cells = subject_cell(returning.assertion()).meet(&program.named);
+            add_at(&mut self.cells, returning.entry(), &cells)?;
+        }
+        Ok(())
+    }
+
     /// Finds what is needed at each address.
     fn find_cells<D: Allocator>(&mut self, program: &AnalysedProgram<'_, D>) -> Result<(), Halt> {
         for _round in 0..MOST_ROUNDS {
@@ -145,7 +203,8 @@ impl<A: Allocator + Copy> Needs<A> {
         for more in 0..4096usize {
             let at = Word::from_index(4095 - more);
             if program.bodies.contains(at) {
-                let cells = self.before(program, at)?.meet(&program.named);
+                let cells = self.before(program, at)?.union(&asserted_at(program, at));
+                let cells = cells.meet(&program.named);
                 if add_at(&mut self.cells, at, &cells)? {
                     grew = true;
                 }
@@ -209,7 +268,8 @@ impl<A: Allocator + Copy> Needs<A> {
         };
         let after = self.after_returns(program, at, entry);
         let written = set_at(&self.writes, entry);
-        add_at(&mut self.cells, entry, &after.meet(&written))?;
+        let returned = with_partners(&after, &after.meet(&written), &self.partners);
+        add_at(&mut self.cells, entry, &returned)?;
         let within = self.at(entry.increment());
         Ok(within.union(&after.minus(&written)))
     }
@@ -274,7 +334,7 @@ impl<A: Allocator> Needs<A> {
         entry: Word,
     ) -> WordSet {
         let mut cells = WordSet::empty();
-        for offset in 0..8usize {
+        for offset in 0..64usize {
             let more = Word::from_index(offset);
             if program.declaration.has_offset(entry, more) {
                 cells = cells.union(&self.at(at.increment().add(more)));

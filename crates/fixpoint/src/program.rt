@@ -6,11 +6,12 @@ ghost use Rattle.fixpoint.specs.Asked.{MayBeAsked};
 use crate::halt::Halt;
 use crate::widening::Limits;
 use bin_tape::Image;
-use declaration::{Declaration, Owner};
+use declaration::{Declaration, Owner, Subject};
 use domain::Rules;
-use facts::{Fact, Outcomes, Place};
+use facts::{Fact, Place};
 use instruct::{Instruction, decode, halts, refers_indirectly, target};
 use std::alloc::Allocator;
+use transfer::Outcomes;
 use word12::Word;
 use wordset::WordSet;
 
@@ -93,8 +94,8 @@ fn add_cell(cells: &mut WordSet, cell: Word) {
 
 impl<'a, D: Allocator> AnalysedProgram<'a, D> {
     /// A tape's words and a declaration, with sets of at most so many runs. The cells that facts speak
-    /// of are the variables that instructions name, then those in bodies, then those on the tape; at
-    /// most 64.
+    /// of are the variables of which something is to hold, then those that instructions name, then those in
+    /// bodies, then those on the tape; at most 64.
     pub fn of(
         image: &'a Image,
         declaration: &'a Declaration<D>,
@@ -105,6 +106,7 @@ impl<'a, D: Allocator> AnalysedProgram<'a, D> {
     {
         let bodies = bodies_of(declaration);
         let mut named = WordSet::empty();
+        add_asserted(&mut named, declaration);
         add_named(&mut named, image, declaration, &bodies);
         add_code(&mut named, declaration, &bodies);
         let mut tracked = named;
@@ -133,6 +135,25 @@ fn bodies_of<D: Allocator>(declaration: &Declaration<D>) -> WordSet {
         bodies = bodies.union(routine.body());
     }
     bodies
+}
+
+/// Adds a subject, if it is a variable.
+fn add_subject<D: Allocator>(cells: &mut WordSet, declaration: &Declaration<D>, subject: &Subject) {
+    if let Subject::Cell(cell) = subject {
+        if declaration.is_variable(*cell) {
+            add_cell(cells, *cell);
+        }
+    }
+}
+
+/// Adds the variables of which something is declared to hold.
+pub(crate) fn add_asserted<D: Allocator>(cells: &mut WordSet, declaration: &Declaration<D>) {
+    for holding in declaration.holds() {
+        add_subject(cells, declaration, holding.assertion().subject());
+    }
+    for returning in declaration.returns() {
+        add_subject(cells, declaration, returning.assertion().subject());
+    }
 }
 
 /// Adds the variables that the instructions of bodies name.
@@ -204,15 +225,27 @@ fn counted(image: &Image, bodies: &WordSet) -> WordSet {
     cells
 }
 
-/// Words at which sets may end: the ends of what may be written, and the words that the tape puts into cells outside of
-/// bodies to which an instruction refers, each with what makes it 0. What a program compares, counts and points to
-/// is among these; a word of the tape to which no instruction refers is not, so it changes nothing.
+/// The ends of the words that are declared to hold somewhere.
+fn asserted_ends<D: Allocator>(declaration: &Declaration<D>) -> WordSet {
+    let mut words = WordSet::empty();
+    for holding in declaration.holds() {
+        words = words.union(&ends(holding.assertion().words()));
+    }
+    for returning in declaration.returns() {
+        words = words.union(&ends(returning.assertion().words()));
+    }
+    words
+}
+
+/// Words at which sets may end: the ends of what may be written and of what is declared to hold, and the words that the tape puts
+/// into cells outside of bodies to which an instruction refers, each with what makes it 0. What a program compares, counts and
+/// points to is among these; a word of the tape to which no instruction refers is not, so it changes nothing.
 fn landmarks<D: Allocator>(
     image: &Image,
     declaration: &Declaration<D>,
     bodies: &WordSet,
 ) -> WordSet {
-    let mut words = ends(declaration.variables());
+    let mut words = ends(declaration.variables()).union(&asserted_ends(declaration));
     for cell in referred(image, declaration, bodies).minus(bodies).iter() {
         if let Some(word) = image.get(cell) {
             words.insert(word);
@@ -387,6 +420,16 @@ impl<D: Allocator> AnalysedProgram<'_, D> {
         visit.fact.is_within_room();
         self.place(&visit.body)
             .put_outcomes(&visit.fact, visit.at, word, outcomes);
+    }
+
+    /// The addresses for which a routine abandons all open calls by a word: where it is not main and the word is a JMP they
+    /// are the declared ones, and else there are none.
+    pub(crate) fn abandoned_by(&self, visit: &Visit, word: Word) -> WordSet {
+        match &visit.body {
+            Body::Main => WordSet::empty(),
+            Body::Of(_) if word.index() / 0o1000 == 5 => *self.declaration.abandons(),
+            Body::Of(_) => WordSet::empty(),
+        }
     }
 
     /// The entry through which a word returns: that of a JMP I through one.

@@ -11,19 +11,22 @@ use Rattle.declaration.specs.Declaration.{Routine, IsDeclared}
 use Rattle.domain.specs.Facts.{Fact, Place, Rules, OfEquations, OfSums}
 use Rattle.domain.specs.Adding.{is_void}
 use Rattle.domain.specs.Narrowing.{narrowed}
-use Rattle.facts.specs.References.{possible}
+use Rattle.transfer.specs.References.{possible}
 use Rattle.facts.specs.Landing.{fact_at}
 use Rattle.facts.proofs.SplitLemmas.{fact_dropped}
 use Rattle.facts.specs.declared.Condition.{Condition}
-use Rattle.facts.specs.declared.Condition.TheVariants.{V1, V2, V3}
+use Rattle.facts.specs.declared.Condition.TheVariants.{V1, V2, V3, V16}
+use Rattle.facts.specs.Conditions.{EachIsHeldBy}
+use Rattle.wordset.proofs.Tests.{or_right, none_of_some}
+use Rattle.certificate_lines.specs.Certificate.{has_any, has_exits}
 use Rattle.judge.specs.ConditionOrder.{place_among}
 use Rattle.judge.specs.FewWords.{asks_few}
 use Rattle.judge.proofs.WordLemmas.{count_one}
 use Rattle.judge.proofs.ConditionLemmas.{condition_at, place_of}
 use Rattle.judge.specs.Landing.{Case, place_in, with_sites, sited, sites_of, asked, asked_at}
-use Rattle.judge.specs.Conditions.{HoldsAt, HoldsFor, HoldsForWords, HoldsForEach, HasFewWords, EachFact}
+use Rattle.judge.specs.Conditions.{HoldsAt, HoldsFor, HoldsForWords, HoldsForEach, HasFewWords, EachFact, ExitsAreHeld}
 use Rattle.judge.specs.Bodies.{IsOfBody}
-use Rattle.judge.specs.Asked.{HasFew, HoldsOfFact, HoldsOfFacts, asked_of, IsLeastPlace, IsLeastOf, IsLeastOfSome, IsLeastOfAll}
+use Rattle.judge.specs.Asked.{ExitsAreHeldBy, RoutinesArePlaced, HasFew, HoldsOfFact, HoldsOfFacts, asked_of, IsLeastPlace, IsLeastOf, IsLeastOfSome, IsLeastOfAll}
 
 -- ---- words
 
@@ -68,7 +71,7 @@ PassedBefore holds n = (v : Condition) → 2 ≤ place_among v → place_among v
 place_same : (v u : Condition) → place_among v ≡ place_among u → v ≡ u
 place_same v u e = sym (place_of v) ∙ (ap condition_at e ∙ place_of u)
 
-pub stops : (holds : Condition → Type 0) (limit place : ℕ) (u : Condition) (t : Bool) → 2 ≤ place → place < limit → limit ≤ 15 → PassedBefore holds place → place_among u ≡ place → t ≡ false → (holds u → IsTrue t) →
+pub stops : (holds : Condition → Type 0) (limit place : ℕ) (u : Condition) (t : Bool) → 2 ≤ place → place < limit → limit ≤ 16 → PassedBefore holds place → place_among u ≡ place → t ≡ false → (holds u → IsTrue t) →
     IsLeastPlace holds limit place
 stops holds limit place u t low lt high before same fails told = record {
   low = low;
@@ -106,7 +109,7 @@ sited_first : (rules : Rules) (sites : Words) (f : Fact) (fs : List Fact) → si
 sited_first OfSums sites f fs = refl
 sited_first OfEquations sites f fs = refl
 
-asked_first : (rules : Rules) (image : Image) (f : Fact) (fs : List Fact) → asked rules image (f ∷ fs) ≡ asked rules image (f ∷ []) ++ asked rules image fs
+pub asked_first : (rules : Rules) (image : Image) (f : Fact) (fs : List Fact) → asked rules image (f ∷ fs) ≡ asked rules image (f ∷ []) ++ asked rules image fs
 asked_first OfEquations image f fs = refl
 asked_first OfSums image f fs = elim (cases_Bool (is_void (narrowed image f))) [ inl t ↦ rw t refl | inr n ↦ rw n refl ]
 
@@ -133,14 +136,14 @@ none_left j r a v = subst (EachFact (HoldsOfFact j v r a)) (sym (nothing_asked j
 -- what was found of the facts before a place of the list, where the limit is what it is now
 pub record SoFar (j : Case) (r : Routine) (a : ℕ) (fs : List Fact) (i limit : ℕ) : Type 0 where
   pub low : 2 ≤ limit
-  pub high : limit ≤ 15
+  pub high : limit ≤ 16
   pub placed : EachFact (IsOfBody j.certificate.rules r) (drop i fs) → EachFact (IsOfBody j.certificate.rules r) fs
   pub before : (v : Condition) → 2 ≤ place_among v → place_among v < limit → HoldsOfFacts j r a (drop i fs) v → HoldsOfFacts j r a fs v
-  pub fails : limit < 15 → (v : Condition) → place_among v ≡ limit → HoldsOfFacts j r a fs v → ⊥
+  pub fails : limit < 16 → (v : Condition) → place_among v ≡ limit → HoldsOfFacts j r a fs v → ⊥
   pub whole : EachFact (IsOfBody j.certificate.rules r) fs → EachFact (IsOfBody j.certificate.rules r) (drop i fs)
   pub each : (v : Condition) → HoldsOfFacts j r a fs v → HoldsOfFacts j r a (drop i fs) v
 
-pub none_yet : (j : Case) (r : Routine) (a : ℕ) (fs : List Fact) → SoFar j r a fs 0 15
+pub none_yet : (j : Case) (r : Routine) (a : ℕ) (fs : List Fact) → SoFar j r a fs 0 16
 none_yet j r a fs = record {
   low = omega arith;
   high = omega arith;
@@ -169,7 +172,7 @@ module _ (j : Case) (r : Routine) (a : ℕ) (fs : List Fact) (i limit place : �
   more : body (fact_at fs i) → IsLeastPlace (HoldsOfFacts j r a (fact_at fs i ∷ [])) limit place → SoFar j r a fs (i + 1) place
   more here k = record {
     low = k.low;
-    high = (let l : place ≤ limit = k.high in let h : limit ≤ 15 = so.high in omega arith);
+    high = (let l : place ≤ limit = k.high in let h : limit ≤ 16 = so.high in omega arith);
     placed = λ e. so.placed (subst (EachFact body) (sym (fact_dropped fs i lt)) (here, e));
     before = λ v two under h. so.before v two (let l : place ≤ limit = k.high in omega (arith, under))
         (subst (λ (xs : List Fact). HoldsOfFacts j r a xs v) (sym (fact_dropped fs i lt)) ((facts_first j r a (fact_at fs i) (drop (i + 1) fs) v).1 (k.before v two under, h)));
@@ -239,28 +242,59 @@ few_of j v r a h asks = each_if (HoldsOfFact j v r a) (HasFew j r a) (asked_at j
 words_of : (j : Case) (v : Condition) (r : Routine) (a : ℕ) → HoldsOfFacts j r a (j.certificate.facts a) v → EachFact (HoldsForWords j v r a) (asked_at j r a)
 words_of j v r a h = each_if (HoldsOfFact j v r a) (HoldsForWords j v r a) (asked_at j r a) (λ f x. x.1) h
 
-from_each : (j : Case) (v : Condition) (a : ℕ) → 2 ≤ place_among v → (asks_few v ≡ true → HasFewWords j a) → HoldsForEach j v a → HoldsAt j v a
-from_each j V1 a le few each = absurd (omega arith)
-from_each j V2 a le few each = absurd (omega arith)
-from_each j V3 a le few each = (few refl, each)
-from_each j _ a le few each = each
+from_each : (j : Case) (v : Condition) (a : ℕ) → 2 ≤ place_among v → (asks_few v ≡ true → HasFewWords j a) → (v ≡ V16 → ExitsAreHeld j a) → HoldsForEach j v a → HoldsAt j v a
+from_each j V1 a le few exits each = absurd (omega arith)
+from_each j V2 a le few exits each = absurd (omega arith)
+from_each j V3 a le few exits each = (few refl, each)
+from_each j V16 a le few exits each = (each, exits refl)
+from_each j _ a le few exits each = each
 
 to_each : (j : Case) (v : Condition) (a : ℕ) → 2 ≤ place_among v → HoldsAt j v a → HoldsForEach j v a
 to_each j V1 a le h = absurd (omega arith)
 to_each j V2 a le h = absurd (omega arith)
 to_each j V3 a le h = h.1
+to_each j V16 a le h = h.0
 to_each j _ a le h = h
 
 to_few : (j : Case) (v : Condition) (a : ℕ) → 2 ≤ place_among v → HoldsAt j v a → asks_few v ≡ true → HasFewWords j a
 to_few j V1 a le h asks = absurd (omega arith)
 to_few j V2 a le h asks = absurd (omega arith)
 to_few j V3 a le h asks = h.0
+to_few j V16 a le h asks = absurd (false≢true asks)
 to_few j _ a le h asks = absurd (false≢true asks)
 
-pub holds_at : (j : Case) (v : Condition) (r : Routine) (a : ℕ) → 2 ≤ place_among v → IsDeclared j.declaration → j.declaration.body r a ≡ true → HoldsOfFacts j r a (j.certificate.facts a) v ↔ HoldsAt j v a
-holds_at j v r a le d here = (
+-- no exits are claimed at an address of a body
+no_exits : (j : Case) (a : ℕ) → RoutinesArePlaced j a → j.declaration.entry a ≡ false → has_exits j.certificate a ≡ false
+no_exits j a placed outside = go (has_exits j.certificate a) refl
+  where
+    go : (b : Bool) → has_exits j.certificate a ≡ b → has_exits j.certificate a ≡ false
+    go false is = is
+    go true is = absurd (true≢false (sym (placed (or_right (j.certificate.listed a) (has_exits j.certificate a) is)) ∙ outside))
+
+pub exits_held : (j : Case) (e o : ℕ) → j.certificate.exits e o ≡ [] → ExitsAreHeldBy j e o
+exits_held j e o none =
+    subst (EachFact (λ x. EachIsHeldBy (place_in j (Some e)) x e o j.declaration.returns))
+    (sym (ap (λ (xs : List Fact). asked j.certificate.rules j.image (sited j.certificate.rules (j.certificate.sites e) xs)) none ∙ nothing_asked j.certificate.rules j.image (j.certificate.sites e))) tt
+
+pub no_exits_held : (j : Case) (e : ℕ) → has_exits j.certificate e ≡ false → ExitsAreHeld j e
+no_exits_held j e empty o lt = exits_held j e o (none (j.certificate.exits e o) (none_of_some 64 (λ i. has_any (j.certificate.exits e i)) empty o lt))
+  where
+    none : (xs : List Fact) → has_any xs ≡ false → xs ≡ []
+    none [] h = refl
+    none (x ∷ xs) h = absurd (true≢false h)
+
+pub body_exits : (j : Case) (r : Routine) (a : ℕ) → IsDeclared j.declaration → RoutinesArePlaced j a → j.declaration.body r a ≡ true → ExitsAreHeld j a
+body_exits j r a d placed here = no_exits_held j a (no_exits j a placed (go (j.declaration.entry a) refl))
+  where
+    go : (b : Bool) → j.declaration.entry a ≡ b → j.declaration.entry a ≡ false
+    go false is = is
+    go true is = absurd (true≢false (sym here ∙ d.entry_not_in_body a r is))
+
+pub holds_at : (j : Case) (v : Condition) (r : Routine) (a : ℕ) → 2 ≤ place_among v → IsDeclared j.declaration → RoutinesArePlaced j a → j.declaration.body r a ≡ true → HoldsOfFacts j r a (j.certificate.facts a) v ↔ HoldsAt j v a
+holds_at j v r a le d placed here = (
   λ h. from_each j v a le
       (λ asks. in_body j r a (λ k. HasFew j k a) d here (few_of j v r a h asks))
+      (λ is. body_exits j r a d placed here)
       (in_body j r a (λ k. HoldsForWords j v k a) d here (words_of j v r a h)),
   λ h. go (asks_few v) refl h,
 )
@@ -271,17 +305,18 @@ holds_at j v r a le d here = (
     go false asks h = each_if (HoldsForWords j v r a) (HoldsOfFact j v r a) (asked_at j r a) (λ f x. (λ e. absurd (true≢false (sym e ∙ asks)), x)) (to_each j v a le h r here)
 
 -- where there are no facts
-pub none_hold : (j : Case) (v : Condition) (a : ℕ) → 2 ≤ place_among v → j.certificate.facts a ≡ [] → HoldsAt j v a
-none_hold j v a le none =
+pub none_hold : (j : Case) (v : Condition) (a : ℕ) → 2 ≤ place_among v → j.certificate.facts a ≡ [] → (v ≡ V16 → ExitsAreHeld j a) → HoldsAt j v a
+none_hold j v a le none exits =
     let empty : (r : Routine) → asked_at j r a ≡ [] = λ r. ap (λ (fs : List Fact). asked_of j r fs) none ∙ nothing_asked j.certificate.rules j.image (sites_of j.certificate r) in
     from_each j v a le
     (λ asks r here. subst (EachFact (HasFew j r a)) (sym (empty r)) tt)
+    exits
     (λ r here. subst (EachFact (HoldsForWords j v r a)) (sym (empty r)) tt)
 
 -- where it is the only one
-pub least_alone : (j : Case) (r : Routine) (a : ℕ) (f : Fact) (place : ℕ) → j.certificate.facts a ≡ f ∷ [] → IsLeastOf j r a f 15 place → IsLeastOfAll j r a place
+pub least_alone : (j : Case) (r : Routine) (a : ℕ) (f : Fact) (place : ℕ) → j.certificate.facts a ≡ f ∷ [] → IsLeastOf j r a f 16 place → IsLeastOfAll j r a place
 least_alone j r a f place only k = subst (λ (fs : List Fact). IsLeastOfSome j r a fs place) (sym only) (go k)
   where
-    go : IsLeastOf j r a f 15 place → IsLeastOfSome j r a (f ∷ []) place
+    go : IsLeastOf j r a f 16 place → IsLeastOfSome j r a (f ∷ []) place
     go (inl n) = inl (n.0, λ e. n.1 e.0)
     go (inr q) = inr ((q.0, tt), q.1)

@@ -14,7 +14,7 @@ use Rattle.facts.specs.Conditions.{called}
 use Rattle.facts.specs.Entailment.{Lands}
 use Rattle.facts.specs.Landing.{fact_at}
 use Rattle.facts.proofs.SplitLemmas.{fact_dropped}
-use Rattle.certificate.specs.Certificate.{Certificate, has_any, writes_of}
+use Rattle.certificate_lines.specs.Certificate.{Certificate, has_any, writes_of}
 use Rattle.judge.specs.Landing.{Case, place_in, sites_of, sited, LandsAt, LandsAtExit, LandsAfter, EachLandsAfter, called_from}
 use Rattle.judge.specs.Conditions.{EachTarget, KeepsPointer, CoversCallee, MayReturn, ReturnsWell}
 use Rattle.judge.specs.Callees.{LandsBy, LandsWith, ReturnsBy, ReturnsThrough}
@@ -149,16 +149,13 @@ pub joined_by : (rules own : Rules) (f x g : Fact) (written : Words) → own ≡
 joined_by rules own f x g written same is = is ∙ ap (λ (k : Rules). joined k f x written) same
 
 -- A return by an offset.
-pub is_past : (j : Case) (e o : ℕ) (f : Fact) → 8 ≤ o → IsTrue false ↔ MayReturn j e f o
-is_past j e o f past = (λ q. absurd (false≢true q), λ m. absurd (omega (arith, past, m.0)))
-
 pub is_undeclared : (j : Case) (e o k : ℕ) (f : Fact) (b : Bool) → k ≡ o → b ≡ j.declaration.offset e k → b ≡ false → IsTrue false ↔ MayReturn j e f o
-is_undeclared j e o k f b same declared lacks = (λ q. absurd (false≢true q), λ m. absurd (true≢false (sym m.1 ∙ (ap (λ i. j.declaration.offset e i) (sym same) ∙ (sym declared ∙ lacks)))))
+is_undeclared j e o k f b same declared lacks = (λ q. absurd (false≢true q), λ m. absurd (true≢false (sym m.0 ∙ (ap (λ i. j.declaration.offset e i) (sym same) ∙ (sym declared ∙ lacks)))))
 
-pub returns_by : (j : Case) (e o k : ℕ) (f : Fact) (b t : Bool) → o < 8 → k ≡ o → b ≡ j.declaration.offset e k → b ≡ true → IsTrue t ↔ LandsAtExit j e o f → IsTrue t ↔ MayReturn j e f o
-returns_by j e o k f b t small same declared is told = (
-  λ q. (small, ap (λ i. j.declaration.offset e i) (sym same) ∙ (sym declared ∙ is), told.0 q),
-  λ m. told.1 m.2,
+pub returns_by : (j : Case) (e o k : ℕ) (f : Fact) (b t : Bool) → k ≡ o → b ≡ j.declaration.offset e k → b ≡ true → IsTrue t ↔ LandsAtExit j e o f → IsTrue t ↔ MayReturn j e f o
+returns_by j e o k f b t same declared is told = (
+  λ q. (ap (λ i. j.declaration.offset e i) (sym same) ∙ (sym declared ∙ is), told.0 q),
+  λ m. told.1 m.1,
 )
 
 -- A return by an offset that the fact lacks, or has.

@@ -1,5 +1,5 @@
 -- Of the facts at an address one holds, and of this one a valid certificate says all that is asked, of each word that is possible by it.
-use Rattle.std.proofs.Common.{◌≡◌, ℕ, ◌<◌, Bool, true, false, ◌⊎◌, List, [], ◌∷◌, refl, subst, inl, inr}
+use Rattle.std.proofs.Common.{◌≡◌, ℕ, ◌<◌, Bool, true, false, ◌⊎◌, Some, List, [], ◌∷◌, refl, subst, inl, inr}
 use Rattle.std.specs.Prelude.{if◌then◌else◌}
 use Rattle.instruct.specs.Instructions.{Meaning, meaning_of}
 use Rattle.wordset.specs.Words.{Words}
@@ -13,12 +13,12 @@ use Rattle.domain.specs.Narrowing.{narrowed}
 use Rattle.domain.specs.Laws.{IsBegun}
 use Rattle.facts.specs.States.{IsState}
 use Rattle.facts.specs.declared.Condition.{Condition}
-use Rattle.facts.specs.declared.Condition.TheVariants.{V3, V4, V5, V6, V7, V8, V9, V10, V11, V12, V13, V14, V15}
-use Rattle.facts.specs.References.{possible}
-use Rattle.facts.proofs.WordLemmas.{or_left, or_right}
+use Rattle.facts.specs.declared.Condition.TheVariants.{V3, V4, V5, V6, V7, V8, V9, V10, V11, V12, V13, V14, V15, V16}
+use Rattle.transfer.specs.References.{possible}
+use Rattle.facts.proofs.WordLemmas.{or_left, or_right, some_from}
 use Rattle.domain.proofs.NarrowingLemmas.{narrowed_holds, void_never_holds}
-use Rattle.certificate.specs.Certificate.{has_any, claimed}
-use Rattle.judge.specs.Landing.{Case, place_in, sited, sites_of, facts_in, asked, asked_at}
+use Rattle.certificate_lines.specs.Certificate.{has_any, has_exits, claimed}
+use Rattle.judge.specs.Landing.{Case, place_in, sited, sites_of, facts_in, exits_of, asked, asked_at}
 use Rattle.judge.specs.Conditions.{EachFact, HoldsFor, HoldsForWords, HoldsForEach, IsValid}
 
 -- The fact is one of the list.
@@ -75,6 +75,13 @@ is_line j r start a s ks h =
     let any : has_any (j.certificate.facts a) ≡ true = some_any (place_in j r) start j.certificate.rules (sites_of j.certificate r) (j.certificate.facts a) s ks h in
     or_right (j.certificate.listed a) _ (or_left (has_any (j.certificate.facts a)) _ any)
 
+-- where one of the exits for an offset holds, there is a line at the entry
+pub is_exit_line : (j : Case) (e o : ℕ) (start : Cells) (s : State) (ks : Calls) → o < 64 → SomeMeans (place_in j (Some e)) start (exits_of j e o) s ks → claimed j.certificate e ≡ true
+is_exit_line j e o start s ks lt h =
+    let any : has_any (j.certificate.exits e o) ≡ true = some_any (place_in j (Some e)) start j.certificate.rules (j.certificate.sites e) (j.certificate.exits e o) s ks h in
+    let exits : has_exits j.certificate e ≡ true = some_from 64 (λ i. has_any (j.certificate.exits e i)) o lt any in
+    or_right (j.certificate.listed e) _ (or_right (has_any (j.certificate.facts e)) (has_exits j.certificate e) exits)
+
 -- All that is asked of a word, by a fact.
 pub record Fine (j : Case) (r : Routine) (a : ℕ) (f : Fact) (m : Meaning) : Type 0 where
   pub v3 : HoldsFor j V3 r a f m
@@ -90,6 +97,7 @@ pub record Fine (j : Case) (r : Routine) (a : ℕ) (f : Fact) (m : Meaning) : Ty
   pub v13 : HoldsFor j V13 r a f m
   pub v14 : HoldsFor j V14 r a f m
   pub v15 : HoldsFor j V15 r a f m
+  pub v16 : HoldsFor j V16 r a f m
 
 module _ (j : Case) (valid : IsValid j) (r : Routine) (a w : ℕ) (f : Fact) (la : a < 4096) (lw : w < 4096) (body : j.declaration.body r a ≡ true) (line : claimed j.certificate a ≡ true)
     (among : In f (asked_at j r a)) (is_possible : possible (place_in j r) f a w ≡ true) where
@@ -111,4 +119,5 @@ module _ (j : Case) (valid : IsValid j) (r : Routine) (a w : ℕ) (f : Fact) (la
     v13 = one_fine V13 (valid V13 a (la, line));
     v14 = one_fine V14 (valid V14 a (la, line));
     v15 = one_fine V15 (valid V15 a (la, line));
+    v16 = one_fine V16 (valid V16 a (la, line)).0;
   }

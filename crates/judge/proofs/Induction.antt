@@ -1,5 +1,5 @@
 -- What holds at every moment of a declared run of a program with a valid certificate, and that each step keeps it.
-use Rattle.std.proofs.Common.{◌≡◌, ℕ, ◌+◌, ◌-◌, ◌<◌, ◌≤◌, ◌==◌, Bool, true, false, ◌&&◌, ◌⊎◌, Some, None, List, [], ◌∷◌, refl, sym, ap, ◌∙◌, subst, inl, inr, arith, lit≤, lit<}
+use Rattle.std.proofs.Common.{◌≡◌, ℕ, ◌+◌, ◌-◌, ◌<◌, ◌≤◌, ◌==◌, Bool, true, false, not, ◌&&◌, ◌⊎◌, Some, None, List, [], ◌∷◌, refl, sym, ap, ◌∙◌, subst, inl, inr, arith, lit≤, lit<}
 use Rattle.std.proofs.Math.Path.{fun_ext}
 use Rattle.std.specs.Prelude.{if◌then◌else◌}
 use Rattle.std.proofs.lemmas.Bool.{and_parts, true≢false, false≢true, eq-eqb}
@@ -15,9 +15,10 @@ use Rattle.domain.specs.Facts.{Fact, Rules, OfEquations, OfSums, Holds, last_sit
 use Rattle.domain.specs.Moves.{joined}
 use Rattle.domain.specs.Laws.{IsBegun}
 use Rattle.domain.proofs.Numbers.{plus_lt}
+use Rattle.facts.specs.Instructions.{is_jump}
 use Rattle.facts.specs.States.{IsState, IsOrdinary}
-use Rattle.facts.specs.Outcomes.{Successor, Goes, CallsTo, Returns}
-use Rattle.facts.specs.Operations.{outcomes_of}
+use Rattle.transfer.specs.Outcomes.{Successor, Goes, CallsTo, Returns}
+use Rattle.transfer.specs.Operations.{outcomes_of}
 use Rattle.facts.specs.Conditions.{may_write}
 use Rattle.facts.specs.Entailment.{Lands}
 use Rattle.facts.specs.Laws.{LandsIn, SomeOutcome, KeepsReturns}
@@ -26,7 +27,7 @@ use Rattle.facts.proofs.StateLemmas.{updated_same, updated_other, words_updated,
 use Rattle.facts.proofs.StepLemmas.{NamesWord, meaning_names, step_state, pointer_written, Accessed, accessed, covered}
 use Rattle.facts.proofs.JoinedLemmas.{joined_holds}
 use Rattle.facts.proofs.LandedLemmas.{one_landed_holds, idle_never_holds}
-use Rattle.judge.specs.Landing.{Case, place_in, facts_in, exits_of, asked_at, LandsAt, SuccessorLands, EachSuccessor, called_from, EachLandsAfter, LandsAfter}
+use Rattle.judge.specs.Landing.{Case, place_in, facts_in, exits_of, asked_at, LandsAt, LandsBeyond, as_main, abandons, SuccessorLands, EachSuccessor, called_from, EachLandsAfter, LandsAfter}
 use Rattle.judge.specs.Conditions.{IsLower, CoversCallee, MayCall, MayReturn, IsSite, IsValid}
 use Rattle.judge.proofs.Fine.{In, OneOf, one_of, asked_means, is_line, Fine, all_fine}
 use Rattle.judge.proofs.Frames.{Below, Frames, MayPut, top_is_entry, updated_frames, call_frames, seen_frames}
@@ -63,15 +64,36 @@ module _ (j : Case) (dd : IsDeclared j.declaration) (valid : IsValid j) (start :
     }
   ]
 
-  arrives : (t : State) (ks : Calls) → IsState t → Frames j start t.memory ks → (os : List Successor) →
-      EachSuccessor (SuccessorLands j (current ks)) os → SomeOutcome (LandsIn (place_in j (current ks)) start t ks) os → Invariant t ks
-  arrives t ks ts fs [] each some = absurd some
-  arrives t ks ts fs (Goes next f ∷ os) each some = elim some [
-    | inl x ↦ landed (current ks) f t ks refl (each.0 t.pc ts.pc x.0) ts x.1 fs
-    | inr x ↦ arrives t ks ts fs os each.1 x
+  arrives : (m : Meaning) (t : State) (ks : Calls) → abandons j.declaration (current ks) m t.pc ≡ false → IsState t → Frames j start t.memory ks → (os : List Successor) →
+      EachSuccessor (SuccessorLands j (current ks) m) os → SomeOutcome (LandsIn (place_in j (current ks)) start t ks) os → Invariant t ks
+  arrives m t ks stay ts fs [] each some = absurd some
+  arrives m t ks stay ts fs (Goes next f ∷ os) each some = elim some [
+    | inl x ↦ landed (current ks) f t ks refl (subst (λ b. LandsBeyond b j (current ks) t.pc f) stay (each.0 t.pc ts.pc x.0)) ts x.1 fs
+    | inr x ↦ arrives m t ks stay ts fs os each.1 x
   ]
-  arrives t ks ts fs (CallsTo next f ∷ os) each some = elim some [ inl x ↦ absurd x | inr x ↦ arrives t ks ts fs os each.1 x ]
-  arrives t ks ts fs (Returns f ∷ os) each some = elim some [ inl x ↦ absurd x | inr x ↦ arrives t ks ts fs os each.1 x ]
+  arrives m t ks stay ts fs (CallsTo next f ∷ os) each some = elim some [ inl x ↦ absurd x | inr x ↦ arrives m t ks stay ts fs os each.1 x ]
+  arrives m t ks stay ts fs (Returns f ∷ os) each some = elim some [ inl x ↦ absurd x | inr x ↦ arrives m t ks stay ts fs os each.1 x ]
+
+  -- a fact holds as one of main's when all calls are abandoned
+  means_main : (ks : Calls) (f : Fact) (t : State) → Means (place_in j (current ks)) start f t ks → Means (place_in j None) start (as_main f) t []
+  means_main ks f t h = record {
+    holds = record { sets = h.holds.sets; relations = h.holds.relations; chains = h.holds.chains };
+    mq = h.mq;
+    link = h.link;
+    rest = h.rest;
+    stands = refl;
+    own = tt;
+  }
+
+  arrives_main : (m : Meaning) (t : State) (ks : Calls) → abandons j.declaration (current ks) m t.pc ≡ true → IsState t → (os : List Successor) →
+      EachSuccessor (SuccessorLands j (current ks) m) os → SomeOutcome (LandsIn (place_in j (current ks)) start t ks) os → Invariant t []
+  arrives_main m t ks leave ts [] each some = absurd some
+  arrives_main m t ks leave ts (Goes next f ∷ os) each some = elim some [
+    | inl x ↦ landed None (as_main f) t [] refl (subst (λ b. LandsBeyond b j (current ks) t.pc f) leave (each.0 t.pc ts.pc x.0)) ts (means_main ks f t x.1) tt
+    | inr x ↦ arrives_main m t ks leave ts os each.1 x
+  ]
+  arrives_main m t ks leave ts (CallsTo next f ∷ os) each some = elim some [ inl x ↦ absurd x | inr x ↦ arrives_main m t ks leave ts os each.1 x ]
+  arrives_main m t ks leave ts (Returns f ∷ os) each some = elim some [ inl x ↦ absurd x | inr x ↦ arrives_main m t ks leave ts os each.1 x ]
 
   -- the access of a memory reference, by its conditions
   abbrev pub Access : (s : State) (ks : Calls) → Held s ks → Bool → ℕ → Type 0
@@ -100,7 +122,7 @@ module _ (j : Case) (dd : IsDeclared j.declaration) (valid : IsValid j) (start :
       let hits : may_write (place_in j (current ks)) h.fact (Isz i c) y ≡ true = or_right _ _ a.target in
       let may : MayPut j start ks y = elim (fine.v5 y a.word hits) [
         | inl x ↦ inl (x, fine.v6 y a.word hits)
-        | inr x ↦ inr (dd.entry_not_variable y x, (fine.v14 y a.word hits x).0)
+        | inr x ↦ inr (dd.entry_not_variable y x, elim (fine.v14 y a.word hits x) [ inl counts ↦ counts.0 | inr moves ↦ absurd moves ])
       ] in
       subst (λ x. Frames j start x.memory ks) (sym does.1)
       (updated_frames j start dd (seen i c s.memory) y _ ks a.word may (pointed_frames (Isz i c) s ks h i c inv n fine (λ e. or_left _ _ (written ks i c e))))
@@ -110,7 +132,7 @@ module _ (j : Case) (dd : IsDeclared j.declaration) (valid : IsValid j) (start :
       let hits : may_write (place_in j (current ks)) h.fact (Dca i c) y ≡ true = or_right _ _ a.target in
       let may : MayPut j start ks y = elim (fine.v5 y a.word hits) [
         | inl x ↦ inl (x, fine.v6 y a.word hits)
-        | inr x ↦ absurd (fine.v14 y a.word hits x)
+        | inr x ↦ inr (dd.entry_not_variable y x, elim (fine.v14 y a.word hits x) [ inl counts ↦ absurd counts | inr moves ↦ moves.1 ])
       ] in
       subst (λ x. Frames j start x.memory ks) (sym does.1)
       (updated_frames j start dd (seen i c s.memory) y _ ks a.word may (pointed_frames (Dca i c) s ks h i c inv n fine (λ e. or_left _ _ (written ks i c e))))
@@ -123,9 +145,26 @@ module _ (j : Case) (dd : IsDeclared j.declaration) (valid : IsValid j) (start :
   frames_after Undefined s t q ks h inv n fine plain does = absurd does
 
   -- the first law: an ordinary step
-  keep_ordinary : (m : Meaning) (s t : State) (q : Answer) (ks : Calls) (h : Held s ks) → Invariant s ks → NamesWord m → Fine j (current ks) s.pc h.fact m → GoesOn j.declaration m s.pc → IsOrdinary j.declaration m → Does m s q t → Invariant t ks
-  keep_ordinary m s t q ks h inv n fine on plain does =
-      arrives t ks (step_state m s t q n inv.state does) (frames_after m s t q ks h inv n fine plain does) (outcomes_of (place_in j (current ks)) h.fact s.pc m) fine.v4
+  keep_ordinary : (m : Meaning) (s t : State) (q : Answer) (ks : Calls) (h : Held s ks) → abandons j.declaration (current ks) m t.pc ≡ false → Invariant s ks → NamesWord m → Fine j (current ks) s.pc h.fact m → GoesOn j.declaration m s.pc →
+      IsOrdinary j.declaration m → Does m s q t → Invariant t ks
+  keep_ordinary m s t q ks h stay inv n fine on plain does =
+      arrives m t ks stay (step_state m s t q n inv.state does) (frames_after m s t q ks h inv n fine plain does) (outcomes_of (place_in j (current ks)) h.fact s.pc m) fine.v4
+      (covered (place_in j (current ks)) dd start begun m h.fact s t q ks n inv.state (top_is_entry j start s.memory ks inv.frames) h.means fine.v5 fine.v14 on plain does)
+
+  -- no instruction but a JMP abandons calls
+  stays : (r : Routine) (m : Meaning) (a : ℕ) → is_jump m ≡ false → abandons j.declaration r m a ≡ false
+  stays None m a plainly = refl
+  stays (Some e) (Jmp i c) a plainly = absurd (true≢false plainly)
+  stays (Some e) _ a plainly = refl
+
+  keep_plain : (m : Meaning) (s t : State) (q : Answer) (ks : Calls) (h : Held s ks) → is_jump m ≡ false → Invariant s ks → NamesWord m → Fine j (current ks) s.pc h.fact m → GoesOn j.declaration m s.pc → IsOrdinary j.declaration m → Does m s q t → Invariant t ks
+  keep_plain m s t q ks h plainly inv n fine on plain does = keep_ordinary m s t q ks h (stays (current ks) m t.pc plainly) inv n fine on plain does
+
+  -- the fourth law: a JMP by which all open calls are abandoned
+  keep_abandoned : (m : Meaning) (s t : State) (q : Answer) (ks : Calls) (h : Held s ks) → abandons j.declaration (current ks) m t.pc ≡ true → Invariant s ks → NamesWord m → Fine j (current ks) s.pc h.fact m → GoesOn j.declaration m s.pc →
+      IsOrdinary j.declaration m → Does m s q t → Invariant t []
+  keep_abandoned m s t q ks h leave inv n fine on plain does =
+      arrives_main m t ks leave (step_state m s t q n inv.state does) (outcomes_of (place_in j (current ks)) h.fact s.pc m) fine.v4
       (covered (place_in j (current ks)) dd start begun m h.fact s t q ks n inv.state (top_is_entry j start s.memory ks inv.frames) h.means fine.v5 fine.v14 on plain does)
 
   -- the second law: a return
@@ -154,7 +193,7 @@ module _ (j : Case) (dd : IsDeclared j.declaration) (valid : IsValid j) (start :
       let to : s.memory k.entry ≡ plus ((k.after - 1) + 1) o = omega arith in
       let there : s.memory c ≡ plus ((k.after - 1) + 1) o = subst (λ x. s.memory x ≡ plus ((k.after - 1) + 1) o) kw to in
       let may : MayReturn j c h.fact o = v12.1 o lo own.2 in
-      let lands : Lands (place_in j (Some k.entry)) h.fact (exits_of j k.entry o) = subst (λ x. Lands (place_in j (Some x)) h.fact (exits_of j x o)) (sym kw) may.2 in
+      let lands : Lands (place_in j (Some k.entry)) h.fact (exits_of j k.entry o) = subst (λ x. Lands (place_in j (Some x)) h.fact (exits_of j x o)) (sym kw) may.1 in
       let exit : OneOf (place_in j (Some k.entry)) start (exits_of j k.entry o) s (k ∷ ks) =
       one_of (place_in j (Some k.entry)) start (exits_of j k.entry o) s (k ∷ ks) (one_landed_holds (place_in j (Some k.entry)) start h.fact (exits_of j k.entry o) s (k ∷ ks) begun inv.state lands h.means) in
       let call : Fact = inv.frames.0.call in
@@ -265,8 +304,27 @@ module _ (j : Case) (dd : IsDeclared j.declaration) (valid : IsValid j) (start :
       plain true e z = e
       plain false e z = absurd (false≢true z)
 
-      go : (b : Bool) → (i && j.declaration.entry c) ≡ b → Invariant t (if b then returned ks else ks)
-      go false e = keep_ordinary (Jmp i c) s t q ks h inv n fine on (plain i e) does
+      there : t.pc ≡ place i c s.memory
+      there = ap (λ (x : State). x.pc) does.1
+
+      emptied : (b : Bool) → [] ≡ (let none : Calls = [] in if b then none else none)
+      emptied true = refl
+      emptied false = refl
+
+      -- a JMP that is no return: in main the list is empty already
+      jumps : (i && j.declaration.entry c) ≡ false → (ls : Calls) (g : Held s ls) → Invariant s ls → Fine j (current ls) s.pc g.fact (Jmp i c) → Invariant t (if j.declaration.abandon (place i c s.memory) then [] else ls)
+      jumps e [] g iv f = subst (λ x. Invariant t x) (emptied (j.declaration.abandon (place i c s.memory))) (keep_ordinary (Jmp i c) s t q [] g refl iv n f on (plain i e) does)
+      jumps e (l ∷ ls) g iv f = by_place (j.declaration.abandon (place i c s.memory)) refl
+        where
+          leaves : (b : Bool) → j.declaration.abandon (place i c s.memory) ≡ b → abandons j.declaration (Some l.entry) (Jmp i c) t.pc ≡ b
+          leaves b is = ap (λ (x : Bool). not x && j.declaration.abandon t.pc) e ∙ (ap j.declaration.abandon there ∙ is)
+
+          by_place : (b : Bool) → j.declaration.abandon (place i c s.memory) ≡ b → Invariant t (if b then [] else l ∷ ls)
+          by_place true is = keep_abandoned (Jmp i c) s t q (l ∷ ls) g (leaves true is) iv n f on (plain i e) does
+          by_place false is = keep_ordinary (Jmp i c) s t q (l ∷ ls) g (leaves false is) iv n f on (plain i e) does
+
+      go : (b : Bool) → (i && j.declaration.entry c) ≡ b → Invariant t (if b then returned ks else (if j.declaration.abandon (place i c s.memory) then [] else ks))
+      go false e = jumps e ks h inv fine
       go true e = by_indirect i (and_parts i (j.declaration.entry c) e).0 fine does.1
         where
           en : j.declaration.entry c ≡ true
@@ -282,16 +340,16 @@ module _ (j : Case) (dd : IsDeclared j.declaration) (valid : IsValid j) (start :
 
   -- every step keeps the invariant
   keep_at : (m : Meaning) (s t : State) (q : Answer) (ks : Calls) (h : Held s ks) → Invariant s ks → NamesWord m → Fine j (current ks) s.pc h.fact m → GoesOn j.declaration m s.pc → Does m s q t → Invariant t (calls_of j.declaration m s ks)
-  keep_at (And i c) s t q ks h inv n fine on does = keep_ordinary (And i c) s t q ks h inv n fine on tt does
-  keep_at (Tad i c) s t q ks h inv n fine on does = keep_ordinary (Tad i c) s t q ks h inv n fine on tt does
-  keep_at (Isz i c) s t q ks h inv n fine on does = keep_ordinary (Isz i c) s t q ks h inv n fine on tt does
-  keep_at (Dca i c) s t q ks h inv n fine on does = keep_ordinary (Dca i c) s t q ks h inv n fine on tt does
+  keep_at (And i c) s t q ks h inv n fine on does = keep_plain (And i c) s t q ks h refl inv n fine on tt does
+  keep_at (Tad i c) s t q ks h inv n fine on does = keep_plain (Tad i c) s t q ks h refl inv n fine on tt does
+  keep_at (Isz i c) s t q ks h inv n fine on does = keep_plain (Isz i c) s t q ks h refl inv n fine on tt does
+  keep_at (Dca i c) s t q ks h inv n fine on does = keep_plain (Dca i c) s t q ks h refl inv n fine on tt does
   keep_at (Jms i c) s t q ks h inv n fine on does = keep_jms s t ks h i c inv n fine does.1
   keep_at (Jmp i c) s t q ks h inv n fine on does = keep_jump s t q ks h i c inv n fine on does
-  keep_at (Group1 w) s t q ks h inv n fine on does = keep_ordinary (Group1 w) s t q ks h inv n fine on tt does
-  keep_at (Group2 w) s t q ks h inv n fine on does = keep_ordinary (Group2 w) s t q ks h inv n fine on tt does
-  keep_at (Group3 o) s t q ks h inv n fine on does = keep_ordinary (Group3 o) s t q ks h inv n fine on tt does
-  keep_at (Device action) s t q ks h inv n fine on does = keep_ordinary (Device action) s t q ks h inv n fine on tt does
+  keep_at (Group1 w) s t q ks h inv n fine on does = keep_plain (Group1 w) s t q ks h refl inv n fine on tt does
+  keep_at (Group2 w) s t q ks h inv n fine on does = keep_plain (Group2 w) s t q ks h refl inv n fine on tt does
+  keep_at (Group3 o) s t q ks h inv n fine on does = keep_plain (Group3 o) s t q ks h refl inv n fine on tt does
+  keep_at (Device action) s t q ks h inv n fine on does = keep_plain (Device action) s t q ks h refl inv n fine on tt does
   keep_at Undefined s t q ks h inv n fine on does = absurd does
 
   -- no entry is in a body

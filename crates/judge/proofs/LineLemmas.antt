@@ -9,11 +9,11 @@ use Rattle.domain.specs.Facts.{Fact, Rules, OfEquations, OfSums}
 use Rattle.facts.specs.Entailment.{Lands}
 use Rattle.facts.specs.Starts.{start_fact}
 use Rattle.facts.specs.declared.Condition.{Condition}
-use Rattle.facts.specs.declared.Condition.TheVariants.{V1, V2}
-use Rattle.certificate.specs.Certificate.{Certificate, has_any, has_exits, claimed, names_routine}
+use Rattle.facts.specs.declared.Condition.TheVariants.{V1, V2, V16}
+use Rattle.certificate_lines.specs.Certificate.{Certificate, has_any, has_exits, claimed, names_routine}
 use Rattle.judge.specs.ConditionOrder.{place_among}
 use Rattle.judge.specs.Landing.{Case, place_in, facts_in}
-use Rattle.judge.specs.Conditions.{HoldsAt, EachFact, IsPlaced, IsOfMain, IsOfRoutine, HasSites, LinesArePlaced}
+use Rattle.judge.specs.Conditions.{HoldsAt, EachFact, ExitsAreHeld, IsPlaced, IsOfMain, IsOfRoutine, HasSites, LinesArePlaced}
 use Rattle.judge.specs.Bodies.{IsOfBody}
 use Rattle.judge.specs.Asked.{RoutinesArePlaced, HoldsBetween, FailsAtLine, IsLeastOfAll}
 use Rattle.judge.specs.declared.body.Body.{Body}
@@ -23,7 +23,7 @@ use Rattle.domain.specs.declared.sum_fact.Rules.{Rules as KeptRules}
 use Rattle.domain.specs.FactInCode.{rules_of}
 use Rattle.facts.specs.declared.place.Place.{Place as KeptPlace}
 use Rattle.facts.specs.PlaceInCode.{place_in_code}
-use Rattle.judge.proofs.AskedLemmas.{holds_at, none_hold}
+use Rattle.judge.proofs.AskedLemmas.{holds_at, none_hold, no_exits_held}
 use Rattle.judge.proofs.OrderLemmas.{after_lines}
 use Rattle.judge.proofs.PointLemmas.{lands_inside}
 
@@ -112,10 +112,27 @@ length_none : (fs : List Fact) → length fs ≡ 0 → fs ≡ []
 length_none [] h = refl
 length_none (f ∷ fs) h = absurd (omega arith)
 
-pub no_facts : (j : Case) (a : ℕ) → RoutinesArePlaced j a → length (j.certificate.facts a) ≡ 0 → HoldsBetween j 1 15 a
-no_facts j a placed h =
-    let none : j.certificate.facts a ≡ [] = length_none (j.certificate.facts a) h in
-    after_lines j 15 a (lines_placed j a placed (subst (EachFact (IsPlaced j a)) (sym none) tt)) (λ v two lt. none_hold j v a two none)
+pub no_facts : (j : Case) (a : ℕ) → RoutinesArePlaced j a → j.certificate.facts a ≡ [] → ExitsAreHeld j a → HoldsBetween j 1 16 a
+no_facts j a placed none held =
+    after_lines j 16 a (lines_placed j a placed (subst (EachFact (IsPlaced j a)) (sym none) tt)) (λ v two lt. none_hold j v a two none (λ is. held))
+
+-- where the exits don't keep what is asserted of them, there are some
+exits_there : (j : Case) (a : ℕ) → (ExitsAreHeld j a → ⊥) → has_exits j.certificate a ≡ true
+exits_there j a not = go (has_exits j.certificate a) refl
+  where
+    go : (b : Bool) → has_exits j.certificate a ≡ b → b ≡ true
+    go true is = refl
+    go false is = absurd (not (no_exits_held j a is))
+
+pub exits_fail : (j : Case) (a : ℕ) → RoutinesArePlaced j a → j.certificate.facts a ≡ [] → (ExitsAreHeld j a → ⊥) → FailsAtLine j a V16
+exits_fail j a placed none not = record {
+  line = or_right (j.certificate.listed a) _ (or_right (has_any (j.certificate.facts a)) (has_exits j.certificate a) (exits_there j a not));
+  first = record {
+    past = omega arith;
+    fails = λ h. not h.1;
+    before = after_lines j _ a (lines_placed j a placed (subst (EachFact (IsPlaced j a)) (sym none) tt)) (λ v two lt. none_hold j v a two none (λ is. absurd (let place : place_among v ≡ 15 = ap place_among is in omega (arith, lt, place))));
+  };
+}
 
 -- some facts in a body
 pub lines_hold : (j : Case) (a : ℕ) (r : Routine) → RoutinesArePlaced j a → j.declaration.body r a ≡ true → ((e : ℕ) → r ≡ Some e → j.certificate.listed e ≡ true) →
@@ -128,13 +145,13 @@ some_not_placed j a r place d here some one (inl n) =
 some_not_placed j a r place d here some one (inr k) = absurd (let low : 2 ≤ place = k.1.low in omega (arith, one))
 
 pub all_hold_here : (j : Case) (a : ℕ) (r : Routine) (place : ℕ) → IsDeclared j.declaration → j.declaration.body r a ≡ true → RoutinesArePlaced j a → ((e : ℕ) → r ≡ Some e → j.certificate.listed e ≡ true) →
-    15 ≤ place → IsLeastOfAll j r a place → HoldsBetween j 1 15 a
+    16 ≤ place → IsLeastOfAll j r a place → HoldsBetween j 1 16 a
 all_hold_here j a r place d here placed listed past (inl n) = absurd (omega (arith, n.0, past))
 all_hold_here j a r place d here placed listed past (inr k) =
-    after_lines j 15 a (lines_hold j a r placed here listed k.0) (λ v two lt. (holds_at j v r a two d here).0 (k.1.before v two (omega (arith, lt, past))))
+    after_lines j 16 a (lines_hold j a r placed here listed k.0) (λ v two lt. (holds_at j v r a two d placed here).0 (k.1.before v two (omega (arith, lt, past))))
 
 pub one_fails_here : (j : Case) (a : ℕ) (r : Routine) (place : ℕ) (v : Condition) → IsDeclared j.declaration → j.declaration.body r a ≡ true → RoutinesArePlaced j a → ((e : ℕ) → r ≡ Some e → j.certificate.listed e ≡ true) →
-    0 < length (j.certificate.facts a) → (place ≡ 1 → ⊥) → place < 15 → place_among v ≡ place → IsLeastOfAll j r a place → FailsAtLine j a v
+    0 < length (j.certificate.facts a) → (place ≡ 1 → ⊥) → place < 16 → place_among v ≡ place → IsLeastOfAll j r a place → FailsAtLine j a v
 one_fails_here j a r place v d here placed listed some not under same (inl n) = absurd (not n.0)
 one_fails_here j a r place v d here placed listed some not under same (inr k) =
     let two : 2 ≤ place_among v = (let low : 2 ≤ place = k.1.low in omega (arith, same)) in
@@ -142,8 +159,8 @@ one_fails_here j a r place v d here placed listed some not under same (inr k) =
       line = fact_line j a some;
       first = record {
         past = omega (arith, two);
-        fails = λ h. k.1.fails under v same ((holds_at j v r a two d here).1 h);
-        before = after_lines j _ a (lines_hold j a r placed here listed k.0) (λ u low lt. (holds_at j u r a low d here).0 (k.1.before u low (omega (arith, lt, same))));
+        fails = λ h. k.1.fails under v same ((holds_at j v r a two d placed here).1 h);
+        before = after_lines j _ a (lines_hold j a r placed here listed k.0) (λ u low lt. (holds_at j u r a low d placed here).0 (k.1.before u low (omega (arith, lt, same))));
       };
     }
 
@@ -209,9 +226,13 @@ some_site f s x sites empty = (
 pub inside_body : (j : Case) (a : ℕ) (b : Body) (r : Routine) → b.routine ≡ r → j.declaration.body r a ≡ true → j.declaration.body b.routine a ≡ true
 inside_body j a b r is here = ap (λ (k : Routine). j.declaration.body k a) is ∙ here
 
+pub place_made : {A C : Type 0} (claims : C → Certificate) (k : KeptCase A C) (p : KeptPlace A) (r : Routine) (rules : KeptRules) →
+    p.image.now ≡ k.image.now → p.declaration.now ≡ k.declaration.now → p.routine ≡ r → p.rules ≡ rules → rules_of rules ≡ (claims k.claims.now).rules → place_in_code p ≡ place_in (case_kept claims k) r
+place_made claims k p r rules image declaration routine own same = rw (image, declaration, routine, own, same) refl
+
 pub start_place : {A C : Type 0} (claims : C → Certificate) (k : KeptCase A C) (p : KeptPlace A) (rules : KeptRules) →
     p.image.now ≡ k.image.now → p.declaration.now ≡ k.declaration.now → p.routine ≡ None → p.rules ≡ rules → rules_of rules ≡ (claims k.claims.now).rules → place_in_code p ≡ place_in (case_kept claims k) None
-start_place claims k p rules image declaration routine own same = rw (image, declaration, routine, own, same) refl
+start_place claims k p rules image declaration routine own same = place_made claims k p None rules image declaration routine own same
 
 -- by the rules of equations no site is asked for
 pub sites_free : (rules : Rules) (f : Fact) → rules ≡ OfEquations → IsTrue true ↔ HasSites rules f

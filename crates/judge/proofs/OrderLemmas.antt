@@ -3,7 +3,7 @@ use Rattle.std.proofs.Common.{◌≡◌, ℕ, ◌+◌, ◌*◌, ◌<◌, ◌≤�
 use Rattle.std.specs.Prelude.{if◌then◌else◌, ◌||◌, ◌↔◌, IsTrue, MatchOption}
 use Rattle.std.proofs.lemmas.Bool.{cases_order, cases_lt, true≢false}
 use Rattle.wordset.specs.Words.{IsFirstFrom, HasNoneFrom}
-use Rattle.certificate.specs.Certificate.{Certificate, claimed, names_routine, has_any}
+use Rattle.certificate_lines.specs.Certificate.{Certificate, claimed, names_routine, has_any}
 use Rattle.facts.specs.declared.Condition.{Condition}
 use Rattle.facts.specs.declared.Condition.TheVariants.{V1, V2}
 use Rattle.judge.specs.ConditionOrder.{is_first_condition, place_among, order}
@@ -15,7 +15,7 @@ use Rattle.judge.specs.Asked.{HoldsBetween, FailsFirst, FailsAtLine}
 pub record IsLater (v : Condition) : Type 0 where
   pub later : is_first_condition v ≡ false
   pub low : 1 ≤ place_among v
-  pub high : place_among v < 15
+  pub high : place_among v < 16
 
 pub start_or_later : (v : Condition) → (v ≡ V1) ⊎ IsLater v
 start_or_later V1 = inl refl
@@ -46,7 +46,7 @@ at_line : (j : Case) (v : Condition) (a : ℕ) → IsLater v → IsAsked j v a �
 at_line j v a l asked = subst (λ b. IsAskedAs b j a) l.later asked
 
 -- all conditions hold
-pub is_valid : (j : Case) → HoldsAt j V1 j.declaration.start → ((a : ℕ) → a < 4096 → (claimed j.certificate a ≡ true) → HoldsBetween j 1 15 a) → IsValid j
+pub is_valid : (j : Case) → HoldsAt j V1 j.declaration.start → ((a : ℕ) → a < 4096 → (claimed j.certificate a ≡ true) → HoldsBetween j 1 16 a) → IsValid j
 is_valid j s h v a asked = elim (start_or_later v) [
   | inl e ↦ at_start j v a s e asked
   | inr l ↦ (let line = at_line j v a l asked in h a line.0 line.1 v l.low l.high)
@@ -56,14 +56,14 @@ pub order_of : (v : Condition) (a : ℕ) → IsLater v → order v a ≡ 16 * a 
 order_of v a l = ap (λ b. if b then 0 else 16 * a + place_among v) l.later
 
 -- the first that fails, at an address of a line
-earlier : (j : Case) (a b : ℕ) (v u : Condition) → ((c : ℕ) → c < a → (claimed j.certificate c ≡ true) → HoldsBetween j 1 15 c) → FailsFirst j 1 a v → IsLater u → place_among v < 15 →
+earlier : (j : Case) (a b : ℕ) (v u : Condition) → ((c : ℕ) → c < a → (claimed j.certificate c ≡ true) → HoldsBetween j 1 16 c) → FailsFirst j 1 a v → IsLater u → place_among v < 16 →
     (claimed j.certificate b ≡ true) → 16 * b + place_among u < 16 * a + place_among v → HoldsAt j u b
 earlier j a b v u h f l high line lt = elim (cases_order b a) [
   | inl e ↦ (let q : place_among u < place_among v = omega arith in subst (λ c. HoldsAt j u c) (sym e) (f.before u l.low q))
   | inr o ↦ elim o [ inl less ↦ h b less line u l.low l.high | inr more ↦ absurd (let low : 1 ≤ place_among u = l.low in omega arith) ]
 ]
 
-pub first_at : (j : Case) (v : Condition) (a : ℕ) → HoldsAt j V1 j.declaration.start → a < 4096 → ((b : ℕ) → b < a → (claimed j.certificate b ≡ true) → HoldsBetween j 1 15 b) → FailsAtLine j a v → IsFirst j v a
+pub first_at : (j : Case) (v : Condition) (a : ℕ) → HoldsAt j V1 j.declaration.start → a < 4096 → ((b : ℕ) → b < a → (claimed j.certificate b ≡ true) → HoldsBetween j 1 16 b) → FailsAtLine j a v → IsFirst j v a
 first_at j v a s lt h f =
     let l : IsLater v = is_later v f.first.past in
     record {
@@ -85,16 +85,16 @@ first_at_start j h = record {
 }
 
 -- addresses up to the next at which something is claimed, where those before a number are known
-pub before : (j : Case) (n w : ℕ) → IsFirstFrom n (claimed j.certificate) w → ((a : ℕ) → a < n → (claimed j.certificate a ≡ true) → HoldsBetween j 1 15 a) →
-    (a : ℕ) → a < w → (claimed j.certificate a ≡ true) → HoldsBetween j 1 15 a
+pub before : (j : Case) (n w : ℕ) → IsFirstFrom n (claimed j.certificate) w → ((a : ℕ) → a < n → (claimed j.certificate a ≡ true) → HoldsBetween j 1 16 a) →
+    (a : ℕ) → a < w → (claimed j.certificate a ≡ true) → HoldsBetween j 1 16 a
 before j n w first h a under line = elim (cases_lt a n) [
   | inl l ↦ h a l line
   | inr g ↦ absurd (true≢false (sym line ∙ first.before a g under))
 ]
 
 -- and all addresses, where nothing is claimed any more
-pub all_hold : (j : Case) (n : ℕ) → HasNoneFrom n (claimed j.certificate) → ((a : ℕ) → a < n → (claimed j.certificate a ≡ true) → HoldsBetween j 1 15 a) →
-    (a : ℕ) → a < 4096 → (claimed j.certificate a ≡ true) → HoldsBetween j 1 15 a
+pub all_hold : (j : Case) (n : ℕ) → HasNoneFrom n (claimed j.certificate) → ((a : ℕ) → a < n → (claimed j.certificate a ≡ true) → HoldsBetween j 1 16 a) →
+    (a : ℕ) → a < 4096 → (claimed j.certificate a ≡ true) → HoldsBetween j 1 16 a
 all_hold j n none h a small line = elim (cases_lt a n) [
   | inl l ↦ h a l line
   | inr g ↦ absurd (true≢false (sym line ∙ none a g small))

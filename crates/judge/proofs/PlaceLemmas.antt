@@ -9,7 +9,7 @@ use Rattle.judge.specs.ConditionOrder.{is_first_condition, place_among, order}
 pub record IsLater (v : Condition) : Type 0 where
   pub later : is_first_condition v ≡ false
   pub low : 1 ≤ place_among v
-  pub high : place_among v < 15
+  pub high : place_among v < 16
 
 pub start_or_later : (v : Condition) → (v ≡ V1) ⊎ IsLater v
 start_or_later V1 = inl refl

@@ -1,38 +1,40 @@
 -- What is asked of a fact at an address, by its own place.
-use Rattle.std.proofs.Common.{◌≡◌, ℕ, ◌<◌, Bool, true, false, Some, List, [], ◌∷◌, ◌++◌, refl, sym, ap, ◌∙◌, subst, inl, inr}
-use Rattle.std.specs.Prelude.{IsTrue, ◌↔◌}
-use Rattle.std.proofs.lemmas.Bool.{false≢true, true≢false}
+use Rattle.std.proofs.Common.{◌≡◌, ℕ, ◌<◌, Bool, true, false, not, ◌&&◌, Some, None, List, [], ◌∷◌, ◌++◌, refl, sym, ap, ◌∙◌, subst, inl, inr}
+use Rattle.std.specs.Prelude.{IsTrue, ◌↔◌, if◌then◌else◌, is_some}
+use Rattle.std.proofs.lemmas.Bool.{and_parts, and_from, false≢true, true≢false}
 use Rattle.peripherals.specs.Loading.{image_of}
-use Rattle.declaration.specs.Declaration.{Routine}
+use Rattle.declaration.specs.Declaration.{Routine, Declaration}
 use Rattle.declaration.specs.Kept.{meaning}
 use Rattle.domain.specs.Facts.{Fact, Place, Rules}
 use Rattle.facts.specs.Entailment.{Entails, Lands, IsIdle, LandsBy}
 use Rattle.domain.specs.Facts.{OfEquations, OfSums}
-use Rattle.wordset.specs.Words.{Words, all_words, only}
+use Rattle.wordset.specs.Words.{Words, all_words, nothing, only, has_some, meet, difference}
+use Rattle.wordset.proofs.Tests.{none_of_some}
 use Rattle.wordset.proofs.Firsts.{IsOnly, only_word}
-use Rattle.instruct.specs.Instructions.{Meaning, Jms}
-use Rattle.facts.specs.Instructions.{is_call}
-use Rattle.facts.specs.References.{stepped, targets}
-use Rattle.facts.specs.Outcomes.{Successor, CallsTo, alive, given}
-use Rattle.facts.specs.Operations.{outcomes_of}
+use Rattle.instruct.specs.Instructions.{Meaning, Jms, Jmp}
+use Rattle.facts.specs.Instructions.{is_call, is_jump, returned_through}
+use Rattle.transfer.specs.References.{stepped, targets}
+use Rattle.transfer.specs.Outcomes.{Successor, Goes, CallsTo, Returns, alive, given}
+use Rattle.transfer.specs.Operations.{outcomes_of}
 use Rattle.facts.specs.PlaceInCode.{place_in_code}
 use Rattle.facts.specs.declared.place.Place.{Place as KeptPlace}
-use Rattle.certificate.specs.Certificate.{Certificate}
+use Rattle.certificate_lines.specs.Certificate.{Certificate}
 use Rattle.judge.specs.declared.point.Point.{Point}
-use Rattle.judge.specs.Landing.{Case, place_in, facts_in, sited, sites_of, LandsAt, EachSuccessor, SuccessorLands}
+use Rattle.judge.specs.Landing.{Case, place_in, facts_in, sited, sites_of, LandsAt, LandsBeyond, EachSuccessor, SuccessorLands, as_main, abandons}
+use Rattle.judge.specs.Jumps.{SuccessorLandsHere, SuccessorLandsBeyond, AbandonsIf}
 use Rattle.judge.specs.Points.{IsPoint, case_of}
 
 -- the place at hand is the one that is meant
-pub same_place : {A C : Type 0} (claims : C → Certificate) (s : Point A C) → IsPoint claims s → place_in_code s.place ≡ place_in (case_of claims s) s.place.routine
+pub same_place : {A C : Type 0} {K S : ℕ} (claims : C → Certificate) (s : Point A C K S) → IsPoint claims s → place_in_code s.place ≡ place_in (case_of claims s) s.place.routine
 same_place claims s point =
     let with_rules : Rules → Place = λ k. record { image = image_of s.place.image.now; declaration = meaning s.place.declaration.now; routine = s.place.routine; rules = k } in
     ap with_rules point.rules
 
-pub meant : {A C : Type 0} (claims : C → Certificate) (s : Point A C) (p : Place → Type 0) → IsPoint claims s → p (place_in_code s.place) → p (place_in (case_of claims s) s.place.routine)
+pub meant : {A C : Type 0} {K S : ℕ} (claims : C → Certificate) (s : Point A C K S) (p : Place → Type 0) → IsPoint claims s → p (place_in_code s.place) → p (place_in (case_of claims s) s.place.routine)
 meant claims s p point h = subst p (same_place claims s point) h
 
 -- a place that was made of the parts at hand
-pub made_place : {A C : Type 0} (claims : C → Certificate) (s : Point A C) (p : KeptPlace A) (r : Routine) → IsPoint claims s →
+pub made_place : {A C : Type 0} {K S : ℕ} (claims : C → Certificate) (s : Point A C K S) (p : KeptPlace A) (r : Routine) → IsPoint claims s →
     p.image.now ≡ s.place.image.now → p.declaration.now ≡ s.place.declaration.now → p.routine ≡ r → p.rules ≡ s.place.rules → place_in_code p ≡ place_in (case_of claims s) r
 made_place claims s p r point image declaration routine rules = rw (image, declaration, routine, rules, point.rules) refl
 
@@ -88,13 +90,111 @@ module _ (p : Successor → Type 0) (os ps qs rs : List Successor) where
   )
 
 -- no outcome of a call goes on here
-pub calls_land : (j : Case) (r : Routine) (f : Fact) (a : ℕ) (m : Meaning) → is_call m ≡ true → IsTrue true ↔ EachSuccessor (SuccessorLands j r) (outcomes_of (place_in j r) f a m)
+pub calls_land : (j : Case) (r : Routine) (f : Fact) (a : ℕ) (m : Meaning) → is_call m ≡ true → IsTrue true ↔ EachSuccessor (SuccessorLands j r m) (outcomes_of (place_in j r) f a m)
 calls_land j r f a (Jms i c) e = (λ q. go (alive (place_in j r) (targets (place_in j r) i c f) (stepped (place_in j r) i c f) all_words (stepped (place_in j r) i c f)), λ k. refl)
   where
-    go : (b : Bool) → EachSuccessor (SuccessorLands j r) (given b (CallsTo (targets (place_in j r) i c f) (stepped (place_in j r) i c f)))
+    go : (b : Bool) → EachSuccessor (SuccessorLands j r (Jms i c)) (given b (CallsTo (targets (place_in j r) i c f) (stepped (place_in j r) i c f)))
     go true = (tt, tt)
     go false = tt
 calls_land j r f a _ e = absurd (false≢true e)
+
+-- where each outcome lands in one way exactly where it lands in another
+pub each_same : (p q : Successor → Type 0) (os : List Successor) → ((o : Successor) → p o ↔ q o) → EachSuccessor p os ↔ EachSuccessor q os
+each_same p q [] same = (λ e. tt, λ e. tt)
+each_same p q (o ∷ os) same = let rest = each_same p q os same in (λ e. ((same o).0 e.0, rest.0 e.1), λ e. ((same o).1 e.0, rest.1 e.1))
+
+-- the outcomes of an instruction that abandons calls for no address, and of a JMP in a routine that is no return
+pub stays_lands : (j : Case) (r : Routine) (m : Meaning) → AbandonsIf false j r m → (o : Successor) → SuccessorLandsHere j r o ↔ SuccessorLands j r m o
+stays_lands j r m none (Goes next f) = (
+  λ h a lt has. subst (λ b. LandsBeyond b j r a f) (sym (none a lt)) (h a lt has),
+  λ h a lt has. subst (λ b. LandsBeyond b j r a f) (none a lt) (h a lt has),
+)
+stays_lands j r m none (CallsTo next f) = (λ h. h, λ h. h)
+stays_lands j r m none (Returns f) = (λ h. h, λ h. h)
+
+pub jumps_land : (j : Case) (r : Routine) (m : Meaning) → AbandonsIf true j r m → (o : Successor) → SuccessorLandsBeyond j r o ↔ SuccessorLands j r m o
+jumps_land j r m some (Goes next f) = (
+  λ h a lt has. subst (λ b. LandsBeyond b j r a f) (sym (some a lt)) (h a lt has),
+  λ h a lt has. subst (λ b. LandsBeyond b j r a f) (some a lt) (h a lt has),
+)
+jumps_land j r m some (CallsTo next f) = (λ h. h, λ h. h)
+jumps_land j r m some (Returns f) = (λ h. h, λ h. h)
+
+pub told_of : {P Q : Type 0} (t : Bool) → IsTrue t ↔ P → P ↔ Q → IsTrue t ↔ Q
+told_of t told same = (λ q. same.0 (told.0 q), λ h. told.1 (same.1 h))
+
+-- whether a word may abandon calls
+module _ (d : Declaration) (r : Routine) (m : Meaning) where
+  pub main_abandons_none : is_some r ≡ false → (a : ℕ) → abandons d r m a ≡ false
+  main_abandons_none main a = by_routine r main
+    where
+      by_routine : (q : Routine) → is_some q ≡ false → abandons d q m a ≡ false
+      by_routine None none = refl
+      by_routine (Some e) none = absurd (true≢false none)
+
+  pub only_jumps_abandon : is_jump m ≡ false → (a : ℕ) → abandons d r m a ≡ false
+  only_jumps_abandon other a = by_routine r m other
+    where
+      by_routine : (q : Routine) (n : Meaning) → is_jump n ≡ false → abandons d q n a ≡ false
+      by_routine None n none = refl
+      by_routine (Some e) (Jmp i c) none = absurd (true≢false none)
+      by_routine (Some e) _ none = refl
+
+  pub returns_abandon_none : is_some (returned_through d m) ≡ true → (a : ℕ) → abandons d r m a ≡ false
+  returns_abandon_none returns a = by_routine r m returns
+    where
+      by_test : (c : ℕ) (b : Bool) → is_some (if b then Some c else None) ≡ true → (not b && d.abandon a) ≡ false
+      by_test c true q = refl
+      by_test c false q = absurd (false≢true q)
+
+      by_routine : (q : Routine) (n : Meaning) → is_some (returned_through d n) ≡ true → abandons d q n a ≡ false
+      by_routine None n some = refl
+      by_routine (Some e) (Jmp i c) some = by_test c (i && d.entry c) some
+      by_routine (Some e) _ some = refl
+
+  pub jumps_abandon : is_some r ≡ true → is_jump m ≡ true → is_some (returned_through d m) ≡ false → (a : ℕ) → abandons d r m a ≡ d.abandon a
+  jumps_abandon routine jump returns a = by_routine r m routine jump returns
+    where
+      by_test : (c : ℕ) (b : Bool) → is_some (if b then Some c else None) ≡ false → (not b && d.abandon a) ≡ d.abandon a
+      by_test c true q = absurd (true≢false q)
+      by_test c false q = refl
+
+      by_routine : (q : Routine) (n : Meaning) → is_some q ≡ true → is_jump n ≡ true → is_some (returned_through d n) ≡ false → abandons d q n a ≡ d.abandon a
+      by_routine None n some leap none = absurd (false≢true some)
+      by_routine (Some e) (Jmp i c) some leap none = by_test c (i && d.entry c) none
+      by_routine (Some e) _ some leap none = absurd (false≢true leap)
+
+not_true : (b : Bool) → not b ≡ true → b ≡ false
+not_true true q = absurd (false≢true q)
+not_true false q = refl
+
+pub abandons_if : (j : Case) (r : Routine) (m : Meaning) (b : Bool) → ((a : ℕ) → abandons j.declaration r m a ≡ j.declaration.abandon a) → b ≡ not (has_some j.declaration.abandon) → AbandonsIf (not b) j r m
+abandons_if j r m true as_declared none = λ a lt. as_declared a ∙ none_of_some 4096 j.declaration.abandon (not_true (has_some j.declaration.abandon) (sym none)) a lt
+abandons_if j r m false as_declared none = λ a lt. as_declared a
+
+-- the addresses for which calls may be abandoned, and the others
+pub lands_split : (j : Case) (r : Routine) (f : Fact) (set others beyond : Words) (t : Bool) → others ≡ difference set j.declaration.abandon → beyond ≡ meet set j.declaration.abandon →
+    ((a : ℕ) → a < 4096 → others a ≡ true → LandsAt j r a f) → (IsTrue t ↔ ((a : ℕ) → a < 4096 → beyond a ≡ true → LandsAt j None a (as_main f))) →
+    IsTrue t ↔ ((a : ℕ) → a < 4096 → set a ≡ true → LandsBeyond (j.declaration.abandon a) j r a f)
+lands_split j r f set others beyond t are_others are_beyond land told = (
+  λ q a lt has. at_each q a lt has (j.declaration.abandon a) refl,
+  λ all. told.1 (λ a lt has.
+      let both = and_parts (set a) (j.declaration.abandon a) (sym (ap (λ (w : Words). w a) are_beyond) ∙ has) in
+      subst (λ b. LandsBeyond b j r a f) both.1 (all a lt both.0)),
+)
+  where
+    at_each : IsTrue t → (a : ℕ) → a < 4096 → set a ≡ true → (b : Bool) → j.declaration.abandon a ≡ b → LandsBeyond b j r a f
+    at_each q a lt has true is = told.0 q a lt (ap (λ (w : Words). w a) are_beyond ∙ and_from (set a) (j.declaration.abandon a) has is)
+    at_each q a lt has false is = land a lt (ap (λ (w : Words). w a) are_others ∙ and_from (set a) (not (j.declaration.abandon a)) has (ap not is))
+
+pub lands_not_here : (j : Case) (r : Routine) (f : Fact) (set others : Words) → others ≡ difference set j.declaration.abandon →
+    (((a : ℕ) → a < 4096 → others a ≡ true → LandsAt j r a f) → ⊥) → IsTrue false ↔ ((a : ℕ) → a < 4096 → set a ≡ true → LandsBeyond (j.declaration.abandon a) j r a f)
+lands_not_here j r f set others are_others none = false_if (λ all. none (λ a lt has.
+    let both = and_parts (set a) (not (j.declaration.abandon a)) (sym (ap (λ (w : Words). w a) are_others) ∙ has) in
+    subst (λ b. LandsBeyond b j r a f) (not_true (j.declaration.abandon a) both.1) (all a lt both.0)))
+
+pub is_as_main : (f g h k : Fact) (sites offsets : Words) → g ≡ f → h ≡ record g { sites = sites } → sites ≡ nothing → k ≡ record h { offsets = offsets } → offsets ≡ nothing → k ≡ as_main f
+is_as_main f g h k sites offsets same sited no_sites counted no_offsets = rw (counted, no_offsets, sited, no_sites, same) refl
 
 -- where there is one fact alone by the rules of equations, a fact lands that entails it
 one_lands : (rules : Rules) (pl : Place) (f g : Fact) (fs : List Fact) (t : Bool) → rules ≡ OfEquations → fs ≡ g ∷ [] → (IsTrue t ↔ Entails pl f g) → IsTrue t ↔ LandsBy rules pl f fs

@@ -1,17 +1,19 @@
 -- One of the facts of a valid certificate holds wherever a declared run may go on, and the program is safe.
-use Rattle.std.proofs.Common.{ℕ, None, List, [], ◌∷◌, sym, subst, inl}
+use Rattle.std.proofs.Common.{◌≡◌, ℕ, None, Some, List, [], ◌∷◌, sym, subst, inl}
 use Rattle.processor.specs.Cells.{Cells}
-use Rattle.processor.specs.Machine.{State, Answer}
+use Rattle.processor.specs.Machine.{State, Answer, instruction}
 use Rattle.processor.specs.Runs.{IsStart}
-use Rattle.declaration.specs.Declaration.{IsDeclared, IsListed}
+use Rattle.declaration.specs.Declaration.{PlaceAssertion, ReturnAssertion, IsDeclared, IsListed}
+use Rattle.policy.proofs.LegalLemmas.{unasserted}
+use Rattle.facts.specs.Conditions.{EachIsHeld, EachIsHeldBy}
 use Rattle.policy.specs.Calls.{Calls, calls_after}
 use Rattle.policy.specs.Runs.{DeclaredRun}
-use Rattle.domain.specs.Facts.{Fact}
+use Rattle.domain.specs.Facts.{Fact, Place}
 use Rattle.domain.specs.Laws.{IsBegun}
 use Rattle.facts.proofs.StartedLemmas.{start_is_begun}
-use Rattle.judge.specs.Landing.{Case, place_in, asked_at}
-use Rattle.judge.specs.Conditions.{EachFact, IsValid}
-use Rattle.judge.specs.Headline.{ProgramsAreSafe, UnlistedReadsAreFree}
+use Rattle.judge.specs.Landing.{Case, place_in, exits_of, asked, asked_at}
+use Rattle.judge.specs.Conditions.{EachFact, ExitsAreHeld, IsValid}
+use Rattle.judge.specs.Headline.{ProgramsAreSafe, UnlistedReadsAreFree, UnassertedIsFree}
 use Rattle.judge.specs.Laws.{IsTrueAt, FactsHoldInRuns, FactsHoldInEvents}
 use Rattle.judge.proofs.Induction.{Invariant, keeps}
 use Rattle.judge.proofs.Legal.{starts, runs_are_safe}
@@ -50,3 +52,24 @@ unlisted_reads_are_free j e = (
   where
     unlisted : (a : ℕ) → IsListed j.declaration.reads a
     unlisted a = subst (λ r. IsListed r a) (sym e) tt
+
+-- Where nothing is asserted nothing is asked of it.
+none_held : (pl : Place) (f : Fact) (a : ℕ) (hs : List PlaceAssertion) → hs ≡ [] → EachIsHeld pl f a hs
+none_held pl f a [] e = tt
+none_held pl f a (h ∷ hs) e = cc
+
+none_held_by : (pl : Place) (f : Fact) (e o : ℕ) (rs : List ReturnAssertion) → rs ≡ [] → EachIsHeldBy pl f e o rs
+none_held_by pl f e o [] q = tt
+none_held_by pl f e o (r ∷ rs) q = cc
+
+pub unreturned_is_held : (j : Case) (e : ℕ) → j.declaration.returns ≡ [] → ExitsAreHeld j e
+unreturned_is_held j e none o lt = each_fact _ (asked j.certificate.rules j.image (exits_of j e o)) (λ x. none_held_by (place_in j (Some e)) x e o j.declaration.returns none)
+
+pub unasserted_is_free : UnassertedIsFree
+unasserted_is_free j holds returns = (
+  λ a. (
+    λ r body. each_fact _ (asked_at j r a) (λ f w lt possible. none_held (place_in j r) f a j.declaration.holds holds),
+    unreturned_is_held j a returns,
+  ),
+  λ s ks. unasserted j.declaration (instruction j.declaration.profile s) s ks holds returns,
+)

@@ -1,14 +1,15 @@
 -- What the code has asked so far, in the order of the conditions.
-use Rattle.std.specs.Prelude.{◌≡◌, ℕ, ◌<◌, ◌≤◌, true, ◌⊎◌, List, [], ◌∷◌}
+use Rattle.std.specs.Prelude.{◌≡◌, ℕ, ◌<◌, ◌≤◌, true, ◌⊎◌, Some, List, [], ◌∷◌}
 use Rattle.wordset.specs.Words.{how_many}
 use Rattle.declaration.specs.Declaration.{Routine}
 use Rattle.domain.specs.Facts.{Fact}
-use Rattle.facts.specs.References.{possible}
+use Rattle.transfer.specs.References.{possible}
 use Rattle.facts.specs.declared.Condition.{Condition}
-use Rattle.certificate.specs.Certificate.{claimed, names_routine}
+use Rattle.certificate_lines.specs.Certificate.{claimed, names_routine}
 use Rattle.judge.specs.ConditionOrder.{place_among}
 use Rattle.judge.specs.FewWords.{asks_few}
-use Rattle.judge.specs.Landing.{Case, place_in, sited, sites_of, asked}
+use Rattle.judge.specs.Landing.{Case, place_in, sited, sites_of, exits_of, asked}
+use Rattle.facts.specs.Conditions.{EachIsHeldBy}
 use Rattle.judge.specs.Conditions.{HoldsAt, HoldsForWords, EachFact}
 use Rattle.judge.specs.Bodies.{IsOfBody}
 
@@ -49,11 +50,20 @@ IsLeastOf j r a f limit place =
 abbrev pub IsLeastOfSome : Case → Routine → ℕ → List Fact → ℕ → Type 0
 IsLeastOfSome j r a fs place =
     ((place ≡ 1) × (EachFact (IsOfBody j.certificate.rules r) fs → ⊥)) ⊎
-    (EachFact (IsOfBody j.certificate.rules r) fs × IsLeastPlace (HoldsOfFacts j r a fs) 15 place)
+    (EachFact (IsOfBody j.certificate.rules r) fs × IsLeastPlace (HoldsOfFacts j r a fs) 16 place)
 
 -- And of all facts at the address.
 abbrev pub IsLeastOfAll : Case → Routine → ℕ → ℕ → Type 0
 IsLeastOfAll j r a place = IsLeastOfSome j r a (j.certificate.facts a) place
+
+-- By an exit all is so that is to hold when the routine returns so, if conditions are asked of it; and by each exit for one offset.
+abbrev pub ExitIsHeld : Case → ℕ → ℕ → Fact → Type 0
+ExitIsHeld j e o x =
+    EachFact (λ y. EachIsHeldBy (place_in j (Some e)) y e o j.declaration.returns) (asked j.certificate.rules j.image (x ∷ []))
+
+abbrev pub ExitsAreHeldBy : Case → ℕ → ℕ → Type 0
+ExitsAreHeldBy j e o =
+    EachFact (λ y. EachIsHeldBy (place_in j (Some e)) y e o j.declaration.returns) (asked j.certificate.rules j.image (exits_of j e o))
 
 -- The conditions at an address from one place among them up to another hold.
 abbrev pub HoldsBetween : Case → ℕ → ℕ → ℕ → Type 0

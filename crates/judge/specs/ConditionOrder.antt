@@ -1,7 +1,7 @@
 -- The order in which the conditions on a certificate are asked.
 use Rattle.std.specs.Prelude.{ℕ, ◌+◌, ◌*◌, Bool, true, false, if◌then◌else◌}
 use Rattle.facts.specs.declared.Condition.{Condition}
-use Rattle.facts.specs.declared.Condition.TheVariants.{V1, V2, V3, V4, V5, V6, V7, V8, V9, V10, V11, V12, V13, V14, V15}
+use Rattle.facts.specs.declared.Condition.TheVariants.{V1, V2, V3, V4, V5, V6, V7, V8, V9, V10, V11, V12, V13, V14, V15, V16}
 
 -- The condition on the start.
 abbrev pub is_first_condition : Condition → Bool
@@ -25,6 +25,7 @@ place_among V12 = 11
 place_among V11 = 12
 place_among V4 = 13
 place_among V15 = 14
+place_among V16 = 15
 
 -- The order in which the conditions are asked: the first one, then by rising address, then by the place among those at
 -- one address.

@@ -6,15 +6,15 @@ use Rattle.processor.specs.Machine.{steps_pointer}
 use Rattle.declaration.specs.Declaration.{Routine}
 use Rattle.policy.specs.Rules.{IsSupported, HaltsDeclared}
 use Rattle.domain.specs.Facts.{Fact, Rules, OfEquations, OfSums, last_site}
-use Rattle.facts.specs.References.{possible, targets}
-use Rattle.facts.specs.Operations.{outcomes_of}
-use Rattle.facts.specs.Conditions.{WritesAreDeclared, EntriesAreKept, WritesAreListed, ReadsAreListed}
+use Rattle.transfer.specs.References.{possible, targets}
+use Rattle.transfer.specs.Operations.{outcomes_of}
+use Rattle.facts.specs.Conditions.{WritesAreDeclared, EntriesAreKept, WritesAreListed, ReadsAreListed, EachIsHeld, EachIsHeldBy}
 use Rattle.facts.specs.Starts.{start_fact}
-use Rattle.certificate.specs.Certificate.{Certificate, writes_of, claimed, has_exits}
-use Rattle.judge.specs.Landing.{Case, place_in, asked_at, LandsAt, LandsAtExit, SuccessorLands, EachSuccessor, called_from, LandsAfter}
+use Rattle.certificate_lines.specs.Certificate.{Certificate, writes_of, claimed, has_exits}
+use Rattle.judge.specs.Landing.{Case, place_in, asked, asked_at, exits_of, LandsAt, LandsAtExit, SuccessorLands, EachSuccessor, called_from, LandsAfter}
 use Rattle.judge.specs.ConditionOrder.{is_first_condition, order}
 use Rattle.facts.specs.declared.Condition.{Condition}
-use Rattle.facts.specs.declared.Condition.TheVariants.{V1, V2, V3, V4, V5, V6, V7, V8, V9, V10, V11, V12, V13, V14, V15}
+use Rattle.facts.specs.declared.Condition.TheVariants.{V1, V2, V3, V4, V5, V6, V7, V8, V9, V10, V11, V12, V13, V14, V15, V16}
 
 -- Each fact of the list has the property.
 abbrev pub EachFact : (Fact → Type 0) → List Fact → Type 0
@@ -87,10 +87,9 @@ CoversCallee c (Some r) e = Covers c r e
 abbrev pub IsSite : Certificate → ℕ → ℕ → Type 0
 IsSite c a e = (c.sites e a ≡ true) × (a ≤ last_site c.rules)
 
--- The routine may return by an offset of the fact: it is one that a declaration can list, it is declared, and the fact lands among
--- the exits for it.
+-- The routine may return by an offset of the fact: it is declared, and the fact lands among the exits for it.
 abbrev pub MayReturn : Case → ℕ → Fact → ℕ → Type 0
-MayReturn j e f o = (o < 8) × (j.declaration.offset e o ≡ true) × LandsAtExit j e o f
+MayReturn j e f o = (j.declaration.offset e o ≡ true) × LandsAtExit j e o f
 
 -- A JMP I through an entry is the entry's routine's own return.
 abbrev pub ReturnsWell : Case → Routine → Fact → Meaning → Type 0
@@ -104,7 +103,7 @@ abbrev pub HoldsFor : Case → Condition → Routine → ℕ → Fact → Meanin
 HoldsFor j V1 r a f m = Unit {0}
 HoldsFor j V2 r a f m = Unit {0}
 HoldsFor j V3 r a f m = IsSupported m
-HoldsFor j V4 r a f m = EachSuccessor (SuccessorLands j r) (outcomes_of (place_in j r) f a m)
+HoldsFor j V4 r a f m = EachSuccessor (SuccessorLands j r m) (outcomes_of (place_in j r) f a m)
 HoldsFor j V5 r a f m = WritesAreDeclared (place_in j r) f m
 HoldsFor j V6 r a f m = WritesAreListed (place_in j r) (writes_of j.certificate r) f m
 HoldsFor j V7 r a f m = KeepsPointer m × EachTarget j r f m (λ e. MayCall j r e)
@@ -116,6 +115,7 @@ HoldsFor j V12 r a f m = ReturnsWell j r f m
 HoldsFor j V13 r a f m = HaltsDeclared j.declaration m a
 HoldsFor j V14 r a f m = EntriesAreKept (place_in j r) f m
 HoldsFor j V15 r a f m = ReadsAreListed (place_in j r) f m
+HoldsFor j V16 r a f m = EachIsHeld (place_in j r) f a j.declaration.holds
 
 -- A condition holds for each word that is possible by a fact at the address.
 abbrev pub HoldsForWords : Case → Condition → Routine → ℕ → Fact → Type 0
@@ -135,6 +135,12 @@ HasFewWords j a = OfEachFact j a (λ r f. how_many 4096 (possible (place_in j r)
 abbrev pub HoldsForEach : Case → Condition → ℕ → Type 0
 HoldsForEach j v a = OfEachFact j a (λ r f. HoldsForWords j v r a f)
 
+-- By each exit of the routine of an entry, of which conditions are asked, all is so that is to hold when it returns so.
+abbrev pub ExitsAreHeld : Case → ℕ → Type 0
+ExitsAreHeld j e =
+    (o : ℕ) → o < 64 →
+    EachFact (λ x. EachIsHeldBy (place_in j (Some e)) x e o j.declaration.returns) (asked j.certificate.rules j.image (exits_of j e o))
+
 -- What a condition asks at an address.
 abbrev pub HoldsAt : Case → Condition → ℕ → Type 0
 HoldsAt j V1 a = LandsAt j None a (start_fact j.image)
@@ -152,6 +158,7 @@ HoldsAt j V12 a = HoldsForEach j V12 a
 HoldsAt j V13 a = HoldsForEach j V13 a
 HoldsAt j V14 a = HoldsForEach j V14 a
 HoldsAt j V15 a = HoldsForEach j V15 a
+HoldsAt j V16 a = HoldsForEach j V16 a × ExitsAreHeld j a
 
 -- The first condition is asked at the start, the others at each line's address.
 abbrev pub IsAskedAs : Bool → Case → ℕ → Type 0

@@ -1,15 +1,16 @@
 -- What is judged, and where facts land in it.
-use Rattle.std.specs.Prelude.{◌≡◌, ℕ, ◌+◌, ◌<◌, true, ◌⊎◌, if◌then◌else◌, Some, None, List, [], ◌∷◌, map}
+use Rattle.std.specs.Prelude.{◌≡◌, ℕ, ◌+◌, ◌<◌, Bool, true, false, not, ◌&&◌, ◌⊎◌, if◌then◌else◌, Some, None, List, [], ◌∷◌, map}
 use Rattle.wordset.specs.Words.{plus, Words, nothing, one}
+use Rattle.instruct.specs.Instructions.{Meaning, Jmp}
 use Rattle.processor.specs.Runs.{Image}
 use Rattle.declaration.specs.Declaration.{Routine, Declaration}
 use Rattle.domain.specs.Facts.{Fact, Place, Rules, OfEquations, OfSums}
 use Rattle.domain.specs.Adding.{is_void}
 use Rattle.domain.specs.Narrowing.{narrowed}
 use Rattle.domain.specs.Moves.{joined}
-use Rattle.facts.specs.Outcomes.{Successor, Goes, CallsTo, Returns}
+use Rattle.transfer.specs.Outcomes.{Successor, Goes, CallsTo, Returns}
 use Rattle.facts.specs.Entailment.{Lands, IsIdle}
-use Rattle.certificate.specs.Certificate.{Certificate, place_of}
+use Rattle.certificate_lines.specs.Certificate.{Certificate, place_of}
 
 -- What is judged: a tape's words, a declaration and a certificate.
 pub record Case : Type 0 where
@@ -67,11 +68,27 @@ LandsAt j r a f =
 abbrev pub LandsAtExit : Case → ℕ → ℕ → Fact → Type 0
 LandsAtExit j e o f = Lands (place_in j (Some e)) f (exits_of j e o)
 
--- Where the run goes on after an outcome, its fact lands.
-abbrev pub SuccessorLands : Case → Routine → Successor → Type 0
-SuccessorLands j r (Goes next f) = (a : ℕ) → a < 4096 → next a ≡ true → LandsAt j r a f
-SuccessorLands j r (CallsTo next f) = Unit {0}
-SuccessorLands j r (Returns f) = Unit {0}
+-- The fact as one of main's, which has no sites and no offsets: so it holds when all open calls are abandoned.
+abbrev pub as_main : Fact → Fact
+as_main f = record f { sites = nothing; offsets = nothing }
+
+-- A JMP in a routine's body to a declared place abandons all open calls, unless it goes indirectly through an entry, which is a
+-- return. No other instruction does, and none in main's body.
+abbrev pub abandons : Declaration → Routine → Meaning → ℕ → Bool
+abandons d (Some e) (Jmp i c) a = not (i && d.entry c) && d.abandon a
+abandons d _ _ a = false
+
+-- The fact lands at the address: in main's body as one of main's, where calls are abandoned for it; else in the same body.
+abbrev pub LandsBeyond : Bool → Case → Routine → ℕ → Fact → Type 0
+LandsBeyond true j r a f = LandsAt j None a (as_main f)
+LandsBeyond false j r a f = LandsAt j r a f
+
+-- Where the run goes on after an outcome of an instruction, its fact lands.
+abbrev pub SuccessorLands : Case → Routine → Meaning → Successor → Type 0
+SuccessorLands j r m (Goes next f) =
+    (a : ℕ) → a < 4096 → next a ≡ true → LandsBeyond (abandons j.declaration r m a) j r a f
+SuccessorLands j r m (CallsTo next f) = Unit {0}
+SuccessorLands j r m (Returns f) = Unit {0}
 
 -- Each outcome of the list has the property.
 abbrev pub EachSuccessor : (Successor → Type 0) → List Successor → Type 0

@@ -1,6 +1,7 @@
 pub mod FewWords
 pub mod ConditionOrder
 pub mod Landing
+pub mod Jumps
 pub mod Conditions
 pub mod Laws
 pub mod Headline

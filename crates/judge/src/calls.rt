@@ -14,10 +14,11 @@ ghost use Rattle.judge.specs.Points.{IsPoint, HoldsHere, case_of, fact_asked};
 use crate::claims::Claims;
 use crate::point::{Others, Point};
 use crate::sources::ExitsFor;
-use certificate::RoutineClaim;
+use certificate_lines::RoutineClaim;
 use domain::{ReturnOffsets, Rules};
-use facts::{Condition, FactSource, NextFact};
+use facts::{Condition, FactSource};
 use std::alloc::Allocator;
+use transfer::NextFact;
 use word12::Word;
 use wordset::WordSet;
 
@@ -31,7 +32,7 @@ fn last_site(rules: &Rules) -> usize
     }
 }
 
-impl<A: Allocator, C: Claims> Point<'_, A, C> {
+impl<A: Allocator, C: Claims, const K: usize, const S: usize> Point<'_, A, C, K, S> {
     /// Whether a word calls listed entries of lower rank alone, and not through an auto-index cell.
     pub(crate) fn may_call<M: Allocator>(&self, word: Word, others: &mut Others<M>) -> bool
         requires { IsPoint C.claims self.now }
@@ -236,9 +237,9 @@ impl<A: Allocator, C: Claims> Point<'_, A, C> {
 
     /// Puts the fact that holds behind the entry of a routine that is called from here into room for it.
     pub fn put_called_from(&self, next: &mut NextFact)
+        requires { IsPoint C.claims self.now }
         ensures { fact_in_code next.new ≡ called_from self.now.at (fact_asked self.now) }
     {
-        self.fact.is_within_room();
         next.copy_from(self.fact);
         next.set_sites(&WordSet::one(self.at));
         let mut offsets = ReturnOffsets::none();
@@ -337,7 +338,6 @@ impl<A: Allocator, C: Claims> Point<'_, A, C> {
         if !sites.contains(self.at) {
             return true;
         }
-        self.fact.is_within_room();
         others.exit.is_within_room();
         others
             .next
@@ -401,9 +401,6 @@ impl<A: Allocator, C: Claims> Point<'_, A, C> {
         ensures { IsTrue result ↔
             MayReturn (case_of C.claims self.now) entry (fact_asked self.now) offset }
     {
-        if offset >= 8 {
-            return false;
-        }
         if !self
             .place
             .declaration
@@ -411,7 +408,6 @@ impl<A: Allocator, C: Claims> Point<'_, A, C> {
         {
             return false;
         }
-        self.fact.is_within_room();
         others.next.copy_from(self.fact);
         let exits = ExitsFor {
             claims: self.claims,

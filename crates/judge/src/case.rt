@@ -7,14 +7,16 @@ ghost use Rattle.domain.specs.Facts as said;
 ghost use Rattle.domain.specs.FactInCode.{fact_in_code, rules_of};
 ghost use Rattle.facts.specs.Landing.{fact_at};
 ghost use Rattle.facts.specs.declared.Condition.TheVariants.{V1};
-ghost use Rattle.certificate.specs.Certificate.{names_routine};
-ghost use Rattle.judge.specs.Landing.{asked};
+ghost use Rattle.certificate_lines.specs.Certificate.{names_routine};
+ghost use Rattle.judge.specs.Landing.{asked, sited};
 ghost use Rattle.judge.specs.Conditions.{HoldsAt, IsPlaced};
 ghost use Rattle.judge.specs.Bodies.{Tells};
 ghost use Rattle.judge.specs.Judged.{case_kept};
 ghost use Rattle.judge.specs.Caches.{Shows, StandsAhead};
 ghost use Rattle.judge.specs.Shapes.{HasShape, IsRoomy};
-ghost use Rattle.judge.specs.Asked.{HoldsBetween, FailsAtLine, IsLeastOf, IsLeastOfAll, RoutinesArePlaced};
+ghost use Rattle.judge.specs.Asked.{HoldsBetween, FailsAtLine, IsLeastOf, IsLeastOfAll, IsLeastPlace, HoldsOfFact, RoutinesArePlaced};
+ghost use Rattle.judge.specs.Conditions.{ExitsAreHeld};
+ghost use Rattle.judge.specs.Asked.{ExitIsHeld, ExitsAreHeldBy};
 
 use crate::body::Body;
 use crate::cache::FactCache;
@@ -25,9 +27,10 @@ use crate::sources::FactsAt;
 use crate::words::nth;
 use bin_tape::Image;
 use declaration::{Declaration, Owner};
-use domain::Rules;
-use facts::{Condition, Fact, LandingRooms, NarrowedFact, NextFact, Outcomes};
+use domain::{Rules, SumFact};
+use facts::{Condition, Fact, LandingRooms, NarrowedFact};
 use std::alloc::{AllocError, Allocator};
+use transfer::{NextFact, Outcomes};
 use word12::Word;
 use wordset::WordSet;
 
@@ -35,7 +38,7 @@ use wordset::WordSet;
 const OF_LINES: usize = 1;
 
 /// The place behind those of all conditions that are asked at an address.
-const PAST_ALL: usize = 15;
+const PAST_ALL: usize = 16;
 
 /// What is judged: a tape's words, a declaration and what is claimed.
 ///
@@ -182,7 +185,7 @@ impl<A: Allocator, C: Claims> Case<'_, A, C> {
         requires even { Shows (C.claims self.now.claims.now) rooms.old.even }
         requires odd { Shows (C.claims self.now.claims.now) rooms.old.odd }
         ensures checked { MatchResult result
-            (λ _. HoldsBetween (case_kept C.claims self.now) 1 15 at)
+            (λ _. HoldsBetween (case_kept C.claims self.now) 1 16 at)
             (λ v. FailsAtLine (case_kept C.claims self.now) at v) }
         ensures body { Tells (C.claims self.now.claims.now) body.new }
         ensures even { Shows (C.claims self.now.claims.now) rooms.new.even }
@@ -214,7 +217,7 @@ impl<A: Allocator, C: Claims> Case<'_, A, C> {
         requires here { Shows (C.claims self.now.claims.now) here.old }
         requires following { Shows (C.claims self.now.claims.now) following.old }
         ensures checked { MatchResult result
-            (λ _. HoldsBetween (case_kept C.claims self.now) 1 15 at)
+            (λ _. HoldsBetween (case_kept C.claims self.now) 1 16 at)
             (λ v. FailsAtLine (case_kept C.claims self.now) at v) }
         ensures body { Tells (C.claims self.now.claims.now) body.new }
         ensures here { Shows (C.claims self.now.claims.now) here.new }
@@ -246,7 +249,7 @@ impl<A: Allocator, C: Claims> Case<'_, A, C> {
         requires body { Tells (C.claims self.now.claims.now) body.now }
         requires following { Shows (C.claims self.now.claims.now) following.old }
         ensures checked { MatchResult result
-            (λ _. HoldsBetween (case_kept C.claims self.now) 1 15 at)
+            (λ _. HoldsBetween (case_kept C.claims self.now) 1 16 at)
             (λ v. FailsAtLine (case_kept C.claims self.now) at v) }
         ensures here { Shows (C.claims self.now.claims.now) here.new }
         ensures following { Shows (C.claims self.now.claims.now) following.new }
@@ -279,19 +282,137 @@ impl<A: Allocator, C: Claims> Case<'_, A, C> {
         requires placed { RoutinesArePlaced (case_kept C.claims self.now) at }
         requires body { Tells (C.claims self.now.claims.now) body.old }
         ensures checked { MatchResult result
-            (λ _. HoldsBetween (case_kept C.claims self.now) 1 15 at)
+            (λ _. HoldsBetween (case_kept C.claims self.now) 1 16 at)
             (λ v. FailsAtLine (case_kept C.claims self.now) at v) }
         ensures body { Tells (C.claims self.now.claims.now) body.new }
     {
         let count = self.claims.count_facts(at, *near);
         if count == 0 {
-            return Ok(());
+            return self.check_exits(at, *near, rooms);
         }
         if !self.finds_body(at, body) {
             return Err(Condition::V2);
         }
         let place = self.first_place(at, count, near, body, rooms);
         self.tell(at, place, body)
+    }
+
+    /// The same, where there is no fact: of the exits of the routine of this entry, if there are some.
+    fn check_exits<M: Allocator>(
+        &self,
+        at: Word,
+        near: usize,
+        rooms: &mut CheckRooms<M>,
+    ) -> Result<(), Condition>
+        requires placed { RoutinesArePlaced (case_kept C.claims self.now) at }
+        requires none { (C.claims self.now.claims.now).facts at ≡ [] }
+        ensures { MatchResult result
+            (λ _. HoldsBetween (case_kept C.claims self.now) 1 16 at)
+            (λ v. FailsAtLine (case_kept C.claims self.now) at v) }
+    {
+        if self.declaration.returns().is_empty() {
+            return Ok(());
+        }
+        let CheckRooms { claimed, fact, .. } = rooms;
+        if self.exits_are_held(at, near, claimed, fact) {
+            Ok(())
+        } else {
+            Err(Condition::V16)
+        }
+    }
+
+    /// Whether by each exit of the routine of an entry all is so that is to hold when it returns so.
+    fn exits_are_held(
+        &self,
+        entry: Word,
+        near: usize,
+        claimed: &mut Fact,
+        fact: &mut NarrowedFact,
+    ) -> bool
+        ensures { IsTrue result ↔ ExitsAreHeld (case_kept C.claims self.now) entry }
+    {
+        let mut from = 0usize;
+        while let Some(offset) = self.claims.next_offset(entry, from) {
+            if !self.exits_are_held_by(entry, offset, claimed, fact) {
+                return false;
+            }
+            from = offset + 1;
+        }
+        true
+    }
+
+    /// The same of the exits for one offset.
+    fn exits_are_held_by(
+        &self,
+        entry: Word,
+        offset: usize,
+        claimed: &mut Fact,
+        fact: &mut NarrowedFact,
+    ) -> bool
+        requires { offset < 64 }
+        ensures { IsTrue result ↔ ExitsAreHeldBy (case_kept C.claims self.now) entry offset }
+    {
+        let sites = self.sites_of(entry);
+        for index in 0..self.claims.count_exits(entry, offset) {
+            self.put_exit(entry, offset, index, &sites, claimed);
+            if !self.exit_is_held(entry, offset, claimed, fact) {
+                return false;
+            }
+        }
+        true
+    }
+
+    /// Lets a fact be one of the exits of a routine for an offset, with the sites that it has by the rules.
+    fn put_exit(
+        &self,
+        entry: Word,
+        offset: usize,
+        index: usize,
+        sites: &WordSet,
+        claimed: &mut Fact,
+    )
+        requires offset { offset < 64 }
+        requires index { index < length ((C.claims self.now.claims.now).exits entry offset) }
+        ensures fact { fact_in_code claimed.new ≡ fact_at (sited (C.claims self.now.claims.now).rules
+            (words sites.now) ((C.claims self.now.claims.now).exits entry offset)) index }
+        ensures shape { HasShape (fact_in_code claimed.new) }
+    {
+        self.claims.put_exit(entry, offset, index, claimed);
+        put_sites(&self.claims.rules(), sites, claimed);
+    }
+
+    /// The sites of the routine of an entry, none where it isn't listed.
+    fn sites_of(&self, entry: Word) -> WordSet
+        ensures { words result ≡ (C.claims self.now.claims.now).sites entry }
+    {
+        match self.claims.routine(entry) {
+            Some(routine) => routine.sites,
+            None => WordSet::empty(),
+        }
+    }
+
+    /// The same of one exit, if conditions are asked of it.
+    fn exit_is_held(
+        &self,
+        entry: Word,
+        offset: usize,
+        claimed: &Fact,
+        fact: &mut NarrowedFact,
+    ) -> bool
+        requires shape { HasShape (fact_in_code claimed.now) }
+        requires offset { offset < 64 }
+        ensures { IsTrue result ↔
+            ExitIsHeld (case_kept C.claims self.now) entry offset (fact_in_code claimed.now) }
+    {
+        let rules = self.claims.rules();
+        if !put_asked(&rules, self.image, claimed, fact) {
+            return true;
+        }
+        place_of(self.image, self.declaration, &Some(entry), rules).returns_as_declared(
+            fact,
+            entry,
+            Word::from_index(offset),
+        )
     }
 
     /// The condition at the place of the first one that fails of some fact at an address of a body, if one
@@ -303,7 +424,7 @@ impl<A: Allocator, C: Claims> Case<'_, A, C> {
         requires body { Tells (C.claims self.now.claims.now) body.now }
         requires least { IsLeastOfAll (case_kept C.claims self.now) body.now.routine at place }
         ensures { MatchResult result
-            (λ _. HoldsBetween (case_kept C.claims self.now) 1 15 at)
+            (λ _. HoldsBetween (case_kept C.claims self.now) 1 16 at)
             (λ v. FailsAtLine (case_kept C.claims self.now) at v) }
     {
         self.declaration.is_declared();
@@ -354,7 +475,7 @@ impl<A: Allocator, C: Claims> Case<'_, A, C> {
     ) -> usize
         requires index { index < length ((C.claims self.now.claims.now).facts at) }
         requires low { 2 ≤ limit }
-        requires high { limit ≤ 15 }
+        requires high { limit ≤ 16 }
         requires stands { (case_kept C.claims self.now).declaration.body body.now.routine at ≡ true }
         requires body { Tells (C.claims self.now.claims.now) body.now }
         ensures { IsLeastOf (case_kept C.claims self.now) body.now.routine at
@@ -384,7 +505,7 @@ impl<A: Allocator, C: Claims> Case<'_, A, C> {
     ) -> usize
         requires shape { HasShape (fact_in_code claimed.old) }
         requires low { 2 ≤ limit }
-        requires high { limit ≤ 15 }
+        requires high { limit ≤ 16 }
         requires stands { (case_kept C.claims self.now).declaration.body body.now.routine at ≡ true }
         requires body { Tells (C.claims self.now.claims.now) body.now }
         requires ahead { IfSome following (λ f.
@@ -397,9 +518,44 @@ impl<A: Allocator, C: Claims> Case<'_, A, C> {
             return OF_LINES;
         }
         put_sites(&rules, &body.claim.sites, claimed);
-        if !put_asked(&rules, self.image, claimed, fact) {
-            return limit;
+        match rules {
+            Rules::OfEquations => {
+                claimed.is_within_room();
+                self.check_asked(at, limit, near, body, following, claimed, others)
+            }
+            Rules::OfSums => {
+                if !put_asked(&rules, self.image, claimed, fact) {
+                    return limit;
+                }
+                self.check_asked(at, limit, near, body, following, fact, others)
+            }
         }
+    }
+
+    /// The place of the first condition on words before a limit that fails of a fact of which they are asked, and the limit if
+    /// none does.
+    fn check_asked<M: Allocator, const K: usize, const S: usize>(
+        &self,
+        at: Word,
+        limit: usize,
+        near: usize,
+        body: &Body,
+        following: Option<&FactCache>,
+        fact: &SumFact<K, S>,
+        others: &mut Others<M>,
+    ) -> usize
+        requires roomy { IsRoomy fact.now }
+        requires cells { K ≤ 132 }
+        requires relations { S ≤ 68 }
+        requires low { 2 ≤ limit }
+        requires high { limit ≤ 16 }
+        requires stands { (case_kept C.claims self.now).declaration.body body.now.routine at ≡ true }
+        requires body { Tells (C.claims self.now.claims.now) body.now }
+        requires ahead { IfSome following (λ f.
+            StandsAhead (C.claims self.now.claims.now) (words body.now.claim.sites) f.now) }
+        ensures { IsLeastPlace (λ v. HoldsOfFact (case_kept C.claims self.now) v body.now.routine at
+            (fact_in_code fact.now)) limit result }
+    {
         Point::of(
             self.image,
             self.declaration,

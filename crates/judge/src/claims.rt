@@ -5,12 +5,13 @@ ghost use Rattle.wordset.specs.Words.{nothing, HasNoneFrom, IsFirstFrom};
 ghost use Rattle.wordset.specs.Lanes.{words};
 ghost use Rattle.domain.specs.FactInCode.{fact_in_code, rules_of};
 ghost use Rattle.facts.specs.Landing.{fact_at};
-ghost use Rattle.certificate.specs.Certificate as said;
-ghost use Rattle.certificate.specs.Certificate.{names_routine, claimed, has_any};
-ghost use Rattle.certificate.specs.Kept.{claims};
+ghost use Rattle.certificate_lines.specs.Certificate as said;
+ghost use Rattle.certificate_lines.specs.Certificate.{names_routine, claimed, has_any};
+ghost use Rattle.certificate_lines.specs.Kept.{claims};
 ghost use Rattle.judge.specs.Shapes.{HasShape};
 
-use certificate::{Certificate, RoutineClaim, Version};
+use certificate::Certificate;
+use certificate_lines::{RoutineClaim, Version};
 use domain::Rules;
 use facts::Fact;
 use std::alloc::Allocator;
@@ -83,7 +84,8 @@ pub trait Claims {
     fn put_exit(&self, entry: Word, offset: usize, index: usize, exit: &mut Fact)
         requires offset { offset < 64 }
         requires index { index < length ((claims self.now).exits entry offset) }
-        ensures { fact_in_code exit.new ≡ fact_at ((claims self.now).exits entry offset) index };
+        ensures fact { fact_in_code exit.new ≡ fact_at ((claims self.now).exits entry offset) index }
+        ensures shape { HasShape (fact_in_code exit.new) };
 
     /// The least offset from a number on for which a routine has an exit.
     fn next_offset(&self, entry: Word, from: usize) -> Option<usize>

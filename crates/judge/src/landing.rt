@@ -1,12 +1,14 @@
 //! Where a run goes on after a word: whether what is known then lands among the facts there.
 
-ghost use Rattle.std.specs.Prelude.{ℕ, ◌≡◌, ◌<◌, ◌↔◌, true, Some, IsTrue};
+ghost use Rattle.std.specs.Prelude.{ℕ, ◌≡◌, ◌<◌, ◌↔◌, true, Some, None, IsTrue};
+ghost use Rattle.instruct.specs.Instructions.{meaning_of};
 ghost use Rattle.wordset.specs.Lanes.{words};
 ghost use Rattle.domain.specs.Brief.{brief_words};
 ghost use Rattle.domain.specs.FactInCode.{fact_in_code};
-ghost use Rattle.facts.specs.OutcomesInCode.{outcome_in, outcomes_in};
+ghost use Rattle.transfer.specs.OutcomesInCode.{outcome_in, outcomes_in};
 ghost use Rattle.facts.specs.declared.Condition.TheVariants.{V4};
-ghost use Rattle.judge.specs.Landing.{LandsAt, SuccessorLands, EachSuccessor, sites_of};
+ghost use Rattle.judge.specs.Landing.{LandsAt, LandsBeyond, EachSuccessor, sites_of};
+ghost use Rattle.judge.specs.Jumps.{SuccessorLandsHere, SuccessorLandsBeyond, AbandonsIf};
 ghost use Rattle.judge.specs.Caches.{StandsAhead};
 ghost use Rattle.judge.specs.Points.{IsPoint, case_of, HoldsHere};
 
@@ -14,13 +16,14 @@ use crate::cache::FactCache;
 use crate::claims::Claims;
 use crate::point::{Others, Point, place_of};
 use crate::sources::FactsAt;
-use domain::BriefSet;
-use facts::{Kind, LandingRooms, NextFact, Outcome, Outcomes};
+use domain::{BriefSet, ReturnOffsets};
+use facts::LandingRooms;
 use std::alloc::Allocator;
+use transfer::{Kind, NextFact, Outcome, Outcomes};
 use word12::Word;
 use wordset::WordSet;
 
-impl<A: Allocator, C: Claims> Point<'_, A, C> {
+impl<A: Allocator, C: Claims, const K: usize, const S: usize> Point<'_, A, C, K, S> {
     /// Whether a routine's body has an address.
     pub fn is_inside(&self, owner: &Option<Word>, at: Word) -> bool
         ensures { result ≡ (case_of C.claims self.now).declaration.body owner.now at }
@@ -108,8 +111,9 @@ impl<A: Allocator, C: Claims> Point<'_, A, C> {
         rooms: &mut LandingRooms,
     ) -> bool
         requires { IsPoint C.claims self.now }
-        ensures { IsTrue result ↔ ((a : ℕ) → a < 4096 → words addresses.now a ≡ true →
+        ensures lands { IsTrue result ↔ ((a : ℕ) → a < 4096 → words addresses.now a ≡ true →
             LandsAt (case_of C.claims self.now) self.now.place.routine a (fact_in_code known.old)) }
+        ensures kept { fact_in_code known.new ≡ fact_in_code known.old }
     {
         for at in addresses.iter() {
             if !self.lands_here(at, known, rooms) {
@@ -154,11 +158,11 @@ impl<A: Allocator, C: Claims> Point<'_, A, C> {
         self.lands_at_each(&addresses, known, rooms)
     }
 
-    /// Whether an outcome lands wherever it goes, if it is there and goes on.
+    /// Whether an outcome of a word that abandons no calls lands wherever it goes, if it is there and goes on.
     fn outcome_lands(&self, outcome: &mut Outcome, rooms: &mut LandingRooms) -> bool
         requires { IsPoint C.claims self.now }
         ensures { IsTrue result ↔
-            EachSuccessor (SuccessorLands (case_of C.claims self.now) self.now.place.routine)
+            EachSuccessor (SuccessorLandsHere (case_of C.claims self.now) self.now.place.routine)
             (outcome_in outcome.old) }
     {
         match &outcome.kind {
@@ -167,11 +171,87 @@ impl<A: Allocator, C: Claims> Point<'_, A, C> {
         }
     }
 
-    /// Whether each of some outcomes that goes on lands wherever it goes.
+    /// Whether the running routine may abandon all open calls by a word: it isn't main, the word is a JMP and no return, and there
+    /// are places for which calls may be abandoned.
+    fn may_abandon(&self, word: Word) -> bool
+        ensures { AbandonsIf result (case_of C.claims self.now) self.now.place.routine
+            (meaning_of (case_of C.claims self.now).declaration.profile self.now.at word) }
+    {
+        if self.place.routine.is_none() {
+            return false;
+        }
+        if !self.place.is_jump(word) {
+            return false;
+        }
+        if self.place.returned_entry(self.at, word).is_some() {
+            return false;
+        }
+        !self.place.declaration.abandons().is_empty()
+    }
+
+    /// Whether an outcome of a JMP in a routine that is no return lands wherever it goes, if it is there and goes on: in main's
+    /// body as one of main's facts, where calls may be abandoned for the address; else in the routine's.
+    #[inline(never)]
+    fn jump_lands(&self, outcome: &mut Outcome, rooms: &mut LandingRooms) -> bool
+        requires { IsPoint C.claims self.now }
+        ensures { IsTrue result ↔ EachSuccessor
+            (SuccessorLandsBeyond (case_of C.claims self.now) self.now.place.routine)
+            (outcome_in outcome.old) }
+    {
+        match &outcome.kind {
+            Kind::Nothing | Kind::Calls | Kind::Returns => true,
+            Kind::Goes => self.lands_beyond(&outcome.targets, &mut outcome.fact, rooms),
+        }
+    }
+
+    /// Whether what is known lands at each of some addresses, which stand in a brief set: in main's body as one of main's facts,
+    /// where calls may be abandoned for the address; else in the routine's.
+    fn lands_beyond(
+        &self,
+        targets: &BriefSet,
+        known: &mut NextFact,
+        rooms: &mut LandingRooms,
+    ) -> bool
+        requires { IsPoint C.claims self.now }
+        ensures { IsTrue result ↔ ((a : ℕ) → a < 4096 → brief_words targets.now a ≡ true →
+            LandsBeyond ((case_of C.claims self.now).declaration.abandon a)
+            (case_of C.claims self.now) self.now.place.routine a (fact_in_code known.old)) }
+    {
+        let mut addresses = WordSet::empty();
+        targets.put(&mut addresses);
+        let abandons = self.place.declaration.abandons();
+        if !self.lands_at_each(&addresses.minus(abandons), known, rooms) {
+            return false;
+        }
+        known.set_sites(&WordSet::empty());
+        known.set_offsets(ReturnOffsets::none());
+        self.lands_in_main(&addresses.meet(abandons), known, rooms)
+    }
+
+    /// Whether what is known lands in main's body at each of some addresses.
+    fn lands_in_main(
+        &self,
+        addresses: &WordSet,
+        known: &mut NextFact,
+        rooms: &mut LandingRooms,
+    ) -> bool
+        requires { IsPoint C.claims self.now }
+        ensures { IsTrue result ↔ ((a : ℕ) → a < 4096 → words addresses.now a ≡ true →
+            LandsAt (case_of C.claims self.now) None a (fact_in_code known.old)) }
+    {
+        for at in addresses.iter() {
+            if !self.lands(&None, &WordSet::empty(), at, known, rooms) {
+                return false;
+            }
+        }
+        true
+    }
+
+    /// Whether each of some outcomes of a word that abandons no calls lands wherever it goes.
     fn each_lands(&self, outcomes: &mut Outcomes, rooms: &mut LandingRooms) -> bool
         requires { IsPoint C.claims self.now }
         ensures { IsTrue result ↔
-            EachSuccessor (SuccessorLands (case_of C.claims self.now) self.now.place.routine)
+            EachSuccessor (SuccessorLandsHere (case_of C.claims self.now) self.now.place.routine)
             (outcomes_in outcomes.old) }
     {
         if !self.outcome_lands(&mut outcomes.first, rooms) {
@@ -186,6 +266,25 @@ impl<A: Allocator, C: Claims> Point<'_, A, C> {
         self.outcome_lands(&mut outcomes.fourth, rooms)
     }
 
+    /// Whether each of some outcomes of a JMP in a routine that is no return lands wherever it goes.
+    fn each_jumps(&self, outcomes: &mut Outcomes, rooms: &mut LandingRooms) -> bool
+        requires { IsPoint C.claims self.now }
+        ensures { IsTrue result ↔ EachSuccessor
+            (SuccessorLandsBeyond (case_of C.claims self.now) self.now.place.routine)
+            (outcomes_in outcomes.old) }
+    {
+        if !self.jump_lands(&mut outcomes.first, rooms) {
+            return false;
+        }
+        if !self.jump_lands(&mut outcomes.second, rooms) {
+            return false;
+        }
+        if !self.jump_lands(&mut outcomes.third, rooms) {
+            return false;
+        }
+        self.jump_lands(&mut outcomes.fourth, rooms)
+    }
+
     /// Whether each outcome of a word that goes on lands wherever it goes. Those of a call go on in the
     /// routine, so they are not worked out.
     pub(crate) fn outcomes_land<M: Allocator>(&self, word: Word, others: &mut Others<M>) -> bool
@@ -197,6 +296,9 @@ impl<A: Allocator, C: Claims> Point<'_, A, C> {
         }
         let outcomes = others.outcomes.as_mut();
         self.place.put_outcomes(self.fact, self.at, word, outcomes);
+        if self.may_abandon(word) {
+            return self.each_jumps(outcomes, &mut others.landing);
+        }
         self.each_lands(outcomes, &mut others.landing)
     }
 }

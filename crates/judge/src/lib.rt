@@ -1,7 +1,7 @@
 //! The conditions on a certificate, and the theorem that they make a program safe.
 #![tactic(auto)]
 
-ghost use Rattle.judge.specs.Headline.{ProgramsAreSafe, UnlistedReadsAreFree};
+ghost use Rattle.judge.specs.Headline.{ProgramsAreSafe, UnassertedIsFree, UnlistedReadsAreFree};
 
 mod body;
 mod cache;
@@ -20,11 +20,11 @@ mod words;
 pub use body::Body;
 pub use cache::FactCache;
 pub use case::{Case, Rooms, put_asked};
-pub use certificate::RoutineClaim;
+pub use certificate_lines::RoutineClaim;
 pub use claims::Claims;
 pub use facts::Condition;
 pub use judging::{Refusal, judge};
-pub use point::{Others, Point, place_of};
+pub use point::{NarrowedPoint, Others, Point, place_of};
 pub use sited::put_sites;
 pub use sources::{ExitsFor, FactsAt};
 pub use verdict::{Certified, CertifyFault, certify};
@@ -33,7 +33,8 @@ pub use verdict::{Certified, CertifyFault, certify};
 /// every run from the declared start, whatever unset memory holds and however keys, tape frames,
 /// completions and switches interleave with instructions, control stays in the current routine's
 /// body, writes hit only declared cells, fixed code words never change, each return reaches a
-/// declared place after its own call, halts are declared, and listed reads are kept.
+/// declared place after its own call, or all calls are abandoned for a declared place, halts are
+/// declared, listed reads are kept, and what is declared to hold, holds.
 ///
 /// `certify` answers yes only where every condition holds; that this is enough is said here, over the
 /// definitions alone. The accumulator, the link and MQ are free too. Its premises are that the
@@ -46,4 +47,6 @@ pub fn headline()
     ensures safe { ProgramsAreSafe }
     // Without a list of reads, the rule on reads and its condition ask nothing.
     ensures reads { UnlistedReadsAreFree }
+    // Where nothing is asserted, the rule on assertions and its condition ask nothing.
+    ensures assertions { UnassertedIsFree }
 {}

@@ -1,6 +1,6 @@
 //! A fact of which conditions are asked at an address of a body, and room for what it is compared with.
 
-ghost use Rattle.std.specs.Prelude.{◌≡◌, true, IfSome};
+ghost use Rattle.std.specs.Prelude.{◌≡◌, ◌≤◌, true, IfSome};
 ghost use Rattle.wordset.specs.Lanes.{words};
 ghost use Rattle.judge.specs.Bodies.{Tells};
 ghost use Rattle.judge.specs.Caches.{StandsAhead};
@@ -13,9 +13,10 @@ use crate::cache::FactCache;
 use crate::claims::Claims;
 use bin_tape::Image;
 use declaration::Declaration;
-use domain::Rules;
-use facts::{Fact, LandingRooms, NarrowedFact, NextFact, Outcomes, Place};
+use domain::{Rules, SumFact};
+use facts::{Fact, LandingRooms, Place};
 use std::alloc::{AllocError, Allocator};
+use transfer::{NextFact, Outcomes};
 use word12::Word;
 
 /// Room for further facts, with which the one at an address is compared or which come of it. The large ones have memory of
@@ -48,19 +49,23 @@ pub(crate) fn boxed_landing<M: Allocator>(memory: M) -> Result<Box<LandingRooms,
     Ok(Box::new(memory, LandingRooms::new())?)
 }
 
-/// A fact of which conditions are asked at an address of a body.
+/// A fact of which conditions are asked at an address of a body: by the rules of equations as it is claimed, and by those of
+/// sums narrowed, which has more room.
 #[derive(Drop)]
-pub struct Point<'a, A: Allocator, C: Claims> {
+pub struct Point<'a, A: Allocator, C: Claims, const K: usize, const S: usize> {
     pub claims: &'a C,
     pub place: Place<'a, A>,
     pub body: &'a Body,
     pub at: Word,
-    pub fact: &'a NarrowedFact,
+    pub fact: &'a SumFact<K, S>,
     /// What is kept of the fact at the next address, if something is.
     pub following: Option<&'a FactCache>,
     /// The line at which facts at other addresses are looked for first.
     pub near: usize,
 }
+
+/// The same of a fact that has room for being narrowed, by whichever rules.
+pub type NarrowedPoint<'a, A, C> = Point<'a, A, C, 132, 68>;
 
 /// The place of the facts in a routine's body.
 pub fn place_of<'a, A: Allocator>(
@@ -82,7 +87,7 @@ pub fn place_of<'a, A: Allocator>(
     }
 }
 
-impl<'a, A: Allocator, C: Claims> Point<'a, A, C> {
+impl<'a, A: Allocator, C: Claims, const K: usize, const S: usize> Point<'a, A, C, K, S> {
     /// The fact at an address of a body.
     pub fn of(
         image: &'a Image,
@@ -90,14 +95,16 @@ impl<'a, A: Allocator, C: Claims> Point<'a, A, C> {
         claims: &'a C,
         body: &'a Body,
         at: Word,
-        fact: &'a NarrowedFact,
+        fact: &'a SumFact<K, S>,
         following: Option<&'a FactCache>,
         near: usize,
-    ) -> Point<'a, A, C>
+    ) -> Point<'a, A, C, K, S>
         requires stands { (judged image.now declaration.now (C.claims claims.now)).declaration.body
             body.now.routine at ≡ true }
         requires tells { Tells (C.claims claims.now) body.now }
         requires roomy { IsRoomy fact.now }
+        requires cells { K ≤ 132 }
+        requires relations { S ≤ 68 }
         requires ahead { IfSome following (λ f.
             StandsAhead (C.claims claims.now) (words body.now.claim.sites) f.now) }
         ensures point { IsPoint C.claims result }

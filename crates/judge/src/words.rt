@@ -1,10 +1,10 @@
 //! What the conditions at one address ask of the words that are possible by a fact.
 
-ghost use Rattle.std.specs.Prelude.{◌≡◌, ◌<◌, ◌≤◌, ◌↔◌, IsTrue, IfSome, true};
+ghost use Rattle.std.specs.Prelude.{ℕ, ◌≡◌, ◌<◌, ◌≤◌, ◌↔◌, IsTrue, IfSome, true};
 ghost use Rattle.peripherals.specs.Loading.{image_of};
 ghost use Rattle.wordset.specs.Words.{one};
 ghost use Rattle.wordset.specs.Lanes.{words};
-ghost use Rattle.facts.specs.declared.Condition.TheVariants.{V3, V5, V6, V13, V14, V15};
+ghost use Rattle.facts.specs.declared.Condition.TheVariants.{V3, V5, V6, V13, V14, V15, V16};
 ghost use Rattle.judge.specs.ConditionOrder.{place_among};
 ghost use Rattle.judge.specs.FewWords.{asks_few};
 ghost use Rattle.judge.specs.Asked.{IsLeastPlace};
@@ -24,7 +24,7 @@ pub(crate) const MOST_WORDS: usize = 64;
 /// The condition at a place among those that are asked of words at one address.
 pub(crate) fn nth(place: usize) -> Condition
     requires low { 2 ≤ place }
-    requires high { place < 15 }
+    requires high { place < 16 }
     ensures { place_among result ≡ place }
 {
     match place {
@@ -40,7 +40,8 @@ pub(crate) fn nth(place: usize) -> Condition
         11 => Condition::V12,
         12 => Condition::V11,
         13 => Condition::V4,
-        _ => Condition::V15,
+        14 => Condition::V15,
+        _ => Condition::V16,
     }
 }
 
@@ -58,13 +59,13 @@ pub(crate) fn word_of(image: &Image, at: Word) -> Option<Word>
     image.get(at)
 }
 
-impl<A: Allocator, C: Claims> Point<'_, A, C> {
+impl<A: Allocator, C: Claims, const K: usize, const S: usize> Point<'_, A, C, K, S> {
     /// The place of the first condition on words before a limit that fails of the fact, and the limit if
     /// none does.
     pub(crate) fn first_failing<M: Allocator>(&self, limit: usize, others: &mut Others<M>) -> usize
         requires point { IsPoint C.claims self.now }
         requires low { 2 ≤ limit }
-        requires high { limit ≤ 15 }
+        requires high { limit ≤ 16 }
         ensures { IsLeastPlace (HoldsOfPoint C.claims self.now) limit result }
     {
         match self.only_word() {
@@ -88,7 +89,7 @@ impl<A: Allocator, C: Claims> Point<'_, A, C> {
         requires point { IsPoint C.claims self.now }
         requires only { possible_at C.claims self.now ≡ one word }
         requires low { 2 ≤ limit }
-        requires high { limit ≤ 15 }
+        requires high { limit ≤ 16 }
         ensures { IsLeastPlace (HoldsOfPoint C.claims self.now) limit result }
     {
         for place in 2..limit {
@@ -119,7 +120,7 @@ impl<A: Allocator, C: Claims> Point<'_, A, C> {
     fn check_words<M: Allocator>(&self, limit: usize, others: &mut Others<M>) -> usize
         requires point { IsPoint C.claims self.now }
         requires low { 2 ≤ limit }
-        requires high { limit ≤ 15 }
+        requires high { limit ≤ 16 }
         ensures { IsLeastPlace (HoldsOfPoint C.claims self.now) limit result }
     {
         let possible = self.possible_words();
@@ -213,6 +214,7 @@ impl<A: Allocator, C: Claims> Point<'_, A, C> {
             Condition::V13 => self.halts_are_declared(word),
             Condition::V14 => self.entries_are_kept(word),
             Condition::V15 => self.reads_are_listed(word),
+            Condition::V16 => self.holds_as_declared(),
         }
     }
 
@@ -232,7 +234,7 @@ impl<A: Allocator, C: Claims> Point<'_, A, C> {
         self.place.writes_are_declared(self.fact, self.at, word)
     }
 
-    /// Whether a word writes no entry, save where ISZ counts the routine's own.
+    /// Whether a word writes no entry, save where ISZ counts the routine's own or DCA moves it.
     fn entries_are_kept(&self, word: Word) -> bool
         requires { IsPoint C.claims self.now }
         ensures { IsTrue result ↔ HoldsHere C.claims self.now V14 word }
@@ -255,6 +257,14 @@ impl<A: Allocator, C: Claims> Point<'_, A, C> {
         ensures { IsTrue result ↔ HoldsHere C.claims self.now V13 word }
     {
         self.place.halts_are_declared(self.at, word)
+    }
+
+    /// Whether what is declared to hold here holds, whatever the word.
+    fn holds_as_declared(&self) -> bool
+        requires { IsPoint C.claims self.now }
+        ensures { (word : ℕ) → IsTrue result ↔ HoldsHere C.claims self.now V16 word }
+    {
+        self.place.holds_as_declared(self.fact, self.at)
     }
 
     /// Whether each cell that a word may read is on the list of reads, if there is one.

@@ -9,7 +9,8 @@ ghost use Rattle.labels.specs.Programs.{IsSourceFault};
 use crate::address::{Cells, cells_of};
 use crate::fault::PlaceFault;
 use crate::placing::{
-    Cut, comment_of, cut_line, place, push_comment, return_of, said_of, without_return,
+    FirstLine, comment_of, place, push_comment, return_of, said_of, split_first_line,
+    without_return,
 };
 use crate::program::{NumberingFault, translation_of};
 use crate::within::{machine_of, reads_on, reads_on_after};
@@ -238,23 +239,63 @@ fn name_word<A: Allocator, S: Allocator + Copy>(
     }
 }
 
-/// Adds the words of a line behind its first one. Those behind `returns` are no addresses.
+/// Which of the words that follow in a line are addresses.
+#[derive(Clone, Copy, PartialEq, Eq, Debug)]
+enum Addresses {
+    /// All.
+    All,
+    /// The next one alone.
+    Next,
+    /// None.
+    None,
+}
+
+/// Which words are addresses behind the name of a line. Offsets follow the entry of `skips` and of `returns`.
+fn addresses_behind_name(name: &[u8]) -> Addresses {
+    if text::is(name, "skips") || text::is(name, "returns") {
+        Addresses::Next
+    } else {
+        Addresses::All
+    }
+}
+
+/// Whether words or offsets follow a word, and no addresses.
+fn ends_addresses(word: &[u8]) -> bool {
+    text::is(word, "returns")
+        || text::is(word, "ac")
+        || text::is(word, "mq")
+        || text::is(word, "link")
+}
+
+/// Which words are addresses behind a word of a line. The word behind `cell` is one, and what that cell holds is none.
+fn addresses_behind(word: &[u8], before: Addresses) -> Addresses {
+    if text::is(word, "cell") {
+        Addresses::Next
+    } else if ends_addresses(word) || before == Addresses::Next {
+        Addresses::None
+    } else {
+        before
+    }
+}
+
+/// Adds the words of a line behind its first one, of which these are addresses.
 fn name_words<A: Allocator, S: Allocator + Copy>(
     own: &SymbolTable<S>,
     tags: &[Tag],
     words: Words<'_>,
+    addresses: Addresses,
     text: &mut Vec<u8, A>,
 ) -> Result<(), AllocError> {
     let mut rest = words;
-    let mut are_offsets = false;
+    let mut addresses = addresses;
     while let Some(word) = rest.next() {
         text.push(b' ')?;
-        if are_offsets {
+        if addresses == Addresses::None {
             text.extend_from_slice(word)?;
         } else {
             name_word(own, tags, word, text)?;
         }
-        are_offsets = are_offsets || text::is(word, "returns");
+        addresses = addresses_behind(word, addresses);
     }
     Ok(())
 }
@@ -270,7 +311,7 @@ fn name_line<A: Allocator, S: Allocator + Copy>(
     let mut rest = Words::of(said_of(body));
     if let Some(name) = rest.next() {
         text.extend_from_slice(name)?;
-        name_words(own, tags, rest, text)?;
+        name_words(own, tags, rest, addresses_behind_name(name), text)?;
     }
     push_comment(comment_of(body), text)?;
     text.extend_from_slice(return_of(line))
@@ -323,10 +364,10 @@ fn push_line<A: Allocator + Copy, S: Allocator + Copy>(
 }
 
 /// The first line of what is left of a text, and what is left behind it; no line is an empty one.
-fn cut_if<'t>(left: Option<&'t [u8]>) -> Cut<'t> {
+fn split_if_any<'t>(left: Option<&'t [u8]>) -> FirstLine<'t> {
     match left {
-        Some(text) => cut_line(text),
-        None => Cut {
+        Some(text) => split_first_line(text),
+        None => FirstLine {
             line: &[],
             rest: None,
         },
@@ -345,8 +386,8 @@ fn push_lines<A: Allocator + Copy, S: Allocator + Copy>(
     let mut rest = behind;
     let mut written = written_behind;
     while let Some(left) = rest {
-        let cut = cut_line(left);
-        let kept = cut_if(written);
+        let cut = split_first_line(left);
+        let kept = split_if_any(written);
         text.push(b'\n')?;
         push_line(alloc, own, tags, cut.line, kept.line, text)?;
         rest = cut.rest;
@@ -365,8 +406,8 @@ fn name_lines<A: Allocator + Copy, S: Allocator + Copy>(
 ) -> Result<Vec<u8, A>, AllocError> {
     let tags = tags_of(alloc, own, parts)?;
     let mut text = Vec::new(alloc);
-    let cut = cut_line(numbers);
-    let kept = cut_line(written);
+    let cut = split_first_line(numbers);
+    let kept = split_first_line(written);
     push_line(alloc, own, &tags, cut.line, kept.line, &mut text)?;
     push_lines(alloc, own, &tags, cut.rest, kept.rest, &mut text)?;
     Ok(text)
@@ -402,7 +443,7 @@ fn named_by<A: Allocator + Copy, S: Allocator + Copy>(
 /// Writes a declaration in numbers with the symbols of a source: an address with a tag as that tag, the
 /// first of several; an address at most 77 cells behind a tag as the last tag before it, `+` and a number;
 /// another one that an assignment gives a symbol as that symbol. Ranges are written by their two addresses.
-/// Comments stay, and what isn't four digits or a range of them, and what follows `returns`. A line that
+/// Comments stay, and what isn't four digits or a range of them, offsets, and the words that a subject is to have. A line that
 /// wouldn't be read back byte by byte stays in numbers, and so does the whole where it wouldn't, as where
 /// it has more than 16,384 bytes with symbols. A line of `written`, the text that somebody wrote and of which
 /// each line has its line in the numbers, stays as it is where it means that line. Which names are taken, and

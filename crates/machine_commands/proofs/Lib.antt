@@ -13,3 +13,10 @@ pub mod StopLemmas
 pub mod StoppingLemmas
 pub mod StopLawLemmas
 pub mod LastLemmas
+pub mod StoppedLemmas
+pub mod StoppedSessionLemmas
+pub mod DeclaredLemmas
+pub mod InterruptedLemmas
+pub mod LongTraceLemmas
+pub mod LastSessionLemmas
+pub mod StoppedWatchLemmas

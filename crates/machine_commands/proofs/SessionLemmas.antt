@@ -34,7 +34,7 @@ use Rattle.command_parts.specs.declared.status.Status.{Status}
 use Rattle.command_parts.specs.Faults.{IsBytesFault, fails_to_write}
 use Rattle.command_parts.specs.Inputs.{AreFirst, HasCome, HasImage, Input}
 use Rattle.machine_commands.specs.Running.{fresh, status_of}
-use Rattle.machine_commands.specs.Schedule.{Comes, Cut, Final, Then, Extent, Whole, UpToOutput, UpToRead, UpToAny, operating}
+use Rattle.machine_commands.specs.Schedule.{Comes, Cut, Due, Final, Then, Extent, ToStep, Whole, UpToOutput, UpToRead, UpToAny, operating}
 use Rattle.machine_commands.specs.Session.{AppendsSome, extent_after, extent_unread, summary_where, Operated, BrokeOff, FrontsOf, IsHeld, IsPartOfSession, IsSession, SessionFronts, WritesAll, character, comes_by, plan_for, printed_in, taken, Taken, Failures, failures}
 use Rattle.machine_commands.specs.SessionParts.{IsNext, IsPartOf, Played, Unplayed, Faltered, PlayedFront, events_left, has_stepped, place_of, printed_from, rank, steps_in}
 use Rattle.machine_commands.specs.Trace.{line_of, trace_of, traced}
@@ -165,7 +165,7 @@ some_same : (old new : Option (List ℕ)) (piece other : List ℕ) → piece ≡
 some_same old new piece other same some = record { count = some.count; within = rw same some.within; out = rw same some.out }
 
 -- a whole piece is a front of itself
-pub whole_front : (old new : Option (List ℕ)) (piece : List ℕ) → Appends old new piece → AppendsSome old new piece
+unfoldable pub whole_front : (old new : Option (List ℕ)) (piece : List ℕ) → Appends old new piece → AppendsSome old new piece
 whole_front old new piece whole = record {
   count = length piece;
   within = le_refl (length piece);
@@ -195,7 +195,7 @@ pub record Sat {S : Type 0} (brings : S → Profile → WorldState → Extent �
   pub come : (extent : Extent) (rest : List Event) → brings now p x extent rest → brings first p w extent (events ++ rest)
   pub printed : Appends told tells (printed_in x)
 
-pub sat_none : {S : Type 0} (brings : S → Profile → WorldState → Extent → List Event → Type 0) (p : Profile) (trace : Bool) (s : S) (w : WorldState) (old told : Option (List ℕ)) → w.devices.printer.output ≡ [] →
+unfoldable pub sat_none : {S : Type 0} (brings : S → Profile → WorldState → Extent → List Event → Type 0) (p : Profile) (trace : Bool) (s : S) (w : WorldState) (old told : Option (List ℕ)) → w.devices.printer.output ≡ [] →
     Sat brings p trace s s w w 0 old old told told
 sat_none brings p trace s w old told empty = record {
   events = [];
@@ -204,7 +204,7 @@ sat_none brings p trace s w old told empty = record {
   printed = rw empty (Appends-nil told);
 }
 
-came_next : (p : Profile) (trace : Bool) (es : List Event) (e : Event) (w x y : WorldState) (n : ℕ) (what : Seen) (old mid new : Option (List ℕ)) →
+pub came_next : (p : Profile) (trace : Bool) (es : List Event) (e : Event) (w x y : WorldState) (n : ℕ) (what : Seen) (old mid new : Option (List ℕ)) →
     Came p true trace es w n x old mid → seen_of p x e ≡ what → goes_on true what ≡ true → Happens p x e y → Appends mid new (traced trace (trace_of p x e y)) →
     Came p true trace (es ++ e ∷ []) w (n + counted what) y old new
 came_next p trace es e w x y n what old mid new came sees goes happens wrote = record {
@@ -213,15 +213,15 @@ came_next p trace es e w x y n what old mid new came sees goes happens wrote = r
   wrote = joined trace old mid new came.lines (trace_of p x e y) came.wrote wrote;
 }
 
-printed_next : (p : Profile) (x y : WorldState) (e : Event) (told mid tells : Option (List ℕ)) → Happens p x e y → Appends told mid (printed_in x) → Appends mid tells (printed_from x y) → Appends told tells (printed_in y)
+pub printed_next : (p : Profile) (x y : WorldState) (e : Event) (told mid tells : Option (List ℕ)) → Happens p x e y → Appends told mid (printed_in x) → Appends mid tells (printed_from x y) → Appends told tells (printed_in y)
 printed_next p x y e told mid tells happens before after =
     rw (printed_more p x y e happens) (Appends-trans told mid tells (printed_in x) (printed_from x y) before after)
 
 -- the event that is due comes after those before
-one_more : (es : List Event) (e : Event) (rest : List Event) → (es ++ e ∷ []) ++ rest ≡ es ++ (e ∷ rest)
+pub one_more : (es : List Event) (e : Event) (rest : List Event) → (es ++ e ∷ []) ++ rest ≡ es ++ (e ∷ rest)
 one_more es e rest = append_assoc es (e ∷ []) rest
 
-pub sat_more : {S : Type 0} (brings : S → Profile → WorldState → Extent → List Event → Type 0) (p : Profile) (trace : Bool) (first now after : S) (e : Event) (w x y : WorldState) (n : ℕ) (what : Seen) (old mid new told tmid tells : Option (List ℕ)) →
+unfoldable pub sat_more : {S : Type 0} (brings : S → Profile → WorldState → Extent → List Event → Type 0) (p : Profile) (trace : Bool) (first now after : S) (e : Event) (w x y : WorldState) (n : ℕ) (what : Seen) (old mid new told tmid tells : Option (List ℕ)) →
     Sat brings p trace first now w x n old mid told tmid → IsNext brings now after x e → Played p trace x e what y mid new tmid tells → goes_on true what ≡ true →
     Sat brings p trace first after w y (n + counted what) old new told tells
 sat_more brings p trace first now after e w x y n what old mid new told tmid tells sat next played goes = record {
@@ -234,7 +234,7 @@ sat_more brings p trace first now after e w x y n what old mid new told tmid tel
 }
 
 -- nothing is due any more
-pub sat_all : {S : Type 0} (brings : S → Profile → WorldState → Extent → List Event → Type 0) (p : Profile) (trace : Bool) (first now : S) (w x : WorldState) (outcome : RunOutcome) (old new told tells : Option (List ℕ)) →
+unfoldable pub sat_all : {S : Type 0} (brings : S → Profile → WorldState → Extent → List Event → Type 0) (p : Profile) (trace : Bool) (first now : S) (w x : WorldState) (outcome : RunOutcome) (old new told tells : Option (List ℕ)) →
     Sat brings p trace first now w x outcome.steps old new told tells → ((extent : Extent) → brings now p x extent []) → outcome.end ≡ end_of x → Operated (brings first p w) p trace w outcome x old new told tells
 sat_all brings p trace first now w x outcome old new told tells sat over ends = record {
   events = sat.events;
@@ -244,10 +244,10 @@ sat_all brings p trace first now w x outcome old new told tells sat over ends = 
 }
 
 -- the run ends with the event that is due
-last_comes : {S : Type 0} (brings : S → Profile → WorldState → Extent → List Event → Type 0) (p : Profile) (s t : S) (x : WorldState) (e : Event) (what : Seen) (extent : Extent) → IsNext brings s t x e → what ≡ seen_of p x e → goes_on true what ≡ false → brings s p x extent (e ∷ [])
+pub last_comes : {S : Type 0} (brings : S → Profile → WorldState → Extent → List Event → Type 0) (p : Profile) (s t : S) (x : WorldState) (e : Event) (what : Seen) (extent : Extent) → IsNext brings s t x e → what ≡ seen_of p x e → goes_on true what ≡ false → brings s p x extent (e ∷ [])
 last_comes brings p s t x e what extent next sees ends = next.last p extent (rw (← sees) ends)
 
-pub sat_to_halt : {S : Type 0} (brings : S → Profile → WorldState → Extent → List Event → Type 0) (p : Profile) (trace : Bool) (first now after : S) (e : Event) (w x y : WorldState) (n : ℕ) (outcome : RunOutcome) (old mid new told tmid tells : Option (List ℕ)) →
+unfoldable pub sat_to_halt : {S : Type 0} (brings : S → Profile → WorldState → Extent → List Event → Type 0) (p : Profile) (trace : Bool) (first now after : S) (e : Event) (w x y : WorldState) (n : ℕ) (outcome : RunOutcome) (old mid new told tmid tells : Option (List ℕ)) →
     Sat brings p trace first now w x n old mid told tmid → IsNext brings now after x e → Played p trace x e seen.Halted y mid new tmid tells → outcome.steps ≡ n + 1 → outcome.end ≡ end_of y →
     Operated (brings first p w) p trace w outcome y old new told tells
 sat_to_halt brings p trace first now after e w x y n outcome old mid new told tmid tells sat next played steps ends = record {
@@ -261,7 +261,7 @@ sat_to_halt brings p trace first now after e w x y n outcome old mid new told tm
   printed = printed_next p x y e told tmid tells played.happens sat.printed played.printed;
 }
 
-pub sat_to_stuck : {S : Type 0} (brings : S → Profile → WorldState → Extent → List Event → Type 0) (p : Profile) (trace : Bool) (first now after : S) (e : Event) (w x y : WorldState) (n word : ℕ) (outcome : RunOutcome) (old mid new told tmid tells : Option (List ℕ)) →
+unfoldable pub sat_to_stuck : {S : Type 0} (brings : S → Profile → WorldState → Extent → List Event → Type 0) (p : Profile) (trace : Bool) (first now after : S) (e : Event) (w x y : WorldState) (n word : ℕ) (outcome : RunOutcome) (old mid new told tmid tells : Option (List ℕ)) →
     Sat brings p trace first now w x n old mid told tmid → IsNext brings now after x e → Played p trace x e (seen.Unsupported word) y mid new tmid tells → outcome.steps ≡ n → outcome.end ≡ Unsupported y.state.pc →
     Operated (brings first p w) p trace w outcome y old new told tells
 sat_to_stuck brings p trace first now after e w x y n word outcome old mid new told tmid tells sat next played steps ends =
@@ -390,7 +390,7 @@ device_line p true false at word s = refl
 device_line p false true at word s = refl
 device_line p false false at word s = refl
 
-output_stays : (busy : Bool) (d : Writer) → (if busy then record d { busy = false; flag = true } else d).output ≡ d.output
+pub output_stays : (busy : Bool) (d : Writer) → (if busy then record d { busy = false; flag = true } else d).output ≡ d.output
 output_stays true d = refl
 output_stays false d = refl
 
@@ -398,7 +398,7 @@ abbrev pub printer_done : WorldState → WorldState
 printer_done w = with_devices w (record w.devices { printer = done w.devices.printer })
 
 -- such an event writes nothing, and prints nothing where the output stays
-device_came : (p : Profile) (trace : Bool) (es : List Event) (w x y : WorldState) (n : ℕ) (e : Event) (enabled : Bool) (old new : Option (List ℕ)) →
+pub device_came : (p : Profile) (trace : Bool) (es : List Event) (w x y : WorldState) (n : ℕ) (e : Event) (enabled : Bool) (old new : Option (List ℕ)) →
     Came p true trace es w n x old new → Happens p x e y → seen_of p x e ≡ device_seen enabled → Came p true trace (es ++ e ∷ []) w n y old new
 device_came p trace es w x y n e enabled old new came happens is =
     let none : Appends new new (traced trace (trace_of p x e y)) = rw (is, device_line p enabled trace x.state.pc (word_at_pc x) y.state) (Appends-nil new) in
@@ -406,7 +406,7 @@ device_came p trace es w x y n e enabled old new came happens is =
     rw (device_counts enabled, add-zero n) at next
 
 -- after an instruction the printer gets done, and the punch
-pub sat_completed : {S : Type 0} (brings : S → Profile → WorldState → Extent → List Event → Type 0) (p : Profile) (trace : Bool) (first now after : S) (w x : WorldState) (n : ℕ) (old new told tells : Option (List ℕ)) →
+unfoldable pub sat_completed : {S : Type 0} (brings : S → Profile → WorldState → Extent → List Event → Type 0) (p : Profile) (trace : Bool) (first now after : S) (w x : WorldState) (n : ℕ) (old new told tells : Option (List ℕ)) →
     Sat brings p trace first now w x n old new told tells →
     ((q : Profile) (extent : Extent) (es : List Event) → brings after q (completed x) extent es → brings now q x extent (PrinterDone ∷ PunchDone ∷ es)) →
     Sat brings p trace first after w (completed x) n old new told tells
@@ -585,6 +585,12 @@ pub some_counts : (o : Option Event) (old new : Operator) (w : WorldState) → o
     IfSome o (λ e. steps_in e + new.rounds ≤ old.rounds)
 some_counts None old new w is left = tt
 some_counts (Some e) old new w is left = due_counts (plan_of old) (plan_of new) w old.last e (sym is) left
+
+-- a step that is due may be told as the last event
+pub some_to_step : (o : Option Event) (old : Operator) (w : WorldState) → o ≡ due (plan_of old) w old.last →
+    IfSome o (λ e. e ≡ Step → (p : Profile) → Comes operating p ToStep (place_of old) w (Step ∷ []))
+some_to_step None old w is = tt
+some_to_step (Some e) old w is = λ steps p. Due (place_of old) w (rw steps at (sym is)) tt
 
 pub some_stepped : (o : Option Event) (last : Option Event) → IfSome o (λ e. last ≡ Some e) → IfSome o (λ e. e ≡ Step → has_stepped last ≡ true)
 some_stepped None last is = tt
@@ -823,7 +829,7 @@ held_by comes brings options form extent image text printed punched status by he
 }
 
 -- an operator's place that is its first
-operator_comes : (plan : Plan) (o : Operator) (extent : Extent) (p : Profile) (w : WorldState) (es : List Event) → plan_of o ≡ plan → o.last ≡ None → Comes operating p extent (place_of o) w es → comes_by plan p w extent es
+pub operator_comes : (plan : Plan) (o : Operator) (extent : Extent) (p : Profile) (w : WorldState) (es : List Event) → plan_of o ≡ plan → o.last ≡ None → Comes operating p extent (place_of o) w es → comes_by plan p w extent es
 operator_comes plan o extent p w es is first comes = rw (is, first) at comes
 
 -- the inputs are good

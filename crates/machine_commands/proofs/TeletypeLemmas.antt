@@ -26,7 +26,7 @@ abbrev pub begun : TeletypeOptions → Source → Source → Profile → WorldSt
 begun options reader keys profile w extent events = Types options false 18446744073709551615 None reader keys profile w extent events
 
 -- it is what comes of all the bytes that the sources tell
-begun_comes : (options : TeletypeOptions) (reader keys : Source) (profile : Profile) (w : WorldState) (extent : Extent) (events : List Event) → (types : begun options reader keys profile w extent events) → types_by options types.frames types.bytes profile w extent events
+pub begun_comes : (options : TeletypeOptions) (reader keys : Source) (profile : Profile) (w : WorldState) (extent : Extent) (events : List Event) → (types : begun options reader keys profile w extent events) → types_by options types.frames types.bytes profile w extent events
 unfolding all_rounds
 begun_comes options reader keys profile w extent events types = types.come
 

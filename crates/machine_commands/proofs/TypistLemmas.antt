@@ -14,7 +14,7 @@ use Rattle.peripherals.specs.Seen.{puts_out, seen_of}
 use Rattle.command_parts.specs.declared.options.TeletypeOptions.{TeletypeOptions}
 use Rattle.machine_commands.specs.Follows.{goes_on}
 use Rattle.machine_commands.specs.Cuts.{some_left}
-use Rattle.machine_commands.specs.Schedule.{Comes, Over, Cut, Final, Then, Extent, UpToOutput, UpToRead}
+use Rattle.machine_commands.specs.Schedule.{Comes, Over, Cut, Final, Then, Extent, UpToOutput, UpToRead, ToStep, Due}
 use Rattle.machine_commands.specs.SessionParts.{rank, steps_in}
 use Rattle.machine_commands.specs.Teletype.{AreAll}
 use Rattle.machine_commands.specs.Typing.{answer_due, asked_after, asks, is_read, read_due, typed_as, typed_due, typing}
@@ -304,6 +304,21 @@ types_output options w asked rounds last reader keys reader_after keys_after e p
       frames_are = b.frames_are;
       bytes_are = b.bytes_are;
       come = Cut (record { plan = typed_plan options rounds b.frames b.bytes; last = last; asked = asked }) w (record { event = e; is_due = b.is_due; puts = puts });
+    }
+
+-- the event that is due is a step
+pub types_step : (options : TeletypeOptions) (w : WorldState) (asked : Bool) (rounds : ℕ) (last : Option Event) (reader keys reader_after keys_after : Source) (e : Event) (p : Profile) →
+    IsBrought options w asked rounds last reader keys (Some e) reader_after keys_after → e ≡ Step → Types options asked rounds last reader keys p w ToStep (Step ∷ [])
+types_step options w asked rounds last reader keys reader_after keys_after e p brought steps =
+    let frames = some_left reader_after.told reader_after.ended in
+    let bytes = some_left keys_after.told keys_after.ended in
+    let b = brought frames.0 bytes.0 frames.1 bytes.1 in
+    record {
+      frames = b.frames;
+      bytes = b.bytes;
+      frames_are = b.frames_are;
+      bytes_are = b.bytes_are;
+      come = Due (record { plan = typed_plan options rounds b.frames b.bytes; last = last; asked = asked }) w (rw steps at b.is_due) tt;
     }
 
 -- nothing is due

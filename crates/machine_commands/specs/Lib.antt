@@ -19,3 +19,10 @@ pub mod Typing
 pub mod TypingParts
 pub mod Teletype
 pub mod Cuts
+pub mod Interrupted
+pub mod StoppedSession
+pub mod StoppedParts
+pub mod DeclaredRun
+pub mod StoppedWatch
+pub mod LongTrace
+pub mod LastSession

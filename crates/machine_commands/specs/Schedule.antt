@@ -2,6 +2,7 @@
 use Rattle.std.specs.Prelude.{◌≡◌, Bool, true, false, Option, Some, None, List, [], ◌∷◌}
 use Rattle.instruct.specs.declared.Profile.{Profile}
 use Rattle.peripherals.specs.declared.Event.{Event}
+use Rattle.peripherals.specs.declared.Event.TheVariants.{Step}
 use Rattle.peripherals.specs.Devices.{WorldState}
 use Rattle.peripherals.specs.Events.{Happens}
 use Rattle.peripherals.specs.Operator.{Plan, due, left_after}
@@ -16,11 +17,12 @@ pub record Schedule (S : Type 0) : Type 0 where
   pub reads : S → WorldState → Bool
 
 -- How much of a run is told: all that comes; what comes up to an event that prints or punches; what comes up to where a frame or
--- a key is read; or what comes up to any event.
+-- a key is read; what comes up to a step, and that step, which need not happen; or what comes up to any event.
 pub data Extent : Type 0 where
   Whole : Extent
   UpToOutput : Extent
   UpToRead : Extent
+  ToStep : Extent
   UpToAny : Extent
 
 -- The event that is due in a world prints or punches.
@@ -34,7 +36,16 @@ abbrev pub MayEnd : {S : Type 0} → Extent → Schedule S → S → WorldState 
 MayEnd Whole schedule s w = ⊥
 MayEnd UpToOutput schedule s w = OutputIsDue schedule s w
 MayEnd UpToRead schedule s w = schedule.reads s w ≡ true
+MayEnd ToStep schedule s w = ⊥
 MayEnd UpToAny schedule s w = Unit {0}
+
+-- The last event that is told may be a step that need not happen.
+abbrev pub EndsWithStep : Extent → Type 0
+EndsWithStep Whole = ⊥
+EndsWithStep UpToOutput = ⊥
+EndsWithStep UpToRead = ⊥
+EndsWithStep ToStep = Unit {0}
+EndsWithStep UpToAny = ⊥
 
 -- From a state of a schedule and a world these events come: each is due where it comes. They are all that come in the run, or,
 -- where the run isn't told whole, the first of them.
@@ -43,6 +54,8 @@ pub data Comes {S : Type 0} (schedule : Schedule S) (profile : Profile) (extent 
   Over : (s : S) (w : WorldState) → schedule.due s w ≡ None → Comes schedule profile extent s w []
   -- what comes further isn't told
   Cut : (s : S) (w : WorldState) → MayEnd extent schedule s w → Comes schedule profile extent s w []
+  -- a step is due, and it is the last event that is told
+  Due : (s : S) (w : WorldState) → schedule.due s w ≡ Some Step → EndsWithStep extent → Comes schedule profile extent s w (Step ∷ [])
   -- the run ends with the event that is due: it is stuck, or the machine halts
   Final : (s : S) (w : WorldState) (e : Event) →
       schedule.due s w ≡ Some e → goes_on true (seen_of profile w e) ≡ false → Comes schedule profile extent s w (e ∷ [])

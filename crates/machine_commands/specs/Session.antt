@@ -21,7 +21,7 @@ use Rattle.machine_commands.specs.Course.{Ran}
 use Rattle.machine_commands.specs.Follows.{Follows}
 use Rattle.command_parts.specs.Inputs.{AreFirst, HasImage}
 use Rattle.machine_commands.specs.Running.{fresh, status_of}
-use Rattle.machine_commands.specs.Schedule.{Comes, Extent, Whole, UpToOutput, UpToRead, UpToAny, first_place, operating}
+use Rattle.machine_commands.specs.Schedule.{Comes, Extent, Whole, UpToOutput, UpToRead, ToStep, UpToAny, first_place, operating}
 use Rattle.machine_commands.specs.Summary.{closing_as}
 use Rattle.machine_commands.specs.Trace.{traced}
 
@@ -94,6 +94,7 @@ abbrev pub summary_where : (ℕ → Bool) → SummaryForm → Extent → End →
 summary_where named form Whole end w steps = parting form.apart (printed_in w) ++ closing_as form named end w steps
 summary_where named form UpToOutput end w steps = []
 summary_where named form UpToRead end w steps = []
+summary_where named form ToStep end w steps = []
 summary_where named form UpToAny end w steps = []
 
 -- From an image the events that come lead to an end. The text is the trace, if one is asked for, the summary, and the cells to be

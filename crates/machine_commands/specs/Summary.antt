@@ -9,14 +9,16 @@ use Rattle.processor.specs.Cells.{Cells}
 use Rattle.processor.specs.Machine.{State}
 use Rattle.peripherals.specs.Devices.{WorldState}
 use Rattle.machine_commands.specs.declared.follow.End.{End}
-use Rattle.machine_commands.specs.declared.follow.End.TheVariants.{Halted, Unsupported, Bound, Stopped}
+use Rattle.machine_commands.specs.declared.follow.End.TheVariants.{Halted, Unsupported, Bound, Stopped, Interrupted}
 
--- How a run ended and where: stuck at an unsupported word, halted by the HLT at this address, at its bound, or stopped as asked.
+-- How a run ended and where: stuck at an unsupported word, halted by the HLT at this address, at its bound, stopped as asked, or interrupted by
+-- a key.
 abbrev pub end_text : End → List ℕ
 end_text (Unsupported at) = codes "UNSUPPORTED " ++ octal_text at
 end_text (Halted at) = codes "HALT " ++ octal_text at
 end_text (Bound at) = codes "BOUND " ++ octal_text at
 end_text (Stopped at) = codes "STOPPED " ++ octal_text at
+end_text (Interrupted at) = codes "INTERRUPTED " ++ octal_text at
 
 -- The accumulator, the link and the program counter, as the first line of a summary shows them; MQ isn't shown.
 abbrev pub registers_text : State → List ℕ

@@ -30,6 +30,8 @@ pub enum End {
     Bound(Word),
     /// The run was stopped as it was asked to be, before the instruction at this address.
     Stopped(Word),
+    /// The key that interrupts a session was struck, and the program counter has this address.
+    Interrupted(Word),
 }
 
 /// How far a run came.

@@ -1,6 +1,6 @@
 //! The command that runs a tape and shows its last instructions.
 
-ghost use Rattle.std.specs.Prelude.{◌≡◌, ◌≤◌, ◌++◌, ◌||◌, true, false, length, IfOk, IfErr, OnErr};
+ghost use Rattle.std.specs.Prelude.{◌≡◌, ◌≤◌, ◌++◌, ◌||◌, [], true, false, length, IfOk, IfErr, OnErr};
 ghost use Rattle.wordset.specs.Lanes.{words};
 ghost use Rattle.peripherals.specs.World.{view, profile_of};
 ghost use Rattle.command_parts.specs.Faults.{fails_to_read, fails_to_write, is_fault_of_tape, IsEventRunFault, IsRunFault, IsTapeFault};
@@ -27,9 +27,22 @@ use wordset::WordSet;
 
 /// A trace that is kept in memory.
 #[derive(Drop)]
-struct KeptTrace<A: Allocator> {
-    text: Vec<u8, A>,
-    refused: bool,
+pub(crate) struct KeptTrace<A: Allocator> {
+    pub(crate) text: Vec<u8, A>,
+    pub(crate) refused: bool,
+}
+
+impl<A: Allocator> KeptTrace<A> {
+    /// A trace without a line.
+    pub(crate) fn new(alloc: A) -> KeptTrace<A>
+        ensures text { result.text.items ≡ [] }
+        ensures room { result.refused ≡ false }
+    {
+        KeptTrace {
+            text: Vec::new(alloc),
+            refused: false,
+        }
+    }
 }
 
 impl<A: Allocator> ByteSink for KeptTrace<A> {
@@ -56,7 +69,7 @@ impl<A: Allocator> ByteSink for KeptTrace<A> {
 
 /// How many lines a text has.
 #[tactic(auto, using(crate::proofs::LastLemmas::line_more, crate::proofs::LastLemmas::line_same, crate::proofs::LastLemmas::lines_all))]
-fn lines_in(text: &[u8]) -> usize
+pub(crate) fn lines_in(text: &[u8]) -> usize
     ensures { result ≡ lines_in text.now }
 {
     let mut found = 0;
@@ -86,7 +99,7 @@ fn without_lines(text: &[u8], skipped: usize) -> &[u8]
 }
 
 /// The last lines of a text, so many or all that there are.
-fn last_lines(text: &[u8], most: u32) -> &[u8]
+pub(crate) fn last_lines(text: &[u8], most: u32) -> &[u8]
     ensures { result.now ≡ last_lines most text.now }
 {
     without_lines(text, lines_in(text).saturating_sub(most as usize))
@@ -94,29 +107,29 @@ fn last_lines(text: &[u8], most: u32) -> &[u8]
 
 /// What comes of a course before its run is stopped, or all of it.
 #[derive(Clone, Copy)]
-struct Cut<'e> {
-    course: Course<'e>,
-    stopped: bool,
+pub(crate) struct CoursePrefix<'e> {
+    pub(crate) course: Course<'e>,
+    pub(crate) stopped: bool,
 }
 
 /// The part of a course up to where the run of an image is stopped.
-fn cut_of<'e, A: Allocator + Copy>(
+pub(crate) fn cut_of<'e, A: Allocator + Copy>(
     alloc: A,
     image: &Image,
     options: &RunOptions,
     stops: &Stops,
     course: &Course<'e>,
-) -> Result<Cut<'e>, NoMemory>
+) -> Result<CoursePrefix<'e>, NoMemory>
     ensures cut { IfOk result (λ cut. IsCut stops.now options.now (ends_at_halt course.now)
         (events_in course.now) (events_in cut.course) (fresh image.now options.now.start) cut.stopped) }
     ensures ends { IfOk result (λ cut. ends_at_halt cut.course ≡ ends_at_halt course.now) }
 {
     match stop_of(alloc, image, options, stops, course) {
-        Ok(Some(count)) => Ok(Cut {
+        Ok(Some(count)) => Ok(CoursePrefix {
             course: first(course, count),
             stopped: true,
         }),
-        Ok(None) => Ok(Cut {
+        Ok(None) => Ok(CoursePrefix {
             course: *course,
             stopped: false,
         }),
@@ -174,10 +187,7 @@ fn traced_run<A: Allocator, B: Allocator>(
         (events_in course.now) (view world.old) run.lines.items run.outcome.steps run.outcome.end
         (view world.new)) }
 {
-    let mut trace = KeptTrace {
-        text: Vec::new(alloc),
-        refused: false,
-    };
+    let mut trace = KeptTrace::new(alloc);
     let Ok(outcome) = follow(world, &mut trace, true, course) else {
         return Err(NoMemory);
     };
@@ -197,7 +207,7 @@ fn show_last<A: Allocator + Copy, W: ByteSink>(
     stops: &Stops,
     most: u32,
     course: &Course<'_>,
-    cut: &Cut<'_>,
+    cut: &CoursePrefix<'_>,
     out: &mut W,
 ) -> Result<Status, Fault>
     requires writable { W.mark out.old ≡ false }

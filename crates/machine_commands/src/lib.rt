@@ -3,16 +3,22 @@
 #![tactic(auto)]
 
 mod continuing;
+mod declared_run;
 pub mod follow;
+pub mod interrupted;
 pub mod last;
+pub mod last_session;
 pub mod laws;
+pub mod long_trace;
 pub mod messages;
 mod progress;
 pub mod refuting;
 pub mod running;
 mod schedule;
 pub mod session;
-mod shown;
+mod shown_cells;
+pub mod stopped_session;
+pub mod stopped_watch;
 pub mod stopping;
 mod stops;
 pub mod summary;

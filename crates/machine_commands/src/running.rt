@@ -28,7 +28,7 @@ pub(crate) fn status_of(end: End) -> Status
 {
     match end {
         End::Unsupported(_) => Status::Refused,
-        End::Halted(_) | End::Bound(_) | End::Stopped(_) => Status::Done,
+        End::Halted(_) | End::Bound(_) | End::Stopped(_) | End::Interrupted(_) => Status::Done,
     }
 }
 

@@ -11,7 +11,7 @@ ghost use Rattle.peripherals.specs.World.{view, profile_of};
 ghost use Rattle.command_parts.specs.declared.status.Fault.TheVariants.{Device};
 ghost use Rattle.command_parts.specs.declared.status.DeviceFault.TheVariants.{Read};
 ghost use Rattle.machine_commands.specs.Follows.{goes_on};
-ghost use Rattle.machine_commands.specs.Schedule.{Extent, UpToAny, UpToRead, Whole};
+ghost use Rattle.machine_commands.specs.Schedule.{Extent, ToStep, UpToAny, UpToRead, Whole};
 ghost use Rattle.machine_commands.specs.Session.{comes_by};
 ghost use Rattle.machine_commands.specs.SessionParts.{IsNext, steps_in};
 
@@ -47,6 +47,8 @@ pub(crate) trait Scheduler {
             (p : Profile) (extent : Extent) → brings self.old p (view world.now) extent [] }
         ensures due { IfOk result (λ due.
             IfSome due (IsNext brings self.old self.new (view world.now))) }
+        ensures to_step { IfOk result (λ due. IfSome due (λ e. e ≡ Step →
+            (p : Profile) → brings self.old p (view world.now) ToStep (Step ∷ []))) }
         ensures fewer { IfOk result (λ due. IfSome due (λ e. events_to_come self.new < events_to_come self.old)) }
         ensures steps { IfOk result (λ due.
             IfSome due (λ e. steps_in e + steps_to_come self.new ≤ steps_to_come self.old)) }

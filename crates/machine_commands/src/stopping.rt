@@ -111,7 +111,7 @@ fn run_to_stop<A: Allocator + Copy, W: ByteSink>(
 
 /// Lets an image's machine go through a course up to where it is stopped, and writes as `run_course`
 /// does.
-fn run_stoppable<A: Allocator + Copy, W: ByteSink>(
+pub(crate) fn run_stoppable<A: Allocator + Copy, W: ByteSink>(
     alloc: A,
     image: &Image,
     options: &RunOptions,

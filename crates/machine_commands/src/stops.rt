@@ -80,7 +80,12 @@ fn is_asked_for(stops: &Stops, visits: usize, cpu: &Cpu) -> bool
 }
 
 /// Whether an event stops the run, where so many steps before it came to the address.
-fn stops_before<A: Allocator>(stops: &Stops, visits: usize, world: &World<A>, event: &Event) -> bool
+pub(crate) fn stops_before<A: Allocator>(
+    stops: &Stops,
+    visits: usize,
+    world: &World<A>,
+    event: &Event,
+) -> bool
     requires { visits < 18446744073709551615 }
     ensures { result
         ≡ stops_before stops.now (profile_of world.now) visits (view world.now) event.now }
@@ -92,7 +97,12 @@ fn stops_before<A: Allocator>(stops: &Stops, visits: usize, world: &World<A>, ev
 }
 
 /// How many steps came to the address, with an event.
-fn visits_with<A: Allocator>(stops: &Stops, visits: usize, world: &World<A>, event: &Event) -> usize
+pub(crate) fn visits_with<A: Allocator>(
+    stops: &Stops,
+    visits: usize,
+    world: &World<A>,
+    event: &Event,
+) -> usize
     requires { visits < 18446744073709551615 }
     ensures visits { result ≡ visits_with stops.now visits (view world.now) event.now }
     ensures few { result ≤ visits + 1 }
@@ -106,7 +116,7 @@ fn visits_with<A: Allocator>(stops: &Stops, visits: usize, world: &World<A>, eve
 }
 
 /// Whether a run goes on after what was seen, where it ends at a halt or does not.
-fn goes_on(ends_at_halt: bool, seen: &Seen) -> bool
+pub(crate) fn goes_on(ends_at_halt: bool, seen: &Seen) -> bool
     ensures { result ≡ goes_on ends_at_halt seen.now }
 {
     match seen {

@@ -29,6 +29,7 @@ fn push_end<A: Allocator>(text: &mut Vec<u8, A>, end: End) -> Result<(), AllocEr
         End::Halted(at) => push_place(text, b"HALT ", at),
         End::Bound(at) => push_place(text, b"BOUND ", at),
         End::Stopped(at) => push_place(text, b"STOPPED ", at),
+        End::Interrupted(at) => push_place(text, b"INTERRUPTED ", at),
     }
 }
 
@@ -62,7 +63,7 @@ fn push_steps<A: Allocator>(text: &mut Vec<u8, A>, steps: u64) -> Result<(), All
 }
 
 /// Adds the first line of a summary.
-fn push_state<A: Allocator, B: Allocator>(
+pub(crate) fn push_state<A: Allocator, B: Allocator>(
     text: &mut Vec<u8, A>,
     outcome: &RunOutcome,
     world: &World<B>,
@@ -224,7 +225,7 @@ fn leaves_open(printed: &[u8]) -> bool
 }
 
 /// What stands before a summary that is to stand apart: the end of an open line.
-fn parting(apart: bool, printed: &[u8]) -> &'static [u8]
+pub(crate) fn parting(apart: bool, printed: &[u8]) -> &'static [u8]
     ensures { result.now ≡ parting apart (map character printed.now) }
 {
     if !apart {

@@ -5,7 +5,8 @@ use Rattle.std.specs.Option.{option_to_list}
 use Rattle.std.proofs.lemmas.Grind.{common_steps}
 use Rattle.wordset.specs.Words.{minus}
 use Rattle.declaration.specs.Declaration.{Declaration}
-use Rattle.policy.specs.Decided.{finds_call}
+use Rattle.processor.specs.Machine.{State}
+use Rattle.policy.specs.Decided.{implies, each_holds_by, finds_call, holds_at_return}
 use Rattle.policy.specs.Calls.{Calls, returned}
 use Rattle.policy.specs.OpenCalls.{call_of, put_on, open_calls}
 use Rattle.policy.specs.declared.legality.Call.{Call as KeptCall}
@@ -48,8 +49,13 @@ no_last_call (d ∷ cs) is = absurd (past d cs (length (d ∷ cs) - 1) (grind (a
 
 -- whether the last call is found
 pub last_found : (d : Declaration) (e word : ℕ) (cs : List KeptCall) (c : KeptCall) → slice_get cs (length cs - 1) ≡ Some c →
-    finds_call d e word (open_calls cs) ≡ ((c.entry == e) && (nat_lt (minus word c.after) 8 && d.offset e (minus word c.after)))
+    finds_call d e word (open_calls cs) ≡ ((c.entry == e) && (nat_lt (minus word c.after) 64 && d.offset e (minus word c.after)))
 last_found d e word cs c is = rw (last_call cs c is).1 refl
+
+-- what is to hold at a return by the last call
+pub last_holds : (d : Declaration) (e : ℕ) (s : State) (cs : List KeptCall) (c : KeptCall) → slice_get cs (length cs - 1) ≡ Some c →
+    holds_at_return d e s (open_calls cs) ≡ implies (c.entry == e) (each_holds_by d.returns e (minus (s.memory e) c.after) s)
+last_holds d e s cs c is = rw (last_call cs c is).1 refl
 
 -- a call less
 pub popped_calls : (cs ds : List KeptCall) (last : Option KeptCall) → cs ≡ ds ++ option_to_list last → (last ≡ None → ds ≡ []) → open_calls ds ≡ returned (open_calls cs)

@@ -55,6 +55,10 @@ module _ (image : Image) (d : Declaration) (dd : IsDeclared d) where
   own_free pc r a body (inl variable) = inl variable
   own_free pc r a body (inr own) = inr (dd.body_of_routine pc a (subst (λ (x : Routine). d.body x pc ≡ true) own body))
 
+  moved_free : (pc : ℕ) (r : Routine) (i : Bool) (a : ℕ) → d.body r pc ≡ true → (d.variable a ≡ true) ⊎ ((i ≡ false) × (d.moves a ≡ true) × (r ≡ Some a)) → Free a
+  moved_free pc r i a body (inl variable) = inl variable
+  moved_free pc r i a body (inr own) = own_free pc r a body (inr own.2)
+
   -- a legal step leaves fixed code
   does_keeps : (m : Meaning) (s t : State) (q : Answer) (ks : Calls) → d.body (current ks) s.pc ≡ true → WritesDeclared d m s ks → CallsEntries d m s → Does m s q t →
       KeepsCode image d s.memory → KeepsCode image d t.memory
@@ -68,8 +72,8 @@ module _ (image : Image) (d : Declaration) (dd : IsDeclared d) where
       (seen_keeps i c s.memory (λ on. own_free s.pc (current ks) c body (writes c (stepped_at (steps_pointer i c) (c == place i c s.memory) c on))) keeps))
   does_keeps (Dca i c) s t q ks body writes calls does keeps = subst (λ (x : State). KeepsCode image d x.memory) (sym does.1)
       (updated_keeps (seen i c s.memory) (place i c s.memory) s.ac
-      (plain_free (place i c s.memory) (writes (place i c s.memory) (or_second (steps_pointer i c && (place i c s.memory == c)) (place i c s.memory == place i c s.memory) (equal_number (place i c s.memory)))))
-      (seen_keeps i c s.memory (λ on. plain_free c (writes c (stepped_at (steps_pointer i c) (c == place i c s.memory) c on))) keeps))
+      (moved_free s.pc (current ks) i (place i c s.memory) body (writes (place i c s.memory) (or_second (steps_pointer i c && (place i c s.memory == c)) (place i c s.memory == place i c s.memory) (equal_number (place i c s.memory)))))
+      (seen_keeps i c s.memory (λ on. moved_free s.pc (current ks) i c body (writes c (stepped_at (steps_pointer i c) (c == place i c s.memory) c on))) keeps))
   does_keeps (Jms i c) s t q ks body writes calls does keeps = subst (λ (x : State). KeepsCode image d x.memory) (sym does.1)
       (updated_keeps (seen i c s.memory) (place i c s.memory) (after s.pc 1) (inr calls)
       (seen_keeps i c s.memory (λ on. plain_free c (writes c (stepped_at (steps_pointer i c) false c on))) keeps))

@@ -33,6 +33,7 @@ keeps rule.ReturnsToItsCall image d s ks legal = legal.returns
 keeps rule.HaltsDeclared image d s ks legal = legal.halts
 keeps rule.KeepsCode image d s ks legal = legal.code
 keeps rule.ReadsListed image d s ks legal = legal.reads
+keeps rule.AssertionsHold image d s ks legal = legal.assertions
 
 not_legal : (image : Image) (d : Declaration) (s : State) (ks : Calls) (r : Rule) → IsLeastBroken image d s ks r → IsLegal image d s ks → ⊥
 not_legal image d s ks r least legal = least.broken (keeps r image d s ks legal)
@@ -46,7 +47,8 @@ rule_of n =
     else (if n == 4 then rule.ReturnsToItsCall
     else (if n == 5 then rule.HaltsDeclared
     else (if n == 6 then rule.KeepsCode
-    else rule.ReadsListed)))))
+    else (if n == 7 then rule.ReadsListed
+    else rule.AssertionsHold))))))
 
 rule_of_number : (r : Rule) → rule_of (number_of r) ≡ r
 unfolding rule_of
@@ -57,6 +59,7 @@ rule_of_number rule.ReturnsToItsCall = refl
 rule_of_number rule.HaltsDeclared = refl
 rule_of_number rule.KeepsCode = refl
 rule_of_number rule.ReadsListed = refl
+rule_of_number rule.AssertionsHold = refl
 
 -- one rule is the least broken one
 least_one : (image : Image) (d : Declaration) (s : State) (ks : Calls) (r q : Rule) → IsLeastBroken image d s ks r → IsLeastBroken image d s ks q → r ≡ q

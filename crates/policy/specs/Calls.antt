@@ -23,11 +23,13 @@ abbrev pub returned : Calls → Calls
 returned [] = []
 returned (k ∷ ks) = ks
 
--- The call list after an instruction: a JMS into an entry adds a call, a JMP I through an entry takes the last one away.
+-- The call list after an instruction: a JMS into an entry adds a call, a JMP I through an entry takes the last one away,
+-- and any other JMP to a place for which calls may be abandoned takes all away.
 abbrev pub calls_of : Declaration → Meaning → State → Calls → Calls
 calls_of d (Jms i c) s ks =
     if d.entry (place i c s.memory) then record { entry = place i c s.memory; after = after s.pc 1 } ∷ ks else ks
-calls_of d (Jmp i c) s ks = if i && d.entry c then returned ks else ks
+calls_of d (Jmp i c) s ks =
+    if i && d.entry c then returned ks else (if d.abandon (place i c s.memory) then [] else ks)
 calls_of d _ s ks = ks
 
 -- The call list after the instruction at the program counter.

@@ -1,9 +1,10 @@
 -- Each rule as a test, on the instruction that was fetched, the running routine and the cells. Private contracts alone
 -- cite this.
-use Rattle.std.specs.Prelude.{◌≡◌, ℕ, ◌==◌, Bool, true, false, not, ◌&&◌, ◌||◌, nat_lt, if◌then◌else◌, Option, Some, None, [], ◌∷◌}
+use Rattle.std.specs.Prelude.{◌≡◌, ℕ, ◌==◌, Bool, true, false, not, ◌&&◌, ◌||◌, nat_lt, if◌then◌else◌, Option, Some, None, List, [], ◌∷◌}
+use Rattle.std.specs.List.{list_all}
 use Rattle.wordset.specs.Words.{Words, minus}
 use Rattle.processor.specs.Cells.{Cells}
-use Rattle.processor.specs.Machine.{steps_pointer}
+use Rattle.processor.specs.Machine.{State, steps_pointer}
 use Rattle.instruct.specs.Operates.{is_halt}
 use Rattle.instruct.specs.declared.Operation.{Operation}
 use Rattle.instruct.specs.declared.Operation.TheVariants.{And, Tad, Isz, Dca, Jms, Jmp}
@@ -12,8 +13,9 @@ use Rattle.processor.specs.declared.fetch.DecodedInstruction.{DecodedInstruction
 use Rattle.processor.specs.declared.fetch.DecodedInstruction.TheVariants.{Refers, Operate2, Unsupported}
 use Rattle.policy.specs.declared.rules.Rule.{Rule}
 use Rattle.policy.specs.declared.rules.Rule.TheVariants as rule
-use Rattle.declaration.specs.Declaration.{Routine, Declaration}
+use Rattle.declaration.specs.Declaration.{Routine, Declaration, Assertion, PlaceAssertion, ReturnAssertion}
 use Rattle.policy.specs.Calls.{Calls, returned}
+use Rattle.policy.specs.Rules.{word_of}
 
 -- The cell is the running routine's own entry.
 abbrev pub is_own : Routine → ℕ → Bool
@@ -23,6 +25,10 @@ is_own (Some e) a = e == a
 abbrev pub is_isz : Operation → Bool
 is_isz Isz = true
 is_isz _ = false
+
+abbrev pub is_dca : Operation → Bool
+is_dca Dca = true
+is_dca _ = false
 
 -- ISZ and DCA store at the effective address.
 abbrev pub stores : Operation → Bool
@@ -49,15 +55,19 @@ is_jmp _ = false
 abbrev pub implies : Bool → Bool → Bool
 implies a b = if a then b else true
 
--- A reference by this operation may write the cell.
-abbrev pub may_write : Declaration → Operation → Routine → ℕ → Bool
-may_write d o running a = d.variable a || (is_isz o && is_own running a)
+-- A reference by this operation, direct or indirect, may write its routine's own entry, which is this cell.
+abbrev pub may_write_own : Declaration → Operation → Bool → ℕ → Bool
+may_write_own d o indirect a = is_isz o || (is_dca o && (not indirect && d.moves a))
+
+-- Such a reference may write the cell.
+abbrev pub may_write : Declaration → Operation → Bool → Routine → ℕ → Bool
+may_write d o indirect running a = d.variable a || (may_write_own d o indirect a && is_own running a)
 
 -- The pointer that is stepped and the cell that is stored in may be written.
 abbrev pub writes : Declaration → Reference → Routine → Bool
 writes d r running =
-    implies (steps_pointer r.indirect r.named) (may_write d r.operation running r.named) &&
-    implies (stores r.operation) (may_write d r.operation running r.place)
+    implies (steps_pointer r.indirect r.named) (may_write d r.operation r.indirect running r.named) &&
+    implies (stores r.operation) (may_write d r.operation r.indirect running r.place)
 
 -- A JMS goes to an entry.
 abbrev pub calls_entry : Declaration → Reference → Bool
@@ -67,7 +77,7 @@ calls_entry d r = implies (is_jms r.operation) (d.entry r.place)
 abbrev pub finds_call : Declaration → ℕ → ℕ → Calls → Bool
 finds_call d e word [] = false
 finds_call d e word (k ∷ ks) =
-    (k.entry == e) && (nat_lt (minus word k.after) 8 && d.offset e (minus word k.after))
+    (k.entry == e) && (nat_lt (minus word k.after) 64 && d.offset e (minus word k.after))
 
 -- A JMP I through an entry.
 abbrev pub is_return : Declaration → Reference → Bool
@@ -108,15 +118,46 @@ broken_by d (Operate2 w) pc running memory ks =
 broken_by d (Unsupported w) pc running memory ks = Some rule.StaysInBody
 broken_by d _ pc running memory ks = None
 
+-- What is asserted is so.
+abbrev pub is_so : Assertion → State → Bool
+is_so a s = a.words (word_of a.subject s)
+
+-- What is to hold at the program counter is so.
+abbrev pub each_holds : List PlaceAssertion → State → Bool
+each_holds holds s = list_all (λ h. implies (h.places s.pc) (is_so h.assertion s)) holds
+
+-- What is to hold when the routine of an entry returns by an offset is so.
+abbrev pub each_holds_by : List ReturnAssertion → ℕ → ℕ → State → Bool
+each_holds_by returns e o s = list_all (λ r. implies ((r.entry == e) && r.offsets o) (is_so r.assertion s)) returns
+
+-- What is to hold at a return through this entry is so.
+abbrev pub holds_at_return : Declaration → ℕ → State → Calls → Bool
+holds_at_return d e s [] = true
+holds_at_return d e s (k ∷ ks) = implies (k.entry == e) (each_holds_by d.returns e (minus (s.memory e) k.after) s)
+
+-- The same of an instruction, if it's a return.
+abbrev pub returns_hold : Declaration → DecodedInstruction → State → Calls → Bool
+returns_hold d (Refers r) s ks = implies (is_return d r) (holds_at_return d r.named s ks)
+returns_hold d _ s ks = true
+
+-- All that is asserted is so.
+abbrev pub assertions_hold : Declaration → DecodedInstruction → State → Calls → Bool
+assertions_hold d i s ks = each_holds d.holds s && returns_hold d i s ks
+
 -- A JMS into an entry.
 abbrev pub is_call : Declaration → Reference → Bool
 is_call d r = is_jms r.operation && d.entry r.place
+
+-- A JMP to a place for which calls may be abandoned.
+abbrev pub is_abandon : Declaration → Reference → Bool
+is_abandon d r = is_jmp r.operation && d.abandon r.place
 
 -- The call list after an instruction, where the address after it is this one.
 abbrev pub followed : Declaration → DecodedInstruction → ℕ → Calls → Calls
 followed d (Refers r) after ks =
     if is_call d r then record { entry = r.place; after = after } ∷ ks
-    else (if is_return d r then returned ks else ks)
+    else (if is_return d r then returned ks
+    else (if is_abandon d r then [] else ks))
 followed d _ after ks = ks
 
 -- The instruction is a JMS into an entry.

@@ -1,12 +1,14 @@
--- The seven rules that a declaration lays down for each step, and the steps that keep all of them.
-use Rattle.std.specs.Prelude.{◌≡◌, ℕ, ◌<◌, ◌==◌, true, false, ◌&&◌, ◌||◌, ◌⊎◌, Some, None, [], ◌∷◌}
+-- The eight rules that a declaration lays down for each step, and the steps that keep all of them.
+use Rattle.std.specs.Prelude.{◌≡◌, ℕ, ◌<◌, ◌==◌, true, false, ◌&&◌, ◌||◌, ◌⊎◌, Some, None, List, [], ◌∷◌}
 use Rattle.instruct.specs.Operates.{is_halt}
 use Rattle.instruct.specs.Instructions.{Meaning, And, Tad, Isz, Dca, Jms, Jmp, Group2, Undefined}
-use Rattle.wordset.specs.Words.{Words}
+use Rattle.wordset.specs.Words.{Words, minus}
 use Rattle.processor.specs.Cells.{Cells}
 use Rattle.processor.specs.Machine.{State, after, steps_pointer, place, instruction}
 use Rattle.processor.specs.Runs.{Image}
-use Rattle.declaration.specs.Declaration.{Routine, Declaration, IsListed}
+use Rattle.declaration.specs.Declaration.{Routine, Declaration, Assertion, PlaceAssertion, ReturnAssertion, IsListed}
+use Rattle.declaration.specs.declared.Subject.{Subject}
+use Rattle.declaration.specs.declared.Subject.TheVariants.{Accumulator, Link, Mq, Cell}
 use Rattle.policy.specs.Calls.{Calls, current}
 
 -- The word means something on the declared machine.
@@ -50,15 +52,18 @@ pub record StaysInBody (d : Declaration) (s : State) (ks : Calls) : Type 0 where
   pub in_body : d.body (current ks) s.pc ≡ true
   pub supported : IsSupported (instruction d.profile s)
 
--- ISZ may count the running routine's own entry up.
-abbrev pub CountsOwnEntry : Meaning → Calls → ℕ → Type 0
-CountsOwnEntry (Isz i c) ks a = current ks ≡ Some a
-CountsOwnEntry _ ks a = ⊥
+-- ISZ may count the running routine's own entry up. A DCA whose address is the entry itself may store in it, where a `moves` line
+-- names the entry; a DCA through a pointer may not.
+abbrev pub WritesOwnEntry : Declaration → Meaning → Calls → ℕ → Type 0
+WritesOwnEntry d (Isz i c) ks a = current ks ≡ Some a
+WritesOwnEntry d (Dca i c) ks a = (i ≡ false) × (d.moves a ≡ true) × (current ks ≡ Some a)
+WritesOwnEntry d _ ks a = ⊥
 
--- Rule 2: each cell that is written is a variable, or the running routine's own entry under ISZ.
+-- Rule 2: each cell that is written is a variable, or the running routine's own entry under ISZ, or under a DCA that names it
+-- directly, if the declaration lets the routine store there.
 abbrev pub WritesDeclared : Declaration → Meaning → State → Calls → Type 0
 WritesDeclared d m s ks =
-    (a : ℕ) → written_by m s.memory a ≡ true → (d.variable a ≡ true) ⊎ CountsOwnEntry m ks a
+    (a : ℕ) → written_by m s.memory a ≡ true → (d.variable a ≡ true) ⊎ WritesOwnEntry d m ks a
 
 -- Rule 3: a JMS goes to an entry.
 abbrev pub CallsEntries : Declaration → Meaning → State → Type 0
@@ -69,7 +74,7 @@ CallsEntries d _ s = Unit {0}
 abbrev pub FindsItsCall : Declaration → ℕ → State → Calls → Type 0
 FindsItsCall d e s [] = ⊥
 FindsItsCall d e s (k ∷ ks) =
-    (k.entry ≡ e) × (o : ℕ) × (o < 8) × (d.offset e o ≡ true) × (s.memory e ≡ after k.after o)
+    (k.entry ≡ e) × (o : ℕ) × (o < 64) × (d.offset e o ≡ true) × (s.memory e ≡ after k.after o)
 
 -- Rule 4: a JMP I through an entry returns from its own routine's last call, to a declared place after it.
 abbrev pub ReturnsToItsCall : Declaration → Meaning → State → Calls → Type 0
@@ -91,6 +96,44 @@ abbrev pub ReadsListed : Declaration → Meaning → State → Calls → Type 0
 ReadsListed d m s ks =
     (a : ℕ) → read_by m s.memory a ≡ true → IsListed d.reads a ⊎ (current ks ≡ Some a)
 
+-- The word of which an assertion speaks.
+abbrev pub word_of : Subject → State → ℕ
+word_of Accumulator s = s.ac
+word_of Link s = s.link
+word_of Mq s = s.mq
+word_of (Cell a) s = s.memory a
+
+-- What is asserted is so.
+abbrev pub IsSo : Assertion → State → Type 0
+IsSo a s = a.words (word_of a.subject s) ≡ true
+
+-- What is to hold at the program counter is so.
+abbrev pub EachHolds : List PlaceAssertion → State → Type 0
+EachHolds [] s = Unit {0}
+EachHolds (h ∷ hs) s = (h.places s.pc ≡ true → IsSo h.assertion s) × EachHolds hs s
+
+-- What is to hold when the routine of an entry returns by an offset is so.
+abbrev pub EachHoldsBy : List ReturnAssertion → ℕ → ℕ → State → Type 0
+EachHoldsBy [] e o s = Unit {0}
+EachHoldsBy (r ∷ rs) e o s = (r.entry ≡ e → r.offsets o ≡ true → IsSo r.assertion s) × EachHoldsBy rs e o s
+
+-- What is to hold at a return through this entry is so: where the last call is one of the entry, the return is by the offset
+-- from that call's return address to the word in the entry.
+abbrev pub HoldsAtReturn : Declaration → ℕ → State → Calls → Type 0
+HoldsAtReturn d e s [] = Unit {0}
+HoldsAtReturn d e s (k ∷ ks) = k.entry ≡ e → EachHoldsBy d.returns e (minus (s.memory e) k.after) s
+
+-- The same of an instruction, if it's a return.
+abbrev pub ReturnsHold : Declaration → Meaning → State → Calls → Type 0
+ReturnsHold d (Jmp i c) s ks = i ≡ true → d.entry c ≡ true → HoldsAtReturn d c s ks
+ReturnsHold d _ s ks = Unit {0}
+
+-- Rule 8: what is declared to hold at the program counter holds before the step, and so does what is declared of the return
+-- that it is.
+pub record AssertionsHold (d : Declaration) (m : Meaning) (s : State) (ks : Calls) : Type 0 where
+  pub places : EachHolds d.holds s
+  pub returns : ReturnsHold d m s ks
+
 -- A step keeps the rules.
 pub record IsLegal (image : Image) (d : Declaration) (s : State) (ks : Calls) : Type 0 where
   pub stays : StaysInBody d s ks
@@ -100,7 +143,13 @@ pub record IsLegal (image : Image) (d : Declaration) (s : State) (ks : Calls) : 
   pub halts : HaltsDeclared d (instruction d.profile s) s.pc
   pub code : KeepsCode image d s.memory
   pub reads : ReadsListed d (instruction d.profile s) s ks
+  pub assertions : AssertionsHold d (instruction d.profile s) s ks
 
 -- Without a list of reads, the rule on reads asks nothing.
 abbrev pub UnlistedReadsAreKept : Type 0
 UnlistedReadsAreKept = (d : Declaration) (m : Meaning) (s : State) (ks : Calls) → d.reads ≡ None → ReadsListed d m s ks
+
+-- Where nothing is asserted, the rule on assertions asks nothing.
+abbrev pub UnassertedHolds : Type 0
+UnassertedHolds =
+    (d : Declaration) (m : Meaning) (s : State) (ks : Calls) → d.holds ≡ [] → d.returns ≡ [] → AssertionsHold d m s ks

@@ -14,10 +14,10 @@ use Rattle.policy.specs.declared.watcher.Watched.TheVariants.{Clean, Broken}
 use Rattle.policy.specs.declared.rules.Rule.TheVariants as rule
 use Rattle.declaration.specs.Declaration.{Declaration}
 use Rattle.policy.specs.Calls.{Calls}
-use Rattle.policy.specs.Rules.{StaysInBody, WritesDeclared, CallsEntries, ReturnsToItsCall, HaltsDeclared, KeepsCode, ReadsListed, IsLegal}
+use Rattle.policy.specs.Rules.{StaysInBody, WritesDeclared, CallsEntries, ReturnsToItsCall, HaltsDeclared, KeepsCode, ReadsListed, AssertionsHold, IsLegal}
 use Rattle.policy.specs.Runs.{DeclaredEvents}
 
--- The rules have the numbers 1 to 7.
+-- The rules have the numbers 1 to 8.
 abbrev pub number_of : Rule → ℕ
 number_of rule.StaysInBody = 1
 number_of rule.WritesDeclared = 2
@@ -26,6 +26,7 @@ number_of rule.ReturnsToItsCall = 4
 number_of rule.HaltsDeclared = 5
 number_of rule.KeepsCode = 6
 number_of rule.ReadsListed = 7
+number_of rule.AssertionsHold = 8
 
 -- The next step keeps a rule.
 abbrev pub Keeps : Rule → Image → Declaration → State → Calls → Type 0
@@ -36,6 +37,7 @@ Keeps rule.ReturnsToItsCall image d s ks = ReturnsToItsCall d (instruction d.pro
 Keeps rule.HaltsDeclared image d s ks = HaltsDeclared d (instruction d.profile s) s.pc
 Keeps rule.KeepsCode image d s ks = KeepsCode image d s.memory
 Keeps rule.ReadsListed image d s ks = ReadsListed d (instruction d.profile s) s ks
+Keeps rule.AssertionsHold image d s ks = AssertionsHold d (instruction d.profile s) s ks
 
 -- The next step breaks this rule, and keeps all rules of lesser numbers.
 pub record IsLeastBroken (image : Image) (d : Declaration) (s : State) (ks : Calls) (r : Rule) : Type 0 where

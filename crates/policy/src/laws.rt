@@ -1,11 +1,16 @@
 //! Laws over the definitions alone. Each is the contract of a function that does nothing.
 
 ghost use Rattle.policy.specs.Laws.{CodeIsKept, DeclaredEventsAreRuns, RunIsOne, SafeInRunsIsSafe, StepsKeepCode, VerdictIsOne};
-ghost use Rattle.policy.specs.Rules.{UnlistedReadsAreKept};
+ghost use Rattle.policy.specs.Rules.{UnassertedHolds, UnlistedReadsAreKept};
 
 /// Where a declaration lists no reads, each step keeps the rule on reads.
 pub fn unlisted_reads_are_kept()
     ensures { UnlistedReadsAreKept }
+{}
+
+/// Where a declaration asserts nothing, each step keeps the rule on assertions.
+pub fn unasserted_holds()
+    ensures { UnassertedHolds }
 {}
 
 /// A list of events leads a declared run to one world, and one thing is told of it.

@@ -1,24 +1,24 @@
 //! Whether the next step keeps the rules.
 
-ghost use Rattle.std.specs.Prelude.{◌≡◌, ◌||◌, IfOk, OnOk, IfErr};
+ghost use Rattle.std.specs.Prelude.{◌≡◌, ◌||◌, IfOk, OnOk, IfErr, map, [], ◌∷◌};
 ghost use Rattle.wordset.specs.Words.{minus};
 ghost use Rattle.processor.specs.Cells.{cell_of};
 ghost use Rattle.processor.specs.Fetch.{fetched};
 ghost use Rattle.processor.specs.Runs.{Image};
 ghost use Rattle.processor.specs.Steps.{state_of};
 ghost use Rattle.policy.specs.Calls.{current};
-ghost use Rattle.policy.specs.Rules.{KeepsCode, IsLegal};
-ghost use Rattle.declaration.specs.Kept.{meaning};
+ghost use Rattle.policy.specs.Rules.{KeepsCode, IsLegal, word_of};
+ghost use Rattle.declaration.specs.Kept.{meaning, assertion_of, place_assertion_of, return_assertion_of};
 ghost use Rattle.policy.specs.Watching.{IsLeastBroken};
 ghost use Rattle.policy.specs.OpenCalls.{open_calls};
-ghost use Rattle.policy.specs.Decided.{is_own, may_write, writes, calls_entry, finds_call, is_return, returns, may_load, reads, broken_by_reference, broken_by};
+ghost use Rattle.policy.specs.Decided.{is_abandon, is_own, may_write_own, may_write, writes, calls_entry, finds_call, is_return, returns, may_load, reads, broken_by_reference, broken_by, is_so, each_holds, each_holds_by, holds_at_return, returns_hold, assertions_hold};
 
 use crate::rules::Rule;
-use declaration::Declaration;
+use declaration::{Assertion, Declaration, PlaceAssertion, ReturnAssertion, Subject};
 use instruct::{Operation, halts};
 use processor::{Cpu, DecodedInstruction, Memory, Reference};
 use std::alloc::Allocator;
-use word12::Word;
+use word12::{Link, Word};
 
 /// A call that hasn't returned: the entry, and the address after the JMS.
 #[derive(Clone, Copy, PartialEq, Eq, Debug)]
@@ -49,18 +49,38 @@ fn in_body<A: Allocator>(declaration: &Declaration<A>, calls: &[Call], pc: Word)
     }
 }
 
-/// Whether a memory reference may write a cell: a variable, or under ISZ the own entry.
+/// Whether a memory reference, direct or indirect, may write its routine's own entry, which is this
+/// cell.
+#[inline(always)]
+fn may_write_own<A: Allocator>(
+    declaration: &Declaration<A>,
+    operation: Operation,
+    indirect: bool,
+    cell: Word,
+) -> bool
+    ensures { result ≡ may_write_own (meaning declaration.now) operation indirect cell }
+{
+    match operation {
+        Operation::Isz => true,
+        Operation::Dca => !indirect && declaration.may_move(cell),
+        _ => false,
+    }
+}
+
+/// Whether a memory reference may write a cell: a variable, or under ISZ and some DCAs the own entry.
 #[inline(always)]
 fn may_write<A: Allocator>(
     declaration: &Declaration<A>,
     operation: Operation,
+    indirect: bool,
     calls: &[Call],
     cell: Word,
 ) -> bool
-    ensures { result
-        ≡ may_write (meaning declaration.now) operation (current (open_calls calls.now)) cell }
+    ensures { result ≡ may_write (meaning declaration.now) operation indirect
+        (current (open_calls calls.now)) cell }
 {
-    declaration.is_variable(cell) || (matches!(operation, Operation::Isz) && is_own(calls, cell))
+    declaration.is_variable(cell)
+        || (may_write_own(declaration, operation, indirect, cell) && is_own(calls, cell))
 }
 
 /// Whether the pointer that is stepped and the cell that is stored in may be written.
@@ -70,14 +90,24 @@ fn writes<A: Allocator>(declaration: &Declaration<A>, reference: &Reference, cal
         ≡ writes (meaning declaration.now) reference.now (current (open_calls calls.now)) }
 {
     if reference.steps_pointer()
-        && !may_write(declaration, reference.operation, calls, reference.named)
+        && !may_write(
+            declaration,
+            reference.operation,
+            reference.indirect,
+            calls,
+            reference.named,
+        )
     {
         return false;
     }
     match reference.operation {
-        Operation::Isz | Operation::Dca => {
-            may_write(declaration, reference.operation, calls, reference.place)
-        }
+        Operation::Isz | Operation::Dca => may_write(
+            declaration,
+            reference.operation,
+            reference.indirect,
+            calls,
+            reference.place,
+        ),
         _ => true,
     }
 }
@@ -116,7 +146,7 @@ fn finds_call<A: Allocator>(
         None => false,
         Some(call) => {
             let offset = distance(word, call.after);
-            call.entry == entry && (offset.value() < 8 && declaration.has_offset(entry, offset))
+            call.entry == entry && (offset.value() < 64 && declaration.has_offset(entry, offset))
         }
     }
 }
@@ -247,6 +277,138 @@ fn broken_by<A: Allocator>(
     }
 }
 
+/// The word of which an assertion speaks.
+fn word_of(subject: &Subject, cpu: &Cpu) -> Word
+    ensures { result ≡ word_of subject.now (state_of cpu.now) }
+{
+    match subject {
+        Subject::Accumulator => cpu.ac,
+        Subject::Link => bit_of(cpu.link),
+        Subject::Mq => cpu.mq,
+        Subject::Cell(cell) => cpu.memory.get(*cell),
+    }
+}
+
+/// A link as a word.
+fn bit_of(link: Link) -> Word
+    ensures { result ≡ link }
+{
+    if link.is_set() {
+        Word::from_index(1)
+    } else {
+        Word::from_index(0)
+    }
+}
+
+/// Whether what is asserted is so.
+fn is_so(assertion: &Assertion, cpu: &Cpu) -> bool
+    ensures { result ≡ is_so (assertion_of assertion.now) (state_of cpu.now) }
+{
+    assertion
+        .words()
+        .contains(word_of(assertion.subject(), cpu))
+}
+
+/// Whether what is to hold at the program counter is so.
+fn each_holds(holds: &[PlaceAssertion], cpu: &Cpu) -> bool
+    ensures { result ≡ each_holds (map place_assertion_of holds.now) (state_of cpu.now) }
+{
+    for holding in holds {
+        if !holds_here(holding, cpu) {
+            return false;
+        }
+    }
+    true
+}
+
+/// The same of one assertion.
+fn holds_here(holding: &PlaceAssertion, cpu: &Cpu) -> bool
+    ensures { result ≡ each_holds (place_assertion_of holding.now ∷ []) (state_of cpu.now) }
+{
+    !holding.places().contains(cpu.pc) || is_so(holding.assertion(), cpu)
+}
+
+/// Whether what is to hold when the routine of an entry returns by an offset is so.
+fn each_holds_by(returns: &[ReturnAssertion], entry: Word, offset: Word, cpu: &Cpu) -> bool
+    ensures { result
+        ≡ each_holds_by (map return_assertion_of returns.now) entry offset (state_of cpu.now) }
+{
+    for returning in returns {
+        if !holds_by(returning, entry, offset, cpu) {
+            return false;
+        }
+    }
+    true
+}
+
+/// The same of one assertion.
+fn holds_by(returning: &ReturnAssertion, entry: Word, offset: Word, cpu: &Cpu) -> bool
+    ensures { result
+        ≡ each_holds_by (return_assertion_of returning.now ∷ []) entry offset (state_of cpu.now) }
+{
+    if returning.entry() == entry && returning.offsets().contains(offset) {
+        return is_so(returning.assertion(), cpu);
+    }
+    true
+}
+
+/// Whether what is to hold at a return through an entry is so.
+fn holds_at_return<A: Allocator>(
+    declaration: &Declaration<A>,
+    entry: Word,
+    cpu: &Cpu,
+    calls: &[Call],
+) -> bool
+    ensures { result
+        ≡ holds_at_return (meaning declaration.now) entry (state_of cpu.now) (open_calls calls.now) }
+{
+    match calls.last() {
+        None => true,
+        Some(call) => {
+            if call.entry == entry {
+                let offset = distance(cpu.memory.get(entry), call.after);
+                return each_holds_by(declaration.returns(), entry, offset, cpu);
+            }
+            true
+        }
+    }
+}
+
+/// Whether what is to hold at an instruction is so, if it's a return.
+fn returns_hold<A: Allocator>(
+    declaration: &Declaration<A>,
+    instruction: &DecodedInstruction,
+    cpu: &Cpu,
+    calls: &[Call],
+) -> bool
+    ensures { result ≡ returns_hold (meaning declaration.now) instruction.now
+        (state_of cpu.now) (open_calls calls.now) }
+{
+    match instruction {
+        DecodedInstruction::Refers(reference) => {
+            if is_return(declaration, reference) {
+                return holds_at_return(declaration, reference.named, cpu, calls);
+            }
+            true
+        }
+        _ => true,
+    }
+}
+
+/// Whether all that is asserted is so.
+#[inline(always)]
+fn assertions_hold<A: Allocator>(
+    declaration: &Declaration<A>,
+    instruction: &DecodedInstruction,
+    cpu: &Cpu,
+    calls: &[Call],
+) -> bool
+    ensures { result ≡ assertions_hold (meaning declaration.now) instruction.now
+        (state_of cpu.now) (open_calls calls.now) }
+{
+    each_holds(declaration.holds(), cpu) && returns_hold(declaration, instruction, cpu, calls)
+}
+
 /// The instruction at the program counter, where a step keeps all rules; else the least rule that it
 /// breaks.
 ///
@@ -275,6 +437,20 @@ pub fn legal_instruction<A: Allocator>(
     let instruction = cpu.fetch();
     match broken_by(declaration, &instruction, cpu, calls) {
         Some(rule) => Err(rule),
-        None => Ok(instruction),
+        None => {
+            if assertions_hold(declaration, &instruction, cpu, calls) {
+                Ok(instruction)
+            } else {
+                Err(Rule::AssertionsHold)
+            }
+        }
     }
+}
+
+/// Whether a memory reference is a JMP to a place for which calls may be abandoned.
+#[inline(always)]
+pub fn is_abandon<A: Allocator>(declaration: &Declaration<A>, reference: &Reference) -> bool
+    ensures { result ≡ is_abandon (meaning declaration.now) reference.now }
+{
+    matches!(reference.operation, Operation::Jmp) && declaration.is_abandon(reference.place)
 }

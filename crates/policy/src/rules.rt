@@ -1,4 +1,4 @@
-//! The seven rules that a declaration lays down for each step.
+//! The eight rules that a declaration lays down for each step.
 
 ghost use Rattle.std.specs.Prelude.{◌≡◌};
 ghost use Rattle.policy.specs.Watching.{number_of};
@@ -9,7 +9,8 @@ ghost use Rattle.policy.specs.Watching.{number_of};
 pub enum Rule {
     /// The program counter is in the running routine's body, at a word that is supported.
     StaysInBody,
-    /// Each cell that is written is a variable, or the running routine's own entry under ISZ.
+    /// Each cell that is written is a variable, or the running routine's own entry under ISZ, or under
+    /// a DCA that names it directly, if the declaration lets the routine store there.
     WritesDeclared,
     /// A JMS goes to an entry.
     CallsEntries,
@@ -22,10 +23,13 @@ pub enum Rule {
     /// Each cell that is read is on the list of reads, if there is one, or is the running routine's
     /// own entry.
     ReadsListed,
+    /// What is declared to hold at the program counter holds, and so does what is declared of a
+    /// return.
+    AssertionsHold,
 }
 
 impl Rule {
-    /// The number of the rule, from 1 to 7.
+    /// The number of the rule, from 1 to 8.
     pub fn number(self) -> u8
         ensures { result ≡ number_of self }
     {
@@ -37,6 +41,7 @@ impl Rule {
             Rule::HaltsDeclared => 5,
             Rule::KeepsCode => 6,
             Rule::ReadsListed => 7,
+            Rule::AssertionsHold => 8,
         }
     }
 }

@@ -18,7 +18,7 @@ ghost use Rattle.policy.specs.Decided.{is_call, followed, IsCall};
 ghost use Rattle.policy.specs.Watching.{IsClean, BreaksAt, Tells, begun};
 ghost use Rattle.policy.specs.WatchedSteps.{Watches, TakesMemory, GrowsAt, Grows, Passes, LegalStepTakesMemory};
 
-use crate::legality::{Call, is_return, legal_instruction};
+use crate::legality::{Call, is_abandon, is_return, legal_instruction};
 use crate::rules::Rule;
 use crate::runs::waits;
 use bin_tape::Image;
@@ -62,7 +62,7 @@ fn is_call<D: Allocator>(declaration: &Declaration<D>, reference: &Reference) ->
     matches!(reference.operation, Operation::Jms) && declaration.is_entry(reference.place)
 }
 
-/// Puts a call on the call list, or takes the last one away, by what an instruction does.
+/// Puts a call on the call list, or takes the last one or all away, by what an instruction does.
 #[inline(always)]
 fn follow_calls<A: Allocator, D: Allocator>(
     calls: &mut Vec<Call, A>,
@@ -85,6 +85,10 @@ fn follow_calls<A: Allocator, D: Allocator>(
             }
             if is_return(declaration, reference) {
                 calls.pop();
+                return Ok(());
+            }
+            if is_abandon(declaration, reference) {
+                calls.clear();
             }
             Ok(())
         }

@@ -4,7 +4,7 @@ use bin_tape::Image;
 use declaration::{Declaration, Owner};
 use peripherals::{Event, NoMemory};
 use policy::Watcher;
-use run_search::Sight;
+use run_search::StepRecord;
 use std::alloc::Allocator;
 use word12::Word;
 use wordset::WordSet;
@@ -24,6 +24,8 @@ pub struct Evidence<A: Allocator> {
     pub(crate) continued: WordSet,
     /// The halts after which it leads to what no declaration allows, if the operator goes on.
     pub(crate) stopped: WordSet,
+    /// The address to which the last step led, if it was a JMP in a routine's body and no return.
+    pub(crate) jumped: Option<Word>,
 }
 
 impl<A: Allocator + Copy> Evidence<A> {
@@ -40,6 +42,7 @@ impl<A: Allocator + Copy> Evidence<A> {
             written: WordSet::empty(),
             continued: WordSet::empty(),
             stopped: WordSet::empty(),
+            jumped: None,
         })
     }
 
@@ -78,10 +81,11 @@ impl<A: Allocator + Copy> Evidence<A> {
         self.called = WordSet::empty();
         self.written = WordSet::empty();
         self.continued = WordSet::empty();
+        self.jumped = None;
     }
 
     /// A step is about to be made.
-    pub(crate) fn sees(&mut self, sight: &Sight) {
+    pub(crate) fn sees(&mut self, sight: &StepRecord) {
         if let Some(owner) = self.owners.get_mut(sight.at.index()) {
             if owner.is_none() {
                 *owner = Some(sight.owner);
@@ -97,6 +101,7 @@ impl<A: Allocator + Copy> Evidence<A> {
         if let Some(cell) = sight.stepped {
             self.written.insert(cell);
         }
+        self.jumped = sight.jumped;
     }
 
     /// The routine that runs was called.
@@ -114,7 +119,7 @@ impl<A: Allocator + Copy> Evidence<A> {
         event: Event,
     ) {
         match (event, watcher.world().halted_at()) {
-            (Event::Step, None) => self.sees(&Sight::of(watcher)),
+            (Event::Step, None) => self.sees(&StepRecord::of(watcher)),
             (Event::Continue, Some(at)) if declaration.is_pause(at) => self.continued.insert(at),
             _ => {}
         }

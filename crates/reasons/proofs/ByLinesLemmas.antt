@@ -2,24 +2,25 @@
 use Rattle.std.proofs.Common.{◌≡◌, ℕ, zero, suc, ◌+◌, ◌<◌, ◌≤◌, Bool, true, false, ◌⊎◌, Some, List, [], ◌∷◌, refl, sym, ap, ◌∙◌, inl, inr, length, get_or, subst, arith}
 use Rattle.std.proofs.lemmas.Bool.{cases_lt, false≢true, true≢false}
 use Rattle.instruct.specs.Instructions.{Meaning, meaning_of}
-use Rattle.wordset.specs.Words.{how_many}
-use Rattle.declaration.specs.Declaration.{Routine, IsDeclared}
-use Rattle.domain.specs.Facts.{Fact, last_site}
-use Rattle.facts.specs.Conditions.{called}
+use Rattle.wordset.specs.Words.{Words, how_many}
+use Rattle.declaration.specs.Declaration.{Routine, PlaceAssertion, IsDeclared}
+use Rattle.declaration.specs.declared.Subject.{Subject}
+use Rattle.domain.specs.Facts.{Fact, Place, last_site}
+use Rattle.facts.specs.Conditions.{EachIsHeld, called}
 use Rattle.facts.specs.Landing.{fact_at}
-use Rattle.facts.specs.Operations.{outcomes_of}
-use Rattle.facts.specs.Outcomes.{Successor, Goes, CallsTo, Returns}
-use Rattle.facts.specs.References.{possible}
+use Rattle.transfer.specs.Operations.{outcomes_of}
+use Rattle.transfer.specs.Outcomes.{Successor, Goes, CallsTo, Returns}
+use Rattle.transfer.specs.References.{possible}
 use Rattle.facts.specs.declared.Condition.{Condition}
-use Rattle.facts.specs.declared.Condition.TheVariants.{V1, V2, V3, V6, V8}
-use Rattle.certificate.specs.Certificate.{Certificate}
-use Rattle.judge.specs.Conditions.{EachFact}
-use Rattle.judge.specs.Landing.{Case, EachSuccessor, exits_of, place_in}
-use Rattle.reasons.specs.Breaches.{Breaks, CallBreaks, MissesAfter, OutcomeMisses, ReturnBreaks, SomeOutcome, condition_of, condition_of_call}
-use Rattle.reasons.specs.Keeping.{Arrives, ArrivesWith, EachArrivesWith, FactsKeep, IsLowerIfListed, Keeps, KeepsCall, KeptOrUnowned, OutcomeArrives, ReturnsAsDeclared, ReturnsThrough, WordsKeep}
+use Rattle.facts.specs.declared.Condition.TheVariants.{V1, V2, V3, V4, V6, V8, V12, V16}
+use Rattle.certificate_lines.specs.Certificate.{Certificate}
+use Rattle.judge.specs.Conditions.{EachFact, ExitsAreHeld}
+use Rattle.judge.specs.Landing.{Case, EachSuccessor, abandons, exits_of, place_in}
+use Rattle.reasons.specs.Breaches.{Breaks, CallBreaks, MissesAfter, MissesBeyond, OutcomeMisses, ReturnBreaks, SomeDenied, SomeOutcome, condition_of, condition_of_call}
+use Rattle.reasons.specs.Keeping.{Arrives, ArrivesBeyond, ArrivesWith, EachArrivesWith, FactsKeep, IsLowerIfListed, Keeps, KeepsCall, KeptOrUnowned, OutcomeArrives, ReturnsAsDeclared, ReturnsThrough, WordsKeep}
 use Rattle.reasons.specs.Landing.{Misses}
 use Rattle.reasons.specs.Points.{IsSought}
-use Rattle.reasons.specs.Reasons.{IsAskedFact, IsWrongWord}
+use Rattle.reasons.specs.Reasons.{HasWrongWord, IsAskedFact, IsWrongExit, IsWrongWord}
 use Rattle.reasons.specs.Stuck.{EachFailsByLinesAlone, FailsByLinesAlone, NoneFailsBefore, place_asked, is_call_of_lines, is_landing_of_lines, is_of_lines, is_return_of_lines, is_word_of_lines}
 use Rattle.reasons.specs.declared.breach.Breach.{Breach}
 use Rattle.reasons.specs.declared.breach.Breach.TheVariants as breach
@@ -33,7 +34,7 @@ use Rattle.reasons.specs.declared.reason.Reason.{Reason}
 use Rattle.reasons.specs.declared.reason.Reason.TheVariants as why
 use Rattle.reasons.specs.declared.sought.Sought.TheVariants.{NotOfLines}
 use Rattle.reasons.specs.declared.stuck.TheConstants.{ORDER}
-use Rattle.reasons.proofs.RefuteLemmas.{asked_here, both, declared_or, few, past_last, ranks_clash}
+use Rattle.reasons.proofs.RefuteLemmas.{asked_here, both, counting_refutes, declared_or, exit_refutes, few, moving_refutes, past_last, ranks_clash, some_denied_refutes, storing_refutes}
 
 -- ---- what a kept condition excludes
 
@@ -77,24 +78,31 @@ call_kept lines j r a f e call.TooHigh keeps breaks = absurd (past_last a (last_
 call_kept lines j r a f e (call.Enters l) keeps breaks = arrived lines j _ _ _ l keeps breaks
 call_kept lines j r a f e (call.Returns o i l) keeps breaks = returned lines j r a e o i f l (keeps o breaks.offset) breaks
 
-undeclared : (lines : Bool) (j : Case) (e o : ℕ) (f : Fact) → (8 ≤ o) ⊎ (j.declaration.offset e o ≡ false) → ReturnsAsDeclared lines j e f o → ⊥
-undeclared lines j e o f (inl high) h = absurd (let low : o < 8 = h.small in omega (arith, high, low))
-undeclared lines j e o f (inr none) h = both (j.declaration.offset e o) h.declared none
+undeclared : (lines : Bool) (j : Case) (e o : ℕ) (f : Fact) → j.declaration.offset e o ≡ false → ReturnsAsDeclared lines j e f o → ⊥
+undeclared lines j e o f none h = both (j.declaration.offset e o) h.declared none
 
 return_kept : (lines : Bool) (j : Case) (r : Routine) (f : Fact) (e : ℕ) (b : ReturnBreach) → ReturnsThrough lines j r f e → ReturnBreaks j r f e b → is_return_of_lines b ≡ true
 return_kept lines j r f e return.OtherRoutine keeps breaks = absurd (breaks keeps.own)
 return_kept lines j r f e (return.NotDeclared o) keeps breaks = absurd (undeclared lines j e o f breaks.2 (keeps.each o breaks.0 breaks.1))
 return_kept lines j r f e (return.NotAllowed o l) keeps breaks = refl
 
-outcome_kept : (lines : Bool) (j : Case) (r : Routine) (a : ℕ) (l : Landing) (o : Successor) → OutcomeArrives lines j r o → OutcomeMisses j r a l o → is_landing_of_lines l ≡ true
-outcome_kept lines j r a l (Goes next f) keeps misses = arrived lines j r a f l (keeps a misses.0 misses.1) misses.2
-outcome_kept lines j r a l (CallsTo next f) keeps misses = absurd misses
-outcome_kept lines j r a l (Returns f) keeps misses = absurd misses
+arrived_beyond : (away lines : Bool) (j : Case) (r : Routine) (a : ℕ) (f : Fact) (l : Landing) → ArrivesBeyond away lines j r a f → MissesBeyond away j r a f l → is_landing_of_lines l ≡ true
+arrived_beyond true lines j r a f l arrives misses = arrived lines j _ a _ l arrives misses
+arrived_beyond false lines j r a f l arrives misses = arrived lines j r a f l arrives misses
 
-outcomes_kept : (lines : Bool) (j : Case) (r : Routine) (a : ℕ) (l : Landing) (os : List Successor) → EachSuccessor (OutcomeArrives lines j r) os → SomeOutcome (OutcomeMisses j r a l) os → is_landing_of_lines l ≡ true
-outcomes_kept lines j r a l [] keeps misses = absurd misses
-outcomes_kept lines j r a l (o ∷ os) keeps (inl misses) = outcome_kept lines j r a l o keeps.0 misses
-outcomes_kept lines j r a l (o ∷ os) keeps (inr misses) = outcomes_kept lines j r a l os keeps.1 misses
+outcome_kept : (lines : Bool) (j : Case) (r : Routine) (beyond : Words) (a : ℕ) (l : Landing) (o : Successor) → OutcomeArrives lines j r beyond o → OutcomeMisses j r beyond a l o → is_landing_of_lines l ≡ true
+outcome_kept lines j r beyond a l (Goes next f) keeps misses = arrived_beyond (beyond a) lines j r a f l (keeps a misses.0 misses.1) misses.2
+outcome_kept lines j r beyond a l (CallsTo next f) keeps misses = absurd misses
+outcome_kept lines j r beyond a l (Returns f) keeps misses = absurd misses
+
+outcomes_kept : (lines : Bool) (j : Case) (r : Routine) (beyond : Words) (a : ℕ) (l : Landing) (os : List Successor) → EachSuccessor (OutcomeArrives lines j r beyond) os → SomeOutcome (OutcomeMisses j r beyond a l) os → is_landing_of_lines l ≡ true
+outcomes_kept lines j r beyond a l [] keeps misses = absurd misses
+outcomes_kept lines j r beyond a l (o ∷ os) keeps (inl misses) = outcome_kept lines j r beyond a l o keeps.0 misses
+outcomes_kept lines j r beyond a l (o ∷ os) keeps (inr misses) = outcomes_kept lines j r beyond a l os keeps.1 misses
+
+-- Where all is so that is to hold, none of it is denied.
+none_denied : (pl : Place) (f : Fact) (a : ℕ) (s : Subject) (w : ℕ) (hs : List PlaceAssertion) → EachIsHeld pl f a hs → SomeDenied pl f a s w hs → ⊥
+none_denied pl f a s w hs holds denied = some_denied_refutes pl f a s w hs denied holds
 
 -- A call keeps its condition where the word does.
 call_of_word : (lines : Bool) (j : Case) (r : Routine) (a : ℕ) (f : Fact) (m : Meaning) (e : ℕ) (b : CallBreach) → e < 4096 → called (place_in j r) f m e ≡ true →
@@ -114,13 +122,19 @@ word_kept : (lines : Bool) (j : Case) (r : Routine) (a : ℕ) (f : Fact) (m : Me
 word_kept lines j r a f m breach.NotSupported keeps breaks = absurd (breaks keeps)
 word_kept lines j r a f m (breach.WritesUndeclared b) keeps breaks = absurd (declared_or (j.declaration.variable b) (j.declaration.entry b) breaks.2 breaks.3 (keeps b breaks.0 breaks.1))
 word_kept lines j r a f m (breach.WritesEntry b) keeps breaks = absurd (breaks.3 keeps)
+word_kept lines j r a f m (breach.CountsTooFar b) keeps breaks = absurd (counting_refutes j r a f m b breaks keeps)
+word_kept lines j r a f m (breach.StoresInOwn b) keeps breaks = absurd (storing_refutes j r a f m b breaks keeps)
+word_kept lines j r a f m (breach.MovesTooFar b w s) keeps breaks = absurd (moving_refutes j r a f m b w s breaks keeps)
 word_kept lines j r a f m (breach.WritesUnlisted b) keeps breaks = refl
 word_kept lines j r a f m breach.HaltsUndeclared keeps breaks = absurd (breaks keeps)
 word_kept lines j r a f m breach.CallsThroughIndex keeps breaks = absurd (true≢false (sym breaks ∙ keeps.0))
 word_kept lines j r a f m (breach.Calls e b) keeps breaks = call_kept lines j r a f e b (call_of_word lines j r a f m e b breaks.0 breaks.1 keeps) breaks.2
 word_kept lines j r a f m (breach.Returns e b) keeps breaks = return_kept lines j r f e b (keeps e breaks.0) breaks.1
-word_kept lines j r a f m (breach.GoesOn b l) keeps breaks = outcomes_kept lines j r b l (outcomes_of (place_in j r) f a m) keeps breaks
+word_kept lines j r a f m (breach.GoesOn b l) keeps breaks = outcomes_kept lines j r (abandons j.declaration r m) b l (outcomes_of (place_in j r) f a m) keeps breaks
+word_kept lines j r a f m (breach.JumpsToMain b) keeps breaks =
+    absurd (false≢true (outcomes_kept lines j r (abandons j.declaration r m) b OtherBody (outcomes_of (place_in j r) f a m) keeps breaks.misses))
 word_kept lines j r a f m (breach.ReadsUnlisted b) keeps breaks = absurd (breaks.2 (keeps b breaks.0 breaks.1))
+word_kept lines j r a f m (breach.DeniesAssertion s w) keeps breaks = absurd (none_denied (place_in j r) f a s w j.declaration.holds keeps breaks)
 
 -- What is told of a word of a fact of which the condition is kept is of lines.
 fact_kept : (lines : Bool) (j : Case) (v : Condition) (a : ℕ) (r : Routine) (i : ℕ) (f : Fact) (reason : Reason) → WordsKeep lines j v r a f → IsWrongWord j r a f i v reason → is_of_lines reason ≡ true
@@ -136,6 +150,7 @@ fact_kept lines j v a r i f (why.SitesInMain k) kept wrong = refl
 fact_kept lines j v a r i f (why.NoOffset k e) kept wrong = refl
 fact_kept lines j v a r i f (why.NoSites k e) kept wrong = refl
 fact_kept lines j v a r i f (why.RoutineNotListed e) kept wrong = refl
+fact_kept lines j v a r i f (why.ExitDeniesAssertion o k s w) kept wrong = absurd wrong
 
 facts_kept : (lines : Bool) (j : Case) (v : Condition) (a : ℕ) (r : Routine) (i : ℕ) (f : Fact) (reason : Reason) → IsDeclared j.declaration → KeptOrUnowned lines j v a → IsAskedFact j r a i f → IsWrongWord j r a f i v reason → is_of_lines reason ≡ true
 facts_kept lines j v a r i f reason d (inl here) is wrong =
@@ -143,32 +158,103 @@ facts_kept lines j v a r i f reason d (inl here) is wrong =
     (asked_here j r a i f (WordsKeep lines j v r a) is (subst (λ k. FactsKeep lines j v k a (j.certificate.facts a)) (d.bodies_apart a here.0 r here.1 is.body) here.2)) wrong
 facts_kept lines j v a r i f reason d (inr none) is wrong = absurd (true≢false (sym is.body ∙ none r))
 
--- A condition that is kept fails by lines alone.
-pub fails_by_lines : (j : Case) (v : Condition) (a : ℕ) (lines : Bool) → IsDeclared j.declaration → KeptOrUnowned lines j v a → FailsByLinesAlone j a v
-fails_by_lines j v a lines d kept (why.TooManyWords k n) (inl start) = absurd start.2
-fails_by_lines j v a lines d kept (why.TooManyWords k n) (inr (inl line)) = absurd line.1
-fails_by_lines j v a lines d kept (why.TooManyWords k n) (inr (inr word)) = facts_kept lines j v a word.routine word.index word.fact (why.TooManyWords k n) d kept word.is word.wrong
-fails_by_lines j v a lines d kept (why.ByWord k w b) (inl start) = absurd start.2
-fails_by_lines j v a lines d kept (why.ByWord k w b) (inr (inl line)) = absurd line.1
-fails_by_lines j v a lines d kept (why.ByWord k w b) (inr (inr word)) = facts_kept lines j v a word.routine word.index word.fact (why.ByWord k w b) d kept word.is word.wrong
-fails_by_lines j v a lines d kept (why.AtStart l) h = refl
-fails_by_lines j v a lines d kept why.LineAtNoEntry h = refl
-fails_by_lines j v a lines d kept why.InNoBody h = refl
-fails_by_lines j v a lines d kept (why.OffsetInMain i o) h = refl
-fails_by_lines j v a lines d kept (why.SitesInMain i) h = refl
-fails_by_lines j v a lines d kept (why.NoOffset i e) h = refl
-fails_by_lines j v a lines d kept (why.NoSites i e) h = refl
-fails_by_lines j v a lines d kept (why.RoutineNotListed e) h = refl
+-- Where what is declared of returns holds by all exits of an entry, no exit is wrong.
+no_wrong_exit : (j : Case) (v : Condition) (a : ℕ) (reason : Reason) → (v ≡ V16 → ExitsAreHeld j a) → (v ≡ V16) × IsWrongExit j a reason → ⊥
+no_wrong_exit j v a reason held exit = exit_refutes j a reason exit.1 (held exit.0)
+
+-- A condition that is kept, of exits too, fails by lines alone.
+pub fails_by_lines : (j : Case) (v : Condition) (a : ℕ) (lines : Bool) → IsDeclared j.declaration → (v ≡ V16 → ExitsAreHeld j a) → KeptOrUnowned lines j v a → FailsByLinesAlone j a v
+fails_by_lines j v a lines d held kept (why.TooManyWords k n) (inl start) = absurd start.2
+fails_by_lines j v a lines d held kept (why.TooManyWords k n) (inr (inl line)) = absurd line.1
+fails_by_lines j v a lines d held kept (why.TooManyWords k n) (inr (inr (inr exit))) = absurd exit.1
+fails_by_lines j v a lines d held kept (why.TooManyWords k n) (inr (inr (inl word))) = facts_kept lines j v a word.routine word.index word.fact (why.TooManyWords k n) d kept word.is word.wrong
+fails_by_lines j v a lines d held kept (why.ByWord k w b) (inl start) = absurd start.2
+fails_by_lines j v a lines d held kept (why.ByWord k w b) (inr (inl line)) = absurd line.1
+fails_by_lines j v a lines d held kept (why.ByWord k w b) (inr (inr (inr exit))) = absurd exit.1
+fails_by_lines j v a lines d held kept (why.ByWord k w b) (inr (inr (inl word))) = facts_kept lines j v a word.routine word.index word.fact (why.ByWord k w b) d kept word.is word.wrong
+fails_by_lines j v a lines d held kept (why.AtStart l) h = refl
+fails_by_lines j v a lines d held kept why.LineAtNoEntry h = refl
+fails_by_lines j v a lines d held kept why.InNoBody h = refl
+fails_by_lines j v a lines d held kept (why.OffsetInMain i o) h = refl
+fails_by_lines j v a lines d held kept (why.SitesInMain i) h = refl
+fails_by_lines j v a lines d held kept (why.NoOffset i e) h = refl
+fails_by_lines j v a lines d held kept (why.NoSites i e) h = refl
+fails_by_lines j v a lines d held kept (why.RoutineNotListed e) h = refl
+fails_by_lines j v a lines d held kept (why.ExitDeniesAssertion o i s w) (inl start) = absurd start.2
+fails_by_lines j v a lines d held kept (why.ExitDeniesAssertion o i s w) (inr (inl line)) = absurd line.1
+fails_by_lines j v a lines d held kept (why.ExitDeniesAssertion o i s w) (inr (inr (inl word))) = absurd word.wrong
+fails_by_lines j v a lines d held kept (why.ExitDeniesAssertion o i s w) (inr (inr (inr exit))) = absurd (no_wrong_exit j v a (why.ExitDeniesAssertion o i s w) held exit)
 
 -- What is found where lines do not count is not of lines.
 pub not_of_lines : (b : Bool) → IsSought NotOfLines b → b ≡ false
 not_of_lines true h = sym h
 not_of_lines false h = refl
 
+-- A call does not break the condition on what is declared to hold.
+no_call : (b : CallBreach) → condition_of_call b ≡ V16 → ⊥
+no_call call.NoEntry e = cc
+no_call call.NotListed e = cc
+no_call (call.NotLower rank own) e = cc
+no_call (call.Writes c) e = cc
+no_call call.EntryNotWritten e = cc
+no_call call.WritesCaller e = cc
+no_call call.NoSite e = cc
+no_call call.TooHigh e = cc
+no_call (call.Enters l) e = cc
+no_call (call.Returns o i l) e = cc
+
+-- What breaks it is not of lines.
+held_breach : (b : Breach) → condition_of b ≡ V16 → is_word_of_lines b ≡ false
+held_breach (breach.WritesUnlisted c) e = absurd (sixth e)
+  where
+    sixth : V6 ≡ V16 → ⊥
+    sixth same = cc
+held_breach (breach.Calls x b) e = absurd (no_call b e)
+held_breach (breach.Returns x b) e = absurd (twelfth e)
+  where
+    twelfth : V12 ≡ V16 → ⊥
+    twelfth same = cc
+held_breach (breach.GoesOn x l) e = absurd (fourth e)
+  where
+    fourth : V4 ≡ V16 → ⊥
+    fourth same = cc
+held_breach _ e = refl
+
+held_word : (j : Case) (r : Routine) (a : ℕ) (f : Fact) (i : ℕ) (reason : Reason) → IsWrongWord j r a f i V16 reason → is_of_lines reason ≡ false
+held_word j r a f i (why.TooManyWords k n) wrong = refl
+held_word j r a f i (why.ByWord k w b) wrong = held_breach b wrong.3
+held_word j r a f i (why.ExitDeniesAssertion o k s w) wrong = refl
+held_word j r a f i (why.AtStart l) wrong = absurd wrong
+held_word j r a f i why.LineAtNoEntry wrong = absurd wrong
+held_word j r a f i why.InNoBody wrong = absurd wrong
+held_word j r a f i (why.OffsetInMain k o) wrong = absurd wrong
+held_word j r a f i (why.SitesInMain k) wrong = absurd wrong
+held_word j r a f i (why.NoOffset k e) wrong = absurd wrong
+held_word j r a f i (why.NoSites k e) wrong = absurd wrong
+held_word j r a f i (why.RoutineNotListed e) wrong = absurd wrong
+
+held_exit : (j : Case) (e : ℕ) (reason : Reason) → IsWrongExit j e reason → is_of_lines reason ≡ false
+held_exit j e (why.ExitDeniesAssertion o k s w) wrong = refl
+held_exit j e (why.TooManyWords k n) wrong = absurd wrong
+held_exit j e (why.ByWord k w b) wrong = absurd wrong
+held_exit j e (why.AtStart l) wrong = absurd wrong
+held_exit j e why.LineAtNoEntry wrong = absurd wrong
+held_exit j e why.InNoBody wrong = absurd wrong
+held_exit j e (why.OffsetInMain k o) wrong = absurd wrong
+held_exit j e (why.SitesInMain k) wrong = absurd wrong
+held_exit j e (why.NoOffset k x) wrong = absurd wrong
+held_exit j e (why.NoSites k x) wrong = absurd wrong
+held_exit j e (why.RoutineNotListed x) wrong = absurd wrong
+
+-- What is told of what need not hold is not of lines.
+pub not_held_of_lines : (j : Case) (a : ℕ) (reason : Reason) → HasWrongWord j V16 a reason ⊎ IsWrongExit j a reason → is_of_lines reason ≡ false
+not_held_of_lines j a reason (inl word) = held_word j word.routine a word.fact word.index reason word.wrong
+not_held_of_lines j a reason (inr exit) = held_exit j a reason exit
+
 -- ---- the order
 
 -- The conditions that are not asked are kept of each fact where lines do not count.
-others_kept : (j : Case) (r : Routine) (a : ℕ) (f : Fact) (u : Condition) → 11 ≤ place_asked u → WordsKeep false j u r a f
+others_kept : (j : Case) (r : Routine) (a : ℕ) (f : Fact) (u : Condition) → 12 ≤ place_asked u → WordsKeep false j u r a f
 others_kept j r a f V1 le = record { few = λ e. absurd (first_not_third e); each = λ w lt is. tt }
   where
     first_not_third : V1 ≡ V3 → ⊥
@@ -187,14 +273,20 @@ others_kept j r a f V8 le = record { few = λ e. absurd (eighth_not_third e); ea
     eighth_not_third e = cc
 others_kept j r a f _ le = absurd (omega (arith, le))
 
+-- The condition on what is declared to hold is asked.
+sixteenth_asked : (u : Condition) → 12 ≤ place_asked u → u ≡ V16 → ⊥
+sixteenth_asked u le is = (let less : place_asked u ≡ 11 = ap place_asked is in absurd (omega (arith, le, less)))
+
 -- So they fail by lines alone.
-others_fail : (j : Case) (a : ℕ) (u : Condition) → 11 ≤ place_asked u → FailsByLinesAlone j a u
+others_fail : (j : Case) (a : ℕ) (u : Condition) → 12 ≤ place_asked u → FailsByLinesAlone j a u
 others_fail j a u le (why.TooManyWords k n) (inl start) = absurd start.2
 others_fail j a u le (why.TooManyWords k n) (inr (inl line)) = absurd line.1
-others_fail j a u le (why.TooManyWords k n) (inr (inr word)) = fact_kept false j u a word.routine word.index word.fact (why.TooManyWords k n) (others_kept j word.routine a word.fact u le) word.wrong
+others_fail j a u le (why.TooManyWords k n) (inr (inr (inr exit))) = absurd exit.1
+others_fail j a u le (why.TooManyWords k n) (inr (inr (inl word))) = fact_kept false j u a word.routine word.index word.fact (why.TooManyWords k n) (others_kept j word.routine a word.fact u le) word.wrong
 others_fail j a u le (why.ByWord k w b) (inl start) = absurd start.2
 others_fail j a u le (why.ByWord k w b) (inr (inl line)) = absurd line.1
-others_fail j a u le (why.ByWord k w b) (inr (inr word)) = fact_kept false j u a word.routine word.index word.fact (why.ByWord k w b) (others_kept j word.routine a word.fact u le) word.wrong
+others_fail j a u le (why.ByWord k w b) (inr (inr (inr exit))) = absurd exit.1
+others_fail j a u le (why.ByWord k w b) (inr (inr (inl word))) = fact_kept false j u a word.routine word.index word.fact (why.ByWord k w b) (others_kept j word.routine a word.fact u le) word.wrong
 others_fail j a u le (why.AtStart l) h = refl
 others_fail j a u le why.LineAtNoEntry h = refl
 others_fail j a u le why.InNoBody h = refl
@@ -203,6 +295,10 @@ others_fail j a u le (why.SitesInMain i) h = refl
 others_fail j a u le (why.NoOffset i e) h = refl
 others_fail j a u le (why.NoSites i e) h = refl
 others_fail j a u le (why.RoutineNotListed e) h = refl
+others_fail j a u le (why.ExitDeniesAssertion o i s w) (inl start) = absurd start.2
+others_fail j a u le (why.ExitDeniesAssertion o i s w) (inr (inl line)) = absurd line.1
+others_fail j a u le (why.ExitDeniesAssertion o i s w) (inr (inr (inl word))) = absurd word.wrong
+others_fail j a u le (why.ExitDeniesAssertion o i s w) (inr (inr (inr exit))) = absurd (sixteenth_asked u le exit.0)
 
 -- The places of a list are counted up from n.
 Counted : ℕ → List Condition → Type 0
@@ -217,7 +313,7 @@ counted_at (u ∷ us) n (suc i) h lt = let there : place_asked (get_or us i V1) 
 
 order_is_counted : Counted 0 ORDER
 unfolding Counted
-order_is_counted = (refl, (refl, (refl, (refl, (refl, (refl, (refl, (refl, (refl, (refl, (refl, tt)))))))))))
+order_is_counted = (refl, (refl, (refl, (refl, (refl, (refl, (refl, (refl, (refl, (refl, (refl, (refl, tt))))))))))))
 
 -- ---- the turns
 
@@ -226,11 +322,11 @@ abbrev pub in_turn : ℕ → Condition
 in_turn i = get_or ORDER i V1
 
 -- Its place is the turn's number,
-place_in_turn : (i : ℕ) → i < 11 → place_asked (in_turn i) ≡ i
+place_in_turn : (i : ℕ) → i < 12 → place_asked (in_turn i) ≡ i
 place_in_turn i lt = let here : place_asked (in_turn i) ≡ 0 + i = counted_at ORDER 0 i order_is_counted lt in omega (arith, here)
 
--- and each condition that has its place among the first eleven is asked in that turn.
-asked_in_turn : (u : Condition) → place_asked u < 11 → in_turn (place_asked u) ≡ u
+-- and each condition that has its place among the first twelve is asked in that turn.
+asked_in_turn : (u : Condition) → place_asked u < 12 → in_turn (place_asked u) ≡ u
 asked_in_turn V1 lt = absurd (omega (arith, lt))
 asked_in_turn V2 lt = absurd (omega (arith, lt))
 asked_in_turn V6 lt = absurd (omega (arith, lt))
@@ -241,18 +337,18 @@ asked_in_turn _ lt = refl
 abbrev pub Passed : Case → ℕ → ℕ → Type 0
 Passed j a i = (u : Condition) → place_asked u < i → FailsByLinesAlone j a u
 
-pub passed_one : (j : Case) (a i : ℕ) → i < 11 → FailsByLinesAlone j a (in_turn i) → Passed j a i → Passed j a (i + 1)
+pub passed_one : (j : Case) (a i : ℕ) → i < 12 → FailsByLinesAlone j a (in_turn i) → Passed j a i → Passed j a (i + 1)
 passed_one j a i lt fails passed u less = elim (cases_lt (place_asked u) i) [
   | inl h ↦ passed u h
   | inr h ↦ (let here : i ≡ place_asked u = omega (arith, h, less) in
       subst (FailsByLinesAlone j a) (ap in_turn here ∙ asked_in_turn u (omega (arith, here, lt))) fails)
 ]
 
-pub passed_all : (j : Case) (a i : ℕ) → 11 ≤ i → Passed j a i → EachFailsByLinesAlone j a
-passed_all j a i le passed u = elim (cases_lt (place_asked u) 11) [
+pub passed_all : (j : Case) (a i : ℕ) → 12 ≤ i → Passed j a i → EachFailsByLinesAlone j a
+passed_all j a i le passed u = elim (cases_lt (place_asked u) 12) [
   | inl h ↦ passed u (omega (arith, h, le))
   | inr h ↦ others_fail j a u h
 ]
 
-pub none_before : (j : Case) (a i : ℕ) → i < 11 → Passed j a i → NoneFailsBefore j a (in_turn i)
+pub none_before : (j : Case) (a i : ℕ) → i < 12 → Passed j a i → NoneFailsBefore j a (in_turn i)
 none_before j a i lt passed u less = passed u (let here : place_asked (in_turn i) ≡ i = place_in_turn i lt in omega (arith, here, less))

@@ -1,5 +1,5 @@
 -- That a reason is found where a condition fails.
-use Rattle.std.proofs.Common.{◌≡◌, ℕ, ◌<◌, ◌≤◌, Bool, true, false, ◌&&◌, ◌⊎◌, Option, Some, None, List, [], ◌∷◌, inl, inr, refl, sym, ap, ◌∙◌, subst, arith, if◌then◌else◌, lit≤}
+use Rattle.std.proofs.Common.{◌≡◌, ℕ, ◌<◌, ◌≤◌, Bool, true, false, ◌&&◌, ◌||◌, ◌⊎◌, Option, Some, None, List, [], ◌∷◌, inl, inr, refl, sym, ap, ◌∙◌, subst, arith, if◌then◌else◌, lit≤}
 use Rattle.std.specs.Prelude.{IfNone, is_some}
 use Rattle.std.proofs.lemmas.Bool.{true≢false}
 use Rattle.instruct.specs.Instructions.{Meaning, Jms, Jmp, meaning_of}
@@ -8,19 +8,19 @@ use Rattle.declaration.specs.Declaration.{Routine, IsDeclared, IsListed}
 use Rattle.domain.specs.Facts.{Fact}
 use Rattle.facts.specs.Instructions.{calls_through_index, returned_through}
 use Rattle.facts.specs.Conditions.{called}
-use Rattle.facts.specs.Operations.{outcomes_of}
-use Rattle.facts.specs.Outcomes.{Successor, Goes, CallsTo, Returns}
+use Rattle.transfer.specs.Operations.{outcomes_of}
+use Rattle.transfer.specs.Outcomes.{Successor, Goes, CallsTo, Returns}
 use Rattle.facts.specs.declared.Condition.{Condition}
-use Rattle.facts.specs.declared.Condition.TheVariants.{V1, V2, V3, V4, V5, V6, V7, V8, V9, V10, V11, V12, V13, V14, V15}
-use Rattle.certificate.specs.Certificate.{Certificate}
+use Rattle.facts.specs.declared.Condition.TheVariants.{V1, V2, V3, V4, V5, V6, V7, V8, V9, V10, V11, V12, V13, V14, V15, V16}
+use Rattle.certificate_lines.specs.Certificate.{Certificate, has_exits}
 use Rattle.judge.specs.FewWords.{asks_few}
 use Rattle.judge.specs.ConditionOrder.{order, place_among}
-use Rattle.judge.specs.Asked.{HoldsOfFact, asked_of}
-use Rattle.judge.specs.Conditions.{EachFact, EachTarget, HoldsAt, HoldsFor, IsAskedAs, IsFirst, IsLower, IsPlaced, KeepsPointer, LinesArePlaced, ReturnsWell}
-use Rattle.judge.specs.Landing.{Case, EachLandsAfter, EachSuccessor, SuccessorLands, exits_of, place_in}
+use Rattle.judge.specs.Asked.{HoldsOfFact, RoutinesArePlaced, asked_of}
+use Rattle.judge.specs.Conditions.{EachFact, EachTarget, ExitsAreHeld, HoldsAt, HoldsFor, IsAskedAs, IsFirst, IsLower, IsPlaced, KeepsPointer, LinesArePlaced, ReturnsWell}
+use Rattle.judge.specs.Landing.{Case, EachLandsAfter, EachSuccessor, LandsBeyond, SuccessorLands, abandons, exits_of, place_in}
 use Rattle.judge.proofs.AskedLemmas.{holds_at, none_hold}
 use Rattle.judge.proofs.OrderLemmas.{IsLater, order_of, start_or_later}
-use Rattle.reasons.specs.Keeping.{EachArrivesWith, FactsKeep, IsLowerIfListed, Keeps, KeptOrUnowned, OutcomeArrives, ReturnsThrough, WordsKeep}
+use Rattle.reasons.specs.Keeping.{ArrivesBeyond, EachArrivesWith, FactsKeep, IsLowerIfListed, Keeps, KeptOrUnowned, OutcomeArrives, ReturnsThrough, WordsKeep}
 use Rattle.reasons.specs.declared.reason.Reason.{Reason}
 
 -- What holds where nothing is found.
@@ -62,14 +62,18 @@ keeps_pointer : (m : Meaning) → calls_through_index m ≡ false → KeepsPoint
 keeps_pointer (Jms i c) e = e
 keeps_pointer _ e = tt
 
-successor_lands : (j : Case) (r : Routine) (o : Successor) → OutcomeArrives true j r o → SuccessorLands j r o
-successor_lands j r (Goes next f) h = h
-successor_lands j r (CallsTo next f) h = tt
-successor_lands j r (Returns f) h = tt
+lands_beyond : (b : Bool) (j : Case) (r : Routine) (a : ℕ) (f : Fact) → ArrivesBeyond b true j r a f → LandsBeyond b j r a f
+lands_beyond true j r a f h = h
+lands_beyond false j r a f h = h
 
-outcomes_land : (j : Case) (r : Routine) (os : List Successor) → EachSuccessor (OutcomeArrives true j r) os → EachSuccessor (SuccessorLands j r) os
-outcomes_land j r [] h = tt
-outcomes_land j r (o ∷ os) h = (successor_lands j r o h.0, outcomes_land j r os h.1)
+successor_lands : (j : Case) (r : Routine) (m : Meaning) (o : Successor) → OutcomeArrives true j r (abandons j.declaration r m) o → SuccessorLands j r m o
+successor_lands j r m (Goes next f) h = λ a lt is. lands_beyond (abandons j.declaration r m a) j r a f (h a lt is)
+successor_lands j r m (CallsTo next f) h = tt
+successor_lands j r m (Returns f) h = tt
+
+outcomes_land : (j : Case) (r : Routine) (m : Meaning) (os : List Successor) → EachSuccessor (OutcomeArrives true j r (abandons j.declaration r m)) os → EachSuccessor (SuccessorLands j r m) os
+outcomes_land j r m [] h = tt
+outcomes_land j r m (o ∷ os) h = (successor_lands j r m o h.0, outcomes_land j r m os h.1)
 
 each_lands_after : (j : Case) (r : Routine) (a e o : ℕ) (f : Fact) (xs : List Fact) → EachArrivesWith true j r a (j.certificate.writes e) o f xs → EachLandsAfter j r a e o f xs
 each_lands_after j r a e o f [] h = tt
@@ -83,7 +87,7 @@ through_own false x c p q = absurd (true≢false (sym p))
 returns_well : (j : Case) (r : Routine) (f : Fact) (m : Meaning) → ((e : ℕ) → returned_through j.declaration m ≡ Some e → ReturnsThrough true j r f e) → ReturnsWell j r f m
 returns_well j r f (Jmp i c) h = λ is entry. (let by = h c (through_own i (j.declaration.entry c) c is entry) in (
   by.own,
-  λ o lt has. (let one = by.each o lt has in (one.small, one.declared, one.exit refl)),
+  λ o lt has. (let one = by.each o lt has in (one.declared, one.exit refl)),
 ))
 returns_well j r f _ h = tt
 
@@ -108,7 +112,7 @@ keeps_holds : (j : Case) (r : Routine) (a : ℕ) (f : Fact) (v : Condition) (m :
 keeps_holds j r a f V1 m own h = tt
 keeps_holds j r a f V2 m own h = tt
 keeps_holds j r a f V3 m own h = h
-keeps_holds j r a f V4 m own h = outcomes_land j r (outcomes_of (place_in j r) f a m) h
+keeps_holds j r a f V4 m own h = outcomes_land j r m (outcomes_of (place_in j r) f a m) h
 keeps_holds j r a f V5 m own h = h
 keeps_holds j r a f V6 m own h = h refl
 keeps_holds j r a f V7 m own h = (
@@ -123,6 +127,7 @@ keeps_holds j r a f V12 m own h = returns_well j r f m h
 keeps_holds j r a f V13 m own h = h
 keeps_holds j r a f V14 m own h = h
 keeps_holds j r a f V15 m own h = h
+keeps_holds j r a f V16 m own h = h
 
 few_is_third : (v : Condition) → asks_few v ≡ true → v ≡ V3
 few_is_third V3 e = refl
@@ -139,29 +144,37 @@ each_holds j r a v [] own kept = tt
 each_holds j r a v (f ∷ fs) own kept = (fact_holds j r a v f own kept.0, each_holds j r a v fs own kept.1)
 
 -- A condition on words holds of facts that are placed where it is kept of them.
-facts_hold : (j : Case) (r : Routine) (a : ℕ) (v : Condition) (fs : List Fact) → IsDeclared j.declaration → j.declaration.body r a ≡ true → 2 ≤ place_among v → fs ≡ j.certificate.facts a → EachFact (IsPlaced j a) fs → FactsKeep true j v r a fs → HoldsAt j v a
-facts_hold j r a v [] d here le same placed kept = none_hold j v a le (sym same)
-facts_hold j r a v (f ∷ fs) d here le same placed kept =
-    (holds_at j v r a le d here).0 (subst (λ xs. EachFact (HoldsOfFact j v r a) (asked_of j r xs)) same
+facts_hold : (j : Case) (r : Routine) (a : ℕ) (v : Condition) (fs : List Fact) → IsDeclared j.declaration → RoutinesArePlaced j a → j.declaration.body r a ≡ true → 2 ≤ place_among v → fs ≡ j.certificate.facts a → EachFact (IsPlaced j a) fs → (v ≡ V16 → ExitsAreHeld j a) → FactsKeep true j v r a fs → HoldsAt j v a
+facts_hold j r a v [] d lines here le same placed exits kept = none_hold j v a le (sym same) exits
+facts_hold j r a v (f ∷ fs) d lines here le same placed exits kept =
+    (holds_at j v r a le d lines here).0 (subst (λ xs. EachFact (HoldsOfFact j v r a) (asked_of j r xs)) same
     (each_holds j r a v (asked_of j r (f ∷ fs)) (own_listed j r a f d here placed.0) kept))
 
+-- Where the lines at an address are placed, those of routines and exits are at an entry.
+lines_placed : (j : Case) (a : ℕ) → LinesArePlaced j a → RoutinesArePlaced j a
+lines_placed j a placed is = either (j.certificate.listed a) (has_exits j.certificate a) is placed.routine placed.exits
+  where
+    either : (listed exits : Bool) → (listed || exits) ≡ true → (listed ≡ true → j.declaration.entry a ≡ true) → (exits ≡ true → j.declaration.entry a ≡ true) → j.declaration.entry a ≡ true
+    either true exits h one other = one refl
+    either false exits h one other = other h
+
 -- Where the address is in no body and its facts are placed, there are none.
-unowned_hold : (j : Case) (a : ℕ) (v : Condition) (fs : List Fact) → ((r : Routine) → j.declaration.body r a ≡ false) → 2 ≤ place_among v → fs ≡ j.certificate.facts a → EachFact (IsPlaced j a) fs → HoldsAt j v a
-unowned_hold j a v [] none le same placed = none_hold j v a le (sym same)
-unowned_hold j a v (f ∷ fs) none le same placed = elim placed.0 [
+unowned_hold : (j : Case) (a : ℕ) (v : Condition) (fs : List Fact) → ((r : Routine) → j.declaration.body r a ≡ false) → 2 ≤ place_among v → fs ≡ j.certificate.facts a → EachFact (IsPlaced j a) fs → (v ≡ V16 → ExitsAreHeld j a) → HoldsAt j v a
+unowned_hold j a v [] none le same placed exits = none_hold j v a le (sym same) exits
+unowned_hold j a v (f ∷ fs) none le same placed exits = elim placed.0 [
   | inl main ↦ absurd (true≢false (sym main.0 ∙ none None))
   | inr own ↦ absurd (true≢false (sym own.1 ∙ none (Some own.0)))
 ]
 
 -- A condition on words holds where it is kept, and the lines are placed.
-holds_kept : (j : Case) (v : Condition) (a : ℕ) → IsDeclared j.declaration → 2 ≤ place_among v → LinesArePlaced j a → KeptOrUnowned true j v a → HoldsAt j v a
-holds_kept j v a d le placed (inl here) = facts_hold j here.0 a v (j.certificate.facts a) d here.1 le refl placed.facts here.2
-holds_kept j v a d le placed (inr none) = unowned_hold j a v (j.certificate.facts a) none le refl placed.facts
+holds_kept : (j : Case) (v : Condition) (a : ℕ) → IsDeclared j.declaration → 2 ≤ place_among v → LinesArePlaced j a → (v ≡ V16 → ExitsAreHeld j a) → KeptOrUnowned true j v a → HoldsAt j v a
+holds_kept j v a d le placed exits (inl here) = facts_hold j here.0 a v (j.certificate.facts a) d (lines_placed j a placed) here.1 le refl placed.facts exits here.2
+holds_kept j v a d le placed exits (inr none) = unowned_hold j a v (j.certificate.facts a) none le refl placed.facts exits
 
 -- A reason is found where the first condition that fails is one on words, or the one on lines, or that on the start.
-pub found_of_words : (j : Case) (v : Condition) (a : ℕ) (r : Option Reason) → IsDeclared j.declaration → 2 ≤ place_among v → IfNone r (KeptOrUnowned true j v a) → IsFirst j v a → is_some r ≡ true
-found_of_words j v a (Some x) d le none first = refl
-found_of_words j v a None d le none first = absurd (first.fails (holds_kept j v a d le placed none))
+found_of_kept : (j : Case) (v : Condition) (a : ℕ) (r : Option Reason) → IsDeclared j.declaration → 2 ≤ place_among v → (v ≡ V16 → IfNone r (ExitsAreHeld j a)) → IfNone r (KeptOrUnowned true j v a) → IsFirst j v a → is_some r ≡ true
+found_of_kept j v a (Some x) d le exits none first = refl
+found_of_kept j v a None d le exits none first = absurd (first.fails (holds_kept j v a d le placed exits none))
   where
     later : IsLater v
     later = elim (start_or_later v) [ inl e ↦ absurd (let q : place_among v ≡ 0 = ap place_among e in omega arith) | inr l ↦ l ]
@@ -170,6 +183,15 @@ found_of_words j v a None d le none first = absurd (first.fails (holds_kept j v 
     placed =
         let less : order V2 a < order v a = subst (λ n. order V2 a < n) (sym (order_of v a later)) (omega arith) in
         first.before V2 a (subst (λ b. IsAskedAs b j a) later.later first.asked) less
+
+-- So it is of each condition but the one on what is to hold.
+pub found_of_words : (j : Case) (v : Condition) (a : ℕ) (r : Option Reason) → IsDeclared j.declaration → 2 ≤ place_among v → (v ≡ V16 → ⊥) → IfNone r (KeptOrUnowned true j v a) → IsFirst j v a → is_some r ≡ true
+found_of_words j v a r d le other none first = found_of_kept j v a r d le (λ is. absurd (other is)) none first
+
+-- And of that one, which is asked of exits too.
+pub found_of_held : (j : Case) (a : ℕ) (r : Option Reason) → IsDeclared j.declaration → IfNone r (KeptOrUnowned true j V16 a × ExitsAreHeld j a) → IsFirst j V16 a → is_some r ≡ true
+found_of_held j a r d none first =
+    found_of_kept j V16 a r d (lit≤ tt) (λ is. none_weaker r _ _ (λ h. h.1) none) (none_weaker r _ _ (λ h. h.0) none) first
 
 pub found_of_start : (j : Case) (a : ℕ) (r : Option Reason) → IfNone r (a ≡ j.declaration.start → HoldsAt j V1 a) → IsFirst j V1 a → is_some r ≡ true
 found_of_start j a (Some x) none first = refl

@@ -9,17 +9,17 @@ use Rattle.policy.specs.Rules.{IsSupported, HaltsDeclared}
 use Rattle.domain.specs.Facts.{Fact, last_site}
 use Rattle.domain.specs.Moves.{joined}
 use Rattle.facts.specs.Instructions.{calls_through_index, returned_through}
-use Rattle.facts.specs.Conditions.{WritesAreDeclared, WritesAreListed, EntriesAreKept, ReadsAreListed, called}
+use Rattle.facts.specs.Conditions.{WritesAreDeclared, WritesAreListed, EntriesAreKept, ReadsAreListed, EachIsHeld, called}
 use Rattle.facts.specs.Entailment.{IsIdle}
-use Rattle.facts.specs.Operations.{outcomes_of}
-use Rattle.facts.specs.Outcomes.{Successor, Goes, CallsTo, Returns}
-use Rattle.facts.specs.References.{possible}
+use Rattle.transfer.specs.Operations.{outcomes_of}
+use Rattle.transfer.specs.Outcomes.{Successor, Goes, CallsTo, Returns}
+use Rattle.transfer.specs.References.{possible}
 use Rattle.facts.specs.declared.Condition.{Condition}
-use Rattle.facts.specs.declared.Condition.TheVariants.{V3, V4, V5, V6, V7, V8, V9, V10, V11, V12, V13, V14, V15}
-use Rattle.certificate.specs.Certificate.{Certificate, writes_of}
+use Rattle.facts.specs.declared.Condition.TheVariants.{V3, V4, V5, V6, V7, V8, V9, V10, V11, V12, V13, V14, V15, V16}
+use Rattle.certificate_lines.specs.Certificate.{Certificate, writes_of}
 use Rattle.judge.specs.Asked.{asked_of}
 use Rattle.judge.specs.Conditions.{CoversCallee, EachFact}
-use Rattle.judge.specs.Landing.{Case, place_in, exits_of, sites_of, called_from, LandsAt, LandsAtExit, EachSuccessor}
+use Rattle.judge.specs.Landing.{Case, place_in, exits_of, sites_of, called_from, LandsAt, LandsAtExit, EachSuccessor, abandons, as_main}
 use Rattle.judge.specs.Points.{case_of, fact_asked}
 use Rattle.judge.specs.declared.body.Body.{Body}
 use Rattle.judge.specs.declared.point.Point.{Point}
@@ -30,11 +30,17 @@ abbrev pub Arrives : Bool → Case → Routine → ℕ → Fact → Type 0
 Arrives true j r a f = LandsAt j r a f
 Arrives false j r a f = IsIdle j.certificate.rules (place_in j r) f ⊎ (j.declaration.body r a ≡ true)
 
--- Where the run goes on after an outcome, it arrives.
-abbrev pub OutcomeArrives : Bool → Case → Routine → Successor → Type 0
-OutcomeArrives lines j r (Goes next f) = (a : ℕ) → a < 4096 → next a ≡ true → Arrives lines j r a f
-OutcomeArrives lines j r (CallsTo next f) = Unit {0}
-OutcomeArrives lines j r (Returns f) = Unit {0}
+-- The fact arrives at the address: in main's body as one of main's, where calls are abandoned for it; else in the same body.
+abbrev pub ArrivesBeyond : Bool → Bool → Case → Routine → ℕ → Fact → Type 0
+ArrivesBeyond true lines j r a f = Arrives lines j None a (as_main f)
+ArrivesBeyond false lines j r a f = Arrives lines j r a f
+
+-- Where the run goes on after an outcome, it arrives; these are the addresses for which all calls are abandoned.
+abbrev pub OutcomeArrives : Bool → Case → Routine → Words → Successor → Type 0
+OutcomeArrives lines j r beyond (Goes next f) =
+    (a : ℕ) → a < 4096 → next a ≡ true → ArrivesBeyond (beyond a) lines j r a f
+OutcomeArrives lines j r beyond (CallsTo next f) = Unit {0}
+OutcomeArrives lines j r beyond (Returns f) = Unit {0}
 
 -- Where both are listed, the callee's rank is lower than that of the routine that calls it; main may call any.
 abbrev pub IsLowerIfListed : Certificate → Routine → ℕ → Type 0
@@ -79,9 +85,8 @@ KeepsCall lines j r a f _ e = Unit {0}
 abbrev pub KeepsCalls : Bool → Case → Routine → ℕ → Fact → Condition → Meaning → Type 0
 KeepsCalls lines j r a f v m = (e : ℕ) → e < 4096 → called (place_in j r) f m e ≡ true → KeepsCall lines j r a f v e
 
--- The offset is one that a declaration can list, it is declared, and the fact lands among the exits for it.
+-- The offset is declared, and the fact lands among the exits for it.
 pub record ReturnsAsDeclared (lines : Bool) (j : Case) (e : ℕ) (f : Fact) (o : ℕ) : Type 0 where
-  pub small : o < 8
   pub declared : j.declaration.offset e o ≡ true
   pub exit : lines ≡ true → LandsAtExit j e o f
 
@@ -97,7 +102,7 @@ pub record ReturnsThrough (lines : Bool) (j : Case) (r : Routine) (f : Fact) (e 
 -- A word of this meaning keeps the condition.
 abbrev pub Keeps : Bool → Case → Routine → ℕ → Fact → Condition → Meaning → Type 0
 Keeps lines j r a f V3 m = IsSupported m
-Keeps lines j r a f V4 m = EachSuccessor (OutcomeArrives lines j r) (outcomes_of (place_in j r) f a m)
+Keeps lines j r a f V4 m = EachSuccessor (OutcomeArrives lines j r (abandons j.declaration r m)) (outcomes_of (place_in j r) f a m)
 Keeps lines j r a f V5 m = WritesAreDeclared (place_in j r) f m
 Keeps lines j r a f V6 m = lines ≡ true → WritesAreListed (place_in j r) (writes_of j.certificate r) f m
 Keeps lines j r a f V7 m = (calls_through_index m ≡ false) × KeepsCalls lines j r a f V7 m
@@ -109,6 +114,7 @@ Keeps lines j r a f V12 m = (e : ℕ) → returned_through j.declaration m ≡ S
 Keeps lines j r a f V13 m = HaltsDeclared j.declaration m a
 Keeps lines j r a f V14 m = EntriesAreKept (place_in j r) f m
 Keeps lines j r a f V15 m = ReadsAreListed (place_in j r) f m
+Keeps lines j r a f V16 m = EachIsHeld (place_in j r) f a j.declaration.holds
 Keeps lines j r a f _ m = Unit {0}
 
 -- Each word that is possible by the fact keeps the condition.
@@ -137,19 +143,19 @@ pub record IsClaimedOf (c : Certificate) (b : Body) : Type 0 where
   pub writes : words b.claim.writes ≡ writes_of c b.routine
 
 -- The same at a fact of which it is asked.
-abbrev pub KeepsCallHere : {A C : Type 0} → Bool → (C → Certificate) → Point A C → Condition → ℕ → Type 0
+abbrev pub KeepsCallHere : {A C : Type 0} → Bool → (C → Certificate) → Point A C 132 68 → Condition → ℕ → Type 0
 KeepsCallHere lines claims s v e = KeepsCall lines (case_of claims s) s.place.routine s.at (fact_asked s) v e
 
-abbrev pub KeepsCallsHere : {A C : Type 0} → Bool → (C → Certificate) → Point A C → Condition → ℕ → Type 0
+abbrev pub KeepsCallsHere : {A C : Type 0} → Bool → (C → Certificate) → Point A C 132 68 → Condition → ℕ → Type 0
 KeepsCallsHere lines claims s v w =
     KeepsCalls lines (case_of claims s) s.place.routine s.at (fact_asked s) v (meaning_of (case_of claims s).declaration.profile s.at w)
 
-abbrev pub KeepsHere : {A C : Type 0} → Bool → (C → Certificate) → Point A C → Condition → ℕ → Type 0
+abbrev pub KeepsHere : {A C : Type 0} → Bool → (C → Certificate) → Point A C 132 68 → Condition → ℕ → Type 0
 KeepsHere lines claims s v w =
     Keeps lines (case_of claims s) s.place.routine s.at (fact_asked s) v (meaning_of (case_of claims s).declaration.profile s.at w)
 
-abbrev pub EachKeepsHere : {A C : Type 0} → Bool → (C → Certificate) → Point A C → Condition → Type 0
+abbrev pub EachKeepsHere : {A C : Type 0} → Bool → (C → Certificate) → Point A C 132 68 → Condition → Type 0
 EachKeepsHere lines claims s v = EachKeeps lines (case_of claims s) v s.place.routine s.at (fact_asked s)
 
-abbrev pub WordsKeepHere : {A C : Type 0} → Bool → (C → Certificate) → Point A C → Condition → Type 0
+abbrev pub WordsKeepHere : {A C : Type 0} → Bool → (C → Certificate) → Point A C 132 68 → Condition → Type 0
 WordsKeepHere lines claims s v = WordsKeep lines (case_of claims s) v s.place.routine s.at (fact_asked s)

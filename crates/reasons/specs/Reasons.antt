@@ -1,16 +1,18 @@
 -- Why a condition fails at an address, of a certificate of which several facts may stand there.
-use Rattle.std.specs.Prelude.{◌≡◌, ℕ, ◌<◌, true, false, ◌⊎◌, None, Some, [], ◌∷◌, length}
+use Rattle.std.specs.Prelude.{◌≡◌, ℕ, ◌<◌, true, false, ◌⊎◌, None, Some, List, [], ◌∷◌, length}
 use Rattle.wordset.specs.Words.{has_some, how_many, some_below}
 use Rattle.instruct.specs.Instructions.{meaning_of}
-use Rattle.declaration.specs.Declaration.{Routine}
-use Rattle.domain.specs.Facts.{Fact, OfSums}
+use Rattle.declaration.specs.Declaration.{Routine, ReturnAssertion}
+use Rattle.declaration.specs.declared.Subject.{Subject}
+use Rattle.domain.specs.Facts.{Fact, Place, OfSums}
+use Rattle.facts.specs.Conditions.{IsDenied}
 use Rattle.facts.specs.Landing.{fact_at}
-use Rattle.facts.specs.References.{possible}
+use Rattle.transfer.specs.References.{possible}
 use Rattle.facts.specs.Starts.{start_fact}
 use Rattle.facts.specs.declared.Condition.{Condition}
-use Rattle.facts.specs.declared.Condition.TheVariants.{V1, V2, V3}
-use Rattle.certificate.specs.Certificate.{names_routine}
-use Rattle.judge.specs.Landing.{Case, place_in, sited, sites_of, asked}
+use Rattle.facts.specs.declared.Condition.TheVariants.{V1, V2, V3, V16}
+use Rattle.certificate_lines.specs.Certificate.{names_routine}
+use Rattle.judge.specs.Landing.{Case, place_in, sited, sites_of, asked, exits_of}
 use Rattle.reasons.specs.Landing.{Misses}
 use Rattle.reasons.specs.Breaches.{Breaks, condition_of}
 use Rattle.reasons.specs.declared.reason.Reason.{Reason}
@@ -66,8 +68,29 @@ pub record HasWrongWord (j : Case) (v : Condition) (a : ℕ) (reason : Reason) :
   pub is : IsAskedFact j routine a index fact
   pub wrong : IsWrongWord j routine a fact index v reason
 
+-- One of the assertions on returns of the routine by this offset is on this subject, which may have this word, and the word is not
+-- asserted.
+abbrev pub SomeReturnDenied : Place → Fact → ℕ → ℕ → Subject → ℕ → List ReturnAssertion → Type 0
+SomeReturnDenied pl x e o s w [] = ⊥
+SomeReturnDenied pl x e o s w (r ∷ rs) =
+    ((r.entry ≡ e) × (r.offsets o ≡ true) × (r.assertion.subject ≡ s) × IsDenied pl x r.assertion w) ⊎
+    SomeReturnDenied pl x e o s w rs
+
+-- The condition is asked of this exit of the routine of an entry, which is what the claimed exit at this place among those for the
+-- offset says.
+pub record IsAskedExit (j : Case) (e o i : ℕ) (x : Fact) : Type 0 where
+  pub offset : o < 64
+  pub there : i < length (exits_of j e o)
+  pub asked_is : asked j.certificate.rules j.image (fact_at (exits_of j e o) i ∷ []) ≡ x ∷ []
+
+-- By an exit of the routine of the entry what is to hold when it returns need not hold.
+abbrev pub IsWrongExit : Case → ℕ → Reason → Type 0
+IsWrongExit j e (why.ExitDeniesAssertion o i s w) =
+    (x : Fact) × IsAskedExit j e o i x × SomeReturnDenied (place_in j (Some e)) x e o s w j.declaration.returns
+IsWrongExit j e _ = ⊥
+
 -- The condition fails at the address, since this is so.
 abbrev pub Explains : Case → Condition → ℕ → Reason → Type 0
 Explains j v a reason =
     ((v ≡ V1) × (a ≡ j.declaration.start) × IsWrongStart j a reason) ⊎
-    (((v ≡ V2) × IsMisplaced j a reason) ⊎ HasWrongWord j v a reason)
+    (((v ≡ V2) × IsMisplaced j a reason) ⊎ (HasWrongWord j v a reason ⊎ ((v ≡ V16) × IsWrongExit j a reason)))

@@ -1,7 +1,7 @@
 -- What is told of an address at which a search is stuck.
 use Rattle.std.specs.Prelude.{◌≡◌, ◌<◌, ℕ, Bool, true, false}
 use Rattle.facts.specs.declared.Condition.{Condition}
-use Rattle.facts.specs.declared.Condition.TheVariants.{V3, V4, V5, V7, V9, V10, V11, V12, V13, V14, V15}
+use Rattle.facts.specs.declared.Condition.TheVariants.{V3, V4, V5, V7, V9, V10, V11, V12, V13, V14, V15, V16}
 use Rattle.judge.specs.Landing.{Case}
 use Rattle.judge.specs.declared.judging.Refusal.{Refusal}
 use Rattle.reasons.specs.Reasons.{Explains}
@@ -45,11 +45,12 @@ is_word_of_lines (breach.Returns e b) = is_return_of_lines b
 is_word_of_lines (breach.GoesOn a l) = is_landing_of_lines l
 is_word_of_lines _ = false
 
--- What is told is of lines: that one is missing, misplaced or too narrow, or lets too much be written, so that a certificate
--- with other lines need not have it.
+-- What is told is of lines: that one is missing, misplaced or too narrow, or lets too much be written, so that the draft with more
+-- lines, or with wider ones, need not have it.
 abbrev pub is_of_lines : Reason → Bool
 is_of_lines (why.TooManyWords i n) = false
 is_of_lines (why.ByWord i w b) = is_word_of_lines b
+is_of_lines (why.ExitDeniesAssertion o i s w) = false
 is_of_lines _ = true
 
 -- It is told of the address at which the search is stuck, and is not of lines.
@@ -61,8 +62,8 @@ abbrev pub FailsByLinesAlone : Case → ℕ → Condition → Type 0
 FailsByLinesAlone j a v = (reason : Reason) → Explains j v a reason → is_of_lines reason ≡ true
 
 -- The place of a condition in the order in which they are asked at the address where a search is stuck: first those that a
--- word breaks by itself, then those on calls and returns, then those on where a run goes on. V1, V2, V6 and V8, which stand
--- last, are not asked: they fail by lines alone.
+-- word breaks by itself, then those on calls and returns, then those on where a run goes on, and then what is declared to hold. V1,
+-- V2, V6 and V8, which stand last, are not asked: they fail by lines alone.
 abbrev pub place_asked : Condition → ℕ
 place_asked V3 = 0
 place_asked V5 = 1
@@ -75,7 +76,8 @@ place_asked V12 = 7
 place_asked V4 = 8
 place_asked V10 = 9
 place_asked V11 = 10
-place_asked _ = 11
+place_asked V16 = 11
+place_asked _ = 12
 
 -- No condition that has its place before that of v fails at the address but by lines alone.
 abbrev pub NoneFailsBefore : Case → ℕ → Condition → Type 0

@@ -17,7 +17,7 @@ use crate::rooms::WordRooms;
 use crate::sought::Sought;
 use domain::Rules;
 use facts::{Condition, FactSource};
-use judge::{Claims, ExitsFor, Point, RoutineClaim};
+use judge::{Claims, ExitsFor, NarrowedPoint, RoutineClaim};
 use std::alloc::Allocator;
 use word12::Word;
 use wordset::WordSet;
@@ -34,7 +34,7 @@ fn last_site(rules: &Rules) -> usize
 
 /// A call that the rules on what may be called forbid.
 pub(crate) fn calls_wrongly<A: Allocator, C: Claims, M: Allocator>(
-    point: &Point<'_, A, C>,
+    point: &NarrowedPoint<'_, A, C>,
     sought: Sought,
     word: Word,
     rooms: &mut WordRooms<M>,
@@ -51,7 +51,7 @@ pub(crate) fn calls_wrongly<A: Allocator, C: Claims, M: Allocator>(
 
 /// The first call of a word that breaks a condition on calls.
 pub(crate) fn first_call<A: Allocator, C: Claims, M: Allocator>(
-    point: &Point<'_, A, C>,
+    point: &NarrowedPoint<'_, A, C>,
     sought: Sought,
     condition: Condition,
     word: Word,
@@ -76,7 +76,7 @@ pub(crate) fn first_call<A: Allocator, C: Claims, M: Allocator>(
 
 /// What a call of an entry breaks of a condition.
 fn call_breaks<A: Allocator, C: Claims, M: Allocator>(
-    point: &Point<'_, A, C>,
+    point: &NarrowedPoint<'_, A, C>,
     sought: Sought,
     condition: Condition,
     entry: Word,
@@ -99,7 +99,7 @@ fn call_breaks<A: Allocator, C: Claims, M: Allocator>(
 
 /// Why an address may not be called.
 fn may_not_call<A: Allocator, C: Claims>(
-    point: &Point<'_, A, C>,
+    point: &NarrowedPoint<'_, A, C>,
     sought: Sought,
     entry: Word,
 ) -> Option<CallBreach>
@@ -119,7 +119,7 @@ fn may_not_call<A: Allocator, C: Claims>(
 
 /// Whether an entry has no routine line, where lines count.
 fn is_unlisted<A: Allocator, C: Claims>(
-    point: &Point<'_, A, C>,
+    point: &NarrowedPoint<'_, A, C>,
     sought: Sought,
     entry: Word,
 ) -> bool
@@ -133,7 +133,7 @@ fn is_unlisted<A: Allocator, C: Claims>(
 
 /// Why the rank of a listed callee is not lower than that of the running routine, if that is listed.
 fn is_not_lower<A: Allocator, C: Claims>(
-    point: &Point<'_, A, C>,
+    point: &NarrowedPoint<'_, A, C>,
     sought: Sought,
     entry: Word,
 ) -> Option<CallBreach>
@@ -152,7 +152,7 @@ fn is_not_lower<A: Allocator, C: Claims>(
 
 /// What of a callee the running routine's written set does not cover.
 fn is_not_covered<A: Allocator, C: Claims>(
-    point: &Point<'_, A, C>,
+    point: &NarrowedPoint<'_, A, C>,
     sought: Sought,
     entry: Word,
 ) -> Option<CallBreach>
@@ -181,7 +181,7 @@ fn is_not_covered<A: Allocator, C: Claims>(
 
 /// Why an entry may not be called from the address.
 fn is_no_site<A: Allocator, C: Claims>(
-    point: &Point<'_, A, C>,
+    point: &NarrowedPoint<'_, A, C>,
     sought: Sought,
     entry: Word,
 ) -> Option<CallBreach>
@@ -204,7 +204,7 @@ fn is_no_site<A: Allocator, C: Claims>(
 
 /// Why a call does not land at the address after an entry.
 fn does_not_enter<A: Allocator, C: Claims, M: Allocator>(
-    point: &Point<'_, A, C>,
+    point: &NarrowedPoint<'_, A, C>,
     sought: Sought,
     entry: Word,
     rooms: &mut WordRooms<M>,
@@ -233,7 +233,7 @@ fn does_not_enter<A: Allocator, C: Claims, M: Allocator>(
 
 /// Why the run does not land after a return that is claimed of an entry.
 fn does_not_return<A: Allocator, C: Claims, M: Allocator>(
-    point: &Point<'_, A, C>,
+    point: &NarrowedPoint<'_, A, C>,
     sought: Sought,
     entry: Word,
     rooms: &mut WordRooms<M>,
@@ -254,7 +254,7 @@ fn does_not_return<A: Allocator, C: Claims, M: Allocator>(
 
 /// Why the run does not land after a return by an offset, with the first of the exits for it with which it does not.
 fn does_not_return_by<A: Allocator, C: Claims, M: Allocator>(
-    point: &Point<'_, A, C>,
+    point: &NarrowedPoint<'_, A, C>,
     sought: Sought,
     entry: Word,
     offset: usize,
@@ -286,7 +286,7 @@ fn does_not_return_by<A: Allocator, C: Claims, M: Allocator>(
 
 /// Why the run does not land after a return by an offset with what the exit at hand says, if the address is one of its sites.
 fn misses_with<A: Allocator, C: Claims, M: Allocator>(
-    point: &Point<'_, A, C>,
+    point: &NarrowedPoint<'_, A, C>,
     sought: Sought,
     offset: usize,
     written: &WordSet,

@@ -1,18 +1,18 @@
 //! Where a run goes on after a word and does not land.
 
-ghost use Rattle.std.specs.Prelude.{ℕ, ◌≡◌, ◌<◌, ◌++◌, false, true, IfNone, IfSome};
+ghost use Rattle.std.specs.Prelude.{ℕ, ◌≡◌, ◌<◌, ◌++◌, false, true, IfNone, IfSome, None};
 ghost use Rattle.wordset.specs.Lanes.{words};
 ghost use Rattle.domain.specs.Brief.{brief_words};
 ghost use Rattle.domain.specs.FactInCode.{fact_in_code};
 ghost use Rattle.facts.specs.Entailment.{IsIdle};
-ghost use Rattle.facts.specs.OutcomesInCode.{outcome_in, outcomes_in};
+ghost use Rattle.transfer.specs.OutcomesInCode.{outcome_in, outcomes_in};
 ghost use Rattle.facts.specs.declared.Condition.TheVariants.{V4};
-ghost use Rattle.judge.specs.Landing.{EachSuccessor, LandsAt, place_in, sites_of};
+ghost use Rattle.judge.specs.Landing.{EachSuccessor, LandsAt, abandons, place_in, sites_of};
 ghost use Rattle.judge.specs.Points.{IsPoint, case_of};
-ghost use Rattle.reasons.specs.Breaches.{OutcomeMisses, SomeOutcome};
-ghost use Rattle.reasons.specs.Keeping.{Arrives, KeepsHere, OutcomeArrives};
+ghost use Rattle.reasons.specs.Breaches.{MissesBeyond, OutcomeMisses, SomeOutcome};
+ghost use Rattle.reasons.specs.Keeping.{Arrives, ArrivesBeyond, KeepsHere, OutcomeArrives};
 ghost use Rattle.reasons.specs.Landing.{Misses};
-ghost use Rattle.reasons.specs.Points.{BreaksAs, IsSought, MissesAs, counts_lines};
+ghost use Rattle.reasons.specs.Points.{BreaksAs, IsSought, JumpsToMain, MissesAs, counts_lines, meaning_here};
 ghost use Rattle.reasons.specs.Stuck.{is_landing_of_lines};
 ghost use Rattle.reasons.specs.declared.breach.Landing.TheVariants.{OtherBody};
 
@@ -20,16 +20,16 @@ use crate::breach::{Breach, Landing};
 use crate::landing::what_is_left;
 use crate::rooms::{LeftRooms, WordRooms};
 use crate::sought::Sought;
-use domain::BriefSet;
-use facts::{Kind, NextFact, Outcome, Outcomes};
-use judge::{Claims, FactsAt, Point, place_of};
+use domain::{BriefSet, ReturnOffsets};
+use judge::{Claims, FactsAt, NarrowedPoint, place_of};
 use std::alloc::Allocator;
+use transfer::{Kind, NextFact, Outcome, Outcomes};
 use word12::Word;
 use wordset::WordSet;
 
 /// That an address is not in a routine's body, unless no state satisfies what is known. It stays as it is.
 fn misses_body<A: Allocator, C: Claims>(
-    point: &Point<'_, A, C>,
+    point: &NarrowedPoint<'_, A, C>,
     owner: &Option<Word>,
     sites: &WordSet,
     at: Word,
@@ -53,7 +53,7 @@ fn misses_body<A: Allocator, C: Claims>(
 
 /// Why what is known does not land among the facts at an address of a routine's body, if it does not. It stays as it is.
 fn misses_facts<A: Allocator, C: Claims>(
-    point: &Point<'_, A, C>,
+    point: &NarrowedPoint<'_, A, C>,
     owner: &Option<Word>,
     sites: &WordSet,
     at: Word,
@@ -95,7 +95,7 @@ fn misses_facts<A: Allocator, C: Claims>(
 /// Why what is known does not land at an address of a routine's body, with the sites of that routine, if it does not. It stays as
 /// it is.
 pub(crate) fn misses<A: Allocator, C: Claims>(
-    point: &Point<'_, A, C>,
+    point: &NarrowedPoint<'_, A, C>,
     sought: Sought,
     owner: &Option<Word>,
     sites: &WordSet,
@@ -122,7 +122,7 @@ pub(crate) fn misses<A: Allocator, C: Claims>(
 
 /// Why what is known does not land at an address of the same body, if it does not. It stays as it is.
 pub(crate) fn misses_here<A: Allocator, C: Claims>(
-    point: &Point<'_, A, C>,
+    point: &NarrowedPoint<'_, A, C>,
     sought: Sought,
     at: Word,
     known: &mut NextFact,
@@ -148,7 +148,7 @@ pub(crate) fn misses_here<A: Allocator, C: Claims>(
 
 /// The first of some addresses at which what is known does not land, and why.
 fn misses_at<A: Allocator, C: Claims>(
-    point: &Point<'_, A, C>,
+    point: &NarrowedPoint<'_, A, C>,
     sought: Sought,
     addresses: &WordSet,
     known: &mut NextFact,
@@ -159,6 +159,7 @@ fn misses_at<A: Allocator, C: Claims>(
         MissesAs sought (case_of C.claims point.now) point.now.place.routine found.0 (fact_in_code known.old) found.1) }
     ensures none { IfNone result ((a : ℕ) → a < 4096 → words addresses.now a ≡ true →
         Arrives (counts_lines sought) (case_of C.claims point.now) point.now.place.routine a (fact_in_code known.old)) }
+    ensures kept { fact_in_code known.new ≡ fact_in_code known.old }
 {
     for at in addresses.iter() {
         if let Some(landing) = misses_here(point, sought, at, known, rooms) {
@@ -168,92 +169,189 @@ fn misses_at<A: Allocator, C: Claims>(
     None
 }
 
-/// The same of addresses that stand in a brief set.
-fn misses_at_brief<A: Allocator, C: Claims>(
-    point: &Point<'_, A, C>,
+/// The first of some addresses of main's body at which what is known does not land, and why.
+fn misses_in_main<A: Allocator, C: Claims>(
+    point: &NarrowedPoint<'_, A, C>,
     sought: Sought,
+    addresses: &WordSet,
+    known: &mut NextFact,
+    rooms: &mut LeftRooms,
+) -> Option<(Word, Landing)>
+    requires { IsPoint C.claims point.now }
+    ensures found { IfSome result (λ found. (found.0 < 4096) × (words addresses.now found.0 ≡ true) ×
+        MissesAs sought (case_of C.claims point.now) None found.0 (fact_in_code known.old) found.1) }
+    ensures none { IfNone result ((a : ℕ) → a < 4096 → words addresses.now a ≡ true →
+        Arrives (counts_lines sought) (case_of C.claims point.now) None a (fact_in_code known.old)) }
+{
+    for at in addresses.iter() {
+        if let Some(landing) = misses(point, sought, &None, &WordSet::empty(), at, known, rooms) {
+            return Some((at, landing));
+        }
+    }
+    None
+}
+
+/// The first of some addresses, which stand in a brief set, at which what is known does not land, and why: in main's body, as
+/// one of main's facts, where all calls are abandoned for the address; else in the same body.
+fn misses_beyond<A: Allocator, C: Claims>(
+    point: &NarrowedPoint<'_, A, C>,
+    sought: Sought,
+    beyond: &WordSet,
     targets: &BriefSet,
     known: &mut NextFact,
     rooms: &mut LeftRooms,
 ) -> Option<(Word, Landing)>
     requires { IsPoint C.claims point.now }
     ensures found { IfSome result (λ found. (found.0 < 4096) × (brief_words targets.now found.0 ≡ true) ×
-        MissesAs sought (case_of C.claims point.now) point.now.place.routine found.0 (fact_in_code known.old) found.1) }
+        IsSought sought (is_landing_of_lines found.1) × MissesBeyond (words beyond.now found.0)
+        (case_of C.claims point.now) point.now.place.routine found.0 (fact_in_code known.old) found.1) }
     ensures none { IfNone result ((a : ℕ) → a < 4096 → brief_words targets.now a ≡ true →
-        Arrives (counts_lines sought) (case_of C.claims point.now) point.now.place.routine a (fact_in_code known.old)) }
+        ArrivesBeyond (words beyond.now a) (counts_lines sought) (case_of C.claims point.now)
+        point.now.place.routine a (fact_in_code known.old)) }
 {
     let mut addresses = WordSet::empty();
     targets.put(&mut addresses);
-    misses_at(point, sought, &addresses, known, rooms)
+    if let Some(found) = misses_at(point, sought, &addresses.minus(beyond), known, rooms) {
+        return Some(found);
+    }
+    known.set_sites(&WordSet::empty());
+    known.set_offsets(ReturnOffsets::none());
+    misses_in_main(point, sought, &addresses.meet(beyond), known, rooms)
 }
 
-/// The first address at which an outcome goes on and does not land, and why.
+/// The first address at which an outcome goes on and does not land, and why. All calls are abandoned for some addresses.
 fn outcome_misses<A: Allocator, C: Claims>(
-    point: &Point<'_, A, C>,
+    point: &NarrowedPoint<'_, A, C>,
     sought: Sought,
+    beyond: &WordSet,
     outcome: &mut Outcome,
     rooms: &mut LeftRooms,
 ) -> Option<(Word, Landing)>
     requires { IsPoint C.claims point.now }
     ensures found { IfSome result (λ found. IsSought sought (is_landing_of_lines found.1) × SomeOutcome (OutcomeMisses (case_of C.claims point.now)
-        point.now.place.routine found.0 found.1) (outcome_in outcome.old)) }
+        point.now.place.routine (words beyond.now) found.0 found.1) (outcome_in outcome.old)) }
     ensures none { IfNone result
-        (EachSuccessor (OutcomeArrives (counts_lines sought) (case_of C.claims point.now) point.now.place.routine)
+        (EachSuccessor (OutcomeArrives (counts_lines sought) (case_of C.claims point.now) point.now.place.routine (words beyond.now))
         (outcome_in outcome.old)) }
 {
     match &outcome.kind {
         Kind::Nothing | Kind::Calls | Kind::Returns => None,
-        Kind::Goes => misses_at_brief(point, sought, &outcome.targets, &mut outcome.fact, rooms),
+        Kind::Goes => misses_beyond(
+            point,
+            sought,
+            beyond,
+            &outcome.targets,
+            &mut outcome.fact,
+            rooms,
+        ),
     }
 }
 
 /// The same of the first two of some outcomes.
 fn first_two_miss<A: Allocator, C: Claims>(
-    point: &Point<'_, A, C>,
+    point: &NarrowedPoint<'_, A, C>,
     sought: Sought,
+    beyond: &WordSet,
     outcomes: &mut Outcomes,
     rooms: &mut LeftRooms,
 ) -> Option<(Word, Landing)>
     requires { IsPoint C.claims point.now }
     ensures found { IfSome result (λ found. IsSought sought (is_landing_of_lines found.1) × SomeOutcome (OutcomeMisses (case_of C.claims point.now)
-        point.now.place.routine found.0 found.1) (outcome_in outcomes.old.first ++ outcome_in outcomes.old.second)) }
+        point.now.place.routine (words beyond.now) found.0 found.1) (outcome_in outcomes.old.first ++ outcome_in outcomes.old.second)) }
     ensures none { IfNone result
-        (EachSuccessor (OutcomeArrives (counts_lines sought) (case_of C.claims point.now) point.now.place.routine)
+        (EachSuccessor (OutcomeArrives (counts_lines sought) (case_of C.claims point.now) point.now.place.routine (words beyond.now))
         (outcome_in outcomes.old.first ++ outcome_in outcomes.old.second)) }
     ensures kept { (outcomes.new.third ≡ outcomes.old.third) × (outcomes.new.fourth ≡ outcomes.old.fourth) }
 {
-    if let Some(found) = outcome_misses(point, sought, &mut outcomes.first, rooms) {
+    if let Some(found) = outcome_misses(point, sought, beyond, &mut outcomes.first, rooms) {
         return Some(found);
     }
-    outcome_misses(point, sought, &mut outcomes.second, rooms)
+    outcome_misses(point, sought, beyond, &mut outcomes.second, rooms)
 }
 
 /// The same of all of some outcomes.
 fn some_miss<A: Allocator, C: Claims>(
-    point: &Point<'_, A, C>,
+    point: &NarrowedPoint<'_, A, C>,
     sought: Sought,
+    beyond: &WordSet,
     outcomes: &mut Outcomes,
     rooms: &mut LeftRooms,
 ) -> Option<(Word, Landing)>
     requires { IsPoint C.claims point.now }
     ensures found { IfSome result (λ found. IsSought sought (is_landing_of_lines found.1) × SomeOutcome (OutcomeMisses (case_of C.claims point.now)
-        point.now.place.routine found.0 found.1) (outcomes_in outcomes.old)) }
+        point.now.place.routine (words beyond.now) found.0 found.1) (outcomes_in outcomes.old)) }
     ensures none { IfNone result
-        (EachSuccessor (OutcomeArrives (counts_lines sought) (case_of C.claims point.now) point.now.place.routine)
+        (EachSuccessor (OutcomeArrives (counts_lines sought) (case_of C.claims point.now) point.now.place.routine (words beyond.now))
         (outcomes_in outcomes.old)) }
 {
-    if let Some(found) = first_two_miss(point, sought, outcomes, rooms) {
+    if let Some(found) = first_two_miss(point, sought, beyond, outcomes, rooms) {
         return Some(found);
     }
-    if let Some(found) = outcome_misses(point, sought, &mut outcomes.third, rooms) {
+    if let Some(found) = outcome_misses(point, sought, beyond, &mut outcomes.third, rooms) {
         return Some(found);
     }
-    outcome_misses(point, sought, &mut outcomes.fourth, rooms)
+    outcome_misses(point, sought, beyond, &mut outcomes.fourth, rooms)
+}
+
+/// The addresses for which the running routine abandons all open calls by a word: where it is not main and the word is a JMP
+/// and no return, they are the declared ones, and else there are none.
+fn abandoned_by<A: Allocator, C: Claims>(point: &NarrowedPoint<'_, A, C>, word: Word) -> WordSet
+    requires { IsPoint C.claims point.now }
+    ensures { words result ≡ abandons (case_of C.claims point.now).declaration point.now.place.routine
+        (meaning_here C.claims point.now word) }
+{
+    if point.place.routine.is_none() {
+        return WordSet::empty();
+    }
+    if !point.place.is_jump(word) {
+        return WordSet::empty();
+    }
+    if point.place.returned_entry(point.at, word).is_some() {
+        return WordSet::empty();
+    }
+    *point.place.declaration.abandons()
+}
+
+/// Whether it is told that an address is not in the body.
+fn is_other_body(landing: &Landing) -> bool
+    ensures { result ≡ true → landing.now ≡ OtherBody }
+{
+    match landing {
+        Landing::OtherBody => true,
+        Landing::NoFact => false,
+        Landing::Excluded(_) => false,
+        Landing::ExcludedUnder(_, _) => false,
+        Landing::NotTaken(_, _, _) => false,
+        Landing::NotEntailed => false,
+    }
+}
+
+/// Whether a word is a JMP, and no return, to an address of main's body that is told as outside the running routine's.
+fn jumps_to_main<A: Allocator, C: Claims>(
+    point: &NarrowedPoint<'_, A, C>,
+    word: Word,
+    at: Word,
+    landing: &Landing,
+) -> bool
+    requires { IsPoint C.claims point.now }
+    ensures { result ≡ true → JumpsToMain (case_of C.claims point.now)
+        (meaning_here C.claims point.now word) at landing.now }
+{
+    if !is_other_body(landing) {
+        return false;
+    }
+    if !point.place.is_jump(word) {
+        return false;
+    }
+    if point.place.returned_entry(point.at, word).is_some() {
+        return false;
+    }
+    point.is_inside(&None, at)
 }
 
 /// Where a word goes on and does not land.
 pub(crate) fn goes_on<A: Allocator, C: Claims, M: Allocator>(
-    point: &Point<'_, A, C>,
+    point: &NarrowedPoint<'_, A, C>,
     sought: Sought,
     word: Word,
     rooms: &mut WordRooms<M>,
@@ -266,8 +364,13 @@ pub(crate) fn goes_on<A: Allocator, C: Claims, M: Allocator>(
     point
         .place
         .put_outcomes(point.fact, point.at, word, outcomes);
-    match some_miss(point, sought, outcomes, left) {
+    match some_miss(point, sought, &abandoned_by(point, word), outcomes, left) {
         None => None,
-        Some(found) => Some(Breach::GoesOn(found.0, found.1)),
+        Some(found) => {
+            if jumps_to_main(point, word, found.0, &found.1) {
+                return Some(Breach::JumpsToMain(found.0));
+            }
+            Some(Breach::GoesOn(found.0, found.1))
+        }
     }
 }

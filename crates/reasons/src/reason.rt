@@ -1,17 +1,23 @@
 //! Why a condition fails.
 
-ghost use Rattle.std.specs.Prelude.{◌≡◌, ◌<◌, ◌∷◌, [], true, false, is_some, length, IfNone, IfSome};
+ghost use Rattle.std.specs.Prelude.{◌≡◌, ◌<◌, ◌∷◌, ◌⊎◌, [], true, false, is_some, length, map, IfNone, IfSome};
 ghost use Rattle.wordset.specs.Lanes.{words};
 ghost use Rattle.declaration.specs.Declaration.{Routine};
 ghost use Rattle.facts.specs.Landing.{fact_at};
-ghost use Rattle.facts.specs.declared.Condition.TheVariants.{V1};
-ghost use Rattle.judge.specs.Conditions.{HoldsAt, IsFirst};
+ghost use Rattle.facts.specs.declared.Condition.TheVariants.{V1, V16};
+ghost use Rattle.facts.specs.Conditions.{EachIsHeldBy};
+ghost use Rattle.facts.specs.PlaceInCode.{place_in_code};
+ghost use Rattle.declaration.specs.Kept.{return_assertion_of};
+ghost use Rattle.domain.specs.FactInCode.{fact_in_code};
+ghost use Rattle.judge.specs.Asked.{ExitIsHeld, ExitsAreHeldBy};
+ghost use Rattle.judge.specs.Landing.{exits_of};
+ghost use Rattle.judge.specs.Conditions.{ExitsAreHeld, HoldsAt, IsFirst};
 ghost use Rattle.judge.specs.Judged.{case_kept, judged};
 ghost use Rattle.judge.specs.Points.{IsPoint, case_of};
 ghost use Rattle.judge.specs.Shapes.{IsRoomy};
 ghost use Rattle.reasons.specs.Keeping.{FactsKeep, IsClaimedOf, KeptOrUnowned};
 ghost use Rattle.reasons.specs.Points.{IsSought, counts_lines};
-ghost use Rattle.reasons.specs.Reasons.{Explains, HasWrongWord};
+ghost use Rattle.reasons.specs.Reasons.{Explains, HasWrongWord, IsWrongExit, SomeReturnDenied};
 ghost use Rattle.reasons.specs.Stuck.{is_of_lines};
 
 use crate::breach::{Breach, Landing};
@@ -21,9 +27,11 @@ use crate::sought::Sought;
 use crate::start::why_start;
 use crate::words::first_breach;
 use bin_tape::Image;
-use declaration::{Declaration, Owner};
-use facts::{Condition, Fact, NarrowedFact};
-use judge::{Body, Case, Claims, Point, Refusal, RoutineClaim, place_of, put_asked, put_sites};
+use declaration::{Declaration, Owner, ReturnAssertion, Subject};
+use facts::{Condition, Fact, NarrowedFact, Place};
+use judge::{
+    Body, Case, Claims, NarrowedPoint, Point, Refusal, RoutineClaim, place_of, put_asked, put_sites,
+};
 use std::alloc::Allocator;
 use word12::Word;
 use wordset::WordSet;
@@ -51,6 +59,9 @@ pub enum Reason {
     TooManyWords(usize, usize),
     /// By this fact this word is possible, and breaks this.
     ByWord(usize, Word, Breach),
+    /// V16: by the exit for this offset at this place among those for it the subject may have this word, which is not among
+    /// those that it is declared to have when the routine returns so.
+    ExitDeniesAssertion(usize, usize, Subject, Word),
 }
 
 /// What is claimed of the routine of an entry, and nothing where it is not listed.
@@ -94,7 +105,7 @@ fn point_of<'a, A: Allocator, C: Claims>(
     body: &'a Body,
     at: Word,
     fact: &'a NarrowedFact,
-) -> Point<'a, A, C>
+) -> NarrowedPoint<'a, A, C>
     requires stands { (judged image.now declaration.now (C.claims claims.now)).declaration.body
         body.now.routine at ≡ true }
     requires body { IsClaimedOf (C.claims claims.now) body.now }
@@ -196,6 +207,140 @@ pub(crate) fn why_words<A: Allocator, C: Claims, M: Allocator>(
     why_facts(case, sought, &body, condition, at, rooms)
 }
 
+/// The subject of one assertion and a word that it may have by an exit and that is not asserted, if the assertion is made of returns of
+/// the routine by this offset.
+fn denied_at_return<A: Allocator>(
+    place: &Place<'_, A>,
+    exit: &NarrowedFact,
+    entry: Word,
+    offset: Word,
+    returning: &ReturnAssertion,
+) -> Option<(Subject, Word)>
+    ensures found { IfSome result (λ found. SomeReturnDenied (place_in_code place.now) (fact_in_code exit.now) entry offset
+        found.0 found.1 (return_assertion_of returning.now ∷ [])) }
+    ensures none { IfNone result
+        (EachIsHeldBy (place_in_code place.now) (fact_in_code exit.now) entry offset (return_assertion_of returning.now ∷ [])) }
+{
+    if returning.entry() != entry {
+        return None;
+    }
+    if !returning.offsets().contains(offset) {
+        return None;
+    }
+    match place.denied_word(exit, returning.assertion()) {
+        None => None,
+        Some(denied) => Some((*returning.assertion().subject(), denied)),
+    }
+}
+
+/// The same of the first of some assertions of which it is so.
+fn first_return_denied<A: Allocator>(
+    place: &Place<'_, A>,
+    exit: &NarrowedFact,
+    entry: Word,
+    offset: Word,
+    returns: &[ReturnAssertion],
+) -> Option<(Subject, Word)>
+    ensures found { IfSome result (λ found. SomeReturnDenied (place_in_code place.now) (fact_in_code exit.now) entry offset
+        found.0 found.1 (map return_assertion_of returns.now)) }
+    ensures none { IfNone result (EachIsHeldBy (place_in_code place.now) (fact_in_code exit.now) entry offset
+        (map return_assertion_of returns.now)) }
+{
+    for returning in returns {
+        if let Some(found) = denied_at_return(place, exit, entry, offset, returning) {
+            return Some(found);
+        }
+    }
+    None
+}
+
+/// Why what is to hold when a routine returns by an offset need not hold by the exit at this place among those for it.
+fn why_exit<A: Allocator, C: Claims, M: Allocator>(
+    case: &Case<'_, A, C>,
+    entry: Word,
+    offset: usize,
+    index: usize,
+    sites: &WordSet,
+    rooms: &mut WhyRooms<M>,
+) -> Option<Reason>
+    requires offset { offset < 64 }
+    requires index { index < length ((C.claims case.now.claims.now).exits entry offset) }
+    requires sites { words sites.now ≡ (C.claims case.now.claims.now).sites entry }
+    ensures found { IfSome result (IsWrongExit (case_kept C.claims case.now) entry) }
+    ensures none { IfNone result (ExitIsHeld (case_kept C.claims case.now) entry offset
+        (fact_at (exits_of (case_kept C.claims case.now) entry offset) index)) }
+{
+    let WhyRooms { claimed, fact, .. } = rooms;
+    let rules = case.claims.rules();
+    case.claims.put_exit(entry, offset, index, claimed);
+    put_sites(&rules, sites, claimed);
+    if !put_asked(&rules, case.image, claimed, fact) {
+        return None;
+    }
+    let place = place_of(case.image, case.declaration, &Some(entry), rules);
+    let returns = case.declaration.returns();
+    match first_return_denied(&place, fact, entry, Word::from_index(offset), returns) {
+        None => None,
+        Some(found) => Some(Reason::ExitDeniesAssertion(offset, index, found.0, found.1)),
+    }
+}
+
+/// The same of the first exit for an offset of which it is so.
+fn why_exits_by<A: Allocator, C: Claims, M: Allocator>(
+    case: &Case<'_, A, C>,
+    entry: Word,
+    offset: usize,
+    rooms: &mut WhyRooms<M>,
+) -> Option<Reason>
+    requires { offset < 64 }
+    ensures found { IfSome result (IsWrongExit (case_kept C.claims case.now) entry) }
+    ensures none { IfNone result (ExitsAreHeldBy (case_kept C.claims case.now) entry offset) }
+{
+    let sites = claimed_routine(case.claims, entry).sites;
+    for index in 0..case.claims.count_exits(entry, offset) {
+        if let Some(reason) = why_exit(case, entry, offset, index, &sites, rooms) {
+            return Some(reason);
+        }
+    }
+    None
+}
+
+/// The same of the first offset of which it is so.
+fn why_exits<A: Allocator, C: Claims, M: Allocator>(
+    case: &Case<'_, A, C>,
+    entry: Word,
+    rooms: &mut WhyRooms<M>,
+) -> Option<Reason>
+    ensures found { IfSome result (IsWrongExit (case_kept C.claims case.now) entry) }
+    ensures none { IfNone result (ExitsAreHeld (case_kept C.claims case.now) entry) }
+{
+    for offset in 0..64usize {
+        if let Some(reason) = why_exits_by(case, entry, offset, rooms) {
+            return Some(reason);
+        }
+    }
+    None
+}
+
+/// Why what is declared to hold at an address need not hold there, or when the routine of this entry returns. No such reason is of
+/// lines.
+pub(crate) fn why_not_held<A: Allocator, C: Claims, M: Allocator>(
+    case: &Case<'_, A, C>,
+    at: Word,
+    rooms: &mut WhyRooms<M>,
+) -> Option<Reason>
+    ensures found { IfSome result (λ reason. HasWrongWord (case_kept C.claims case.now) V16 at reason ⊎
+        IsWrongExit (case_kept C.claims case.now) at reason) }
+    ensures not_of_lines { IfSome result (λ reason. is_of_lines reason ≡ false) }
+    ensures none { IfNone result (KeptOrUnowned true (case_kept C.claims case.now) V16 at ×
+        ExitsAreHeld (case_kept C.claims case.now) at) }
+{
+    if let Some(reason) = why_words(case, Sought::Any, Condition::V16, at, rooms) {
+        return Some(reason);
+    }
+    why_exits(case, at, rooms)
+}
+
 /// Why no fact at the start holds of every start, if it is asked at the start and none does.
 fn why_at_start<A: Allocator, C: Claims>(
     case: &Case<'_, A, C>,
@@ -238,6 +383,7 @@ pub fn why<A: Allocator, C: Claims, M: Allocator>(
     match refusal.condition {
         Condition::V1 => why_at_start(&case, refusal.address, &mut rooms.claimed),
         Condition::V2 => why_placed(&case, refusal.address, &mut rooms.claimed),
+        Condition::V16 => why_not_held(&case, refusal.address, rooms),
         condition => why_words(&case, Sought::Any, condition, refusal.address, rooms),
     }
 }

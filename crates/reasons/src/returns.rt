@@ -12,13 +12,13 @@ use crate::breach::{Breach, Landing, ReturnBreach};
 use crate::landing::what_is_left;
 use crate::rooms::{LeftRooms, WordRooms};
 use crate::sought::Sought;
-use judge::{Claims, ExitsFor, Point};
+use judge::{Claims, ExitsFor, NarrowedPoint};
 use std::alloc::Allocator;
 use word12::Word;
 
 /// A return that breaks the rules on returns.
 pub(crate) fn returns_wrongly<A: Allocator, C: Claims, M: Allocator>(
-    point: &Point<'_, A, C>,
+    point: &NarrowedPoint<'_, A, C>,
     sought: Sought,
     word: Word,
     rooms: &mut WordRooms<M>,
@@ -36,7 +36,7 @@ pub(crate) fn returns_wrongly<A: Allocator, C: Claims, M: Allocator>(
 
 /// What a return through an entry breaks.
 fn return_breaks<A: Allocator, C: Claims, M: Allocator>(
-    point: &Point<'_, A, C>,
+    point: &NarrowedPoint<'_, A, C>,
     sought: Sought,
     entry: Word,
     rooms: &mut WordRooms<M>,
@@ -59,7 +59,7 @@ fn return_breaks<A: Allocator, C: Claims, M: Allocator>(
 
 /// What a return through the running routine's entry by an offset breaks, if the fact has the offset.
 fn returns_by<A: Allocator, C: Claims, M: Allocator>(
-    point: &Point<'_, A, C>,
+    point: &NarrowedPoint<'_, A, C>,
     sought: Sought,
     entry: Word,
     offset: usize,
@@ -74,9 +74,6 @@ fn returns_by<A: Allocator, C: Claims, M: Allocator>(
 {
     if !point.fact.offsets().contains(offset) {
         return None;
-    }
-    if offset >= 8 {
-        return Some(ReturnBreach::NotDeclared(offset));
     }
     if !point
         .place
@@ -96,7 +93,7 @@ fn returns_by<A: Allocator, C: Claims, M: Allocator>(
 
 /// Why the fact does not land among the exits of the running routine for an offset, if it does not.
 fn misses_exits<A: Allocator, C: Claims, M: Allocator>(
-    point: &Point<'_, A, C>,
+    point: &NarrowedPoint<'_, A, C>,
     entry: Word,
     offset: usize,
     rooms: &mut WordRooms<M>,

@@ -5,7 +5,7 @@ ghost use Rattle.judge.specs.Judged.{case_kept, judged};
 ghost use Rattle.reasons.specs.Reasons.{Explains};
 ghost use Rattle.reasons.specs.Stuck.{EachFailsByLinesAlone, FailsByLinesAlone, IsToldOf, NoneFailsBefore, is_of_lines};
 
-use crate::reason::{Reason, why_words};
+use crate::reason::{Reason, why_not_held, why_words};
 use crate::rooms::WhyRooms;
 use crate::sought::Sought;
 use bin_tape::Image;
@@ -16,8 +16,8 @@ use std::alloc::Allocator;
 use word12::Word;
 
 /// The conditions in the order in which they are asked: first those that a word breaks by itself, then
-/// those on calls and returns, then those on where a run goes on. The four others fail by lines alone.
-const ORDER: [Condition; 11] = [
+/// those on calls and returns, then those on where a run goes on, and last what is declared to hold. The four others fail by lines alone.
+const ORDER: [Condition; 12] = [
     Condition::V3,
     Condition::V5,
     Condition::V14,
@@ -29,6 +29,7 @@ const ORDER: [Condition; 11] = [
     Condition::V4,
     Condition::V10,
     Condition::V11,
+    Condition::V16,
 ];
 
 /// Why a condition fails at an address, if it is not that lines are missing or too narrow.
@@ -43,7 +44,10 @@ fn why_by_words<A: Allocator, C: Claims, M: Allocator>(
     ensures none { IfNone result (FailsByLinesAlone (case_kept C.claims case.now) at condition) }
 {
     case.declaration.is_declared();
-    why_words(case, Sought::NotOfLines, condition, at, rooms)
+    match condition {
+        Condition::V16 => why_not_held(case, at, rooms),
+        _ => why_words(case, Sought::NotOfLines, condition, at, rooms),
+    }
 }
 
 /// Why a search is stuck at an address, by a draft of what it found until then: the first condition that fails there, and why. It

@@ -1,24 +1,27 @@
 //! What a possible word breaks by a fact.
 
-ghost use Rattle.std.specs.Prelude.{ℕ, ◌≡◌, ◌<◌, true, false, IfNone, IfSome};
+ghost use Rattle.std.specs.Prelude.{ℕ, ◌≡◌, ◌<◌, ◌∷◌, [], true, false, map, IfNone, IfSome};
 ghost use Rattle.wordset.specs.Lanes.{words};
-ghost use Rattle.facts.specs.declared.Condition.TheVariants.{V3, V5, V6, V13, V14, V15};
+ghost use Rattle.facts.specs.declared.Condition.TheVariants.{V3, V5, V6, V13, V15, V16};
 ghost use Rattle.facts.specs.Conditions.{may_write};
 ghost use Rattle.judge.specs.Landing.{place_in};
 ghost use Rattle.judge.specs.Points.{HoldsHere, IsPoint, case_of, fact_asked, possible_at};
 ghost use Rattle.reasons.specs.Keeping.{EachKeepsHere, KeepsHere, WordsKeepHere};
-ghost use Rattle.reasons.specs.Points.{BreaksAs, BreaksHere, IsWrongAs, counts_lines, meaning_here};
+ghost use Rattle.declaration.specs.Kept.{place_assertion_of};
+ghost use Rattle.reasons.specs.Points.{AreHeldHere, BreaksAs, BreaksHere, DeniesHere, IsWrongAs, counts_lines, meaning_here};
 ghost use Rattle.reasons.specs.Stuck.{is_word_of_lines};
 
 use crate::breach::Breach;
 use crate::calls::{calls_wrongly, first_call};
+use crate::entries::writes_entry;
 use crate::outcomes::goes_on;
 use crate::reason::Reason;
 use crate::returns::returns_wrongly;
 use crate::rooms::WordRooms;
 use crate::sought::Sought;
+use declaration::PlaceAssertion;
 use facts::Condition;
-use judge::{Claims, Point};
+use judge::{Claims, NarrowedPoint};
 use std::alloc::Allocator;
 use word12::Word;
 use wordset::WordSet;
@@ -29,7 +32,7 @@ const MOST_WORDS: usize = 64;
 /// The first possible word that breaks a condition by a fact, which is the one at this place of those at the address, and what it
 /// breaks; or how many words are possible, where they are too many.
 pub(crate) fn first_breach<A: Allocator, C: Claims, M: Allocator>(
-    point: &Point<'_, A, C>,
+    point: &NarrowedPoint<'_, A, C>,
     sought: Sought,
     index: usize,
     condition: Condition,
@@ -48,7 +51,7 @@ pub(crate) fn first_breach<A: Allocator, C: Claims, M: Allocator>(
 
 /// How many words are possible, where they are too many; else the first that is not supported.
 fn too_many<A: Allocator, C: Claims, M: Allocator>(
-    point: &Point<'_, A, C>,
+    point: &NarrowedPoint<'_, A, C>,
     sought: Sought,
     index: usize,
     possible: &WordSet,
@@ -68,7 +71,7 @@ fn too_many<A: Allocator, C: Claims, M: Allocator>(
 
 /// The first possible word that breaks a condition, and what it breaks.
 fn first_word<A: Allocator, C: Claims, M: Allocator>(
-    point: &Point<'_, A, C>,
+    point: &NarrowedPoint<'_, A, C>,
     sought: Sought,
     index: usize,
     condition: Condition,
@@ -90,7 +93,7 @@ fn first_word<A: Allocator, C: Claims, M: Allocator>(
 
 /// What a word breaks of a condition.
 fn breach<A: Allocator, C: Claims, M: Allocator>(
-    point: &Point<'_, A, C>,
+    point: &NarrowedPoint<'_, A, C>,
     sought: Sought,
     condition: Condition,
     word: Word,
@@ -114,11 +117,15 @@ fn breach<A: Allocator, C: Claims, M: Allocator>(
         Condition::V13 => halts_undeclared(point, word),
         Condition::V14 => writes_entry(point, word),
         Condition::V15 => reads_unlisted(point, word),
+        Condition::V16 => denies_assertion(point, word),
     }
 }
 
 /// That a word is not supported.
-fn is_not_supported<A: Allocator, C: Claims>(point: &Point<'_, A, C>, word: Word) -> Option<Breach>
+fn is_not_supported<A: Allocator, C: Claims>(
+    point: &NarrowedPoint<'_, A, C>,
+    word: Word,
+) -> Option<Breach>
     requires { IsPoint C.claims point.now }
     ensures found { IfSome result (BreaksHere C.claims point.now V3 word) }
     ensures by_word { IfSome result (λ b. is_word_of_lines b ≡ false) }
@@ -131,7 +138,10 @@ fn is_not_supported<A: Allocator, C: Claims>(point: &Point<'_, A, C>, word: Word
 }
 
 /// That a word halts where no halt is declared.
-fn halts_undeclared<A: Allocator, C: Claims>(point: &Point<'_, A, C>, word: Word) -> Option<Breach>
+fn halts_undeclared<A: Allocator, C: Claims>(
+    point: &NarrowedPoint<'_, A, C>,
+    word: Word,
+) -> Option<Breach>
     requires { IsPoint C.claims point.now }
     ensures found { IfSome result (BreaksHere C.claims point.now V13 word) }
     ensures by_word { IfSome result (λ b. is_word_of_lines b ≡ false) }
@@ -144,7 +154,10 @@ fn halts_undeclared<A: Allocator, C: Claims>(point: &Point<'_, A, C>, word: Word
 }
 
 /// The cells that a word may write.
-fn written<A: Allocator, C: Claims>(point: &Point<'_, A, C>, word: Word) -> WordSet
+pub(crate) fn written<A: Allocator, C: Claims>(
+    point: &NarrowedPoint<'_, A, C>,
+    word: Word,
+) -> WordSet
     requires { IsPoint C.claims point.now }
     ensures { words result ≡ may_write (place_in (case_of C.claims point.now) point.now.place.routine)
         (fact_asked point.now) (meaning_here C.claims point.now word) }
@@ -157,7 +170,10 @@ fn written<A: Allocator, C: Claims>(point: &Point<'_, A, C>, word: Word) -> Word
 }
 
 /// The first of some cells that is not an entry.
-fn first_other<A: Allocator, C: Claims>(point: &Point<'_, A, C>, cells: &WordSet) -> Option<Word>
+fn first_other<A: Allocator, C: Claims>(
+    point: &NarrowedPoint<'_, A, C>,
+    cells: &WordSet,
+) -> Option<Word>
     ensures found { IfSome result (λ cell. (cell < 4096) × (words cells.now cell ≡ true) ×
         ((case_of C.claims point.now).declaration.entry cell ≡ false)) }
     ensures none { IfNone result ((a : ℕ) → a < 4096 → words cells.now a ≡ true →
@@ -172,7 +188,10 @@ fn first_other<A: Allocator, C: Claims>(point: &Point<'_, A, C>, cells: &WordSet
 }
 
 /// A cell that a word may write and that is neither a variable nor an entry.
-fn writes_undeclared<A: Allocator, C: Claims>(point: &Point<'_, A, C>, word: Word) -> Option<Breach>
+fn writes_undeclared<A: Allocator, C: Claims>(
+    point: &NarrowedPoint<'_, A, C>,
+    word: Word,
+) -> Option<Breach>
     requires { IsPoint C.claims point.now }
     ensures found { IfSome result (BreaksHere C.claims point.now V5 word) }
     ensures by_word { IfSome result (λ b. is_word_of_lines b ≡ false) }
@@ -185,40 +204,9 @@ fn writes_undeclared<A: Allocator, C: Claims>(point: &Point<'_, A, C>, word: Wor
     }
 }
 
-/// The first entry of some cells.
-fn first_entry<A: Allocator, C: Claims>(point: &Point<'_, A, C>, cells: &WordSet) -> Option<Word>
-    ensures found { IfSome result (λ cell. (cell < 4096) × (words cells.now cell ≡ true) ×
-        ((case_of C.claims point.now).declaration.entry cell ≡ true)) }
-    ensures none { IfNone result ((a : ℕ) → a < 4096 → words cells.now a ≡ true →
-        (case_of C.claims point.now).declaration.entry a ≡ false) }
-{
-    for cell in cells.iter() {
-        if point.place.declaration.is_entry(cell) {
-            return Some(cell);
-        }
-    }
-    None
-}
-
-/// An entry that a word may write, save where it counts the running routine's own.
-fn writes_entry<A: Allocator, C: Claims>(point: &Point<'_, A, C>, word: Word) -> Option<Breach>
-    requires { IsPoint C.claims point.now }
-    ensures found { IfSome result (BreaksHere C.claims point.now V14 word) }
-    ensures by_word { IfSome result (λ b. is_word_of_lines b ≡ false) }
-    ensures none { IfNone result (HoldsHere C.claims point.now V14 word) }
-{
-    if point.place.entries_are_kept(point.fact, point.at, word) {
-        return None;
-    }
-    match first_entry(point, &written(point, word)) {
-        None => None,
-        Some(cell) => Some(Breach::WritesEntry(cell)),
-    }
-}
-
 /// A cell that a word may write and the running routine may not.
 fn writes_unlisted<A: Allocator, C: Claims>(
-    point: &Point<'_, A, C>,
+    point: &NarrowedPoint<'_, A, C>,
     sought: Sought,
     word: Word,
 ) -> Option<Breach>
@@ -239,7 +227,10 @@ fn writes_unlisted<A: Allocator, C: Claims>(
 
 /// A cell that a word may read and that is not on the list of reads, nor the running routine's
 /// entry.
-fn reads_unlisted<A: Allocator, C: Claims>(point: &Point<'_, A, C>, word: Word) -> Option<Breach>
+fn reads_unlisted<A: Allocator, C: Claims>(
+    point: &NarrowedPoint<'_, A, C>,
+    word: Word,
+) -> Option<Breach>
     requires { IsPoint C.claims point.now }
     ensures found { IfSome result (BreaksHere C.claims point.now V15 word) }
     ensures by_word { IfSome result (λ b. is_word_of_lines b ≡ false) }
@@ -255,5 +246,54 @@ fn reads_unlisted<A: Allocator, C: Claims>(point: &Point<'_, A, C>, word: Word) 
     match rest.first_from(0) {
         None => None,
         Some(cell) => Some(Breach::ReadsUnlisted(cell)),
+    }
+}
+
+/// A subject of which something is asserted here, and a word that it may have and that is not asserted, whatever word is executed.
+fn denies_assertion<A: Allocator, C: Claims>(
+    point: &NarrowedPoint<'_, A, C>,
+    word: Word,
+) -> Option<Breach>
+    requires { IsPoint C.claims point.now }
+    ensures found { IfSome result (BreaksHere C.claims point.now V16 word) }
+    ensures by_word { IfSome result (λ b. is_word_of_lines b ≡ false) }
+    ensures none { IfNone result (HoldsHere C.claims point.now V16 word) }
+{
+    first_denied(point, point.place.declaration.holds())
+}
+
+/// The same of the first of some assertions of which it is so.
+fn first_denied<A: Allocator, C: Claims>(
+    point: &NarrowedPoint<'_, A, C>,
+    holds: &[PlaceAssertion],
+) -> Option<Breach>
+    requires { IsPoint C.claims point.now }
+    ensures found { IfSome result (DeniesHere C.claims point.now (map place_assertion_of holds.now)) }
+    ensures none { IfNone result (AreHeldHere C.claims point.now (map place_assertion_of holds.now)) }
+{
+    for holding in holds {
+        if let Some(breach) = denied_here(point, holding) {
+            return Some(breach);
+        }
+    }
+    None
+}
+
+/// The subject of one assertion and a word that it may have and that is not asserted, if the assertion is made of this address.
+fn denied_here<A: Allocator, C: Claims>(
+    point: &NarrowedPoint<'_, A, C>,
+    holding: &PlaceAssertion,
+) -> Option<Breach>
+    requires { IsPoint C.claims point.now }
+    ensures found { IfSome result (DeniesHere C.claims point.now (place_assertion_of holding.now ∷ [])) }
+    ensures none { IfNone result (AreHeldHere C.claims point.now (place_assertion_of holding.now ∷ [])) }
+{
+    if !holding.places().contains(point.at) {
+        return None;
+    }
+    let assertion = holding.assertion();
+    match point.place.denied_word(point.fact, assertion) {
+        None => None,
+        Some(denied) => Some(Breach::DeniesAssertion(*assertion.subject(), denied)),
     }
 }

@@ -21,6 +21,7 @@ keeps rule.ReturnsToItsCall image d s ks legal = legal.returns
 keeps rule.HaltsDeclared image d s ks legal = legal.halts
 keeps rule.KeepsCode image d s ks legal = legal.code
 keeps rule.ReadsListed image d s ks legal = legal.reads
+keeps rule.AssertionsHold image d s ks legal = legal.assertions
 
 below : (word : Option ℕ) → ((w : ℕ) → word ≡ Some w → w < 4096) → unwrap_or word 0 < 4096
 below None words = omega arith

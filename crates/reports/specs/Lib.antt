@@ -2,3 +2,5 @@ pub mod Head
 pub mod Kinds
 pub mod DraftText
 pub mod ReportText
+pub mod Shown
+pub mod Drawings

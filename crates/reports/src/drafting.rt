@@ -3,7 +3,7 @@
 ghost use Rattle.std.specs.Prelude.{◌≡◌, ◌++◌, ◌⊎◌, false, true, IfOk, OnErr};
 ghost use Rattle.declaration.specs.Kept.{meaning};
 ghost use Rattle.analyser.specs.Attempts.{IsDraft};
-ghost use Rattle.certificate.specs.Kept.{claims};
+ghost use Rattle.certificate_lines.specs.Kept.{claims};
 ghost use Rattle.command_parts.specs.Answers.{IsLaterFault, ReadsTwo};
 ghost use Rattle.command_parts.specs.Faults.{fails_to_write};
 ghost use Rattle.command_parts.specs.Inputs.{input};
@@ -13,7 +13,7 @@ ghost use Rattle.reports.specs.Head.{head_of, stuck_opening};
 ghost use Rattle.reports.specs.DraftText.{IsDraftPage, IsDraftReport, IsDraftWorkFault, stuck_line};
 
 use crate::reporting::below_lines;
-use crate::{Finding, Report, ReportForm, SourceNotes, head_of, stuck_opening};
+use crate::{Finding, PageNames, Report, ReportForm, SourceNotes, head_of, stuck_opening};
 use analyser::{Attempt, guess_or_draft};
 use bin_tape::Image;
 use certificate::Certificate;
@@ -22,8 +22,8 @@ use command_parts::status::{Fault, Status};
 use command_parts::text::push_place;
 use declaration::Declaration;
 use diagnostics::bounds::push_bound;
+use diagnostics::verdicts::reason_context::reason_context_of;
 use diagnostics::verdicts::reason_text::push_why;
-use diagnostics::verdicts::telling::telling_of;
 use diagnostics::verdicts::verdict::condition_name;
 use judge::Refusal;
 use reasons::{Reason, WhyRooms, why_stuck};
@@ -31,8 +31,8 @@ use std::alloc::{AllocError, Allocator};
 use streams::{ByteSink, ByteSource, put};
 use word12::Word;
 
-/// Why a search is stuck at an address, as lines: the condition that fails there, if one is told, and what
-/// is known of the pointer.
+/// Why a search is stuck at an address, as lines that are given, or else the condition that fails there, if one is told,
+/// and what is known of the pointer.
 fn why_lines<A: Allocator + Copy, D: Allocator, C: Allocator>(
     alloc: A,
     image: &Image,
@@ -40,11 +40,16 @@ fn why_lines<A: Allocator + Copy, D: Allocator, C: Allocator>(
     draft: &Certificate<C>,
     at: Word,
     told: &Option<(Refusal, Reason)>,
+    given: Option<&[u8]>,
 ) -> Result<Vec<u8, A>, AllocError> {
     let mut text = Vec::new(alloc);
+    if let Some(lines) = given {
+        text.extend_from_slice(lines)?;
+        return Ok(text);
+    }
     if let Some((refusal, reason)) = told {
         let (verdict, reason) = (Err(*refusal), Some(*reason));
-        let telling = telling_of(draft, &verdict, &reason);
+        let telling = reason_context_of(draft, &verdict, &reason);
         push_why(
             &mut text,
             declaration.profile(),
@@ -66,11 +71,13 @@ fn below_stuck<A: Allocator + Copy, D: Allocator, C: Allocator>(
     draft: &Certificate<C>,
     at: Word,
     form: ReportForm,
+    files: &[u8],
     notes: Option<&SourceNotes<A>>,
+    given: Option<&[u8]>,
 ) -> Result<Vec<u8, A>, AllocError> {
     let mut rooms = WhyRooms::boxed(alloc)?;
     let told = why_stuck(image, declaration, draft, at, &mut rooms);
-    let lines = why_lines(alloc, image, declaration, draft, at, &told)?;
+    let lines = why_lines(alloc, image, declaration, draft, at, &told, given)?;
     let failing = match &told {
         None => "",
         Some((refusal, _)) => condition_name(refusal.condition),
@@ -82,6 +89,7 @@ fn below_stuck<A: Allocator + Copy, D: Allocator, C: Allocator>(
         draft,
         Finding::Stuck(at),
         failing,
+        files,
         notes,
     )?;
     below_lines(alloc, &report, &lines, form)
@@ -106,7 +114,7 @@ fn joined<A: Allocator>(
     Ok(page)
 }
 
-/// The report of a draft.
+/// The report of a draft for a program that has these names. Where the lines that say why the search is stuck are given, it has these.
 ///
 /// # Errors
 ///
@@ -118,11 +126,23 @@ pub fn draft_page<A: Allocator + Copy, D: Allocator, C: Allocator>(
     draft: &Certificate<C>,
     at: Word,
     form: ReportForm,
+    names: PageNames<'_>,
     notes: Option<&SourceNotes<A>>,
+    given: Option<&[u8]>,
 ) -> Result<Vec<u8, A>, AllocError>
     ensures { IfOk result (λ page. IsDraftPage form at page.items) }
 {
-    let rest = below_stuck(alloc, image, declaration, draft, at, form, notes)?;
+    let rest = below_stuck(
+        alloc,
+        image,
+        declaration,
+        draft,
+        at,
+        form,
+        names.files,
+        notes,
+        given,
+    )?;
     let page = joined(alloc, form, at, &rest)?;
     Ok(page)
 }
@@ -178,7 +198,17 @@ pub fn report_draft<A: Allocator + Copy, R: ByteSource, D: ByteSource, W: ByteSi
     match &attempt {
         Attempt::Found(_) => Ok(Status::Done),
         Attempt::Stuck(at, draft) => {
-            let page = draft_page(alloc, image, promised, draft, *at, form, notes)?;
+            let page = draft_page(
+                alloc,
+                image,
+                promised,
+                draft,
+                *at,
+                form,
+                PageNames::unnamed(),
+                notes,
+                None,
+            )?;
             put(out, &page)?;
             Ok(Status::Refused)
         }

@@ -1,10 +1,14 @@
 //! The routines as a graph: main above, and each routine below those that call it.
 
+ghost use Rattle.std.specs.Prelude.{◌≡◌};
+ghost use Rattle.wordset.specs.Lanes.{words};
+ghost use Rattle.wordset.specs.Words.{has_some, meet};
+
 use crate::map::colour_of;
 use crate::report::{Finding, Report, claimed_of};
 use crate::routines::{write_offsets, write_written};
 use crate::writer::ReportWriter;
-use declaration::{Owner, Routine};
+use declaration::Routine;
 use std::alloc::{AllocError, Allocator};
 use word12::Word;
 use wordset::WordSet;
@@ -97,25 +101,11 @@ fn box_place_at(box_places: &[BoxPlace], place: usize) -> BoxPlace {
     }
 }
 
-/// The callers of a routine: main, if it calls it, and the entries of others.
-fn callers_of<B: Allocator, D: Allocator, C: Allocator>(
-    report: &Report<'_, B, D, C>,
-    sites: &WordSet,
-) -> (bool, WordSet) {
-    let mut main = false;
-    let mut others = WordSet::empty();
-    for index in 0..4096 {
-        let site = Word::from_index(index);
-        if sites.contains(site) {
-            if let Some(owner) = report.declaration.owner_of(site) {
-                match owner {
-                    Owner::Main => main = true,
-                    Owner::Routine(entry) => others.insert(entry),
-                }
-            }
-        }
-    }
-    (main, others)
+/// Whether a routine is called from a body, where these are its sites.
+fn is_called_from(body: &WordSet, sites: &WordSet) -> bool
+    ensures { result ≡ has_some (meet (words sites.now) (words body.now)) }
+{
+    !sites.meet(body).is_empty()
 }
 
 /// Writes a line from a caller's box to a callee's.
@@ -137,23 +127,23 @@ fn write_lines<A: Allocator, B: Allocator, D: Allocator, C: Allocator>(
 ) {
     let callee = box_place_at(box_places, place);
     let claimed = claimed_of(report.certificate, routine.entry());
-    let (main, others) = callers_of(report, &claimed.sites);
-    if main {
+    if is_called_from(report.declaration.main(), &claimed.sites) {
         write_line(writer, &MAIN, &callee);
     }
     for (at, other) in report.declaration.routines().iter().enumerate() {
-        if others.contains(other.entry()) {
+        if is_called_from(other.body(), &claimed.sites) {
             write_line(writer, &box_place_at(box_places, at), &callee);
         }
     }
 }
 
-/// Writes a box with a name.
+/// Writes a box with a name, and with a label after it, if there is one.
 fn write_box<A: Allocator>(
     writer: &mut ReportWriter<A>,
     box_place: &BoxPlace,
     class: &[u8],
     name: &[u8],
+    label: &[u8],
 ) {
     let left = box_place.column.saturating_mul(ACROSS).saturating_add(10);
     writer.numbered(b"<rect class=b width=120 height=40 x=", left);
@@ -166,6 +156,7 @@ fn write_box<A: Allocator>(
     writer.numbered(b" y=", box_place.top().saturating_add(24));
     writer.put(b">");
     writer.put(name);
+    writer.label(label);
     writer.put(b"</text>\n");
 }
 
@@ -175,9 +166,16 @@ fn write_routine_box<A: Allocator>(
     box_place: &BoxPlace,
     place: usize,
     entry: Word,
+    label: &[u8],
 ) {
     writer.link(entry);
-    write_box(writer, box_place, colour_of(place), &entry.to_octal());
+    write_box(
+        writer,
+        box_place,
+        colour_of(place),
+        &entry.to_octal(),
+        label,
+    );
     writer.put(b"</a>");
 }
 
@@ -189,6 +187,7 @@ fn write_row<A: Allocator, B: Allocator, D: Allocator, C: Allocator>(
 ) {
     writer.put(b"<tr><td>");
     writer.place(routine.entry());
+    writer.label(report.label_at(routine.entry()));
     match report.certificate.routine(routine.entry()) {
         None => writer.put(b"<td colspan=3>nothing is claimed about it"),
         Some(claimed) => {
@@ -200,7 +199,7 @@ fn write_row<A: Allocator, B: Allocator, D: Allocator, C: Allocator>(
         }
     }
     writer.put(b"<td>");
-    write_offsets(writer, routine);
+    write_offsets(writer, report.declaration, routine);
     writer.put(b"\n")
 }
 
@@ -230,7 +229,7 @@ fn write_drawing<A: Allocator, B: Allocator, D: Allocator, C: Allocator>(
     for (place, routine) in report.declaration.routines().iter().enumerate() {
         write_lines(writer, report, box_places, place, routine);
     }
-    write_box(writer, &MAIN, b"m", b"main");
+    write_box(writer, &MAIN, b"m", b"main", b"");
     write_boxes(writer, report, box_places);
     writer.put(b"</svg>\n");
 }
@@ -247,6 +246,7 @@ fn write_boxes<A: Allocator, B: Allocator, D: Allocator, C: Allocator>(
             &box_place_at(box_places, place),
             place,
             routine.entry(),
+            report.label_at(routine.entry()),
         );
     }
 }

@@ -1,9 +1,15 @@
 //! A fact as a report shows it.
 
-ghost use Rattle.std.specs.Prelude.{◌<◌, length};
-ghost use Rattle.domain.specs.FactInCode.{fact_in_code};
-ghost use Rattle.certificate.specs.Kept.{claims};
-ghost use Rattle.judge.specs.Shapes.{HasShape};
+ghost use Rattle.std.specs.Prelude.{◌≡◌, ◌<◌, length, map};
+ghost use Rattle.wordset.specs.Lanes.{words};
+ghost use Rattle.domain.specs.ChainsInCode.{chain_of};
+ghost use Rattle.domain.specs.FactInCode.{fact_in_code, rules_of};
+ghost use Rattle.domain.specs.LocationsInCode.{location_of};
+ghost use Rattle.domain.specs.Narrowing.{words_by};
+ghost use Rattle.facts.specs.Landing.{fact_at};
+ghost use Rattle.peripherals.specs.Loading.{image_of};
+ghost use Rattle.certificate_lines.specs.Kept.{claims};
+ghost use Rattle.reports.specs.Shown.{ShowsExit, ShowsFact};
 
 use bin_tape::Image;
 use certificate::Certificate;
@@ -25,7 +31,6 @@ pub(crate) struct KnownFact {
     pub(crate) cells: WordSet,
     /// Whether some state may satisfy it.
     pub(crate) is_possible: bool,
-    rules: Rules,
 }
 
 /// Whether something is to be said about a cell that a fact tells: by the rules of equations always, else where it may not
@@ -54,22 +59,13 @@ fn cells_of(rules: Rules, fact: &NarrowedFact) -> WordSet {
 
 impl KnownFact {
     /// A fact that says nothing.
-    pub(crate) fn new(rules: Rules) -> KnownFact {
+    pub(crate) fn new() -> KnownFact {
         KnownFact {
             claimed: Fact::any(),
             fact: NarrowedFact::any(),
             cells: WordSet::empty(),
             is_possible: true,
-            rules,
         }
-    }
-
-    /// What is asked of the fact that was read.
-    fn ask(&mut self, image: &Image)
-        requires { HasShape (fact_in_code self.old.claimed) }
-    {
-        self.is_possible = put_asked(&self.rules, image, &self.claimed, &mut self.fact);
-        self.cells = cells_of(self.rules, &self.fact);
     }
 
     /// Reads one of the facts at an address. `sites` are those of the routine in whose body it is.
@@ -82,10 +78,14 @@ impl KnownFact {
         index: usize,
     )
         requires { index < length ((claims certificate.now).facts at) }
+        ensures { let c = claims certificate.now in ShowsFact c.rules (image_of image.now)
+            (words sites.now) (fact_at (c.facts at) index) self.new }
     {
+        let rules = certificate.rules();
         let _line = certificate.put_fact(at, 0, index, &mut self.claimed);
-        put_sites(&self.rules, sites, &mut self.claimed);
-        self.ask(image);
+        put_sites(&rules, sites, &mut self.claimed);
+        self.is_possible = put_asked(&rules, image, &self.claimed, &mut self.fact);
+        self.cells = cells_of(rules, &self.fact);
     }
 
     /// Reads one of the exits of a routine for an offset, as it is claimed. `sites` are those of the routine.
@@ -99,13 +99,16 @@ impl KnownFact {
     )
         requires offset { offset < 64 }
         requires index { index < length ((claims certificate.now).exits entry offset) }
+        ensures { let c = claims certificate.now in ShowsExit c.rules (words sites.now)
+            (fact_at (c.exits entry offset) index) self.new }
     {
+        let rules = certificate.rules();
         certificate.put_exit(entry, offset, index, &mut self.claimed);
-        put_sites(&self.rules, sites, &mut self.claimed);
+        put_sites(&rules, sites, &mut self.claimed);
         self.claimed.is_within_room();
         self.fact.copy_from(&self.claimed);
         self.is_possible = true;
-        self.cells = cells_of(self.rules, &self.fact);
+        self.cells = cells_of(rules, &self.fact);
     }
 
     /// The relations that are claimed.
@@ -114,26 +117,35 @@ impl KnownFact {
     }
 
     /// The chains that are claimed.
-    pub(crate) fn chains(&self) -> &[Chain] {
+    pub(crate) fn chains(&self) -> &[Chain]
+        ensures { map chain_of result.now ≡ (fact_in_code self.now.claimed).chains }
+    {
         self.claimed.chains()
     }
 
     /// The words that a name may hold by what conditions are asked of.
-    pub(crate) fn set_of(&self, name: &Location) -> WordSet {
+    pub(crate) fn set_of(&self, name: &Location) -> WordSet
+        ensures { words result ≡ (fact_in_code self.now.fact).set (location_of name.now) }
+    {
         let mut set = WordSet::empty();
         self.fact.put_set_of(name, &mut set);
         set
     }
 
     /// The words that all that is known leaves to a name.
-    pub(crate) fn narrowed(&self, image: &Image, name: &Location) -> WordSet {
+    pub(crate) fn narrowed(&self, rules: &Rules, image: &Image, name: &Location) -> WordSet
+        ensures { words result ≡ words_by (rules_of rules.now) (image_of image.now)
+            (fact_in_code self.now.fact) (location_of name.now) }
+    {
         let mut set = WordSet::empty();
-        self.fact.put_words_by(&self.rules, image, name, &mut set);
+        self.fact.put_words_by(rules, image, name, &mut set);
         set
     }
 
     /// The sites from which the running routine may have been called.
-    pub(crate) fn sites(&self) -> WordSet {
+    pub(crate) fn sites(&self) -> WordSet
+        ensures { words result ≡ (fact_in_code self.now.fact).sites }
+    {
         let mut set = WordSet::empty();
         self.fact.sites().put(&mut set);
         set

@@ -3,12 +3,14 @@
 
 mod access;
 mod cases;
+mod fact_context;
 mod graph;
-mod known;
 mod known_fact;
 mod listing;
 mod map;
+mod names;
 mod page;
+mod promises;
 mod relations;
 mod report;
 mod routines;
@@ -18,6 +20,7 @@ mod variables;
 mod writer;
 
 use listing::{ClaimCache, push_listing};
+pub use names::PageNames;
 pub use page::page_below;
 pub use report::{Finding, Report};
 pub use source_notes::{LinePlace, SourceNote, SourceNotes};
@@ -36,7 +39,7 @@ pub fn listing_below<A: Allocator + Copy, D: Allocator, C: Allocator>(
     report: &Report<'_, A, D, C>,
 ) -> Result<Vec<u8, A>, AllocError> {
     let mut writer = ReportWriter::new(alloc, ReportForm::Text, &report.lines());
-    let mut cache = ClaimCache::boxed(alloc, report.rules)?;
+    let mut cache = ClaimCache::boxed(alloc)?;
     push_listing(&mut writer, report, &mut cache);
     writer.into_bytes()
 }

@@ -1,18 +1,24 @@
 //! The listing: a line for each address at which something stands, with what is known there.
 
-ghost use Rattle.std.specs.Prelude.{◌≡◌, length};
-ghost use Rattle.certificate.specs.Kept.{claims};
+ghost use Rattle.std.specs.Prelude.{◌≡◌, [], length};
+ghost use Rattle.wordset.specs.Lanes.{words};
+ghost use Rattle.facts.specs.Landing.{fact_at};
+ghost use Rattle.peripherals.specs.Loading.{image_of};
+ghost use Rattle.declaration.specs.Kept.{meaning};
+ghost use Rattle.certificate_lines.specs.Kept.{claims};
+ghost use Rattle.reports.specs.Kinds.{IsKind};
+ghost use Rattle.reports.specs.Shown.{ShowsFact, fact_of, is_even, unknown_of};
 
 use crate::access::{write_access, write_direct};
-use crate::cases::Apart;
-use crate::known::{write_apart, write_fact};
+use crate::cases::FactDifferences;
+use crate::fact_context::{write_apart, write_fact};
 use crate::known_fact::KnownFact;
-use crate::report::{Finding, Kind, Report, before, claimed_of, routine_of, unclaimed};
+use crate::report::{CellKind, Finding, Report, before, claimed_of, routine_of, unclaimed};
 use crate::routines::{write_exits, write_routine};
 use crate::source_notes::SourceNote;
 use crate::writer::ReportWriter;
-use certificate::{Certificate, RoutineClaim};
-use domain::Rules;
+use certificate::Certificate;
+use certificate_lines::RoutineClaim;
 use instruct::{Instruction, decode, name, refers_indirectly, target};
 use judge::Claims;
 use std::alloc::{AllocError, Allocator};
@@ -64,6 +70,7 @@ fn write_word<A: Allocator, B: Allocator, D: Allocator, C: Allocator>(
     writer.mark(&at.to_octal());
     writer.mark(b"><td>");
     writer.word(at);
+    writer.label(report.label_at(at));
     writer.put(b" ");
     writer.mark(b"<td>");
     writer.begin_items(SHORT);
@@ -115,27 +122,56 @@ pub(crate) fn write_variable<A: Allocator, B: Allocator, D: Allocator, C: Alloca
     } else {
         writer.words(&held.words);
     }
-    let unknown = report.facts.minus(&held.known_at);
-    if !unknown.is_empty() {
-        writer.item(b"any word at ");
-        writer.places(&unknown);
+    if !report.facts.is_subset(&held.known_at) {
+        writer.put(b" where it is known");
     }
 }
 
-/// Writes what is said about an address without a fact.
+/// What is said about an address without a fact.
+#[derive(Clone, Copy, PartialEq, Eq)]
+pub(crate) enum FactAbsence {
+    /// No run comes there.
+    NeverReached,
+    /// There is no fact.
+    NoFact,
+    /// The words that a variable may hold.
+    Held,
+    /// Nothing.
+    Nothing,
+}
+
+/// What is said about an address of this kind without a fact.
+fn unknown_at<B: Allocator, D: Allocator, C: Allocator>(
+    report: &Report<'_, B, D, C>,
+    kind: &CellKind,
+) -> FactAbsence
+    ensures { result ≡ unknown_of kind.now report.now.finding }
+{
+    match kind {
+        CellKind::Main | CellKind::Routine(_) => match report.finding {
+            Finding::Shown => FactAbsence::NeverReached,
+            Finding::Refused(_) | Finding::Stuck(_) => FactAbsence::NoFact,
+        },
+        CellKind::Variable => FactAbsence::Held,
+        CellKind::Entry | CellKind::Other | CellKind::Unset => FactAbsence::Nothing,
+    }
+}
+
+/// Writes what is said about an address without a fact. It is said of no other address that it is never reached.
 fn write_unknown<A: Allocator, B: Allocator, D: Allocator, C: Allocator>(
     writer: &mut ReportWriter<A>,
     report: &Report<'_, B, D, C>,
-    kind: &Kind,
+    kind: &CellKind,
     at: Word,
-) {
-    match kind {
-        Kind::Main | Kind::Routine(_) => match report.finding {
-            Finding::Shown => writer.item(b"never reached"),
-            Finding::Refused(_) | Finding::Stuck(_) => writer.item(b"no fact"),
-        },
-        Kind::Variable => write_variable(writer, report, at),
-        Kind::Entry | Kind::Other | Kind::Unset => {}
+)
+    requires fact { (claims report.now.certificate.now).facts at ≡ [] }
+    requires kind { IsKind report.now.image.now (meaning report.now.declaration.now) at kind.now }
+{
+    match unknown_at(report, kind) {
+        FactAbsence::NeverReached => writer.item(b"never reached"),
+        FactAbsence::NoFact => writer.item(b"no fact"),
+        FactAbsence::Held => write_variable(writer, report, at),
+        FactAbsence::Nothing => {}
     }
 }
 
@@ -160,7 +196,9 @@ fn write_mark<A: Allocator, B: Allocator, D: Allocator, C: Allocator>(
 }
 
 /// Whether an address is even.
-fn is_even(at: Word) -> bool {
+fn is_even(at: Word) -> bool
+    ensures { result ≡ is_even at }
+{
     at.index() % 2 == 0
 }
 
@@ -185,19 +223,16 @@ impl ClaimCache {
     /// # Errors
     ///
     /// Memory was refused.
-    pub(crate) fn boxed<A: Allocator>(
-        alloc: A,
-        rules: Rules,
-    ) -> Result<Box<ClaimCache, A>, AllocError> {
-        Ok(Box::new(alloc, ClaimCache::new(rules))?)
+    pub(crate) fn boxed<A: Allocator>(alloc: A) -> Result<Box<ClaimCache, A>, AllocError> {
+        Ok(Box::new(alloc, ClaimCache::new())?)
     }
 
     /// A cache with nothing in it.
-    fn new(rules: Rules) -> ClaimCache {
+    fn new() -> ClaimCache {
         ClaimCache {
-            even: KnownFact::new(rules),
-            odd: KnownFact::new(rules),
-            exit: KnownFact::new(rules),
+            even: KnownFact::new(),
+            odd: KnownFact::new(),
+            exit: KnownFact::new(),
             last: None,
             routine: unclaimed(),
             entry: None,
@@ -205,7 +240,7 @@ impl ClaimCache {
     }
 
     /// Looks up what is claimed about the routine in whose body an address of this kind is, if it is in one.
-    fn look_up<C: Allocator>(&mut self, certificate: &Certificate<C>, kind: &Kind) {
+    fn look_up<C: Allocator>(&mut self, certificate: &Certificate<C>, kind: &CellKind) {
         let entry = routine_of(kind);
         if self.entry == entry {
             return;
@@ -224,22 +259,54 @@ impl ClaimCache {
         at: Word,
     )
         requires { length ((claims report.now.certificate.now).facts at) ≡ 1 }
+        ensures { let c = claims report.now.certificate.now in ShowsFact c.rules
+            (image_of report.now.image.now) (words self.new.routine.sites) (fact_at (c.facts at) 0)
+            (fact_of (is_even at) self.new) }
     {
-        let (image, certificate) = (report.image, report.certificate);
-        if is_even(at) {
-            self.even
-                .read(image, certificate, &self.routine.sites, at, 0);
-        } else {
-            self.odd
-                .read(image, certificate, &self.routine.sites, at, 0);
-        }
+        let image = report.image;
+        let certificate = report.certificate;
         self.last = Some(at);
+        let sites = self.routine.sites;
+        if is_even(at) {
+            self.even.read(image, certificate, &sites, at, 0);
+        } else {
+            self.odd.read(image, certificate, &sites, at, 0);
+        }
     }
 
     /// The fact of an even or an odd address that was read last.
-    fn fact(&self, is_even: bool) -> &KnownFact {
+    fn fact(&self, is_even: bool) -> &KnownFact
+        ensures { result.now ≡ fact_of is_even self.now }
+    {
         if is_even { &self.even } else { &self.odd }
     }
+}
+
+/// Writes what is known and done at an address with one fact, which this one shows. `claimed` is what is claimed of the
+/// routine in whose body the address is.
+fn write_shown<A: Allocator, B: Allocator, D: Allocator, C: Allocator>(
+    writer: &mut ReportWriter<A>,
+    report: &Report<'_, B, D, C>,
+    claimed: &RoutineClaim,
+    kind: &CellKind,
+    known: &KnownFact,
+    above: Option<&KnownFact>,
+    at: Word,
+)
+    requires { let c = claims report.now.certificate.now in ShowsFact c.rules
+        (image_of report.now.image.now) (words claimed.now.sites) (fact_at (c.facts at) 0) known.now }
+{
+    let setting = report.setting_of(claimed);
+    write_fact(
+        writer,
+        &setting,
+        known,
+        above,
+        &FactDifferences::by_nothing(),
+    );
+    writer.end_same();
+    write_access(writer, report, kind, known, at);
+    write_direct(writer, report, at);
 }
 
 /// Writes what is known and done at an address with one fact.
@@ -247,7 +314,7 @@ fn write_only_fact<A: Allocator, B: Allocator, D: Allocator, C: Allocator>(
     writer: &mut ReportWriter<A>,
     report: &Report<'_, B, D, C>,
     cache: &mut ClaimCache,
-    kind: &Kind,
+    kind: &CellKind,
     at: Word,
 )
     requires { length ((claims report.now.certificate.now).facts at) ≡ 1 }
@@ -261,14 +328,11 @@ fn write_only_fact<A: Allocator, B: Allocator, D: Allocator, C: Allocator>(
     } else {
         None
     };
-    let setting = report.setting_of(&cache.routine);
-    write_fact(writer, &setting, known, above, &Apart::by_nothing());
-    writer.end_same();
-    write_access(writer, report, kind, known, at);
-    write_direct(writer, report, at);
+    write_shown(writer, report, &cache.routine, kind, known, above, at);
 }
 
 /// Writes what is known and done at an address, or how many facts there are if there are several.
+#[tactic(auto, using(crate::proofs::ShownLemmas::no_facts))]
 fn write_known<A: Allocator, B: Allocator, D: Allocator, C: Allocator>(
     writer: &mut ReportWriter<A>,
     report: &Report<'_, B, D, C>,
@@ -297,7 +361,7 @@ fn write_known<A: Allocator, B: Allocator, D: Allocator, C: Allocator>(
 fn write_case_head<A: Allocator>(
     writer: &mut ReportWriter<A>,
     known: &KnownFact,
-    apart: &Apart,
+    apart: &FactDifferences,
     index: usize,
 ) {
     writer.mark(b"<tr><td colspan=3><td><b>");
@@ -318,10 +382,15 @@ fn write_case<A: Allocator, B: Allocator, D: Allocator, C: Allocator>(
     writer: &mut ReportWriter<A>,
     report: &Report<'_, B, D, C>,
     cache: &ClaimCache,
-    apart: &Apart,
+    apart: &FactDifferences,
     at: Word,
     index: usize,
-) {
+)
+    // The case that is shown is the fact at that place of those at the address.
+    requires { let c = claims report.now.certificate.now in ShowsFact c.rules
+        (image_of report.now.image.now) (words cache.now.routine.sites)
+        (fact_at (c.facts at) index) cache.now.even }
+{
     let known = &cache.even;
     write_case_head(writer, known, apart, index);
     if known.is_possible {
@@ -344,9 +413,10 @@ fn write_cases<A: Allocator, B: Allocator, D: Allocator, C: Allocator>(
 )
     requires { count ≡ length ((claims report.now.certificate.now).facts at) }
 {
-    let (image, certificate) = (report.image, report.certificate);
+    let image = report.image;
+    let certificate = report.certificate;
     let sites = cache.routine.sites;
-    let apart = Apart::of(
+    let apart = FactDifferences::of(
         image,
         certificate,
         &sites,
@@ -356,6 +426,7 @@ fn write_cases<A: Allocator, B: Allocator, D: Allocator, C: Allocator>(
         &mut cache.odd,
     );
     for index in 0..count {
+        let sites = cache.routine.sites;
         cache.even.read(image, certificate, &sites, at, index);
         write_case(writer, report, cache, &apart, at, index);
     }
@@ -368,10 +439,7 @@ fn write_note<A: Allocator>(writer: &mut ReportWriter<A>, note: Option<SourceNot
     };
     writer.mark(b"<td>");
     writer.note();
-    if !note.label.is_empty() {
-        writer.say(note.label);
-        writer.put(b", ");
-    }
+    writer.noted_label(note.label);
     writer.numbered(b"line ", note.line);
     if note.is_first {
         writer.put(b": ");
@@ -441,16 +509,17 @@ fn write_heading<A: Allocator, B: Allocator, D: Allocator, C: Allocator>(
     writer.put(b"\n");
     writer.mark(b"<tr><th colspan=4>");
     match report.kind_of(at) {
-        Kind::Main => writer.put(b"main\n"),
-        Kind::Variable => writer.put(b"variables\n"),
-        Kind::Other => writer.put(b"other words of the tape\n"),
-        Kind::Unset => writer.put(b"nothing is declared here\n"),
-        Kind::Routine(entry) => {
+        CellKind::Main => writer.put(b"main\n"),
+        CellKind::Variable => writer.put(b"variables\n"),
+        CellKind::Other => writer.put(b"other words of the tape\n"),
+        CellKind::Unset => writer.put(b"nothing is declared here\n"),
+        CellKind::Routine(entry) => {
             writer.put(b"body of routine ");
             writer.word(entry);
+            writer.label(report.label_at(entry));
             writer.put(b"\n");
         }
-        Kind::Entry => {
+        CellKind::Entry => {
             for routine in report.declaration.routines() {
                 if routine.entry() == at {
                     write_routine(writer, report, routine);
@@ -474,12 +543,12 @@ fn needs_heading<B: Allocator, D: Allocator, C: Allocator>(
     };
     let above = report.kind_of(*last);
     match report.kind_of(at) {
-        Kind::Entry => true,
-        Kind::Routine(entry) => above != Kind::Routine(entry) && *last != entry,
-        Kind::Main => above != Kind::Main,
-        Kind::Variable => above != Kind::Variable,
-        Kind::Other => above != Kind::Other,
-        Kind::Unset => above != Kind::Unset,
+        CellKind::Entry => true,
+        CellKind::Routine(entry) => above != CellKind::Routine(entry) && *last != entry,
+        CellKind::Main => above != CellKind::Main,
+        CellKind::Variable => above != CellKind::Variable,
+        CellKind::Other => above != CellKind::Other,
+        CellKind::Unset => above != CellKind::Unset,
     }
 }
 

@@ -1,7 +1,7 @@
 //! The command that writes what a certificate says.
 
 ghost use Rattle.std.specs.Prelude.{◌≡◌, ◌++◌, false, IfOk, IfErr};
-ghost use Rattle.certificate.specs.Kept.{meaning as text_of};
+ghost use Rattle.certificate_lines.specs.Kept.{meaning as text_of};
 ghost use Rattle.declaration.specs.Kept.{meaning};
 ghost use Rattle.command_parts.specs.Answers.{IsLaterFault, IsMemoryFault, WritesAnswer, output};
 ghost use Rattle.command_parts.specs.Faults.{fails_to_write};
@@ -12,15 +12,15 @@ ghost use Rattle.reports.specs.Head.{head_of, opening};
 ghost use Rattle.reports.specs.ReportText.{IsReportOf};
 
 use crate::{Finding, Report, head_of, listing_below, opening, page_below};
-pub use crate::{LinePlace, ReportForm, SourceNote, SourceNotes};
+pub use crate::{LinePlace, PageNames, ReportForm, SourceNote, SourceNotes};
 use bin_tape::Image;
 use certificate::Certificate;
-use command_parts::outcome::{Outcome, deliver};
+use command_parts::outcome::{CommandResult, deliver};
 use command_parts::status::{Fault, Status};
 use declaration::Declaration;
-use diagnostics::verdicts::certificates::{Certified, certified_from};
+use diagnostics::verdicts::certificates::{ProgramWithCertificate, certified_from};
+use diagnostics::verdicts::reason_context::reason_context_of;
 use diagnostics::verdicts::reason_text::push_why;
-use diagnostics::verdicts::telling::telling_of;
 use diagnostics::verdicts::verdict::{condition_name, verdict_line, verdict_status};
 use judge::{Refusal, Rooms, judge};
 use reasons::{Reason, WhyRooms, why};
@@ -54,7 +54,7 @@ fn why_lines<A: Allocator + Copy, D: Allocator, C: Allocator>(
 ) -> Result<Vec<u8, A>, AllocError> {
     let mut text = Vec::new(alloc);
     let reason = reason_of(alloc, image, declaration, certificate, verdict)?;
-    let telling = telling_of(certificate, verdict, &reason);
+    let telling = reason_context_of(certificate, verdict, &reason);
     push_why(
         &mut text,
         declaration.profile(),
@@ -92,6 +92,7 @@ fn below<A: Allocator + Copy, D: Allocator, C: Allocator>(
     certificate: &Certificate<C>,
     verdict: &Result<(), Refusal>,
     form: ReportForm,
+    files: &[u8],
     notes: Option<&SourceNotes<A>>,
 ) -> Result<Vec<u8, A>, AllocError> {
     let lines = why_lines(alloc, image, declaration, certificate, verdict)?;
@@ -109,6 +110,7 @@ fn below<A: Allocator + Copy, D: Allocator, C: Allocator>(
         certificate,
         finding,
         failing,
+        files,
         notes,
     )?;
     below_lines(alloc, &report, &lines, form)
@@ -133,13 +135,18 @@ fn joined<A: Allocator>(
     Ok(page)
 }
 
-/// The report on a certificate of a program, and the status of its verdict.
+/// The report on a certificate of a program that has these names, and the status of its verdict.
+///
+/// # Errors
+///
+/// Memory was refused.
 pub fn report_of<A: Allocator + Copy>(
     alloc: A,
-    certified: &Certified<A>,
+    certified: &ProgramWithCertificate<A>,
     form: ReportForm,
+    names: PageNames<'_>,
     notes: Option<&SourceNotes<A>>,
-) -> Result<Outcome<A>, Fault>
+) -> Result<CommandResult<A>, Fault>
     ensures page { IfOk result (λ page. IsReportOf form certified.now.program.image
         (meaning certified.now.program.declaration) (text_of certified.now.certificate)
         page.status page.text.items) }
@@ -158,11 +165,12 @@ pub fn report_of<A: Allocator + Copy>(
         &certified.certificate,
         &verdict,
         form,
+        names.files,
         notes,
     )?;
     let text = joined(alloc, form, &verdict, &line, &rest)?;
     let status = verdict_status(&verdict);
-    Ok(Outcome { text, status })
+    Ok(CommandResult { text, status })
 }
 
 /// Writes what a certificate of a tape and a declaration says, to look at: the verdict as `check`
@@ -203,7 +211,10 @@ pub fn report<A: Allocator + Copy, R: ByteSource, D: ByteSource, C: ByteSource, 
         (declaration.new ≡ declaration.old) (certificate.new ≡ certificate.old) result }
 {
     match certified_from(alloc, tape, declaration, certificate) {
-        Ok(certified) => deliver(report_of(alloc, &certified, form, notes), out),
+        Ok(certified) => deliver(
+            report_of(alloc, &certified, form, PageNames::unnamed(), notes),
+            out,
+        ),
         Err(fault) => Err(fault),
     }
 }

@@ -1,25 +1,34 @@
 //! What is declared and claimed about a routine.
 
-use crate::known::write_exit;
+ghost use Rattle.wordset.specs.Lanes.{words};
+ghost use Rattle.facts.specs.Landing.{fact_at};
+ghost use Rattle.certificate_lines.specs.Kept.{claims};
+ghost use Rattle.reports.specs.Shown.{ShowsExit};
+
+use crate::fact_context::write_exit;
 use crate::known_fact::KnownFact;
 use crate::report::{Report, claimed_of};
 use crate::writer::ReportWriter;
-use certificate::RoutineClaim as Claimed;
-use declaration::Routine;
+use certificate_lines::RoutineClaim as Claimed;
+use declaration::{Declaration, Routine};
 use judge::Claims;
 use std::alloc::Allocator;
 use word12::Word;
 use wordset::WordSet;
 
-/// Writes the declared offsets of a routine.
-pub(crate) fn write_offsets<A: Allocator>(writer: &mut ReportWriter<A>, routine: &Routine) {
+/// Writes the declared offsets of a routine, in octal digits.
+pub(crate) fn write_offsets<A: Allocator, D: Allocator>(
+    writer: &mut ReportWriter<A>,
+    declaration: &Declaration<D>,
+    routine: &Routine,
+) {
     let mut some = false;
-    for offset in 0..8usize {
-        if routine.offsets().contains(Word::from_index(offset)) {
+    for offset in 0..64usize {
+        if declaration.has_offset(routine.entry(), Word::from_index(offset)) {
             if some {
                 writer.put(b",");
             }
-            writer.number(offset);
+            writer.offset(offset);
             some = true;
         }
     }
@@ -58,12 +67,13 @@ pub(crate) fn write_routine<A: Allocator, B: Allocator, D: Allocator, C: Allocat
     writer.begin_items(0);
     writer.item(b"routine ");
     writer.word(routine.entry());
+    writer.label(report.label_at(routine.entry()));
     match report.certificate.routine(routine.entry()) {
         Some(claimed) => write_claimed(writer, &claimed),
         None => writer.item(b"nothing is claimed about it"),
     }
     writer.item(b"returns by ");
-    write_offsets(writer, routine);
+    write_offsets(writer, report.declaration, routine);
 }
 
 /// Writes the line of an exit: what holds when the routine returns by that offset.
@@ -72,8 +82,14 @@ fn write_exit_line<A: Allocator, B: Allocator, D: Allocator, C: Allocator>(
     report: &Report<'_, B, D, C>,
     claimed: &Claimed,
     offset: usize,
+    index: usize,
+    entry: Word,
     exit: &KnownFact,
-) {
+)
+    // The exit that is shown is the one at that place of those for the offset.
+    requires { let c = claims report.now.certificate.now in ShowsExit c.rules
+        (words claimed.now.sites) (fact_at (c.exits entry offset) index) exit.now }
+{
     writer.mark(b"<tr><td colspan=3>");
     writer.put(b"return by ");
     writer.offset(offset);
@@ -95,7 +111,7 @@ pub(crate) fn write_exits<A: Allocator, B: Allocator, D: Allocator, C: Allocator
     for offset in 0..64usize {
         for index in 0..certificate.count_exits(entry, offset) {
             exit.read_exit(certificate, &claimed.sites, entry, offset, index);
-            write_exit_line(writer, report, &claimed, offset, exit);
+            write_exit_line(writer, report, &claimed, offset, index, entry, exit);
         }
     }
 }

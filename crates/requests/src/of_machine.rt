@@ -4,19 +4,24 @@
 pub(crate) mod places;
 mod words;
 
-use crate::of_files::joined::{hold_session_on, hold_teletype_session_on};
+use crate::faults::UNSUPPORTED;
+use crate::file_kinds::source_hint;
+use crate::of_files::session_files::{hold_session_on, hold_teletype_session_on};
 use crate::of_files::tapes::run_on;
-use crate::of_machine::places::{Named, named_in};
-use crate::of_machine::words::words_of;
+use crate::of_machine::places::{ResolvedPlaces, named_in};
+use crate::of_machine::words::{SourceStatements, words_of};
 use crate::of_sources::assembled::{AssembledSource, described};
-use crate::of_sources::numbering::{Given, Promise, lend, machine_line, read_parts};
-use crate::of_sources::told::tell_unread;
+use crate::of_sources::numbering::{
+    DeclarationOrigin, SourceInput, byte_slices, machine_line, read_parts,
+};
+use crate::of_sources::source_messages::tell_unread;
 use crate::source_faults::{tell_of, tell_source, unopened};
-use crate::telling::tell_misuse;
-use command_line::{MachineTask, RunRequest, Session, SourcedRequest, TeletypeSession};
+use crate::telling::{tell_lines, tell_misuse};
+use command_line::{MachineTask, RunRequest, Session, SourceProgramRequest, TeletypeSession};
 use command_parts::options::{RunOptions, SessionOptions, TeletypeOptions};
 use command_parts::status::{Fault, Status};
-use labels::{Numbered, NumberingFault, number};
+use labels::{NumberedProgram, NumberingFault, number};
+use pal_asm::PalFault;
 use std::alloc::Global;
 use std::io;
 use std::rt::Files;
@@ -24,15 +29,19 @@ use streams::put;
 use streams::standard::{Reads, Writes};
 
 /// The tape of a source that was read, and its lines.
-fn numbered_of(alloc: Global, given: &Given) -> Result<Numbered<Global>, NumberingFault> {
-    match lend(alloc, &given.parts) {
+#[inline(never)]
+fn numbered_of(
+    alloc: Global,
+    given: &SourceInput,
+) -> Result<NumberedProgram<Global>, NumberingFault> {
+    match byte_slices(alloc, &given.parts) {
         Ok(parts) => number(alloc, &parts, &given.text),
         Err(_) => Err(NumberingFault::NoMemory),
     }
 }
 
 /// Runs a program with these cells shown and these stops.
-fn run_of<'a>(run: &RunRequest<'a>, named: &Named) -> RunRequest<'a> {
+fn run_of<'a>(run: &RunRequest<'a>, named: &ResolvedPlaces) -> RunRequest<'a> {
     RunRequest {
         tape: run.tape,
         events: run.events,
@@ -41,12 +50,12 @@ fn run_of<'a>(run: &RunRequest<'a>, named: &Named) -> RunRequest<'a> {
             ..run.options
         },
         stopping: named.stopping,
-        last: run.last,
+        long: run.long,
     }
 }
 
-/// A run with an operator with these cells shown.
-fn session_of<'a>(session: &Session<'a>, named: &Named) -> Session<'a> {
+/// A run with an operator with these cells shown and these stops.
+fn session_of<'a>(session: &Session<'a>, named: &ResolvedPlaces) -> Session<'a> {
     Session {
         tape: session.tape,
         joined: session.joined,
@@ -58,11 +67,12 @@ fn session_of<'a>(session: &Session<'a>, named: &Named) -> Session<'a> {
             ..session.options
         },
         summary: session.summary,
+        stopping: named.stopping,
     }
 }
 
-/// A session at the teletype with these cells shown.
-fn teletype_of<'a>(session: &TeletypeSession<'a>, named: &Named) -> TeletypeSession<'a> {
+/// A session at the teletype with these cells shown and these stops.
+fn teletype_of<'a>(session: &TeletypeSession<'a>, named: &ResolvedPlaces) -> TeletypeSession<'a> {
     TeletypeSession {
         tape: session.tape,
         reader: session.reader,
@@ -72,28 +82,39 @@ fn teletype_of<'a>(session: &TeletypeSession<'a>, named: &Named) -> TeletypeSess
             ..session.options
         },
         summary: session.summary,
+        stopping: named.stopping,
+        interrupt: session.interrupt,
     }
 }
 
 /// Does what is asked for with the program of a source that was assembled.
+#[inline(never)]
 fn carry_out<R: Files + Input + Print + Eprint>(
     rt: &R,
     alloc: Global,
     source: &AssembledSource,
-    asked: &SourcedRequest<'_>,
+    asked: &SourceProgramRequest<'_>,
+    at_terminal: bool,
 ) -> Result<Status, Fault> {
-    let named = match named_in(source.numbered.map.symbols(), asked) {
+    let named = match named_in(source.numbered.map.symbols(), &asked.places) {
         Ok(named) => named,
         Err(misuse) => return Ok(tell_misuse(rt, &misuse.with_symbols())),
     };
     let mut frames = Reads::new(source.numbered.tape.as_slice());
     match &asked.task {
-        MachineTask::Run(run) => run_on(rt, alloc, &run_of(run, &named), &mut frames),
+        MachineTask::Run(run) => {
+            let statements = SourceStatements {
+                source,
+                profile: run.options.profile,
+            };
+            run_on(rt, alloc, &run_of(run, &named), &mut frames, &statements)
+        }
         MachineTask::Session(session) => {
             hold_session_on(rt, alloc, &session_of(session, &named), &mut frames)
         }
         MachineTask::Teletype(session) => {
-            hold_teletype_session_on(rt, alloc, &teletype_of(session, &named), &mut frames)
+            let session = teletype_of(session, &named);
+            hold_teletype_session_on(rt, alloc, &session, at_terminal, &mut frames)
         }
         MachineTask::Dump(dump) => {
             let text = words_of(alloc, source, dump.profile)?;
@@ -103,35 +124,52 @@ fn carry_out<R: Files + Input + Print + Eprint>(
     }
 }
 
+/// Tells that a source is refused, and below it why, if that is asked for, and if another file was given in its place.
+fn tell_refused<R: Eprint>(
+    rt: &R,
+    alloc: Global,
+    fault: PalFault,
+    parts: &[&[u8]],
+    asked: &SourceProgramRequest<'_>,
+) -> Status {
+    let names = &asked.parts;
+    let profile = asked.task.profile();
+    let status = tell_source(rt, alloc, fault, names, parts, profile, asked.explained);
+    let command = asked.task.command();
+    let hint = source_hint(alloc, command, asked.task.names(), names, fault, parts);
+    tell_lines(rt, &hint);
+    status
+}
+
 /// Does what is asked for with the program of a source that was read, or tells why it is refused, and says which of its
 /// parts are ignored.
 fn answer_given<R: Files + Input + Print + Eprint>(
     rt: &R,
     alloc: Global,
-    given: Given,
-    asked: &SourcedRequest<'_>,
+    given: SourceInput,
+    asked: &SourceProgramRequest<'_>,
+    at_terminal: bool,
 ) -> Result<Status, Fault> {
     let numbered = match numbered_of(alloc, &given) {
         Ok(numbered) => numbered,
         Err(NumberingFault::Source(fault)) => {
-            let parts = lend(alloc, &given.parts)?;
-            let profile = asked.task.profile();
-            return Ok(tell_source(
-                rt,
-                alloc,
-                fault,
-                &asked.parts,
-                &parts,
-                profile,
-                asked.explained,
-            ));
+            let parts = byte_slices(alloc, &given.parts)?;
+            return Ok(tell_refused(rt, alloc, fault, &parts, asked));
         }
         Err(NumberingFault::EmptyImage) => return Err(Fault::EmptyImage),
         Err(_) => return Err(Fault::NoMemory),
     };
     let source = described(alloc, given, numbered, &asked.parts)?;
-    let status = carry_out(rt, alloc, &source, asked)?;
-    tell_unread(rt, alloc, &asked.parts, &lend(alloc, &source.given.parts)?)?;
+    let status = carry_out(rt, alloc, &source, asked, at_terminal)?;
+    if asked.explained && status == Status::Refused {
+        tell_lines(rt, UNSUPPORTED);
+    }
+    tell_unread(
+        rt,
+        alloc,
+        &asked.parts,
+        &byte_slices(alloc, &source.given.parts)?,
+    )?;
     Ok(status)
 }
 
@@ -145,7 +183,8 @@ fn answer_given<R: Files + Input + Print + Eprint>(
 pub fn answer_sourced<R: Files + Input + Print + Eprint>(
     rt: &R,
     alloc: Global,
-    asked: &SourcedRequest<'_>,
+    asked: &SourceProgramRequest<'_>,
+    at_terminal: bool,
 ) -> Result<Status, Fault> {
     let mut parts = Vec::new(alloc);
     if let Err(fault) = read_parts(rt, alloc, &asked.parts, &mut parts) {
@@ -157,10 +196,10 @@ pub fn answer_sourced<R: Files + Input + Print + Eprint>(
     }
     let mut text = Vec::new(alloc);
     text.extend_from_slice(machine_line(asked.task.profile()))?;
-    let given = Given {
+    let given = SourceInput {
         parts,
         text,
-        promise: Promise::Proposed,
+        promise: DeclarationOrigin::Proposed,
     };
-    answer_given(rt, alloc, given, asked)
+    answer_given(rt, alloc, given, asked, at_terminal)
 }

@@ -4,7 +4,7 @@ use declaration::Owner;
 use instruct::Operation;
 use peripherals::NoMemory;
 use policy::Watcher;
-use processor::DecodedInstruction;
+use processor::{DecodedInstruction, Reference};
 use std::alloc::Allocator;
 use word12::Word;
 use wordset::WordSet;
@@ -20,6 +20,8 @@ pub struct Record<A: Allocator> {
     /// The cells that a DCA, an ISZ or an indirect reference through an auto-index cell wrote, but not
     /// the running routine's own entry under an ISZ.
     pub written: WordSet,
+    /// The address to which the last step led, if it was a JMP in a routine's body, but no JMP I through the routine's own entry.
+    pub jumped: Option<Word>,
     /// How many runs were begun.
     pub runs: u32,
     /// How many steps were made.
@@ -28,7 +30,7 @@ pub struct Record<A: Allocator> {
 
 /// What a step is about to do, as far as it is recorded.
 #[derive(Clone, Copy)]
-pub struct Sight {
+pub struct StepRecord {
     /// The address of the instruction.
     pub at: Word,
     /// The routine that runs.
@@ -39,6 +41,8 @@ pub struct Sight {
     pub stored: Option<Word>,
     /// The auto-index cell that an indirect reference steps.
     pub stepped: Option<Word>,
+    /// The address to which a JMP in a routine's body leads, but not a JMP I through the routine's own entry.
+    pub jumped: Option<Word>,
 }
 
 /// How far an address is behind another one, modulo 4096.
@@ -46,35 +50,44 @@ fn distance(to: Word, from: Word) -> Word {
     to.add(from.complement()).increment()
 }
 
-impl Sight {
+/// Whether a memory reference goes through the entry of the running routine.
+fn goes_through(reference: &Reference, own: Option<Word>) -> bool {
+    reference.indirect && own == Some(reference.named)
+}
+
+impl StepRecord {
     /// What the next step of a machine that is watched is about to do.
-    pub fn of<A: Allocator>(watcher: &Watcher<A>) -> Sight {
+    pub fn of<A: Allocator>(watcher: &Watcher<A>) -> StepRecord {
         let cpu = watcher.world().cpu();
-        let mut sight = Sight {
+        let mut step_record = StepRecord {
             at: cpu.pc,
             owner: Owner::Main,
             offset: Word::ZERO,
             stored: None,
             stepped: None,
+            jumped: None,
         };
         let mut own = None;
         if let Some(call) = watcher.calls().last() {
-            sight.owner = Owner::Routine(call.entry);
+            step_record.owner = Owner::Routine(call.entry);
             own = Some(call.entry);
-            sight.offset = distance(cpu.memory.get(call.entry), call.after);
+            step_record.offset = distance(cpu.memory.get(call.entry), call.after);
         }
         if let DecodedInstruction::Refers(reference) = cpu.fetch() {
             if reference.steps_pointer() {
-                sight.stepped = Some(reference.named);
+                step_record.stepped = Some(reference.named);
             }
             let place = reference.place;
             match reference.operation {
-                Operation::Dca => sight.stored = Some(place),
-                Operation::Isz if own != Some(place) => sight.stored = Some(place),
+                Operation::Dca => step_record.stored = Some(place),
+                Operation::Isz if own != Some(place) => step_record.stored = Some(place),
+                Operation::Jmp if own.is_some() && !goes_through(&reference, own) => {
+                    step_record.jumped = Some(place);
+                }
                 _ => {}
             }
         }
-        sight
+        step_record
     }
 }
 
@@ -85,6 +98,7 @@ impl<A: Allocator + Copy> Record<A> {
             owners: Vec::from_elem(alloc, None, 4096)?,
             places: [WordSet::empty(); 8],
             written: WordSet::empty(),
+            jumped: None,
             runs: 0,
             steps: 0,
         })
@@ -93,12 +107,14 @@ impl<A: Allocator + Copy> Record<A> {
     /// A run begins.
     pub(crate) fn begins(&mut self) {
         self.runs = self.runs.saturating_add(1);
+        self.jumped = None;
     }
 
     /// A step is made.
-    pub(crate) fn makes(&mut self, sight: &Sight) {
+    pub(crate) fn makes(&mut self, step_record: &StepRecord) {
         self.steps = self.steps.saturating_add(1);
-        self.sees(sight);
+        self.jumped = step_record.jumped;
+        self.sees(step_record);
     }
 
     /// The routine that ran when a step was first made from an address, if one was.
@@ -107,21 +123,21 @@ impl<A: Allocator + Copy> Record<A> {
     }
 
     /// Records what a step does, or is about to do.
-    pub fn sees(&mut self, sight: &Sight) {
-        if let Some(owner) = self.owners.get_mut(sight.at.index()) {
+    pub fn sees(&mut self, step_record: &StepRecord) {
+        if let Some(owner) = self.owners.get_mut(step_record.at.index()) {
             if owner.is_none() {
-                *owner = Some(sight.owner);
+                *owner = Some(step_record.owner);
             }
         }
-        let offset = sight.offset.index();
+        let offset = step_record.offset.index();
         let place = if offset < 8 { offset } else { 0 };
         if let Some(places) = self.places.get_mut(place) {
-            places.insert(sight.at);
+            places.insert(step_record.at);
         }
-        if let Some(cell) = sight.stored {
+        if let Some(cell) = step_record.stored {
             self.written.insert(cell);
         }
-        if let Some(cell) = sight.stepped {
+        if let Some(cell) = step_record.stepped {
             self.written.insert(cell);
         }
     }

@@ -1,23 +1,42 @@
 -- Lines that are kept, line by line.
-use Rattle.std.proofs.Common.{ℕ, ◌≡◌, ◌∷◌, ◌++◌, List, [], true, inl, length, sym, subst, arith}
+use Rattle.std.proofs.Common.{ℕ, ◌≡◌, ◌<◌, ◌+◌, ◌∷◌, ◌++◌, ◌==◌, ◌∙◌, List, [], true, false, inl, inr, length, refl, sym, ap, subst, arith}
+use Rattle.std.specs.Prelude.{codes}
+use Rattle.std.specs.List.{list_all}
+use Rattle.std.proofs.lemmas.List.{append-nil, length-append}
 use Rattle.std.specs.Str.{bytes_eq}
 use Rattle.std.proofs.lemmas.Slice.Eq.{bytes_eq-Decides}
-use Rattle.search_commands.specs.Keeping.{AreAdded, Grows, HasLine, IsAdded, KeepsLine, KeepsLines, first_line, mark, other_lines}
-use Rattle.search_commands.specs.Keeping.Grows.{same, marked}
+use Rattle.search_commands.specs.Keeping.{AreAdded, Grows, HasLine, IsAdded, IsCommentOrEnd, IsMark, KeepsLine, KeepsLines, ends_word, first_line, is_spaced, is_spelling, mark, other_lines}
+use Rattle.search_commands.specs.Keeping.Grows.{same, put, commented, marked}
+use Rattle.search_commands.specs.Keeping.IsMark.{ranges, offsets}
 use Rattle.search_commands.specs.Keeping.AreAdded.{none, more}
 use Rattle.search_commands.specs.Keeping.KeepsLines.{unchanged, line, last, added}
 
--- nothing is left of a line, and the mark follows
-pub ends_marked : (left rest : List ℕ) → length left ≡ 0 → (r : List ℕ) × (rest ≡ mark ++ r) → Grows left rest
-ends_marked [] rest e (r, is) = let P : List ℕ → Type 0 = λ t. Grows [] t in subst P (sym is) (marked r)
-ends_marked (x ∷ xs) rest e m = absurd (omega (arith, e))
+-- nothing is left of a line but its comment, and the mark follows
+pub ends_marked : (left rest tail : List ℕ) → IsCommentOrEnd left → rest ≡ left ++ tail → IsMark tail → Grows left rest
+ends_marked left rest tail (inl empty) e m =
+    let P : List ℕ → Type 0 = λ t. Grows t (t ++ tail) in
+    let Q : List ℕ → Type 0 = λ t. Grows left t in
+    subst Q (sym e) (subst P (sym empty) (marked tail m))
+ends_marked left rest tail (inr (comment, is)) e m =
+    let P : List ℕ → Type 0 = λ t. Grows t (t ++ tail) in
+    let Q : List ℕ → Type 0 = λ t. Grows left t in
+    subst Q (sym e) (subst P (sym is) (commented comment tail m))
 
--- a byte stands at the front of what is left
-pub first_stands : (left others new : List ℕ) (first byte : ℕ) → left ≡ first ∷ others → first ≡ byte → Grows others new → Grows left (byte ∷ new)
-first_stands left others new first byte e f h =
+-- a byte stands at the front of what is left, and is no slash
+pub first_stands : (left others new : List ℕ) (first byte : ℕ) → left ≡ first ∷ others → first ≡ byte → (byte == 47) ≡ false → Grows others new → Grows left (byte ∷ new)
+first_stands left others new first byte e f slash h =
     let P : List ℕ → Type 0 = λ t. Grows t (byte ∷ new) in
-    let Q : ℕ → Type 0 = λ c. Grows (first ∷ others) (c ∷ new) in
-    subst P (sym e) (subst Q f (same first others new h))
+    let Q : ℕ → Type 0 = λ c. Grows (c ∷ others) (byte ∷ new) in
+    subst P (sym e) (subst Q (sym f) (same byte others new slash h))
+
+-- the first of what is left is a slash
+pub comment_left : (left others : List ℕ) (first : ℕ) → left ≡ first ∷ others → first ≡ 47 → IsCommentOrEnd left
+comment_left left others first e f = let P : ℕ → Type 0 = λ c. left ≡ c ∷ others in inr (others, subst P f e)
+
+-- nothing is left
+pub nothing_left : (left : List ℕ) → length left ≡ 0 → IsCommentOrEnd left
+nothing_left [] e = inl refl
+nothing_left (x ∷ xs) e = absurd (omega (arith, e))
 
 -- no line is left
 pub none_added : (text : List ℕ) → length text ≡ 0 → AreAdded text
@@ -37,10 +56,45 @@ same_text old new e = let P : List ℕ → Type 0 = λ t. KeepsLines old t in su
 pub same_line : (old new : List ℕ) → bytes_eq old new ≡ true → KeepsLine old new
 same_line old new e = inl ((bytes_eq-Decides old new).0 e)
 
--- a byte more of what a line has grown to
-pub grown : (old new left rest after : List ℕ) (byte : ℕ) (others : List ℕ) → rest ≡ byte ∷ others → (Grows left rest → Grows old new)
-    → (Grows after others → Grows left (byte ∷ others)) → Grows after others → Grows old new
-grown old new left rest after byte others e so step h = let P : List ℕ → Type 0 = λ t. Grows left t in so (subst P (sym e) (step h))
+-- a word is put in
+pub put_in : (old new others front rest : List ℕ) → new ≡ 32 ∷ others → others ≡ front ++ rest → list_all is_spelling front ≡ true → ends_word old ≡ true → Grows old rest → Grows old new
+put_in old new others front rest e f spelled ends h =
+    let P : List ℕ → Type 0 = λ t. Grows old t in
+    subst P (sym (e ∙ ap (λ t. 32 ∷ t) f)) (put front old rest spelled ends h)
+
+-- what is left of a line is shorter
+pub put_shorter : (new others front rest : List ℕ) → new ≡ 32 ∷ others → others ≡ front ++ rest → length rest < length new
+put_shorter new others front rest e f =
+    let whole : length new ≡ length {A = ℕ} (32 ∷ others) = ap (λ (t : List ℕ). length t) e in
+    let parts : length others ≡ length front + length rest = ap (λ (t : List ℕ). length t) f ∙ length-append front rest in
+    omega (arith, whole, parts)
+
+-- a byte stands in both lines
+pub both_stand : (left others right more : List ℕ) (first byte : ℕ) → left ≡ first ∷ others → right ≡ byte ∷ more → first ≡ byte → (byte == 47) ≡ false → Grows others more → Grows left right
+both_stand left others right tail first byte e f same_byte slash h =
+    let P : List ℕ → Type 0 = λ t. Grows left t in
+    subst P (sym f) (first_stands left others tail first byte e same_byte slash h)
+
+-- a byte less is left
+pub same_shorter : (right more : List ℕ) (byte : ℕ) → right ≡ byte ∷ more → length more < length right
+same_shorter right tail byte e = let whole : length right ≡ length {A = ℕ} (byte ∷ tail) = ap (λ (t : List ℕ). length t) e in omega (arith, whole)
+
+-- ranges are named
+pub named_ranges : (text front rest : List ℕ) → text ≡ front ++ rest → length rest ≡ 0 → list_all is_spaced front ≡ true → IsMark (mark ++ text)
+named_ranges text front [] e empty spaced =
+    let P : List ℕ → Type 0 = λ t. IsMark (mark ++ t) in
+    subst P (sym (e ∙ append-nil front)) (ranges front spaced)
+named_ranges text front (x ∷ xs) e empty spaced = absurd (omega (arith, empty))
+
+-- ranges and offsets are named
+pub named_offsets : (text front rest behind : List ℕ) → text ≡ front ++ rest → rest ≡ codes "returns" ++ behind → list_all is_spaced front ≡ true → list_all is_spaced behind ≡ true → IsMark (mark ++ text)
+named_offsets text front rest behind e f spaced others =
+    let P : List ℕ → Type 0 = λ t. IsMark (mark ++ t) in
+    subst P (sym (e ∙ ap (λ t. front ++ t) f)) (offsets front behind spaced others)
+
+-- what marks a text that is this one
+pub mark_of : (text named : List ℕ) → text ≡ mark ++ named → IsMark (mark ++ named) → IsMark text
+mark_of text named e h = let P : List ℕ → Type 0 = λ t. IsMark t in subst P (sym e) h
 
 -- a line more that is added
 pub one_more_added : (text first rest : List ℕ) → HasLine text → first ≡ first_line text → rest ≡ other_lines text → IsAdded first → AreAdded rest → AreAdded text

@@ -19,7 +19,7 @@ obstacle_words (CallsVariable at) = codes "instructions other than JMS also stor
 obstacle_words (CallsPointer at) = codes "a JMS stores into the auto-index cell "
 obstacle_words (StoresInEntry at) = codes "instructions other than JMS also store at "
 obstacle_words (ReturnsForAnother at) = codes "control returns from a call other than the last by the JMP at "
-obstacle_words (ReturnsFar at) = codes "a routine returns outside the eight words after its call by the JMP at "
+obstacle_words (ReturnsFar at) = codes "a routine returns outside the 64 words after its call by the JMP at "
 
 -- The address at which an obstacle is seen.
 abbrev pub obstacle_place : Obstacle → ℕ

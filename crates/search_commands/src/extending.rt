@@ -39,6 +39,16 @@ fn keeps_sets<A: Allocator, B: Allocator>(given: &Declaration<A>, more: &Declara
         && given.pauses().is_subset(more.pauses())
 }
 
+/// Whether routines may still move their return words, and calls be abandoned, where they might.
+fn keeps_leave<A: Allocator, B: Allocator>(given: &Declaration<A>, more: &Declaration<B>) -> bool
+    ensures moves { result ≡ true →
+        IsWithin (meaning given.now).moves (meaning more.now).moves }
+    ensures abandon { result ≡ true →
+        IsWithin (meaning given.now).abandon (meaning more.now).abandon }
+{
+    given.moves().is_subset(more.moves()) && given.abandons().is_subset(more.abandons())
+}
+
 /// Whether the second declaration extends the first.
 pub fn extends<A: Allocator, B: Allocator>(given: &Declaration<A>, more: &Declaration<B>) -> bool
     ensures { result ≡ true → Extends (meaning given.now) (meaning more.now) }
@@ -50,6 +60,9 @@ pub fn extends<A: Allocator, B: Allocator>(given: &Declaration<A>, more: &Declar
         return false;
     }
     if !keeps_reads(given.reads(), more.reads()) {
+        return false;
+    }
+    if !keeps_leave(given, more) {
         return false;
     }
     keeps_cells(given, more)

@@ -1,6 +1,6 @@
 //! The text of a declaration with what another declaration has and it lacks.
 
-use control_flow::push_range;
+use control_flow::{above_seven, push_range, push_skips};
 use declaration::{Declaration, Offsets, Routine};
 use std::alloc::{AllocError, Allocator};
 use streams::text::{self, Words};
@@ -12,7 +12,7 @@ const MOST_RANGES: usize = 7;
 
 /// What a declaration says about cells, as far as it tells what may be added.
 #[derive(Clone, Copy)]
-struct Held {
+struct DeclaredCells {
     bodies: WordSet,
     entries: WordSet,
     variables: WordSet,
@@ -44,7 +44,7 @@ fn entries(routines: &[Routine]) -> WordSet {
 }
 
 /// The cells that are added to bodies.
-fn added_bodies(held: &Held, main: &WordSet, routines: &[Routine]) -> WordSet {
+fn added_bodies(held: &DeclaredCells, main: &WordSet, routines: &[Routine]) -> WordSet {
     let mut cells = held.free(main);
     for routine in routines {
         if held.entries.contains(routine.entry()) || held.admits(routine) {
@@ -71,10 +71,22 @@ fn set_of(offsets: &Offsets) -> WordSet {
     set
 }
 
-impl Held {
+/// The offsets at which a declared routine may return, of whatever lines.
+fn offsets_of<A: Allocator>(declaration: &Declaration<A>, entry: Word) -> WordSet {
+    let mut set = WordSet::empty();
+    for index in 0..64usize {
+        let offset = Word::from_index(index);
+        if declaration.has_offset(entry, offset) {
+            set.insert(offset);
+        }
+    }
+    set
+}
+
+impl DeclaredCells {
     /// What a declaration says.
-    fn by<A: Allocator>(declaration: &Declaration<A>) -> Held {
-        Held {
+    fn by<A: Allocator>(declaration: &Declaration<A>) -> DeclaredCells {
+        DeclaredCells {
             bodies: bodies(declaration.main(), declaration.routines()),
             entries: entries(declaration.routines()),
             variables: *declaration.variables(),
@@ -121,13 +133,15 @@ fn addition_to<A: Allocator, B: Allocator>(
     line: &[u8],
     given: &Declaration<A>,
     proposed: &Declaration<B>,
-    held: &Held,
+    held: &DeclaredCells,
 ) -> Option<Addition> {
     let entry = entry_on(line)?;
-    let routine = routine_of(given.routines(), entry)?;
+    if !given.is_entry(entry) {
+        return None;
+    }
     let other = routine_of(proposed.routines(), entry)?;
     let body = held.free(other.body());
-    let offsets = set_of(&other.offsets()).minus(&set_of(&routine.offsets()));
+    let offsets = set_of(&other.offsets()).minus(&offsets_of(given, entry));
     if body.is_empty() && offsets.is_empty() {
         return None;
     }
@@ -208,7 +222,7 @@ fn push_halts<A: Allocator>(
 /// Adds the line of a routine, with those cells of its body that are free.
 fn push_routine<A: Allocator>(
     text: &mut Vec<u8, A>,
-    held: &Held,
+    held: &DeclaredCells,
     routine: &Routine,
 ) -> Result<(), AllocError> {
     text.extend_from_slice(b"sub")?;
@@ -223,7 +237,7 @@ fn push_routine<A: Allocator>(
 /// Adds the lines of the routines that may be added.
 fn push_routines<A: Allocator>(
     text: &mut Vec<u8, A>,
-    held: &Held,
+    held: &DeclaredCells,
     routines: &[Routine],
 ) -> Result<(), AllocError> {
     for routine in routines {
@@ -307,7 +321,7 @@ fn take_byte<A: Allocator, B: Allocator>(
     byte: u8,
     given: &Declaration<B>,
     proposed: &Declaration<B>,
-    held: &Held,
+    held: &DeclaredCells,
 ) -> Result<(), AllocError> {
     if byte != b'\n' {
         return line.extend_from_slice(&[byte]);
@@ -324,7 +338,7 @@ fn push_given<A: Allocator, B: Allocator>(
     bytes: &[u8],
     given: &Declaration<B>,
     proposed: &Declaration<B>,
-    held: &Held,
+    held: &DeclaredCells,
 ) -> Result<(), AllocError> {
     for byte in bytes {
         take_byte(text, line, *byte, given, proposed, held)?;
@@ -340,12 +354,68 @@ fn push_all_halts<A: Allocator, B: Allocator>(
     text: &mut Vec<u8, A>,
     given: &Declaration<B>,
     proposed: &Declaration<B>,
-    held: &Held,
+    held: &DeclaredCells,
 ) -> Result<(), AllocError> {
     let inside = added_bodies(held, proposed.main(), proposed.routines()).union(&held.bodies);
     let open = inside.minus(given.stops()).minus(given.pauses());
     push_halts(text, b"stop", &proposed.stops().meet(&open))?;
     push_halts(text, b"pause", &proposed.pauses().meet(&open))
+}
+
+/// The offsets above 7 by which the routine of an entry may return.
+fn further_offsets<A: Allocator>(declaration: &Declaration<A>, entry: Word) -> WordSet {
+    let mut offsets = WordSet::empty();
+    for skips in declaration.skips() {
+        if skips.entry() == entry {
+            offsets = offsets.union(skips.offsets());
+        }
+    }
+    above_seven(&offsets)
+}
+
+/// Adds the lines with offsets above 7 by which routines may return.
+fn push_all_skips<A: Allocator, B: Allocator>(
+    text: &mut Vec<u8, A>,
+    given: &Declaration<B>,
+    proposed: &Declaration<B>,
+    entries: &WordSet,
+) -> Result<(), AllocError> {
+    for entry in entries.iter() {
+        let offsets = further_offsets(proposed, entry).minus(&further_offsets(given, entry));
+        if !offsets.is_empty() {
+            push_skips(text, entry, &offsets)?;
+            end_line(text)?;
+        }
+    }
+    Ok(())
+}
+
+/// The entries of the routines that are there when all are added that may be.
+fn all_entries<A: Allocator>(held: &DeclaredCells, proposed: &Declaration<A>) -> WordSet {
+    let mut entries = held.entries;
+    for routine in proposed.routines() {
+        if held.admits(routine) {
+            entries.insert(routine.entry());
+        }
+    }
+    entries
+}
+
+/// Adds the lines that say by which other offsets routines return, which of them store in their entries, and for which places of
+/// main all calls may be abandoned.
+fn push_permissions<A: Allocator, B: Allocator>(
+    text: &mut Vec<u8, A>,
+    given: &Declaration<B>,
+    proposed: &Declaration<B>,
+    held: &DeclaredCells,
+) -> Result<(), AllocError> {
+    let entries = all_entries(held, proposed);
+    push_all_skips(text, given, proposed, &entries)?;
+    let moves = proposed.moves().minus(given.moves()).meet(&entries);
+    push_cells(text, b"moves", &moves)?;
+    let main = held.free(proposed.main()).union(given.main());
+    let abandons = proposed.abandons().minus(given.abandons()).meet(&main);
+    push_cells(text, b"abandon", &abandons)
 }
 
 /// Adds the lines of the cells that may be read and are not listed yet, if reads are listed.
@@ -371,12 +441,13 @@ pub(crate) fn merged<A: Allocator + Copy, B: Allocator>(
     given: &Declaration<B>,
     proposed: &Declaration<B>,
 ) -> Result<Vec<u8, A>, AllocError> {
-    let held = Held::by(given);
+    let held = DeclaredCells::by(given);
     let mut text = Vec::new(alloc);
     let mut line = Vec::new(alloc);
     push_given(&mut text, &mut line, bytes, given, proposed, &held)?;
     push_cells(&mut text, b"main", &held.free(proposed.main()))?;
     push_routines(&mut text, &held, proposed.routines())?;
+    push_permissions(&mut text, given, proposed, &held)?;
     push_cells(&mut text, b"var", &held.added_variables(proposed))?;
     push_all_halts(&mut text, given, proposed, &held)?;
     push_reads(&mut text, given, proposed)?;

@@ -5,7 +5,7 @@ use Rattle.std.specs.Int.{bit_at, trailing_zeros}
 use Rattle.std.proofs.lemmas.Bool.{cases_eq, cases_lt, eq-eqb, ne_eqb}
 use Rattle.std.proofs.lemmas.Nat.Bits.{bit_at-trailing_zeros, bit_at-zero, bit_at_above}
 use Rattle.std.proofs.Math.Nat.{div-le_self}
-use Rattle.wordset.specs.Words.{Words, some_below, first_below, only, only_of, without, IsFirstFrom, HasNoneFrom}
+use Rattle.wordset.specs.Words.{Words, IsWithin, one, some_below, first_below, only, only_of, without, IsFirstFrom, HasNoneFrom}
 use Rattle.wordset.specs.Lanes.{words, AreLanes}
 use Rattle.wordset.proofs.SetLemmas.{words_past}
 use Rattle.wordset.proofs.LaneBits.{words_at}
@@ -180,6 +180,31 @@ only_two a w u is next =
     let left : without w a u ≡ true = rw apart next.within in
     let beside : some_below 4096 (without w a) ≡ true = some_from 4096 (without w a) u next.small left in
     rw (← first, beside) refl
+
+-- the least word is the only one where all words of the set are that word
+pub only_alone : (a : Words) (w : ℕ) → IsFirstFrom 0 a w → IsWithin a (one w) → Some w ≡ only a
+only_alone a w is within = only_next a w is (λ v f h. lone v f h (a v) refl)
+  where
+    lone : (v : ℕ) → w + 1 ≤ v → v < 4096 → (q : Bool) → a v ≡ q → a v ≡ false
+    lone v f h false e = e
+    lone v f h true e = let apart : (v == w) ≡ false = ne_eqb v w (λ same. omega (arith, same)) in absurd (true_false (sym (within v h e) ∙ apart))
+
+pub only_beside : (a : Words) (w : ℕ) → IsFirstFrom 0 a w → (IsWithin a (one w) → ⊥) → None ≡ only a
+unfolding only
+only_beside a w is beyond = go (some_below 4096 (without w a)) refl
+  where
+    first : Some w ≡ first_below 4096 a
+    first = first_is (Some w) a is
+
+    within : some_below 4096 (without w a) ≡ false → IsWithin a (one w)
+    within none v h t = elim (cases_eq v w) [
+      | inl same ↦ eq-eqb v w same
+      | inr apart ↦ (let out : (v == w) ≡ false = ne_eqb v w apart in let left : without w a v ≡ true = rw out t in absurd (true_false (sym left ∙ none_of_some 4096 (without w a) none v h)))
+    ]
+
+    go : (b : Bool) → some_below 4096 (without w a) ≡ b → None ≡ only_of a (first_below 4096 a)
+    go true beside = rw (← first, beside) refl
+    go false none = absurd (beyond (within none))
 
 pub only_nothing : (a : Words) → HasNoneFrom 0 a → None ≡ only a
 unfolding only

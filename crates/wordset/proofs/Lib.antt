@@ -17,3 +17,4 @@ pub mod Cleared
 pub mod Pairs
 pub mod IterLemmas
 pub mod RangingLemmas
+pub mod SmearLemmas

@@ -104,6 +104,10 @@ only set = only_of set (first_below 4096 set)
 abbrev pub shifted : Words → ℕ → Words
 shifted set k v = nat_lt v 4096 && set (minus v k)
 
+-- All a + k, modulo 4096, for a in the set and k below n.
+abbrev pub smeared : Words → ℕ → Words
+smeared set n v = nat_lt v 4096 && some_below n (λ k. set (minus v k))
+
 -- The complements 4095 - a of the words of the set.
 abbrev pub mirrored : Words → Words
 mirrored set v = nat_lt v 4096 && set (4095 - v)

@@ -220,10 +220,10 @@ impl WordSet {
         let Some(word) = self.first_from(0) else {
             return None;
         };
-        match self.first_from(word.index() + 1) {
-            None => Some(word),
-            Some(_) => None,
+        if self.is_subset(&WordSet::one(word)) {
+            return Some(word);
         }
+        None
     }
 
     /// The words of either set.

@@ -1,11 +1,12 @@
 //! Sums of words of two sets, and their carries.
 
-ghost use Rattle.std.specs.Prelude.{◌≡◌, ℕ};
-ghost use Rattle.wordset.specs.Words.{sums, carries};
+ghost use Rattle.std.specs.Prelude.{◌≡◌, ◌≤◌, ℕ};
+ghost use Rattle.wordset.specs.Words.{sums, smeared, carries};
 ghost use Rattle.wordset.specs.Lanes.{words};
 ghost use Rattle.wordset.specs.Links.{carries_of};
 
 use crate::{Carries, WordSet};
+use word12::Word;
 
 impl WordSet {
     /// The sums a + b, modulo 4096, of the words a of this set and b of the other, and the carries
@@ -31,26 +32,48 @@ impl WordSet {
         if let Some(word) = other.only() {
             return self.shift(word);
         }
-        if self.count() <= other.count() {
-            self.sums_by_word(other)
+        if self.has_fewer_ranges(other) {
+            self.sums_by_range(other)
         } else {
-            other.sums_by_word(self)
+            other.sums_by_range(self)
         }
     }
 
-    /// The sums, by a shift of the other set for each word of this one; quick where the other set
-    /// is all words.
+    /// Whether the set is in at most as many ranges as another, where 7777 and 0 are neighbours.
+    fn has_fewer_ranges(&self, other: &WordSet) -> bool {
+        let one = Word::from_index(1);
+        self.minus(&self.shift(one)).count() <= other.minus(&other.shift(one)).count()
+    }
+
+    /// The sums, by a shift for each range of this set; quick where the other set is all words.
     #[inline(never)]
-    fn sums_by_word(&self, other: &WordSet) -> WordSet
+    fn sums_by_range(&self, other: &WordSet) -> WordSet
         ensures { words result ≡ sums (words self.now) (words other.now) }
     {
         if other.is_all() && !self.is_empty() {
             return WordSet::all();
         }
-        let lanes = other.lanes_twice();
         let mut found = WordSet::empty();
-        for word in self.iter() {
-            found = found.union(&other.shift_from(&lanes, word));
+        for (low, high) in self.ranges() {
+            let smeared = other.smeared(high.index() - low.index() + 1);
+            found = found.union(&smeared.shift(low));
+        }
+        found
+    }
+
+    /// The words a + k, modulo 4096, for the words a of the set and the numbers k below a count. What is found of some numbers and the
+    /// same shifted is found of up to twice as many.
+    fn smeared(&self, count: usize) -> WordSet
+        requires some { 1 ≤ count }
+        requires few { count ≤ 4096 }
+        ensures { words result ≡ smeared (words self.now) count }
+    {
+        let mut found = *self;
+        let mut reach = 1usize;
+        while reach < count {
+            let more = reach.min(count - reach);
+            found = found.union(&found.shift(Word::from_index(more)));
+            reach += more;
         }
         found
     }

@@ -5,18 +5,18 @@ ghost use Rattle.std.specs.Prelude.{◌≤◌};
 use clap::Error;
 use command_line::explanations::{push_codes, push_explanations};
 use command_line::tips::is_wrong_tip;
-use command_line::{CommandLine, Misuse, Refused, Request, parse_arguments};
+use command_line::{CommandLine, CommandLineFault, Misuse, Request, parse_arguments};
 use command_parts::status::{DeviceFault, Fault, Status};
 use command_parts::visible::visible_text;
 use requests::faults::{fault_lines, refusal_lines};
+use requests::file_kinds::hint_line;
 use requests::inputs::misused_files;
 use requests::of_files::certificates::migrate_from;
-use requests::of_files::joined::{hold_session, hold_teletype_session};
+use requests::of_files::session_files::{hold_session, hold_teletype_session};
 use requests::of_files::sources::{assemble_to, list_from};
 use requests::of_files::tapes::{dump_from, run_from, source_from};
 use requests::of_machine::answer_sourced;
 use requests::of_programs::answer_program;
-use requests::recognised::hint_line;
 use requests::telling::{tell, tell_lines, tell_misuse};
 use std::alloc::{AllocError, Global};
 use std::fmt::Write;
@@ -39,7 +39,8 @@ const WAITING: &str = "pdp8 waits for a tape on standard input; pdp8 help lists 
 /// `teletype`, and the line of `refute` whose events go to standard output, go to standard error too, and
 /// where that fails the status is 3.
 ///
-/// Where standard input is a terminal and there are no arguments, it says that it waits for a tape.
+/// Where standard input is a terminal, it says that it waits for a tape if there are no arguments, and which key ends a session
+/// at the teletype.
 ///
 /// That the status is at most 4 is proved; all else said here is tested.
 pub fn exit_status<R: Env + Files + Input + Print + Eprint + AllocGlobal>(
@@ -65,7 +66,7 @@ pub fn exit_status<R: Env + Files + Input + Print + Eprint + AllocGlobal>(
         parse_arguments(alloc, given.as_slice())
     };
     match request {
-        Ok(line) => carry_out(rt, alloc, &line).code(),
+        Ok(line) => carry_out(rt, alloc, &line, at_terminal).code(),
         Err(refused) => refuse(rt, alloc, refused).code(),
     }
 }
@@ -73,17 +74,19 @@ pub fn exit_status<R: Env + Files + Input + Print + Eprint + AllocGlobal>(
 /// Carries out a command line whose files are none twice, and tells the fault that stops it: first its line, since the file that has it is
 /// looked at once more for those below, of which the last says so if it was given in the place of another. Of an answer that is no fault it
 /// says what the command doesn't.
+#[inline(never)]
 fn carry_out<R: Files + Input + Print + Eprint>(
     rt: &R,
     alloc: Global,
     line: &CommandLine<'_>,
+    at_terminal: bool,
 ) -> Status {
     match misused_files(rt, alloc, &line.request) {
         Ok(None) => {}
         Ok(Some(misuse)) => return tell_misuse(rt, &misuse),
         Err(_) => return tell(rt, Fault::NoMemory),
     }
-    match answer(rt, alloc, &line.request) {
+    match answer(rt, alloc, &line.request, at_terminal) {
         Ok(status) => {
             if line.explained && status == Status::Refused {
                 tell_lines(rt, refusal_lines(&line.request));
@@ -101,23 +104,26 @@ fn carry_out<R: Files + Input + Print + Eprint>(
 }
 
 /// Why the arguments weren't copied: one is no text, or memory was refused.
-fn refusal_of(kind: ErrorKind) -> Refused {
+fn refusal_of(kind: ErrorKind) -> CommandLineFault {
     match kind {
-        ErrorKind::InvalidData => Refused::Misuse(Misuse::NotText),
-        _ => Refused::Memory,
+        ErrorKind::InvalidData => CommandLineFault::Misuse(Misuse::NotText),
+        _ => CommandLineFault::Memory,
     }
 }
 
 /// Says why the command line is bad, or gives the help that it asks for.
-fn refuse<R: Print + Eprint>(rt: &R, alloc: Global, refused: Refused) -> Status {
+#[inline(never)]
+fn refuse<R: Print + Eprint>(rt: &R, alloc: Global, refused: CommandLineFault) -> Status {
     let told = match refused {
-        Refused::Memory => return tell(rt, Fault::NoMemory),
-        Refused::CommandLine(error) => return say(rt, alloc, &error),
-        Refused::Misuse(misuse) => return tell_misuse(rt, &misuse),
-        Refused::Start(fault) => eprintln!(rt; "error: bad value for '--start': {fault}"),
-        Refused::Switches(fault) => { eprintln!(rt; "error: bad value for '--switches': {fault}") }
-        Refused::NoOperand(name) => eprintln!(rt; "error: the operand {name} is missing"),
-        Refused::Steps(most) => eprintln!(rt;
+        CommandLineFault::Memory => return tell(rt, Fault::NoMemory),
+        CommandLineFault::CommandLine(error) => return say(rt, alloc, &error),
+        CommandLineFault::Misuse(misuse) => return tell_misuse(rt, &misuse),
+        CommandLineFault::Start(fault) => eprintln!(rt; "error: bad value for '--start': {fault}"),
+        CommandLineFault::Switches(fault) => {
+            eprintln!(rt; "error: bad value for '--switches': {fault}")
+        }
+        CommandLineFault::NoOperand(name) => eprintln!(rt; "error: the operand {name} is missing"),
+        CommandLineFault::Steps(most) => eprintln!(rt;
             "error: bad value for '--steps': expected a number from 1 to {most}"
         ),
     };
@@ -167,20 +173,22 @@ fn say_error<R: Eprint>(rt: &R, alloc: Global, text: &Error) {
 
 /// Opens the files of a request, in the order of its operands, and carries it out. Each command has a
 /// frame of its own on the stack, since they are large.
+#[inline(never)]
 fn answer<R: Files + Input + Print + Eprint>(
     rt: &R,
     alloc: Global,
     request: &Request<'_>,
+    at_terminal: bool,
 ) -> Result<Status, Fault> {
     match request {
         Request::Run(asked) => run_from(rt, alloc, asked),
         Request::Session(session) => hold_session(rt, alloc, session),
-        Request::Teletype(session) => hold_teletype_session(rt, alloc, session),
+        Request::Teletype(session) => hold_teletype_session(rt, alloc, session, at_terminal),
         Request::Dump(asked) => dump_from(rt, alloc, asked),
         Request::Assemble(asked) => assemble_to(rt, alloc, asked),
         Request::List(asked) => list_from(rt, alloc, asked),
         Request::Source(asked) => source_from(rt, alloc, asked),
-        Request::Sourced(asked) => answer_sourced(rt, alloc, asked),
+        Request::Sourced(asked) => answer_sourced(rt, alloc, asked, at_terminal),
         Request::Program(asked) => answer_program(rt, alloc, asked),
         Request::Migrate(asked) => migrate_from(rt, alloc, asked),
         Request::Explain { code } => explain_code(rt, alloc, *code),

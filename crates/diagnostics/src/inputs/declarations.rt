@@ -34,10 +34,11 @@ pub(crate) fn push_declaration<A: Allocator>(
             "the start is not in any `main` line: add it there",
         ),
         DeclarationFault::HaltNotInBody(at) => push_halt_in_no_body(text, file, at),
+        DeclarationFault::Misplaced(at) => push_misplaced(text, file, at),
         DeclarationFault::TooMany => push_said(
             text,
             file,
-            "it has more than 64 `sub` lines or more than 16384 bytes",
+            "it has more than 64 `sub` lines, 64 `skips` lines or 256 `holds` and `returns` lines, or more than 16384 bytes",
         ),
         DeclarationFault::NoMemory => Ok(()),
     }
@@ -95,6 +96,21 @@ fn push_halt_in_no_body<A: Allocator>(
     writeln!(
         text,
         "{name}: the stop or pause {cell:04o} is not in any body: add it to the `main` line or to a routine's body"
+    )
+    .map_err(|_| NoMemory)
+}
+
+/// Adds the line on a cell that is named where it may not be.
+fn push_misplaced<A: Allocator>(
+    text: &mut String<A>,
+    file: &FaultyFile<'_>,
+    at: Word,
+) -> Result<(), NoMemory> {
+    let name = file.name;
+    let cell = at.value();
+    writeln!(
+        text,
+        "{name}: {cell:04o} is named where it may not be: `skips`, `moves` and `returns` name entries, `abandon` names cells of main, and `holds` names cells of bodies"
     )
     .map_err(|_| NoMemory)
 }

@@ -17,8 +17,16 @@ pub(crate) fn declaration_form(line: &[u8]) -> &'static str {
         b"profile" => "expected `profile 8i` or `profile 8e`",
         b"read" =>
             "expected `read R..`, where R is an address such as 0224 or a range such as 0224-0230",
+        b"skips" =>
+            "expected `skips E R..`, where E is the entry and R an offset from 0 to 77 in octal digits or a range such as 1-20",
+        b"moves" => "expected `moves E..`, where E is the entry of a routine",
+        b"abandon" => "expected `abandon A..`, where A is one to four octal digits",
+        b"holds" =>
+            "expected `holds A.. S`, where S is `ac R..`, `mq R..`, `link 0`, `link 1` or `cell C R..`, and R a word such as 0305 or a range",
+        b"returns" =>
+            "expected `returns E d.. S`, where E is the entry, d an offset from 0 to 77, and S is `ac R..`, `mq R..`, `link 0`, `link 1` or `cell C R..`",
         _ =>
-            "expected start, main, sub, var, stop, pause, profile or read at the beginning of the line, in lower case; / begins a comment",
+            "expected start, main, sub, var, stop, pause, profile, read, skips, moves, abandon, holds or returns at the beginning of the line, in lower case; / begins a comment",
     }
 }
 

@@ -2,7 +2,7 @@
 //! certificate can fix it, if a run comes there.
 
 use bin_tape::Image;
-use command_parts::message::{Lines, push_text_and_advised};
+use command_parts::message::{MessageWriter, push_text_and_advised};
 use declaration::{Declaration, Owner};
 use instruct::{Instruction, Operation, Profile, decode, halts, refers_indirectly, target};
 use processor::is_auto_index;
@@ -25,6 +25,8 @@ enum Omission {
     Stores(Word),
     /// It stores into this entry, and is no ISZ of the routine itself.
     StoresInEntry(Word),
+    /// It is a DCA into this entry, its routine's own, in which the routine is not declared to store.
+    StoresInOwn(Word),
     /// It increments this pointer, which is not a variable.
     Steps(Word),
     /// It calls this address, which is not an entry, in no body and no variable.
@@ -37,6 +39,8 @@ enum Omission {
     Jumps(Word),
     /// It jumps to this address, which is in another body, or an entry.
     JumpsAcross(Word),
+    /// It jumps from a routine's body to this address of main's, for which no calls are abandoned.
+    JumpsToMain(Word),
     /// It halts, and no halt is declared there.
     Halts,
     /// It halts at a pause, and this address, at which the operator goes on, is in no body, and no entry.
@@ -75,7 +79,9 @@ fn is_elsewhere<D: Allocator>(declaration: &Declaration<D>, place: Word) -> bool
 
 /// What a jump to an address that is not in the same body would violate.
 fn omitted_by_jump<D: Allocator>(declaration: &Declaration<D>, place: Word) -> Omission {
-    if is_elsewhere(declaration, place) {
+    if declaration.in_main(place) {
+        Omission::JumpsToMain(place)
+    } else if is_elsewhere(declaration, place) {
         Omission::JumpsAcross(place)
     } else {
         Omission::Jumps(place)
@@ -95,8 +101,10 @@ fn omitted_by_reference<D: Allocator>(
         return is_stepped.then_some(Omission::Steps(named));
     }
     let is_own = owner == Owner::Routine(named);
+    let is_moved = is_own && declaration.may_move(named);
     match Operation::of(word) {
-        Operation::Dca if !declaration.is_variable(named) => {
+        Operation::Dca if is_own && !is_moved => Some(Omission::StoresInOwn(named)),
+        Operation::Dca if !declaration.is_variable(named) && !is_moved => {
             Some(omitted_by_store(declaration, named))
         }
         Operation::Isz if !declaration.is_variable(named) && !is_own => {
@@ -105,7 +113,8 @@ fn omitted_by_reference<D: Allocator>(
         Operation::Jms if !declaration.is_entry(named) => {
             Some(omitted_by_call(declaration, named))
         }
-        Operation::Jmp if declaration.owner_of(named) != Some(owner) => {
+        Operation::Jmp
+            if declaration.owner_of(named) != Some(owner) && !declaration.is_abandon(named) => {
             Some(omitted_by_jump(declaration, named))
         }
         _ => None,
@@ -166,7 +175,7 @@ fn omitted_at<D: Allocator>(
 }
 
 /// Adds an address within a line of a declaration that is advised, with what stands before it and after it.
-fn push_advice<L: Lines>(
+fn push_advice<L: MessageWriter>(
     text: &mut L,
     before: &[u8],
     place: Word,
@@ -189,13 +198,17 @@ fn around_place(before: &'static [u8], after: &'static [u8]) -> Words {
 }
 
 /// What an instruction would violate, in words.
-fn breach_words(omission: &Omission) -> Words {
+fn violation_words(omission: &Omission) -> Words {
     match omission {
         Omission::NoWord => around_place(b"", b" is in a body, but the tape has no word there"),
         Omission::Unsupported => around_place(b"the machine does not implement this word", b""),
         Omission::OfThe8e => around_place(b"only the PDP-8/E implements this word", b""),
         Omission::Stores(_) => around_place(b"it stores into ", b", which is not a variable"),
         Omission::StoresInEntry(_) => around_place(b"it stores into ", b", which is an entry"),
+        Omission::StoresInOwn(_) => around_place(
+            b"it stores into ",
+            b", which is the routine's own entry",
+        ),
         Omission::Steps(_) => around_place(
             b"it increments the pointer ",
             b", which is not a variable",
@@ -203,7 +216,7 @@ fn breach_words(omission: &Omission) -> Words {
         Omission::Calls(_) | Omission::CallsIntoBody(_) | Omission::CallsAutoIndex(_) => {
             around_place(b"it calls ", b", which is not an entry")
         }
-        Omission::Jumps(_) | Omission::JumpsAcross(_) => {
+        Omission::Jumps(_) | Omission::JumpsAcross(_) | Omission::JumpsToMain(_) => {
             around_place(b"it jumps to ", b", which is not in the same body")
         }
         Omission::Halts => around_place(b"it halts, and no halt is declared there", b""),
@@ -215,28 +228,34 @@ fn breach_words(omission: &Omission) -> Words {
 }
 
 /// The address that is named, if one is, of what the instruction at an address would violate.
-fn breach_place(at: Word, omission: &Omission) -> Option<Word> {
+fn violation_place(at: Word, omission: &Omission) -> Option<Word> {
     match omission {
         Omission::NoWord => Some(at),
         Omission::Unsupported | Omission::OfThe8e | Omission::Halts => None,
         Omission::Stores(place)
         | Omission::StoresInEntry(place)
+        | Omission::StoresInOwn(place)
         | Omission::Steps(place)
         | Omission::Calls(place)
         | Omission::CallsIntoBody(place)
         | Omission::CallsAutoIndex(place)
         | Omission::Jumps(place)
         | Omission::JumpsAcross(place)
+        | Omission::JumpsToMain(place)
         | Omission::GoesOn(place)
         | Omission::GoesAcross(place) => Some(*place),
     }
 }
 
 /// Adds what the instruction at an address would violate.
-fn push_breach<L: Lines>(text: &mut L, at: Word, omission: &Omission) -> Result<(), AllocError> {
-    let Words { before, after } = breach_words(omission);
+fn push_violation<L: MessageWriter>(
+    text: &mut L,
+    at: Word,
+    omission: &Omission,
+) -> Result<(), AllocError> {
+    let Words { before, after } = violation_words(omission);
     text.push_text(before)?;
-    if let Some(place) = breach_place(at, omission) {
+    if let Some(place) = violation_place(at, omission) {
         text.push_address(place)?;
     }
     text.push_text(after)
@@ -259,11 +278,22 @@ fn fixed_remedy(omission: &Omission) -> Option<&'static [u8]> {
 }
 
 /// Adds what to do about what is omitted at an address.
-fn push_remedy<L: Lines>(text: &mut L, at: Word, omission: &Omission) -> Result<(), AllocError> {
+fn push_remedy<L: MessageWriter>(
+    text: &mut L,
+    at: Word,
+    omission: &Omission,
+) -> Result<(), AllocError> {
     match omission {
         Omission::Stores(cell) | Omission::Steps(cell) => {
             push_advice(text, b"add `var ", *cell, b"`")
         }
+        Omission::StoresInOwn(entry) => push_advice(text, b"add `moves ", *entry, b"`"),
+        Omission::JumpsToMain(place) => push_advice(
+            text,
+            b"leave the routine with a return, or add `abandon ",
+            *place,
+            b"`",
+        ),
         Omission::Calls(entry) => push_advice(text, b"add `sub ", *entry, b" body .. returns ..`"),
         Omission::CallsIntoBody(entry) => push_advice(
             text,
@@ -293,20 +323,25 @@ fn push_remedy<L: Lines>(text: &mut L, at: Word, omission: &Omission) -> Result<
 }
 
 /// Adds the line of what the instruction at an address would violate, and what to do about it.
-fn push_omission<L: Lines>(text: &mut L, at: Word, omission: &Omission) -> Result<(), AllocError> {
-    push_breach(text, at, omission)?;
+fn push_omission<L: MessageWriter>(
+    text: &mut L,
+    at: Word,
+    omission: &Omission,
+) -> Result<(), AllocError> {
+    push_violation(text, at, omission)?;
     text.push_text(b": ")?;
     push_remedy(text, at, omission)?;
     text.push_text(b"\n")
 }
 
 /// Adds the line of what to do about the instruction at which a search is stuck, after those on what a condition asks
-/// of it, if the tape and the declaration show by themselves what it violates.
+/// of it, if the tape and the declaration show by themselves what it violates. Where the reason already names a line that would
+/// allow the instruction, nothing is added.
 ///
 /// # Errors
 ///
 /// `AllocError` if memory was refused.
-pub fn push_stuck_remedy<L: Lines, D: Allocator>(
+pub fn push_stuck_remedy<L: MessageWriter, D: Allocator>(
     text: &mut L,
     image: &Image,
     declaration: &Declaration<D>,
@@ -319,6 +354,7 @@ pub fn push_stuck_remedy<L: Lines, D: Allocator>(
         Omission::NoWord | Omission::Unsupported | Omission::OfThe8e => {
             return push_omission(text, at, &omission);
         }
+        Omission::StoresInOwn(_) | Omission::JumpsToMain(_) => return Ok(()),
         Omission::StoresInEntry(_)
         | Omission::CallsAutoIndex(_)
         | Omission::JumpsAcross(_)
@@ -342,7 +378,7 @@ pub fn push_stuck_remedy<L: Lines, D: Allocator>(
 /// # Errors
 ///
 /// `AllocError` if memory was refused.
-pub fn push_omissions<L: Lines, D: Allocator>(
+pub fn push_omissions<L: MessageWriter, D: Allocator>(
     text: &mut L,
     image: &Image,
     declaration: &Declaration<D>,

@@ -1,8 +1,8 @@
 //! The certificates that commands read and write.
 
 ghost use Rattle.std.specs.Prelude.{◌≡◌, false, IfOk, IfErr};
-ghost use Rattle.certificate.specs.Kept.{meaning as text_of};
-ghost use Rattle.certificate.specs.Laws.{bytes_of};
+ghost use Rattle.certificate_lines.specs.Kept.{meaning as text_of};
+ghost use Rattle.certificate_lines.specs.Laws.{bytes_of};
 ghost use Rattle.declaration.specs.Kept.{meaning};
 ghost use Rattle.command_parts.specs.Answers.{NeverFails, WritesAnswer, output};
 ghost use Rattle.command_parts.specs.Faults.{IsWriteFault, fails_to_read, fails_to_write};
@@ -19,7 +19,7 @@ use streams::{ByteSink, ByteSource};
 
 /// A program with its declaration, and a certificate for it.
 #[derive(Drop)]
-pub struct Certified<A: Allocator> {
+pub struct ProgramWithCertificate<A: Allocator> {
     /// The program with its declaration.
     pub program: Program<A>,
     /// The certificate.
@@ -50,7 +50,7 @@ pub fn certified_from<A: Allocator + Copy, R: ByteSource, D: ByteSource, C: Byte
     tape: &mut R,
     declaration: &mut D,
     certificate: &mut C,
-) -> Result<Certified<A>, Fault>
+) -> Result<ProgramWithCertificate<A>, Fault>
     requires readable { R.mark tape.old ≡ false }
     requires declaration_readable { D.mark declaration.old ≡ false }
     requires certificate_readable { C.mark certificate.old ≡ false }
@@ -69,7 +69,7 @@ pub fn certified_from<A: Allocator + Copy, R: ByteSource, D: ByteSource, C: Byte
 {
     let program = program_from(alloc, tape, declaration)?;
     let certificate = certificate_from(alloc, certificate)?;
-    Ok(Certified {
+    Ok(ProgramWithCertificate {
         program,
         certificate,
     })

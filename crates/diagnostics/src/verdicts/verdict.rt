@@ -1,11 +1,11 @@
 //! The line of a verdict.
 
-ghost use Rattle.std.specs.Prelude.{◌≡◌, ◌++◌, codes, OnOk, IfOk, Option};
+ghost use Rattle.std.specs.Prelude.{◌≡◌, ◌+◌, ◌++◌, codes, decimal, length, OnOk, IfOk, Option};
 ghost use Rattle.word12.specs.Words.{octal_text};
 ghost use Rattle.wordset.specs.Words.{SameWords};
 ghost use Rattle.wordset.specs.Lanes.{words};
 ghost use Rattle.declaration.specs.Kept.{meaning};
-ghost use Rattle.diagnostics.specs.CheckText.{condition_text, counted, in_bodies, is_halt, no_text, reads_text, verdict_status, verdict_text, yes_text};
+ghost use Rattle.diagnostics.specs.CheckText.{assertions_text, condition_text, counted, in_bodies, is_halt, no_text, reads_text, verdict_status, verdict_text, yes_text};
 
 use command_parts::status::Status;
 use declaration::Declaration;
@@ -34,6 +34,7 @@ pub fn condition_name(condition: Condition) -> &'static str
         Condition::V13 => "V13",
         Condition::V14 => "V14",
         Condition::V15 => "V15",
+        Condition::V16 => "V16",
     }
 }
 
@@ -170,6 +171,43 @@ fn push_reads<A: Allocator, D: Allocator>(
     push_count(text, cells, b" read cells")
 }
 
+/// Adds a number of assertions.
+fn push_number_of_assertions<A: Allocator>(
+    text: &mut Vec<u8, A>,
+    count: usize,
+) -> Result<(), AllocError>
+    ensures { OnOk result (text.new.items ≡
+        text.old.items ++ (decimal count ++ codes " assertions")) }
+{
+    let mut digits = Buffer::new();
+    text.extend_from_slice(digits.format(count).as_bytes())?;
+    text.extend_from_slice(b" assertions")
+}
+
+/// Adds a number of assertions behind a comma, if it is not 0.
+fn push_assertion_count<A: Allocator>(text: &mut Vec<u8, A>, count: usize) -> Result<(), AllocError>
+    ensures { OnOk result (text.new.items ≡ text.old.items ++ assertions_text count) }
+{
+    if count == 0 {
+        return Ok(());
+    }
+    text.extend_from_slice(b", ")?;
+    push_number_of_assertions(text, count)
+}
+
+/// Adds how many lines declare what is to hold, if some do.
+fn push_assertions<A: Allocator, D: Allocator>(
+    text: &mut Vec<u8, A>,
+    declaration: &Declaration<D>,
+) -> Result<(), AllocError>
+    ensures { let d = meaning declaration.now in OnOk result
+        (text.new.items ≡ text.old.items ++ assertions_text (length d.holds + length d.returns)) }
+{
+    let at_places = declaration.holds().len();
+    let at_returns = declaration.returns().len();
+    push_assertion_count(text, at_places + at_returns)
+}
+
 /// The line of a program that is safe.
 fn yes_line<A: Allocator, D: Allocator>(
     alloc: A,
@@ -181,6 +219,7 @@ fn yes_line<A: Allocator, D: Allocator>(
     text.extend_from_slice(b"yes: ")?;
     push_counts(&mut text, declaration)?;
     push_reads(&mut text, declaration)?;
+    push_assertions(&mut text, declaration)?;
     text.extend_from_slice(b"\n")?;
     Ok(text)
 }

@@ -303,14 +303,12 @@ impl<A: Allocator + Copy> SumInvariant<A> {
         fact.set_offsets(self.offsets);
     }
 
-    /// Lets the lent fact say what is kept of an exit of a routine that writes some cells: what it speaks of these, of the
-    /// accumulator, and of the words of one cell more.
-    pub(crate) fn put_written(&self, written: &WordSet, more: &Option<Word>, fact: &mut Fact) {
+    /// Lets the lent fact say what is kept of an exit of a routine that writes some cells: of relations those with the
+    /// accumulator or one of these.
+    pub(crate) fn put_written(&self, written: &WordSet, fact: &mut Fact) {
         self.put_registers(fact);
         for line in &self.cells {
-            if written.contains(line.told.cell) || *more == Some(line.told.cell) {
-                track_if_room(fact, &line.told);
-            }
+            track_if_room(fact, &line.told);
         }
         for relation in &self.relations {
             if touches(written, &relation.told.sum) {

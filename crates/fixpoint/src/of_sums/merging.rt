@@ -9,7 +9,7 @@ use crate::of_sums::widening::Paces;
 use crate::sums::speaks_only_of;
 use crate::widening::Limits;
 use bin_tape::Image;
-use domain::{Chain, Location, ReturnOffsets, Sum};
+use domain::{Chain, Location, ReturnOffsets, Sum, Summand};
 use facts::{Allowed, Fact, KnownFact};
 use std::alloc::Allocator;
 use std::mem::replace;
@@ -110,6 +110,29 @@ fn shows<F: KnownFact>(known: &F, chain: &Chain) -> bool {
         }
     }
     true
+}
+
+/// The sum of one summand.
+fn sum_of(summand: &Summand) -> Sum {
+    let mut sum = Sum::zero();
+    sum.push(*summand);
+    sum
+}
+
+/// Puts what a fact says of a sum into a place for it; of three terms also by what it says of two of them and of the third one.
+fn put_by_parts(fact: &Fact, image: &Image, sum: &Sum, place: &mut WordSet) {
+    fact.put_said_of(image, sum, place);
+    if sum.len() < 3 {
+        return;
+    }
+    for summand in sum.summands() {
+        let mut rest = WordSet::all();
+        fact.put_said_of(image, &sum.without_term(&summand.term), &mut rest);
+        let mut one = WordSet::all();
+        fact.put_said_of(image, &sum_of(summand), &mut one);
+        let (found, _) = rest.sums(&one);
+        *place = place.meet(&found);
+    }
 }
 
 /// Joins the words that a cell may hold to those of its line; tells whether they are others.
@@ -290,7 +313,7 @@ impl<A: Allocator + Copy> SumInvariant<A> {
             return Ok(());
         }
         let mut set = WordSet::all();
-        sides.before.put_said_of(merge.image, sum, &mut set);
+        put_by_parts(sides.before, merge.image, sum, &mut set);
         if set.is_all() {
             return Ok(());
         }

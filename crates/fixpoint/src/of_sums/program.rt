@@ -5,7 +5,7 @@ ghost use Rattle.wordset.specs.Words.{difference};
 ghost use Rattle.wordset.specs.Lanes.{words};
 ghost use Rattle.declaration.specs.Kept.{meaning};
 
-use crate::program::{AnalysedProgram, is_reference};
+use crate::program::{AnalysedProgram, add_asserted, is_reference};
 use crate::widening::{Limits, MANY_RUNS};
 use bin_tape::Image;
 use declaration::{Declaration, Owner};
@@ -16,13 +16,18 @@ use std::alloc::Allocator;
 use word12::Word;
 use wordset::WordSet;
 
-/// A program, the variables that it uses as pointers, those that it tests, the routines that look at their return word, and
-/// words at which sets may end.
+/// The most cells that are told of everywhere since pointers that never change lead to them.
+const MOST_REACHED: usize = 16;
+
+/// A program, the variables that it uses as pointers, those that it tests, those of which something is declared to hold, those to
+/// which pointers lead that never change, the routines that look at their return word, and words at which sets may end.
 #[derive(Drop)]
 pub struct SumProgram<'a, D: Allocator> {
     pub base: AnalysedProgram<'a, D>,
     pub(crate) pointers: WordSet,
     pub(crate) tested: WordSet,
+    pub(crate) asserted: WordSet,
+    pub(crate) reached: WordSet,
     pub(crate) readers: WordSet,
     pub(crate) thresholds: WordSet,
 }
@@ -63,12 +68,13 @@ fn entry_at<D: Allocator>(declaration: &Declaration<D>, at: Word) -> Option<Word
     }
 }
 
-/// What the instructions of a program do with cells: the variables that are pointers, those that are tested, and the entries of
-/// the routines that look at their return word.
+/// What the instructions of a program do with cells: the variables that are pointers, those that are tested, those to which
+/// pointers lead that never change, and the entries of the routines that look at their return word.
 #[derive(Clone, Copy)]
 struct Uses {
     pointers: WordSet,
     tested: WordSet,
+    reached: WordSet,
     readers: WordSet,
 }
 
@@ -77,6 +83,7 @@ fn uses_of<D: Allocator>(base: &AnalysedProgram<'_, D>) -> Uses {
     let mut uses = Uses {
         pointers: WordSet::empty(),
         tested: WordSet::empty(),
+        reached: WordSet::empty(),
         readers: WordSet::empty(),
     };
     for index in 0..4096usize {
@@ -84,6 +91,7 @@ fn uses_of<D: Allocator>(base: &AnalysedProgram<'_, D>) -> Uses {
         if let Some(word) = base.fixed_word(at) {
             if is_reference(word) {
                 uses.add(base.declaration, at, word);
+                uses.add_reached(base, at, word);
             }
         }
     }
@@ -108,6 +116,18 @@ impl Uses {
             self.readers.insert(named);
         }
     }
+
+    /// Adds the variable to which a memory reference leads through a pointer that never changes, if there is one.
+    fn add_reached<D: Allocator>(&mut self, base: &AnalysedProgram<'_, D>, at: Word, word: Word) {
+        if !refers_indirectly(word) {
+            return;
+        }
+        if let Some(cell) = base.place_named(word, target(word, at)) {
+            if base.declaration.is_variable(cell) && self.reached.count() < MOST_REACHED {
+                self.reached.insert(cell);
+            }
+        }
+    }
 }
 
 impl<'a, D: Allocator> SumProgram<'a, D> {
@@ -118,15 +138,20 @@ impl<'a, D: Allocator> SumProgram<'a, D> {
     {
         let base = AnalysedProgram::of(image, declaration, MANY_RUNS);
         let thresholds = thresholds(&base.limits);
+        let mut asserted = WordSet::empty();
+        add_asserted(&mut asserted, declaration);
         let Uses {
             pointers,
             tested,
+            reached,
             readers,
         } = uses_of(&base);
         SumProgram {
             base,
             pointers,
             tested,
+            asserted,
+            reached,
             readers,
             thresholds,
         }

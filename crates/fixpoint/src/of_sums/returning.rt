@@ -6,7 +6,7 @@ use crate::of_sums::rooms::SumRooms;
 use crate::of_sums::search::SumSearch;
 use crate::of_sums::splits::Case;
 use crate::of_sums::steps::Goal;
-use certificate::RoutineClaim;
+use certificate_lines::RoutineClaim;
 use facts::{Fact, KnownFact, Place};
 use std::alloc::Allocator;
 use word12::Word;
@@ -24,7 +24,7 @@ impl<A: Allocator + Copy> SumSearch<A> {
     /// Claims more of a routine, and tells whether it is more.
     fn claim(&mut self, entry: Word, sites: &WordSet, writes: &WordSet) -> Result<bool, Halt> {
         let alloc = self.alloc;
-        if self.gathers {
+        if self.gathers() {
             self.gathered.claim(alloc, entry, sites, writes)
         } else {
             self.table.claim(alloc, entry, sites, writes)
@@ -50,7 +50,7 @@ impl<A: Allocator + Copy> SumSearch<A> {
 
     /// The facts at some addresses wait again.
     fn visit_again(&mut self, addresses: &WordSet) {
-        if self.gathers {
+        if self.gathers() {
             return;
         }
         for at in addresses.iter() {
@@ -91,6 +91,7 @@ impl<A: Allocator + Copy> SumSearch<A> {
         self.write(&place.routine, &written.union(&WordSet::one(entry)))?;
         room.calls.put_called_from(at);
         let goal = Goal {
+            from: at,
             to: entry.increment(),
             routine: Some(entry),
             exit: None,
@@ -124,20 +125,20 @@ impl<A: Allocator + Copy> SumSearch<A> {
         room: &mut SumRooms<A>,
     ) -> Result<(), Halt> {
         let written = self.claimed(entry).writes;
-        let more = self.split.cell;
         let Some(kept) = self.table.exits.get(entry, index) else {
             return Ok(());
         };
         let Some(offset) = kept.case.offset else {
             return Ok(());
         };
-        let to = at.increment().add(Word::from_index(offset.min(7)));
+        let to = at.increment().add(Word::from_index(offset.min(63)));
         if !kept.sites.contains(at) || !program.has(&place.routine, to) {
             return Ok(());
         }
-        kept.put_written(&written, &more, &mut room.calls.exit);
+        kept.put_written(&written, &mut room.calls.exit);
         room.calls.put_joined(&written);
         let goal = Goal {
+            from: at,
             to,
             routine: place.routine,
             exit: None,
@@ -160,13 +161,14 @@ impl<A: Allocator + Copy> SumSearch<A> {
         if place.returned_entry(at, word) != Some(entry) {
             return Ok(());
         }
-        for offset in 0..8usize {
+        for offset in 0..64usize {
             let more = Word::from_index(offset);
             if room.calls.fact.offsets().contains(offset)
                 && program.base.declaration.has_offset(entry, more)
             {
                 room.calls.put_next();
                 let goal = Goal {
+                    from: at,
                     to: at,
                     routine: Some(entry),
                     exit: Some(offset),
@@ -192,7 +194,7 @@ impl<A: Allocator + Copy> SumSearch<A> {
         };
         let at = goal.to;
         let merge = self.merge_at(program, entry);
-        let is_less = if self.gathers {
+        let is_less = if self.gathers() {
             let wanted = self.table.exits.relations_in(entry, case);
             self.gathered
                 .exits

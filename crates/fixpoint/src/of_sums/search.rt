@@ -1,7 +1,7 @@
 //! The search by the rules of sums: on from each fact until nothing grows, with targets left out that are not permitted; then back
 //! by sweeps that make the facts anew from what leads to them; and on again.
 
-ghost use Rattle.std.specs.Prelude.{◌≡◌, ◌<◌, ◌≤◌, true, IfErr, IfOk};
+ghost use Rattle.std.specs.Prelude.{◌≡◌, ◌<◌, ◌≤◌, None, true, IfErr, IfOk};
 ghost use Rattle.turns.specs.Counts.{IsSpentUp};
 
 use crate::halt::Halt;
@@ -11,9 +11,11 @@ use crate::of_sums::merging::Merge;
 use crate::of_sums::program::SumProgram;
 use crate::of_sums::rooms::SumRooms;
 use crate::of_sums::splits::Split;
-use crate::of_sums::table::Table;
+use crate::of_sums::table::{Kept, Table};
 use crate::of_sums::widening::Paces;
+use crate::program::is_reference;
 use facts::Fact;
+use instruct::Operation;
 use std::alloc::Allocator;
 use std::mem::replace;
 use turns::{GuessFault, Turns};
@@ -29,16 +31,28 @@ const MOST_TURNS: u32 = 100_000;
 /// The most words that may be possible at one address.
 pub(crate) const MOST_WORDS: usize = 64;
 
-/// What is known, what is gathered in a sweep back and whether one goes on, how facts are told apart, which cells they speak of,
+/// Which way the search goes.
+#[derive(Clone, Copy, PartialEq, Eq)]
+pub(crate) enum Way {
+    /// On from what is known, until nothing grows.
+    On,
+    /// Facts are made anew: from what is known, where that leads to the same address or a lower one,
+    Back,
+    /// and then from what was made, where it leads to a higher one.
+    Forth,
+}
+
+/// What is known, what is gathered in a sweep, which way the search goes, how facts are told apart, which cells they speak of,
 /// the addresses from which to go on, and how many turns this try may take yet, and all tries together.
 #[derive(Drop)]
 pub struct SumSearch<A: Allocator> {
     pub(crate) alloc: A,
     pub(crate) table: Table<A>,
     pub(crate) gathered: Table<A>,
-    pub(crate) gathers: bool,
+    pub(crate) way: Way,
     pub(crate) split: Split,
     pub(crate) tracked: WordSet,
+    pub(crate) reached: WordSet,
     pub(crate) needs: Option<Needs<A>>,
     pub(crate) waiting: WordSet,
     left: u32,
@@ -47,14 +61,19 @@ pub struct SumSearch<A: Allocator> {
 
 impl<A: Allocator + Copy> SumSearch<A> {
     /// Before the first step.
-    pub fn new(alloc: A) -> SumSearch<A> {
+    pub fn new(alloc: A) -> SumSearch<A>
+        ensures alloc { result.alloc ≡ alloc }
+        ensures needs { result.needs ≡ None }
+        ensures left { result.left ≡ 0 }
+    {
         SumSearch {
             alloc,
             table: Table::new(alloc),
             gathered: Table::new(alloc),
-            gathers: false,
+            way: Way::On,
             split: Split::none(),
             tracked: WordSet::empty(),
+            reached: WordSet::empty(),
             needs: None,
             waiting: WordSet::empty(),
             left: 0,
@@ -63,7 +82,9 @@ impl<A: Allocator + Copy> SumSearch<A> {
     }
 
     /// The allocator.
-    pub fn allocator(&self) -> A {
+    pub fn allocator(&self) -> A
+        ensures { result ≡ self.now.alloc }
+    {
         self.alloc
     }
 
@@ -99,20 +120,35 @@ impl<A: Allocator + Copy> SumSearch<A> {
         split: &Split,
     ) -> Result<SumRooms<A>, Halt> {
         self.table.forget();
-        self.gathers = false;
+        self.way = Way::On;
         self.split = *split;
         self.tracked = program.base.named;
-        self.needs = Some(Needs::of(self.alloc, &program.base)?);
+        self.reached = program.reached;
+        let partners = program.pointers.union(&program.base.limits.counted);
+        self.needs = Some(Needs::of(self.alloc, &program.base, &partners)?);
         self.waiting = WordSet::empty();
         self.start(program)?;
         SumRooms::new(self.alloc)
+    }
+
+    /// Whether facts are made anew.
+    pub(crate) fn gathers(&self) -> bool {
+        self.way != Way::On
+    }
+
+    /// The facts from which the search goes on.
+    pub(crate) fn sources(&self) -> &Kept<A> {
+        match self.way {
+            Way::On | Way::Back => &self.table.facts,
+            Way::Forth => &self.gathered.facts,
+        }
     }
 
     /// The cells that facts at an address speak of, and exits at their entry.
     fn tracked_at(&self, at: Word) -> WordSet {
         let cells = match &self.needs {
             None => self.tracked,
-            Some(needs) => needs.at(at),
+            Some(needs) => needs.at(at).union(&self.reached),
         };
         match self.split.cell {
             None => cells,
@@ -134,7 +170,7 @@ impl<A: Allocator + Copy> SumSearch<A> {
             thresholds: &program.thresholds,
             limits: &program.base.limits,
             paces: Paces::soon(),
-            widens: !self.gathers,
+            widens: !self.gathers(),
         }
     }
 
@@ -155,7 +191,7 @@ impl<A: Allocator + Copy> SumSearch<A> {
             Some(cell) => program.base.image.get(cell),
         };
         self.waiting.insert(at);
-        if self.gathers {
+        if self.gathers() {
             self.gathered.facts.keep(self.alloc, at, kept)
         } else {
             self.table.facts.keep(self.alloc, at, kept)
@@ -241,11 +277,10 @@ impl<A: Allocator + Copy> SumSearch<A> {
         ensures spent { IfErr result (IsSpentUp turns.new) }
     {
         turns.are_within();
-        self.gathers = true;
         for _sweep in 0..MOST_SWEEPS {
             self.sweep(program, room, turns)?;
         }
-        self.gathers = false;
+        self.way = Way::On;
         self.waiting = self.table.facts.addresses();
         for at in self.waiting.iter() {
             self.table.facts.let_wait(at);
@@ -267,13 +302,36 @@ impl<A: Allocator + Copy> SumSearch<A> {
     {
         turns.are_within();
         self.gathered.forget();
+        self.way = Way::Back;
         if let Err(halt) = self.start(program) {
             return Err(halt.fault());
         }
-        for at in self.table.facts.addresses().iter() {
+        let addresses = self.table.facts.addresses();
+        let leading_back = leading_back(program, &addresses);
+        self.visit_each(program, &leading_back, room, turns)?;
+        self.way = Way::Forth;
+        self.visit_each(program, &addresses, room, turns)?;
+        self.table = replace(&mut self.gathered, Table::new(self.alloc));
+        Ok(())
+    }
+
+    /// Goes on from all facts at some addresses.
+    fn visit_each<D: Allocator>(
+        &mut self,
+        program: &SumProgram<'_, D>,
+        addresses: &WordSet,
+        room: &mut SumRooms<A>,
+        turns: &mut Turns,
+    ) -> Result<(), GuessFault>
+        ensures limit { turns.new.limit ≡ turns.old.limit }
+        ensures rises { turns.old.spent ≤ turns.new.spent }
+        ensures within { turns.new.spent ≤ turns.new.limit }
+        ensures spent { IfErr result (IsSpentUp turns.new) }
+    {
+        turns.are_within();
+        for at in addresses.iter() {
             self.visit_all(program, at, room, turns)?;
         }
-        self.table = replace(&mut self.gathered, Table::new(self.alloc));
         Ok(())
     }
 
@@ -291,7 +349,7 @@ impl<A: Allocator + Copy> SumSearch<A> {
         ensures spent { IfErr result (IsSpentUp turns.new) }
     {
         turns.are_within();
-        for index in 0..self.table.facts.row(at).len() {
+        for index in 0..self.sources().row(at).len() {
             self.visit(program, at, index, room, turns)?;
         }
         Ok(())
@@ -312,4 +370,23 @@ impl<A: Allocator + Copy> SumSearch<A> {
         self.left_in_all -= 1;
         turns.take()
     }
+}
+
+/// Those of some addresses whose words may lead to the same address or a lower one: words that may change, JMS and JMP.
+fn leading_back<D: Allocator>(program: &SumProgram<'_, D>, addresses: &WordSet) -> WordSet {
+    let mut found = WordSet::empty();
+    for at in addresses.iter() {
+        if leads_back(program, at) {
+            found.insert(at);
+        }
+    }
+    found
+}
+
+/// Whether the word at an address may lead to the same address or a lower one.
+fn leads_back<D: Allocator>(program: &SumProgram<'_, D>, at: Word) -> bool {
+    let Some(word) = program.base.fixed_word(at) else {
+        return true;
+    };
+    is_reference(word) && matches!(Operation::of(word), Operation::Jms | Operation::Jmp)
 }

@@ -8,19 +8,21 @@ use crate::halt::Halt;
 use crate::invariant::are_short;
 use crate::of_sums::program::SumProgram;
 use crate::of_sums::rooms::{CallRooms, PartRooms, SumRooms};
-use crate::of_sums::search::{MOST_WORDS, SumSearch};
+use crate::of_sums::search::{MOST_WORDS, SumSearch, Way};
 use crate::of_sums::splits::{Case, MOST_VALUES};
-use domain::{Chain, Location};
-use facts::{Fact, Kind, KnownFact, NarrowedFact, NextFact, Outcome, Outcomes, Part, Place};
+use domain::{Chain, Location, ReturnOffsets};
+use facts::{Fact, KnownFact, NarrowedFact, Part, Place};
 use instruct::{refers_indirectly, target};
 use std::alloc::Allocator;
+use transfer::{Kind, NextFact, Outcome, Outcomes};
 use turns::{GuessFault, Turns};
 use word12::{Link, Word};
 use wordset::WordSet;
 
-/// Where facts go to be kept: at which address, and for what is joined there, in the body of which routine.
+/// Where facts go to be kept: from which address to which, and for what is joined there, in the body of which routine.
 #[derive(Clone, Copy)]
 pub(crate) struct Goal {
+    pub(crate) from: Word,
     pub(crate) to: Word,
     pub(crate) routine: Option<Word>,
     pub(crate) exit: Option<usize>,
@@ -42,7 +44,7 @@ impl<A: Allocator + Copy> SumSearch<A> {
         ensures spent { IfErr result (IsSpentUp turns.new) }
     {
         turns.are_within();
-        let Some(kept) = self.table.facts.get(at, index) else {
+        let Some(kept) = self.sources().get(at, index) else {
             return Ok(());
         };
         kept.put(&mut room.calls.claimed);
@@ -108,15 +110,19 @@ impl<A: Allocator + Copy> SumSearch<A> {
         match kind {
             Kind::Calls => self.call_each(program, place, at, room),
             Kind::Returns => self.come_back(program, place, at, word, room),
-            Kind::Goes | Kind::Nothing => self.follow_all(program, place, room),
+            Kind::Goes | Kind::Nothing => {
+                self.follow_all(program, place, at, &abandoned_by(place, word), room)
+            }
         }
     }
 
-    /// Goes on where all outcomes lead that go on in the same body.
+    /// Goes on where all outcomes lead that go on, in the same body or where all calls are abandoned.
     fn follow_all<D: Allocator>(
         &mut self,
         program: &SumProgram<'_, D>,
         place: &Place<'_, D>,
+        at: Word,
+        beyond: &WordSet,
         room: &mut SumRooms<A>,
     ) -> Result<(), Halt> {
         let SumRooms {
@@ -124,17 +130,20 @@ impl<A: Allocator + Copy> SumSearch<A> {
             parts,
             ..
         } = room;
-        self.follow(program, place, &mut outcomes.first, parts)?;
-        self.follow(program, place, &mut outcomes.second, parts)?;
-        self.follow(program, place, &mut outcomes.third, parts)?;
-        self.follow(program, place, &mut outcomes.fourth, parts)
+        self.follow(program, place, at, beyond, &mut outcomes.first, parts)?;
+        self.follow(program, place, at, beyond, &mut outcomes.second, parts)?;
+        self.follow(program, place, at, beyond, &mut outcomes.third, parts)?;
+        self.follow(program, place, at, beyond, &mut outcomes.fourth, parts)
     }
 
-    /// Goes on at each address of the same body where an outcome leads, if it leads anywhere.
+    /// Goes on at each address where an outcome leads, if it leads anywhere: in the same body, and in main's, without sites and
+    /// offsets, where all calls are abandoned for the address.
     fn follow<D: Allocator>(
         &mut self,
         program: &SumProgram<'_, D>,
         place: &Place<'_, D>,
+        at: Word,
+        beyond: &WordSet,
         outcome: &mut Outcome,
         rooms: &mut PartRooms<A>,
     ) -> Result<(), Halt> {
@@ -143,17 +152,51 @@ impl<A: Allocator + Copy> SumSearch<A> {
         }
         let mut addresses = WordSet::empty();
         outcome.targets.put(&mut addresses);
+        let fact = &mut outcome.fact;
+        self.land_at_each(
+            program,
+            &place.routine,
+            &addresses.minus(beyond),
+            at,
+            fact,
+            rooms,
+        )?;
+        fact.set_sites(&WordSet::empty());
+        fact.set_offsets(ReturnOffsets::none());
+        self.land_at_each(program, &None, &addresses.meet(beyond), at, fact, rooms)
+    }
+
+    /// Lets a fact be known at each of some addresses that are in a routine's body, to which a word at an address goes.
+    fn land_at_each<D: Allocator>(
+        &mut self,
+        program: &SumProgram<'_, D>,
+        routine: &Option<Word>,
+        addresses: &WordSet,
+        at: Word,
+        fact: &mut NextFact,
+        rooms: &mut PartRooms<A>,
+    ) -> Result<(), Halt> {
         for to in addresses.iter() {
-            if program.has(&place.routine, to) {
+            if program.has(routine, to) {
                 let goal = Goal {
+                    from: at,
                     to,
-                    routine: place.routine,
+                    routine: *routine,
                     exit: None,
                 };
-                self.land(program, &goal, &mut outcome.fact, rooms)?;
+                self.land(program, &goal, fact, rooms)?;
             }
         }
         Ok(())
+    }
+
+    /// Whether what is known is kept where it goes, as the search goes.
+    fn keeps(&self, goal: &Goal) -> bool {
+        match self.way {
+            Way::On => true,
+            Way::Back => goal.exit.is_none() && goal.to <= goal.from,
+            Way::Forth => goal.exit.is_some() || goal.to > goal.from,
+        }
     }
 
     /// Lets a fact be known where it goes, each of its links for itself.
@@ -164,6 +207,9 @@ impl<A: Allocator + Copy> SumSearch<A> {
         fact: &mut NextFact,
         rooms: &mut PartRooms<A>,
     ) -> Result<(), Halt> {
+        if !self.keeps(goal) {
+            return Ok(());
+        }
         for link in [Link::CLEAR, Link::SET] {
             if fact.link().contains(link) {
                 let place = program.place(&goal.routine);
@@ -256,7 +302,7 @@ impl<A: Allocator + Copy> SumSearch<A> {
     ) -> Result<(), Halt> {
         let at = goal.to;
         let merge = self.merge_at(program, at);
-        let is_less = if self.gathers {
+        let is_less = if self.gathers() {
             let wanted = self.table.facts.relations_in(at, case);
             self.gathered
                 .facts
@@ -271,6 +317,15 @@ impl<A: Allocator + Copy> SumSearch<A> {
         }
         Ok(())
     }
+}
+
+/// The addresses for which the running routine abandons all open calls by a word: where it is not main and the word is a JMP
+/// they are the declared ones, and else there are none.
+fn abandoned_by<D: Allocator>(place: &Place<'_, D>, word: Word) -> WordSet {
+    if place.routine.is_none() || !place.is_jump(word) {
+        return WordSet::empty();
+    }
+    *place.declaration.abandons()
 }
 
 /// Whether a set has more than one word, and few.

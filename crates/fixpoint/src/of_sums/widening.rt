@@ -78,13 +78,22 @@ fn above(word: Word) -> WordSet {
     WordSet::all().minus(&WordSet::range(Word::ZERO, word))
 }
 
-/// A set that grew out of one that begins with 0, where it went on upwards or came from above.
+/// The words of a set from a word on.
+fn from_on(set: &WordSet, word: Word) -> WordSet {
+    set.meet(&WordSet::range(word, Word::from_index(0o7777)))
+}
+
+/// A set that grew out of one that begins with 0 and ends with a word: what is new before the longest gap went on upwards, and
+/// what is new behind it came from above.
 fn beyond(top: Word, grown: &WordSet, new: &WordSet, thresholds: &WordSet) -> WordSet {
-    let middle = Word::from_index(((top.index() + 4095) / 2).min(4095));
+    let start = behind_longest_gap(grown);
+    let down = if start > top {
+        from_on(new, start)
+    } else {
+        WordSet::empty()
+    };
     let mut set = *grown;
-    let up = new.minus(&above(middle));
-    let down = new.meet(&above(middle));
-    if let Some(last) = up.greatest() {
+    if let Some(last) = new.minus(&down).greatest() {
         set.insert_range(top, threshold_from(thresholds, last));
     }
     if let Some(first) = down.least() {

@@ -3,11 +3,12 @@
 ghost use Rattle.std.specs.Prelude.{◌≡◌, false};
 ghost use Rattle.std.specs.List.{AllByRecursion};
 
-use crate::files::{Outlet, finish, open_inputs, open_output, open_parts};
+use crate::file_kinds::part_hint;
+use crate::files::{ResultSink, finish, open_inputs, open_output, open_parts};
 use crate::source_faults::{
-    NO_WORD, input_name, lend_names, output_name, tell_of, tell_size, unopened, visible_names,
+    NO_WORD, input_name, name_slices, output_name, tell_of, tell_size, unopened, visible_names,
 };
-use crate::telling::{tell, tell_with};
+use crate::telling::{tell, tell_lines, tell_with};
 use command_line::{AssembleRequest, ListRequest};
 use command_parts::status::{DeviceFault, Fault, Status};
 use source_commands::assembling::{assemble, list};
@@ -104,13 +105,17 @@ fn list_or_tell<R: Files + Input + Print + Eprint>(
     let mut told = String::new(alloc);
     match list_as_asked(alloc, &mut parts, asked, Some(shown), &mut told, &mut out) {
         Ok(status) => status,
-        Err(fault) => tell_all(rt, alloc, fault, shown, &parts, "-", &told),
+        Err(fault) => {
+            let status = tell_all(rt, alloc, fault, shown, &parts, "-", &told);
+            tell_lines(rt, &part_hint(rt, alloc, "list", &asked.sources, &fault));
+            status
+        }
     }
 }
 
 /// Puts a tape that was written in its place.
 fn finish_tape<R: Files + Print>(
-    file: &mut Outlet<'_, R>,
+    file: &mut ResultSink<'_, R>,
     assembled: Result<Status, Fault>,
 ) -> Result<Status, Fault> {
     finish(file, assembled?)
@@ -150,7 +155,11 @@ fn assemble_or_tell<R: Files + Input + Print + Eprint>(
     );
     match finish_tape(&mut file, assembled) {
         Ok(status) => status,
-        Err(fault) => tell_all(rt, alloc, fault, shown, &parts, out, &told),
+        Err(fault) => {
+            let status = tell_all(rt, alloc, fault, shown, &parts, out, &told);
+            tell_lines(rt, &part_hint(rt, alloc, "assemble", names, &fault));
+            status
+        }
     }
 }
 
@@ -163,7 +172,7 @@ pub fn list_from<R: Files + Input + Print + Eprint>(
 ) -> Result<Status, Fault> {
     if asked.explained {
         let shown = visible_names(alloc, &asked.sources)?;
-        let lent = lend_names(alloc, &shown)?;
+        let lent = name_slices(alloc, &shown)?;
         return Ok(list_or_tell(rt, alloc, asked, &lent));
     }
     let mut parts = open_inputs(rt, alloc, &asked.sources)?;
@@ -181,7 +190,7 @@ pub fn assemble_to<R: Files + Input + Print + Eprint>(
 ) -> Result<Status, Fault> {
     if asked.explained {
         let shown = visible_names(alloc, &asked.sources)?;
-        return Ok(assemble_or_tell(rt, alloc, asked, &lend_names(alloc, &shown)?));
+        return Ok(assemble_or_tell(rt, alloc, asked, &name_slices(alloc, &shown)?));
     }
     let mut file = open_output(rt, alloc, asked.out)?;
     let mut parts = open_inputs(rt, alloc, &asked.sources)?;

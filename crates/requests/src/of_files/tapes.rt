@@ -3,17 +3,58 @@
 ghost use Rattle.std.specs.Prelude.{◌≡◌, false};
 
 use crate::files::{finish, open_input, open_output};
-use command_line::{DumpRequest, RunRequest, SourceRequest, Stopping};
+use bin_tape::Image;
+use command_line::{DumpRequest, RunRequest, SourceRequest, StopOptions};
+use command_parts::inputs::tape_from;
+use command_parts::options::Stops;
 use command_parts::status::{Fault, Status};
+use command_parts::text::push_place;
+use instruct::Profile;
 use machine_commands::last::{run_events_with_last, run_with_last};
+use machine_commands::long_trace::{
+    MnemonicStatements, Statements, push_full_name, run_events_with_long_trace, run_with_long_trace,
+};
 use machine_commands::running::{dump, run, run_events};
+use machine_commands::stopped_session::no_stops;
 use machine_commands::stopping::{run_events_with_stops, run_with_stops};
 use source_commands::sourcing::{declared_source, source};
-use std::alloc::Global;
+use std::alloc::{AllocError, Global};
 use std::io;
 use std::rt::Files;
-use streams::ByteSource;
 use streams::standard::Writes;
+use streams::{ByteSource, put};
+use word12::Word;
+
+/// The words of an image, with whole addresses.
+fn full_words(alloc: Global, image: &Image, profile: Profile) -> Result<Vec<u8>, AllocError> {
+    let mut text = Vec::new(alloc);
+    for index in 0..4096 {
+        let at = Word::from_index(index);
+        if let Some(word) = image.get(at) {
+            push_place(&mut text, b"", at)?;
+            push_place(&mut text, b" ", word)?;
+            text.push(b' ')?;
+            push_full_name(&mut text, at, word, profile)?;
+            text.push(b'\n')?;
+        }
+    }
+    Ok(text)
+}
+
+/// Names the words of the tape of a file, with whole addresses.
+fn dump_full<R: Print, S: ByteSource>(
+    rt: &R,
+    alloc: Global,
+    frames: &mut S,
+    profile: Profile,
+) -> Result<Status, Fault>
+    requires { S.mark frames.old ≡ false }
+{
+    let image = tape_from(frames)?;
+    let text = full_words(alloc, &image, profile)?;
+    put(&mut Writes::new(io::writer(rt)), &text)?;
+    Ok(Status::Done)
+}
 
 /// Names the words of the tape of a file.
 #[inline(never)]
@@ -23,8 +64,42 @@ pub fn dump_from<R: Files + Input + Print>(
     asked: &DumpRequest<'_>,
 ) -> Result<Status, Fault> {
     let mut frames = open_input(rt, asked.tape.unwrap_or("-"))?;
+    if asked.full {
+        return dump_full(rt, alloc, &mut frames, asked.profile);
+    }
     let mut out = Writes::new(io::writer(rt));
     dump(alloc, &mut frames, asked.profile, &mut out)
+}
+
+/// Runs a tape with these frames, in rounds or by the events of a file, up to where it is stopped, and writes the long
+/// trace.
+fn run_long<R: Files + Input + Print, S: ByteSource, N: Statements>(
+    rt: &R,
+    alloc: Global,
+    asked: &RunRequest<'_>,
+    frames: &mut S,
+    statements: &N,
+) -> Result<Status, Fault>
+    requires { S.mark frames.old ≡ false }
+{
+    let (options, stops) = (asked.options, stops_of(asked));
+    let Some(events) = asked.events else {
+        let mut out = Writes::new(io::writer(rt));
+        return run_with_long_trace(alloc, frames, options, &stops, statements, &mut out);
+    };
+    let mut list = open_input(rt, events)?;
+    let mut out = Writes::new(io::writer(rt));
+    run_events_with_long_trace(
+        alloc, frames, &mut list, options, &stops, statements, &mut out,
+    )
+}
+
+/// Where a run is stopped.
+fn stops_of(asked: &RunRequest<'_>) -> Stops {
+    match &asked.stopping {
+        None => no_stops(),
+        Some(stopping) => stopping.stops,
+    }
 }
 
 /// Runs a tape in rounds up to where it is stopped.
@@ -33,7 +108,7 @@ fn run_rounds_until<R: Print, S: ByteSource>(
     alloc: Global,
     asked: &RunRequest<'_>,
     frames: &mut S,
-    stopping: &Stopping,
+    stopping: &StopOptions,
 ) -> Result<Status, Fault>
     requires { S.mark frames.old ≡ false }
 {
@@ -52,7 +127,7 @@ fn run_events_until<R: Files + Input + Print, S: ByteSource>(
     asked: &RunRequest<'_>,
     frames: &mut S,
     events: &str,
-    stopping: &Stopping,
+    stopping: &StopOptions,
 ) -> Result<Status, Fault>
     requires { S.mark frames.old ≡ false }
 {
@@ -68,19 +143,23 @@ fn run_events_until<R: Files + Input + Print, S: ByteSource>(
 }
 
 /// Runs a tape with these frames, in rounds or by the events of a file, up to where it is stopped if that is asked
-/// for.
+/// for. In a long trace its instructions read as these statements.
 ///
 /// # Errors
 ///
 /// As of the command, and `Device` if the file of events cannot be opened.
-pub(crate) fn run_on<R: Files + Input + Print, S: ByteSource>(
+pub(crate) fn run_on<R: Files + Input + Print, S: ByteSource, N: Statements>(
     rt: &R,
     alloc: Global,
     asked: &RunRequest<'_>,
     frames: &mut S,
+    statements: &N,
 ) -> Result<Status, Fault>
     requires { S.mark frames.old ≡ false }
 {
+    if asked.long {
+        return run_long(rt, alloc, asked, frames, statements);
+    }
     if let Some(stopping) = &asked.stopping {
         return match asked.events {
             None => run_rounds_until(rt, alloc, asked, frames, stopping),
@@ -104,7 +183,10 @@ pub fn run_from<R: Files + Input + Print>(
     asked: &RunRequest<'_>,
 ) -> Result<Status, Fault> {
     let mut frames = open_input(rt, asked.tape.unwrap_or("-"))?;
-    run_on(rt, alloc, asked, &mut frames)
+    let statements = MnemonicStatements {
+        profile: asked.options.profile,
+    };
+    run_on(rt, alloc, asked, &mut frames, &statements)
 }
 
 /// Writes a source of the tape of a file. A declaration is opened before the file that the source goes

@@ -2,37 +2,11 @@
 
 use crate::of_sources::assembled::AssembledSource;
 use crate::of_sources::source_lines::begins_with_tag;
-use instruct::{Profile, name};
+use instruct::Profile;
+use machine_commands::long_trace::{Statements, push_full_name};
 use reports::reporting::SourceNote;
-use std::alloc::{AllocError, Global};
+use std::alloc::{AllocError, Allocator, Global};
 use word12::Word;
-
-/// The words from this one on are no memory references.
-const NO_REFERENCE: usize = 0o6000;
-
-/// How many characters of a memory reference's name say where its cell is.
-const PLACE_LENGTH: usize = 4;
-
-/// The address that a memory reference names, which stands at this address.
-fn named_by(at: Word, word: Word) -> Word {
-    if word.index() & 0o200 == 0 {
-        word.place()
-    } else {
-        word.place().in_page_of(at)
-    }
-}
-
-/// Adds the name of a word, in which a memory reference has its whole address.
-fn push_name(text: &mut Vec<u8>, at: Word, word: Word, profile: Profile) -> Result<(), AllocError> {
-    let found = name(word, profile);
-    let spelled = found.as_str().as_bytes();
-    if word.index() >= NO_REFERENCE {
-        return text.extend_from_slice(spelled);
-    }
-    let front = spelled.len().saturating_sub(PLACE_LENGTH);
-    text.extend_from_slice(spelled.get(..front).unwrap_or(spelled))?;
-    text.extend_from_slice(&named_by(at, word).to_octal())
-}
 
 /// Adds a piece behind two spaces.
 fn push_apart(text: &mut Vec<u8>, piece: &[u8]) -> Result<(), AllocError> {
@@ -64,7 +38,7 @@ fn push_line(
     text.push(b' ')?;
     text.extend_from_slice(&word.to_octal())?;
     text.push(b' ')?;
-    push_name(text, at, word, profile)?;
+    push_full_name(text, at, word, profile)?;
     if let Some(note) = source.notes.at(at) {
         push_note(text, note)?;
     }
@@ -86,4 +60,56 @@ pub(crate) fn words_of(
         }
     }
     Ok(text)
+}
+
+/// Instructions read as in a source.
+#[derive(Clone, Copy)]
+pub(crate) struct SourceStatements<'s> {
+    /// The source that was assembled.
+    pub(crate) source: &'s AssembledSource,
+    /// The machine that it is for.
+    pub(crate) profile: Profile,
+}
+
+/// A line's text without the tag at its front.
+fn without_tag(note: SourceNote<'_>) -> &[u8] {
+    if !begins_with_tag(note) {
+        return note.text;
+    }
+    let rest = note.text.get(note.label.len() + 1..).unwrap_or(b"");
+    rest.trim_ascii_start()
+}
+
+impl SourceStatements<'_> {
+    /// The statement of a word, if the word is the first of a line, and the program has not changed it.
+    fn statement(&self, at: Word, word: Word) -> Option<&[u8]> {
+        if self.source.numbered.map.image().get(at) != Some(word) {
+            return None;
+        }
+        match self.source.notes.at(at) {
+            Some(note) if note.is_first => Some(without_tag(note)),
+            _ => None,
+        }
+    }
+}
+
+impl Statements for SourceStatements<'_> {
+    fn push_statement<A: Allocator>(
+        &self,
+        line: &mut Vec<u8, A>,
+        at: Word,
+        word: Word,
+    ) -> Result<(), AllocError> {
+        if let Some(note) = self.source.notes.at(at) {
+            if !note.label.is_empty() {
+                line.extend_from_slice(b" ")?;
+                line.extend_from_slice(note.label)?;
+            }
+        }
+        line.extend_from_slice(b"  ")?;
+        match self.statement(at, word) {
+            Some(text) => line.extend_from_slice(text),
+            None => push_full_name(line, at, word, self.profile),
+        }
+    }
 }

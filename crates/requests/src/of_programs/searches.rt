@@ -1,18 +1,19 @@
 //! Searches about a program that is open: for a certificate, for a run that violates its declaration, and for a
 //! declaration.
 
-use crate::drafted::report_stuck;
-use crate::files::{Outlet, finish, open_output};
+use crate::files::{ResultSink, finish, open_output};
 use crate::of_programs::open::OpenProgram;
 use crate::of_sources::assembled::AssembledSource;
 use crate::of_sources::source_lines::lines_of;
-use crate::stuck::{Stuck, stuck_message};
-use crate::tellers::{report_to, tell_to};
+use crate::standard_error::{report_to, tell_to};
+use crate::stuck::{StuckSearch, stuck_message};
+use crate::stuck_reports::report_stuck;
 use crate::telling::tell_lines;
 use analyser::{Attempt, guess, guess_or_draft, guess_version, guess_version_or_draft};
 use bin_tape::Image;
-use certificate::{Certificate, Version};
-use command_line::Destination;
+use certificate::Certificate;
+use certificate_lines::Version;
+use command_line::{Destination, ProgramRequest};
 use command_parts::options::{DeclareOptions, RefuteOptions};
 use command_parts::programs::Program;
 use command_parts::status::{Fault, Status};
@@ -30,7 +31,7 @@ use turns::GuessFault;
 
 /// Writes a certificate that was found.
 fn write_found<R: Files + Print>(
-    file: &mut Outlet<'_, R>,
+    file: &mut ResultSink<'_, R>,
     found: &Certificate<Global>,
 ) -> Result<Status, Fault> {
     let status = write_certificate(found, &mut Writes::new(&mut *file))?;
@@ -42,20 +43,19 @@ fn write_found<R: Files + Print>(
 fn tell_stuck<R: Files + Print + Eprint>(
     rt: &R,
     alloc: Global,
+    asked: &ProgramRequest<'_>,
     source: Option<&AssembledSource>,
-    stuck: &Stuck<'_>,
+    stuck: &StuckSearch<'_>,
     report: Option<&str>,
-    explained: bool,
 ) -> Result<Status, Fault> {
-    if explained {
+    if asked.explained {
         let told = stuck_message(alloc, stuck)?;
         let _ = put(&mut tell_to(rt), &lines_of(alloc, source, &told)?);
     }
     if let Some(name) = report {
-        let notes = source.map(|source| &source.notes);
-        report_stuck(rt, alloc, stuck, name, notes)?;
+        report_stuck(rt, alloc, asked, stuck, name, source)?;
     }
-    if explained {
+    if asked.explained {
         return Ok(Status::Refused);
     }
     Err(Fault::Guess(GuessFault::Stuck(stuck.at)))
@@ -94,27 +94,27 @@ pub(crate) fn guessed<R: Files + Print + Eprint, I: Read + Drop>(
     rt: &R,
     alloc: Global,
     opened: &mut OpenProgram<'_, I>,
+    asked: &ProgramRequest<'_>,
     out: Destination<'_>,
     report: Option<&str>,
     version: Option<Version>,
-    explained: bool,
 ) -> Result<Status, Fault> {
     let mut file = open_output(rt, alloc, out)?;
     let source = opened.source;
     let Program { image, declaration } = opened.read(alloc)?;
-    if !explained && report.is_none() {
+    if !asked.explained && report.is_none() {
         return write_found(&mut file, &found_for(alloc, &image, &declaration, version)?);
     }
     match &attempt_for(alloc, &image, &declaration, version)? {
         Attempt::Found(found) => write_found(&mut file, found),
         Attempt::Stuck(at, draft) => {
-            let stuck = Stuck {
+            let stuck = StuckSearch {
                 image: &image,
                 declaration: &declaration,
                 at: *at,
                 draft,
             };
-            tell_stuck(rt, alloc, source, &stuck, report, explained)
+            tell_stuck(rt, alloc, asked, source, &stuck, report)
         }
     }
 }

@@ -1,24 +1,28 @@
 //! What is done with a program that is open. The other files of a command are opened before the program is read.
 
 use crate::files::{finish, open_input, open_output};
-use crate::of_machine::places::Symbolic;
+use crate::named_files::NamedFiles;
+use crate::of_machine::places::{ResolvedPlaces, named_in};
 use crate::of_programs::open::OpenProgram;
 use crate::of_programs::searches::{declared, guessed, refuted};
 use crate::of_programs::verified::verified;
 use crate::of_sources::assembled::AssembledSource;
 use crate::of_sources::source_lines::lines_of;
-use crate::tellers::open_input_if;
+use crate::standard_error::open_input_if;
 use crate::telling::tell_misuse;
-use command_line::{Destination, Misuse, ProgramRequest, Task, WatchedSession};
+use command_line::{Destination, Misuse, ProgramRequest, StopOptions, Task, WatchedSession};
 use command_parts::inputs::{bytes_from, events_from};
 use command_parts::message::Message;
 use command_parts::options::{RunOptions, SessionOptions};
 use command_parts::outcome::deliver;
 use command_parts::programs::Program;
 use command_parts::status::{Fault, Status};
-use diagnostics::verdicts::certificates::{Certified, certificate_from};
+use diagnostics::verdicts::certificates::{ProgramWithCertificate, certificate_from};
 use diagnostics::verdicts::messages::check_message;
 use machine_commands::messages::{watch_message, watch_session_message};
+use machine_commands::stopped_watch::{
+    WatchOptions, watch_message_to_stop, watch_session_message_to_stop,
+};
 use reports::reporting::{ReportForm, report_of};
 use search_commands::checking::verdict_of;
 use std::alloc::Global;
@@ -52,7 +56,7 @@ fn checked<R: Files + Input + Print, I: Read + Drop>(
     let source = opened.source;
     let program = opened.read(alloc)?;
     let certificate = certificate_from(alloc, &mut claims)?;
-    let certified = Certified {
+    let certified = ProgramWithCertificate {
         program,
         certificate,
     };
@@ -72,6 +76,7 @@ fn reported<R: Files + Input + Print, I: Read + Drop>(
     rt: &R,
     alloc: Global,
     opened: &mut OpenProgram<'_, I>,
+    asked: &ProgramRequest<'_>,
     certificate: &str,
     out: Destination<'_>,
     form: ReportForm,
@@ -80,14 +85,29 @@ fn reported<R: Files + Input + Print, I: Read + Drop>(
     let mut file = open_output(rt, alloc, out)?;
     let notes = opened.source.map(|source| &source.notes);
     let program = opened.read(alloc)?;
-    let certificate = certificate_from(alloc, &mut claims)?;
-    let certified = Certified {
+    let found = certificate_from(alloc, &mut claims)?;
+    let certified = ProgramWithCertificate {
         program,
-        certificate,
+        certificate: found,
     };
-    let page = report_of(alloc, &certified, form, notes);
+    let files = NamedFiles::of(rt, alloc, asked, Some(certificate))?;
+    let page = report_of(alloc, &certified, form, files.names(), notes);
     let status = deliver(page, &mut Writes::new(&mut file))?;
     finish(&mut file, status)
+}
+
+/// How a watched run is told that may be stopped.
+fn watch_options_of<'s>(
+    stopping: &'s StopOptions,
+    explained: bool,
+    show: &'s WordSet,
+) -> WatchOptions<'s> {
+    WatchOptions {
+        stops: &stopping.stops,
+        last: stopping.last,
+        explained,
+        show,
+    }
 }
 
 /// Watches a run by the events of a file.
@@ -97,14 +117,21 @@ fn watched<R: Files + Input + Print, I: Read + Drop>(
     alloc: Global,
     opened: &mut OpenProgram<'_, I>,
     events: &str,
-    show: &WordSet,
+    named: &ResolvedPlaces,
     explained: bool,
 ) -> Result<Status, Fault> {
     let mut list = open_input(rt, events)?;
     let source = opened.labels(explained);
     let Program { image, declaration } = opened.read(alloc)?;
     let events = events_from(alloc, &mut list)?;
-    let run = watch_message(alloc, &image, &declaration, &events, explained, show)?;
+    let show = &named.show;
+    let run = match &named.stopping {
+        None => watch_message(alloc, &image, &declaration, &events, explained, show)?,
+        Some(stopping) => {
+            let telling = watch_options_of(stopping, explained, show);
+            watch_message_to_stop(alloc, &image, &declaration, &events, &telling)?
+        }
+    };
     tell_lines(rt, alloc, source, &run.told)?;
     Ok(run.status)
 }
@@ -116,14 +143,14 @@ fn session_watched<R: Files + Input + Print, I: Read + Drop>(
     alloc: Global,
     opened: &mut OpenProgram<'_, I>,
     session: &WatchedSession<'_>,
-    show: &WordSet,
+    named: &ResolvedPlaces,
 ) -> Result<Status, Fault> {
     let mut reader = open_input_if(rt, session.reader)?;
     let mut keys = open_input_if(rt, session.keys)?;
     let explained = session.explained;
     let options = &SessionOptions {
         run: RunOptions {
-            show: *show,
+            show: named.show,
             ..session.options.run
         },
         ..session.options
@@ -132,16 +159,29 @@ fn session_watched<R: Files + Input + Print, I: Read + Drop>(
     let Program { image, declaration } = opened.read(alloc)?;
     let frames = bytes_from(alloc, &mut reader, options.run.rounds)?;
     let struck = bytes_from(alloc, &mut keys, options.run.rounds)?;
-    let run = watch_session_message(
-        alloc,
-        &image,
-        &declaration,
-        &frames,
-        &struck,
-        options,
-        session.continues,
-        explained,
-    )?;
+    let continues = session.continues;
+    let run = match &named.stopping {
+        None => watch_session_message(
+            alloc,
+            &image,
+            &declaration,
+            &frames,
+            &struck,
+            options,
+            continues,
+            explained,
+        )?,
+        Some(stopping) => watch_session_message_to_stop(
+            alloc,
+            &image,
+            &declaration,
+            &frames,
+            &struck,
+            options,
+            continues,
+            &watch_options_of(stopping, explained, &named.show),
+        )?,
+    };
     tell_lines(rt, alloc, source, &run.told)?;
     Ok(run.status)
 }
@@ -169,17 +209,15 @@ fn report_form(text: bool) -> ReportForm {
     }
 }
 
-/// The cells that are shown when a run is over: those of a source may be named by its symbols.
-fn shown_of(
+/// What the options of a watched run name: those of a source may do so by its symbols.
+fn named_of(
     source: Option<&AssembledSource>,
     asked: &ProgramRequest<'_>,
-    show: &WordSet,
-) -> Result<WordSet, Misuse> {
+    named: ResolvedPlaces,
+) -> Result<ResolvedPlaces, Misuse> {
     match source {
-        None => Ok(*show),
-        Some(source) => asked.places.shown(&Symbolic {
-            own: source.numbered.map.symbols(),
-        }),
+        None => Ok(named),
+        Some(source) => named_in(source.numbered.map.symbols(), &asked.places),
     }
 }
 
@@ -203,14 +241,36 @@ pub(crate) fn carry_out<R: Files + Input + Print + Eprint, I: Read + Drop>(
             certificate,
             out,
             text,
-        } => reported(rt, alloc, opened, certificate, *out, report_form(*text)),
-        Task::Watch { events, show } => match shown_of(opened.source, asked, show) {
-            Ok(show) => watched(rt, alloc, opened, events, &show, explained),
-            Err(misuse) => Ok(tell_misuse(rt, &misuse.with_symbols())),
-        },
+        } => reported(
+            rt,
+            alloc,
+            opened,
+            asked,
+            certificate,
+            *out,
+            report_form(*text),
+        ),
+        Task::Watch {
+            events,
+            show,
+            stopping,
+        } => {
+            let named = ResolvedPlaces {
+                show: *show,
+                stopping: *stopping,
+            };
+            match named_of(opened.source, asked, named) {
+                Ok(named) => watched(rt, alloc, opened, events, &named, explained),
+                Err(misuse) => Ok(tell_misuse(rt, &misuse.with_symbols())),
+            }
+        }
         Task::WatchSession(session) => {
-            match shown_of(opened.source, asked, &session.options.run.show) {
-                Ok(show) => session_watched(rt, alloc, opened, session, &show),
+            let named = ResolvedPlaces {
+                show: session.options.run.show,
+                stopping: session.stopping,
+            };
+            match named_of(opened.source, asked, named) {
+                Ok(named) => session_watched(rt, alloc, opened, session, &named),
                 Err(misuse) => Ok(tell_misuse(rt, &misuse.with_symbols())),
             }
         }
@@ -218,7 +278,7 @@ pub(crate) fn carry_out<R: Files + Input + Print + Eprint, I: Read + Drop>(
             out,
             report,
             version,
-        } => guessed(rt, alloc, opened, *out, *report, *version, explained),
+        } => guessed(rt, alloc, opened, asked, *out, *report, *version),
         Task::Refute { out, options } => refuted(rt, alloc, opened, *out, options),
         Task::Declare { out, options } => declared(rt, alloc, opened, *out, *options),
         Task::Place { out } => placed(rt, alloc, opened.source, *out),

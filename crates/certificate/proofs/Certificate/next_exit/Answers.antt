@@ -1,7 +1,8 @@
 use Rattle.std.proofs.Common.{◌≡◌, ◌+◌, ◌*◌, true, false, ℕ, sym, subst, drop, arith}
-use Rattle.certificate.specs.Packed.{said_lines}
-use Rattle.certificate.specs.Found.{begins_at}
-use Rattle.certificate.proofs.SumReaderLemmas.{fit_next, exit_next, has_said, no_exit_left}
+use Rattle.certificate_lines.specs.Packed.{said_lines}
+use Rattle.certificate_lines.specs.Found.{begins_at}
+use Rattle.certificate_lines.proofs.SumReaderLemmas.{fit_next, exit_next, has_said, no_exit_left}
+use Rattle.certificate_lines.proofs.SumSkipLemmas.{has_shape_there}
 use Rattle.certificate.proofs.Certificate.next_exit.Goals as goal
 
 pub returns-then-not-is_at-clause-none : goal.returns-then-not-is_at-clause-none
@@ -34,3 +35,6 @@ pub returns-in-None-clause-none : goal.returns-in-None-clause-none
 returns-in-None-clause-none g c =
     has_said c.self.inside.version c.self.inside.kept c.args.line.now _ c.self.invariant (omega arith) (omega (arith, c.index.ensures.small, c.requires.offset))
     (sym c.if-not-is_at.ensures) (sym c.in-None.ensures.there)
+
+pub returns-in-Some-clause-shape : goal.returns-in-Some-clause-shape
+returns-in-Some-clause-shape g c = λ done. has_shape_there c.self.inside.version c.self.inside.kept c.args.line.now _ _ c.self.invariant (sym c.if-not-is_at.ensures) c.in-Some.ensures.says

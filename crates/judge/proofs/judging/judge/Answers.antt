@@ -5,7 +5,7 @@ use Rattle.judge.specs.Conditions.{IsFirst, IsValid}
 use Rattle.judge.specs.Asked.{HoldsBetween}
 use Rattle.judge.specs.Judged.{judged}
 use Rattle.facts.specs.declared.Condition.TheVariants.{V1}
-use Rattle.certificate.specs.Certificate.{claimed, names_routine}
+use Rattle.certificate_lines.specs.Certificate.{claimed, names_routine}
 use Rattle.facts.proofs.EachLemmas.{one_more}
 use Rattle.judge.proofs.OrderLemmas.{is_valid, first_at, first_at_start, before, all_hold, is_named, named_later}
 use Rattle.judge.proofs.Legal.{runs_are_safe}
@@ -31,14 +31,14 @@ check_at-requires-clause-named g c = is_named (g.C.Claims.claims c.args.claims.n
 pub loop-address-preserved-then-is_named : goal.loop-address-preserved-then-is_named
 loop-address-preserved-then-is_named g c =
     let j : Case = (judged c.args.image.now c.args.declaration.now (g.C.Claims.claims c.args.claims.now)) in
-    (one_more (λ a. HoldsBetween j 1 15 a) (claimed j.certificate) _ c.in-Some.ensures c.index-next.ensures.same c.in_default-check_at.ensures.checked c.loop-address.invariant.0, c.check_at.ensures.body, c.next_named-named-then-is_named.ensures, c.check_at.ensures.even, c.check_at.ensures.odd)
+    (one_more (λ a. HoldsBetween j 1 16 a) (claimed j.certificate) _ c.in-Some.ensures c.index-next.ensures.same c.in_default-check_at.ensures.checked c.loop-address.invariant.0, c.check_at.ensures.body, c.next_named-named-then-is_named.ensures, c.check_at.ensures.even, c.check_at.ensures.odd)
 
 pub loop-address-preserved : goal.loop-address-preserved
 loop-address-preserved g c =
     let j : Case = (judged c.args.image.now c.args.declaration.now (g.C.Claims.claims c.args.claims.now)) in
     let named : c.is_of-is_named.result ≡ names_routine j.certificate c.in-Some.address =
     is_named j.certificate c.loop-address.next c.in-Some.address c.loop-address.named c.is_of-is_named.result c.in-Some.ensures c.loop-address.invariant.2 c.is_of-is_named.ensures in (
-      one_more (λ a. HoldsBetween j 1 15 a) (claimed j.certificate) _ c.in-Some.ensures c.index-next.ensures.same c.in_default-check_at.ensures.checked c.loop-address.invariant.0,
+      one_more (λ a. HoldsBetween j 1 16 a) (claimed j.certificate) _ c.in-Some.ensures c.index-next.ensures.same c.in_default-check_at.ensures.checked c.loop-address.invariant.0,
       c.check_at.ensures.body,
       named_later j.certificate c.loop-address.next c.in-Some.address c.index-next.result c.loop-address.named c.in-Some.ensures c.index-next.ensures.same c.loop-address.invariant.2 (sym named ∙ c.if-is_named.false),
       c.check_at.ensures.even,

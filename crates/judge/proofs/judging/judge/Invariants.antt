@@ -1,5 +1,5 @@
 use Rattle.std.proofs.Common.{◌≡◌, ◌<◌, ◌-◌, ℕ, true}
-use Rattle.certificate.specs.Certificate.{claimed}
+use Rattle.certificate_lines.specs.Certificate.{claimed}
 use Rattle.judge.specs.Asked.{HoldsBetween}
 use Rattle.judge.specs.Judged.{judged}
 use Rattle.judge.specs.Bodies.{Tells}
@@ -9,7 +9,7 @@ use Rattle.judge.proofs.judging.judge.Given as goal
 
 abbrev pub invariant-loop-address : goal.invariant-loop-address
 invariant-loop-address g l =
-    ((a : ℕ) → a < l.next → claimed (g.C.Claims.claims l.claims) a ≡ true → HoldsBetween (judged l.image l.declaration (g.C.Claims.claims l.claims)) 1 15 a) ×
+    ((a : ℕ) → a < l.next → claimed (g.C.Claims.claims l.claims) a ≡ true → HoldsBetween (judged l.image l.declaration (g.C.Claims.claims l.claims)) 1 16 a) ×
     Tells (g.C.Claims.claims l.claims) l.body ×
     NextNamed (g.C.Claims.claims l.claims) l.next l.named ×
     Shows (g.C.Claims.claims l.claims) l.rooms.even ×

@@ -5,16 +5,16 @@ use Rattle.declaration.specs.Kept.{meaning}
 use Rattle.policy.proofs.CallLemmas.{last_found}
 use Rattle.policy.proofs.legality.finds_call.Goals as goal
 
-pub returns-then-value-lt8 : goal.returns-then-value-lt8
-returns-then-value-lt8 g c =
+pub returns-then-value-lt64 : goal.returns-then-value-lt64
+returns-then-value-lt64 g c =
     let same : (c.in-Some.call.now.entry == c.args.entry) ≡ true = sym c.eq.ensures ∙ c.if-eq.true in
-    let low : nat_lt c.distance-offset.result 8 ≡ true = rw c.value.ensures.same at (lt-ltb c.value.result 8 c.if-value-lt8.true) in
+    let low : nat_lt c.distance-offset.result 64 ≡ true = rw c.value.ensures.same at (lt-ltb c.value.result 64 c.if-value-lt64.true) in
     rw (last_found (meaning c.args.declaration.now) c.args.entry c.args.word c.args.calls.now c.in-Some.call.now (sym c.in-Some.ensures.value), ← c.distance-offset.ensures, same, low) c.has_offset.ensures
 
-pub returns-else-value-lt8 : goal.returns-else-value-lt8
-returns-else-value-lt8 g c =
+pub returns-else-value-lt64 : goal.returns-else-value-lt64
+returns-else-value-lt64 g c =
     let same : (c.in-Some.call.now.entry == c.args.entry) ≡ true = sym c.eq.ensures ∙ c.if-eq.true in
-    let high : nat_lt c.value.result 8 ≡ false = grind (arith, nat_tests) in
+    let high : nat_lt c.value.result 64 ≡ false = grind (arith, nat_tests) in
     rw (last_found (meaning c.args.declaration.now) c.args.entry c.args.word c.args.calls.now c.in-Some.call.now (sym c.in-Some.ensures.value), ← c.distance-offset.ensures, ← c.value.ensures.same, same, high) refl
 
 pub returns-else-eq : goal.returns-else-eq

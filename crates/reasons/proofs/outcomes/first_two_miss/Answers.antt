@@ -1,5 +1,6 @@
-use Rattle.facts.specs.OutcomesInCode.{outcome_in}
+use Rattle.transfer.specs.OutcomesInCode.{outcome_in}
 use Rattle.judge.specs.Points.{case_of}
+use Rattle.wordset.specs.Lanes.{words}
 use Rattle.reasons.specs.Breaches.{OutcomeMisses}
 use Rattle.reasons.specs.Keeping.{OutcomeArrives}
 use Rattle.reasons.specs.Points.{counts_lines}
@@ -12,15 +13,15 @@ pub returns-in-Some-clause-found : goal.returns-in-Some-clause-found
 returns-in-Some-clause-found g c =
     let found = c.in-Some.found in (
       c.in-Some.ensures.found.0,
-      some_left (OutcomeMisses (case_of g.C.Claims.claims c.args.point.now) c.args.point.now.place.routine found.0 found.1) (outcome_in c.args.outcomes.now.first) (outcome_in c.args.outcomes.now.second) c.in-Some.ensures.found.1,
+      some_left (OutcomeMisses (case_of g.C.Claims.claims c.args.point.now) c.args.point.now.place.routine (words c.args.beyond.now) found.0 found.1) (outcome_in c.args.outcomes.now.first) (outcome_in c.args.outcomes.now.second) c.in-Some.ensures.found.1,
     )
 
 pub returns-clause-found : goal.returns-clause-found
 returns-clause-found g c =
     some_weaker c.outcome_misses-2.result _ _
-    (λ found h. (h.0, some_right (OutcomeMisses (case_of g.C.Claims.claims c.args.point.now) c.args.point.now.place.routine found.0 found.1) (outcome_in c.args.outcomes.now.first) (outcome_in c.args.outcomes.now.second) h.1)) c.outcome_misses-2.ensures.found
+    (λ found h. (h.0, some_right (OutcomeMisses (case_of g.C.Claims.claims c.args.point.now) c.args.point.now.place.routine (words c.args.beyond.now) found.0 found.1) (outcome_in c.args.outcomes.now.first) (outcome_in c.args.outcomes.now.second) h.1)) c.outcome_misses-2.ensures.found
 
 pub returns-clause-none : goal.returns-clause-none
 returns-clause-none g c =
     none_weaker c.outcome_misses-2.result _ _
-    (each_joined (OutcomeArrives (counts_lines c.args.sought) (case_of g.C.Claims.claims c.args.point.now) c.args.point.now.place.routine) (outcome_in c.args.outcomes.now.first) (outcome_in c.args.outcomes.now.second) c.in_default.ensures.none) c.outcome_misses-2.ensures.none
+    (each_joined (OutcomeArrives (counts_lines c.args.sought) (case_of g.C.Claims.claims c.args.point.now) c.args.point.now.place.routine (words c.args.beyond.now)) (outcome_in c.args.outcomes.now.first) (outcome_in c.args.outcomes.now.second) c.in_default.ensures.none) c.outcome_misses-2.ensures.none

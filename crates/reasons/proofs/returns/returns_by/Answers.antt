@@ -1,4 +1,4 @@
-use Rattle.std.proofs.Common.{arith, ap, inl, inr, sym, ◌∙◌}
+use Rattle.std.proofs.Common.{ap, sym, ◌∙◌}
 use Rattle.std.proofs.lemmas.Bool.{true≢false}
 use Rattle.wordset.specs.Words.{Words}
 use Rattle.reasons.proofs.returns.returns_by.Goals as goal
@@ -7,25 +7,18 @@ pub returns-then-not-contains-clause-none : goal.returns-then-not-contains-claus
 returns-then-not-contains-clause-none g c = λ has.
     absurd (true≢false (sym has ∙ (ap (λ (s : Words). s c.args.offset) (sym c.offsets.ensures) ∙ (sym c.contains.ensures ∙ c.if-not-contains.true))))
 
-pub returns-then-offset-ge8-clause-found : goal.returns-then-offset-ge8-clause-found
-returns-then-offset-ge8-clause-found g c = (
-  (c.requires.offset, ap (λ (s : Words). s c.args.offset) (sym c.offsets.ensures) ∙ sym c.contains.ensures ∙ c.if-not-contains.false, inl (omega (arith, c.if-offset-ge8.true))),
-  tt,
-)
-
 pub returns-then-not-has_offset-clause-found : goal.returns-then-not-has_offset-clause-found
 returns-then-not-has_offset-clause-found g c = (
   (
     c.requires.offset,
     ap (λ (s : Words). s c.args.offset) (sym c.offsets.ensures) ∙ sym c.contains.ensures ∙ c.if-not-contains.false,
-    inr (sym (rw c.from_index.ensures at c.has_offset.ensures) ∙ c.if-not-has_offset.true),
+    sym (rw c.from_index.ensures at c.has_offset.ensures) ∙ c.if-not-has_offset.true,
   ),
   tt,
 )
 
 pub returns-then-not-counts_lines-clause-none : goal.returns-then-not-counts_lines-clause-none
 returns-then-not-counts_lines-clause-none g c = λ has. record {
-  small = omega (arith, c.if-offset-ge8.false);
   declared = sym (rw c.from_index.ensures at c.has_offset.ensures) ∙ c.if-not-has_offset.false;
   exit = λ lines. absurd (true≢false (sym lines ∙ (sym c.counts_lines.ensures ∙ c.if-not-counts_lines.true)));
 }
@@ -38,7 +31,6 @@ returns-in-Some-clause-found g c = (
 
 pub returns-in-None-clause-none : goal.returns-in-None-clause-none
 returns-in-None-clause-none g c = λ has. record {
-  small = omega (arith, c.if-offset-ge8.false);
   declared = sym (rw c.from_index.ensures at c.has_offset.ensures) ∙ c.if-not-has_offset.false;
   exit = λ lines. c.in-None.ensures.none;
 }

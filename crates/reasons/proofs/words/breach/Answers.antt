@@ -29,3 +29,8 @@ pub returns-in-V15-clause-found : goal.returns-in-V15-clause-found
 returns-in-V15-clause-found g c =
     subst (λ (u : Condition). IfSome c.reads_unlisted.result (BreaksAs c.args.sought g.C.Claims.claims c.args.point.now u c.args.word)) (sym c.in-V15.is)
     (by_word_alone c.args.sought c.reads_unlisted.result _ c.reads_unlisted.ensures.found c.reads_unlisted.ensures.by_word)
+
+pub returns-in-V16-clause-found : goal.returns-in-V16-clause-found
+returns-in-V16-clause-found g c =
+    subst (λ (u : Condition). IfSome c.denies_assertion.result (BreaksAs c.args.sought g.C.Claims.claims c.args.point.now u c.args.word)) (sym c.in-V16.is)
+    (by_word_alone c.args.sought c.denies_assertion.result _ c.denies_assertion.ensures.found c.denies_assertion.ensures.by_word)

@@ -1,21 +1,15 @@
+use Rattle.std.proofs.Common.{ℕ, List, subst, sym}
 use Rattle.declaration.specs.Kept.{meaning}
-use Rattle.certificate.specs.Kept.{meaning as lines_of}
-use Rattle.diagnostics.specs.CheckText.{checked_case}
-use Rattle.diagnostics.proofs.CheckLemmas.{verdict_is}
-use Rattle.diagnostics.proofs.ReasonLemmas.{behind_nothing}
+use Rattle.certificate_lines.specs.Kept.{meaning as lines_of}
+use Rattle.command_parts.specs.Messages.{plain}
+use Rattle.command_parts.specs.declared.status.Status.{Status}
+use Rattle.diagnostics.specs.WhyText.{IsExplanationOf}
 use Rattle.search_commands.proofs.explaining.explanation_of.Goals as goal
 
-pub returns-clause-explained : goal.returns-clause-explained
-returns-clause-explained g c =
-    let told = c.in_ok-push_explanation.ensures in
-    record {
-      verdict = c.judge-verdict.result;
-      is = verdict_is (checked_case c.args.certified.now.program.image (meaning c.args.certified.now.program.declaration) (lines_of c.args.certified.now.certificate))
-          c.judge-verdict.result c.judge-verdict.ensures.exact c.judge-verdict.ensures.safe;
-      reason = told.reason;
-      why = told.why;
-      telling = told.telling;
-      told = told.told;
-      text_is = behind_nothing _ _ _ c.new-text.ensures.items told.text_is;
-      status_is = c.verdict_status-status.ensures;
-    }
+pub returns-in-Ok-clause-explained : goal.returns-in-Ok-clause-explained
+returns-in-Ok-clause-explained g c =
+    let image = c.args.certified.now.program.image in
+    let declaration = meaning c.args.certified.now.program.declaration in
+    let lines = lines_of c.args.certified.now.certificate in
+    subst (λ (t : List ℕ). IsExplanationOf image declaration lines c.outcome_of.result.status t) (sym c.outcome_of.ensures.text)
+    (subst (λ (s : Status). IsExplanationOf image declaration lines s (plain c.in-Ok.message.told)) (sym c.outcome_of.ensures.status) c.in-Ok.ensures)

@@ -11,5 +11,5 @@ returns-in-Some-only c = c.shift-in-Some-only.ensures
     ∙ sums_one (words c.args.other.now) (words c.args.self.now) c.in-Some-only.word (sym c.only-2.ensures ∙ c.in-Some-only.is)
     ∙ sums_swap (words c.args.other.now) (words c.args.self.now)
 
-pub returns-else-count : goal.returns-else-count
-returns-else-count c = c.sums_by_word-else-count.ensures ∙ sums_swap (words c.args.other.now) (words c.args.self.now)
+pub returns-else-has_fewer_ranges : goal.returns-else-has_fewer_ranges
+returns-else-has_fewer_ranges c = c.sums_by_range-else-has_fewer_ranges.ensures ∙ sums_swap (words c.args.other.now) (words c.args.self.now)

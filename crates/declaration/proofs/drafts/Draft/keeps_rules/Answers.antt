@@ -1,6 +1,6 @@
 use Rattle.std.proofs.Common.{refl, sym, ◌∙◌}
 use Rattle.wordset.specs.Lanes.{words}
-use Rattle.declaration.specs.Text.{overlaps, entry_in_index, halt_outside}
+use Rattle.declaration.specs.Text.{overlaps, entry_in_index, halt_outside, misplaced}
 use Rattle.declaration.specs.Drafts.{gathered}
 use Rattle.declaration.proofs.RuleLemmas.{first_same, none_same, bodies_all, entries_all}
 use Rattle.declaration.proofs.drafts.Draft.keeps_rules.Goals as goal
@@ -53,4 +53,16 @@ returns-clause-kept g c = record {
   outside_index = none_same (words c.entries_in_index.result) (entry_in_index (gathered c.args.self.now)) c.entries_in_index.ensures c.in_default-first_from.ensures;
   start_in_main = sym c.contains.ensures ∙ c.if-not-contains.false;
   halts_inside = none_same (words c.halts_outside.result) (halt_outside (gathered c.args.self.now)) c.halts_outside.ensures c.in_default-first_from-2.ensures;
+  placed = none_same (words c.misplaced.result) (misplaced (gathered c.args.self.now)) c.misplaced.ensures c.in_default-first_from-3.ensures;
+}
+
+pub returns-in-Some-first_from-3-clause-broken : goal.returns-in-Some-first_from-3-clause-broken
+returns-in-Some-first_from-3-clause-broken g c = record {
+  start = c.args.start;
+  starts = c.requires;
+  apart = none_same (words c.overlaps.result) (overlaps (gathered c.args.self.now)) c.overlaps.ensures c.in_default.ensures;
+  outside_index = none_same (words c.entries_in_index.result) (entry_in_index (gathered c.args.self.now)) c.entries_in_index.ensures c.in_default-first_from.ensures;
+  start_in_main = sym c.contains.ensures ∙ c.if-not-contains.false;
+  halts_inside = none_same (words c.halts_outside.result) (halt_outside (gathered c.args.self.now)) c.halts_outside.ensures c.in_default-first_from-2.ensures;
+  least = first_same (words c.misplaced.result) (misplaced (gathered c.args.self.now)) c.in-Some-first_from-3.at c.misplaced.ensures c.in-Some-first_from-3.ensures;
 }

@@ -7,8 +7,8 @@ use Rattle.facts.specs.PlaceInCode.{place_in_code}
 use Rattle.wordset.specs.Words.{has_some}
 use Rattle.domain.specs.Locations.{Ac}
 use Rattle.domain.specs.Moves.{taking, weakly_updated}
-use Rattle.facts.specs.Outcomes.{ac_of, stored_by}
-use Rattle.facts.proofs.ComesLemmas.{goes_on, all_reached}
+use Rattle.transfer.specs.Outcomes.{ac_of, deposited}
+use Rattle.transfer.proofs.ComesLemmas.{goes_on, all_reached}
 use Rattle.facts.proofs.place.Place.deposit.Goals as goal
 
 pub returns-in-Some : goal.returns-in-Some
@@ -19,7 +19,7 @@ returns-in-Some g c =
     let y = c.in-Some.cell in
     rw (sym c.requires.single ∙ c.in-Some.is) (goes_on pl p f (ac_of pl f) (one (plus c.args.at 1)) _
     (c.is_alive-comes.ensures p (ac_of pl f) c.has_some-reached.ensures (c.has_some.ensures ∙ ap has_some c.put_words_known.ensures)) c.go_to.ensures c.put_words_known.ensures (ap one c.increment.ensures)
-    (c.put_stored_by.ensures ∙ ap (λ (s : Words). stored_by pl.rules y s f) c.put_words_known.ensures))
+    (c.put_deposited.ensures ∙ ap (λ (s : Words). deposited pl y s f) c.put_words_known.ensures))
 
 pub returns-in-None : goal.returns-in-None
 returns-in-None g c =

@@ -11,4 +11,4 @@ tell-requires-clause-some g c = omega (arith, ap length c.requires.alone)
 
 pub tell-requires-clause-least : goal.tell-requires-clause-least
 tell-requires-clause-least g c = least_alone (case_kept g.C.Claims.claims c.args.self.now) c.args.body.now.routine c.args.at (fact_in_code c.args.here.now.fact) c.check_claimed-place.result c.requires.alone
-    (subst (λ (f : SumFact 64 32). IsLeastOf (case_kept g.C.Claims.claims c.args.self.now) c.args.body.now.routine c.args.at (fact_in_code f) 15 c.check_claimed-place.result) c.forget.ensures.fact c.check_claimed-place.ensures)
+    (subst (λ (f : SumFact 64 32). IsLeastOf (case_kept g.C.Claims.claims c.args.self.now) c.args.body.now.routine c.args.at (fact_in_code f) 16 c.check_claimed-place.result) c.forget.ensures.fact c.check_claimed-place.ensures)

@@ -1,4 +1,4 @@
-use Rattle.std.proofs.Common.{◌≡◌, refl}
+use Rattle.std.proofs.Common.{◌≡◌, refl, arith}
 use Rattle.wordset.specs.Lanes.{words}
 use Rattle.wordset.proofs.IterLemmas.{of_set, one_fails, all_pass}
 use Rattle.instruct.specs.Instructions.{meaning_of}
@@ -9,6 +9,9 @@ use Rattle.judge.specs.Points.{case_of, fact_asked}
 use Rattle.judge.proofs.PointLemmas.{meant}
 use Rattle.judge.proofs.CallLemmas.{each_target}
 use Rattle.judge.proofs.point.Point.each_callee_passes.Goals as goal
+
+pub put_called-requires : goal.put_called-requires
+put_called-requires g c = omega (arith, c.requires.cells, c.requires.relations)
 
 pub returns-then-not-callee_passes : goal.returns-then-not-callee_passes
 returns-then-not-callee_passes g c =

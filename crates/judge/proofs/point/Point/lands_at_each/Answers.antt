@@ -15,9 +15,15 @@ loop-at-preserved g c = (
   c.lands_here.ensures.kept ∙ c.loop-at.invariant.1,
 )
 
-pub returns-then-not-lands_here : goal.returns-then-not-lands_here
-returns-then-not-lands_here g c = one_fails _ c.loop-at.invariant.0 c.in-Some.ensures.steps c.if-not-lands_here.true
+pub returns-then-not-lands_here-clause-lands : goal.returns-then-not-lands_here-clause-lands
+returns-then-not-lands_here-clause-lands g c = one_fails _ c.loop-at.invariant.0 c.in-Some.ensures.steps c.if-not-lands_here.true
     (λ l. c.lands_here.ensures.lands.1 (subst (λ (f : Fact). LandsAt (case_of g.C.Claims.claims c.args.self.now) c.args.self.now.place.routine c.in-Some.at f) (sym c.loop-at.invariant.1) l))
 
-pub returns : goal.returns
-returns g c = (λ q. all_pass c.loop-at.invariant.0 c.in-None.ensures.steps, λ each. refl)
+pub returns-clause-lands : goal.returns-clause-lands
+returns-clause-lands g c = (λ q. all_pass c.loop-at.invariant.0 c.in-None.ensures.steps, λ each. refl)
+
+pub returns-then-not-lands_here-clause-kept : goal.returns-then-not-lands_here-clause-kept
+returns-then-not-lands_here-clause-kept g c = c.lands_here.ensures.kept ∙ c.loop-at.invariant.1
+
+pub returns-clause-kept : goal.returns-clause-kept
+returns-clause-kept g c = c.loop-at.invariant.1

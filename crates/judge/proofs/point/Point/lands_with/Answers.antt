@@ -1,8 +1,11 @@
-use Rattle.std.proofs.Common.{refl, ◌∙◌}
+use Rattle.std.proofs.Common.{arith, refl, ◌∙◌}
 use Rattle.judge.specs.Points.{case_of}
 use Rattle.domain.specs.FactInCode.{fact_in_code}
 use Rattle.judge.proofs.CallLemmas.{lands_if, lands_without, lands_equally, return_place, joined_by}
 use Rattle.judge.proofs.point.Point.lands_with.Goals as goal
+
+pub take_joined-requires : goal.take_joined-requires
+take_joined-requires g c = omega (arith, c.requires.point.roomy.cells, c.is_within_room.ensures.cells, c.requires.point.roomy.relations, c.is_within_room.ensures.relations, c.requires.point.cells, c.requires.point.relations)
 
 pub returns-then-not-contains : goal.returns-then-not-contains
 returns-then-not-contains g c = lands_without _ (fact_in_code c.args.others.now.exit) c.args.self.now.at _ c.contains.ensures (c.put.ensures ∙ c.sites.ensures) c.if-not-contains.true

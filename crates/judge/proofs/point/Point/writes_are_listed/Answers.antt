@@ -1,12 +1,15 @@
-use Rattle.std.proofs.Common.{subst}
+use Rattle.std.proofs.Common.{subst, arith}
 use Rattle.std.specs.Prelude.{IsTrue, ◌↔◌}
 use Rattle.wordset.specs.Words.{Words}
-use Rattle.certificate.specs.Certificate.{writes_of}
+use Rattle.certificate_lines.specs.Certificate.{writes_of}
 use Rattle.facts.specs.Conditions.{WritesAreListed}
 use Rattle.facts.specs.PlaceInCode.{place_in_code, meaning_in}
 use Rattle.judge.specs.Points.{fact_asked}
 use Rattle.judge.proofs.PointLemmas.{meant}
 use Rattle.judge.proofs.point.Point.writes_are_listed.Goals as goal
+
+pub writes_are_listed-requires : goal.writes_are_listed-requires
+writes_are_listed-requires g c = omega (arith, c.requires.cells, c.requires.relations)
 
 pub returns : goal.returns
 returns g c =

@@ -4,7 +4,7 @@ use Rattle.peripherals.specs.World.{view}
 use Rattle.machine_commands.specs.Schedule.{UpToRead}
 use Rattle.machine_commands.specs.TypingParts.{Types, source}
 use Rattle.machine_commands.proofs.SessionLemmas.{or_left, or_right}
-use Rattle.machine_commands.proofs.TypistLemmas.{IsBrought, Less, brought_less, types_last, types_on, types_output, types_over, types_read}
+use Rattle.machine_commands.proofs.TypistLemmas.{IsBrought, Less, brought_less, types_last, types_on, types_output, types_over, types_read, types_step}
 use Rattle.machine_commands.proofs.typist.TypistScheduler.next_event.Goals as goal
 
 pub due-requires : goal.due-requires
@@ -48,6 +48,19 @@ returns-in-Some-clause-due g c =
       last = λ p extent ends. types_last t.options w t.asked t.rounds t.last reader keys reader_after keys_after e p extent brought ends;
       output = λ p puts. types_output t.options w t.asked t.rounds t.last reader keys reader_after keys_after e p brought puts;
     }
+
+pub returns-in-Some-clause-to_step : goal.returns-in-Some-clause-to_step
+returns-in-Some-clause-to_step g c =
+    let t = c.args.self.now in
+    let s = c.due.new.self in
+    let w = view c.args.world.now in
+    let e = c.in-Some.event in
+    let reader = source (g.F.ByteSource.remaining t.reader) (g.F.ByteSource.ended t.reader) in
+    let keys = source (g.K.ByteSource.remaining t.keys) (g.K.ByteSource.ended t.keys) in
+    let reader_after = source (g.F.ByteSource.remaining s.reader) (g.F.ByteSource.ended s.reader) in
+    let keys_after = source (g.K.ByteSource.remaining s.keys) (g.K.ByteSource.ended s.keys) in
+    let brought : IsBrought t.options w t.asked t.rounds t.last reader keys (Some e) reader_after keys_after = rw c.in-Some.is at c.in_ok-event.ensures.due in
+    λ steps p. types_step t.options w t.asked t.rounds t.last reader keys reader_after keys_after e p brought steps
 
 pub returns-in-Some-clause-fewer : goal.returns-in-Some-clause-fewer
 returns-in-Some-clause-fewer g c =

@@ -1,0 +1,177 @@
+//! Calls and returns in a search: on into a routine, from each return that is known, and out of a routine.
+
+use crate::halt::Halt;
+use crate::invariant::Invariant;
+use crate::program::{AnalysedProgram, Body, Visit};
+use crate::rooms::Returns;
+use crate::search::{Search, known_of};
+use domain::ReturnOffsets;
+use facts::Fact;
+use std::alloc::Allocator;
+use transfer::Outcome;
+use word12::Word;
+use wordset::WordSet;
+
+/// The last address from which a call may return by each of the eight offsets without going past
+/// 7777.
+const LAST_SITE: usize = 0o7767;
+
+impl<A: Allocator + Copy> Search<A> {
+    /// Calls each entry that an outcome calls.
+    pub(crate) fn call_each<D: Allocator>(
+        &mut self,
+        program: &AnalysedProgram<'_, D>,
+        visit: &Visit,
+        outcome: &Outcome,
+        returns: &mut Returns,
+    ) -> Result<(), Halt> {
+        let mut entries = WordSet::empty();
+        outcome.targets.put(&mut entries);
+        for entry in entries.iter() {
+            self.call(program, visit, entry, returns)?;
+        }
+        Ok(())
+    }
+
+    /// Calls an entry.
+    fn call<D: Allocator>(
+        &mut self,
+        program: &AnalysedProgram<'_, D>,
+        visit: &Visit,
+        entry: Word,
+        returns: &mut Returns,
+    ) -> Result<(), Halt> {
+        if !program.declaration.is_entry(entry) {
+            return Err(Halt::Stuck(visit.at));
+        }
+        if !program.declaration.in_body(entry, entry.increment()) {
+            return Err(Halt::Stuck(visit.at));
+        }
+        self.add_site(program, entry, visit.at)?;
+        if visit.at.index() > LAST_SITE {
+            return Err(Halt::Stuck(visit.at));
+        }
+        let mut written = self.guess.routine(entry).writes;
+        written.insert(entry);
+        self.write(&visit.body, &written);
+        let mut entering = known_of(program, &visit.fact);
+        entering.offsets = ReturnOffsets::none();
+        entering.offsets.insert(0);
+        self.reach(program, entry.increment(), &entering, self.ahead)?;
+        self.land(program, visit, entry, returns)
+    }
+
+    /// An address is a site of an entry.
+    fn add_site<D: Allocator>(
+        &mut self,
+        program: &AnalysedProgram<'_, D>,
+        entry: Word,
+        at: Word,
+    ) -> Result<(), Halt> {
+        self.guess.list(self.alloc, entry)?;
+        let mut routine = self.guess.routine(entry);
+        if routine.sites.contains(at) {
+            return Ok(());
+        }
+        routine.sites.insert(at);
+        self.guess.set_routine(entry, routine);
+        self.visit_again(&program.body_of(entry).meet(&program.lookers));
+        Ok(())
+    }
+
+    /// Goes on after a call by each return that is known.
+    fn land<D: Allocator>(
+        &mut self,
+        program: &AnalysedProgram<'_, D>,
+        visit: &Visit,
+        entry: Word,
+        returns: &mut Returns,
+    ) -> Result<(), Halt> {
+        let written = self.guess.routine(entry).writes;
+        for offset in 0..8usize {
+            if self.exit_into(entry, offset, &written, &mut returns.exit)? {
+                let to = visit.at.increment().add(Word::from_index(offset));
+                if !program.has(&visit.body, to) {
+                    return Err(Halt::Stuck(visit.at));
+                }
+                returns.join(&program.rules, &visit.fact, &written);
+                let known = known_of(program, &returns.joined);
+                self.reach(program, to, &known, self.ahead)?;
+            }
+        }
+        Ok(())
+    }
+
+    /// Whether a return is known; the lent fact then says what holds of the accumulator and of written
+    /// cells.
+    fn exit_into(
+        &self,
+        entry: Word,
+        offset: usize,
+        written: &WordSet,
+        exit: &mut Fact,
+    ) -> Result<bool, Halt> {
+        match self.guess.kept_exit(entry, offset) {
+            None => Ok(false),
+            Some(kept) => {
+                let left = kept.written(self.alloc, written)?;
+                Ok(left.fact_into(exit))
+            }
+        }
+    }
+
+    /// Returns by a word. In versions 1 and 2 an exit line has an offset of at most 7.
+    pub(crate) fn come_back<D: Allocator>(
+        &mut self,
+        program: &AnalysedProgram<'_, D>,
+        visit: &Visit,
+        word: Word,
+    ) -> Result<(), Halt> {
+        let Body::Of(entry) = &visit.body else {
+            return Err(Halt::Stuck(visit.at));
+        };
+        if program.returned_entry(visit, word) != Some(*entry) {
+            return Err(Halt::Stuck(visit.at));
+        }
+        for offset in 0..64usize {
+            if visit.fact.offsets().contains(offset) {
+                let declared = program
+                    .declaration
+                    .has_offset(*entry, Word::from_index(offset));
+                if !declared || offset >= 8 {
+                    return Err(Halt::Stuck(visit.at));
+                }
+                self.reach_exit(program, visit, *entry, offset)?;
+            }
+        }
+        Ok(())
+    }
+
+    /// A routine may return by an offset and know what is known here.
+    fn reach_exit<D: Allocator>(
+        &mut self,
+        program: &AnalysedProgram<'_, D>,
+        visit: &Visit,
+        entry: Word,
+        offset: usize,
+    ) -> Result<(), Halt> {
+        let limits = &program.limits;
+        let known = known_of(program, &visit.fact);
+        if self.guess.has_exit(entry, offset) {
+            if !self
+                .guess
+                .join_exit(self.alloc, entry, offset, &known, limits, self.ahead)?
+            {
+                return Ok(());
+            }
+        } else {
+            let tracked = self.tracked_at(entry);
+            let kept = Invariant::of(self.alloc, visit.at, &tracked, &known, limits)?;
+            self.guess.list(self.alloc, entry)?;
+            self.guess.keep_exit(entry, offset, kept)?;
+        }
+        let sites = self.guess.routine(entry).sites;
+        self.visit_again(&sites);
+        Ok(())
+    }
+}

@@ -1,0 +1,114 @@
+-- A run with an operator, or a session at the teletype, that may be stopped, and what it writes, prints and punches.
+use Rattle.std.specs.Prelude.{ℕ, ◌≡◌, Bool, true, false, ◌||◌, ◌⊎◌, ◌++◌, List, [], ◌∷◌, Option, length}
+use Rattle.wordset.specs.Lanes.{words}
+use Rattle.instruct.specs.declared.Profile.{Profile}
+use Rattle.peripherals.specs.declared.Event.{Event}
+use Rattle.peripherals.specs.declared.Event.TheVariants.{Step}
+use Rattle.peripherals.specs.Devices.{WorldState}
+use Rattle.command_parts.specs.declared.options.RunOptions.{RunOptions}
+use Rattle.command_parts.specs.declared.options.SessionOptions.{SessionOptions}
+use Rattle.command_parts.specs.declared.options.Stops.{Stops}
+use Rattle.command_parts.specs.declared.options.SummaryForm.{SummaryForm}
+use Rattle.command_parts.specs.declared.options.TeletypeOptions.{TeletypeOptions}
+use Rattle.command_parts.specs.declared.status.Status.{Status}
+use Rattle.command_parts.specs.Inputs.{AreFirst, HasImage}
+use Rattle.machine_commands.specs.declared.follow.End.{End}
+use Rattle.machine_commands.specs.declared.follow.End.TheVariants as end
+use Rattle.machine_commands.specs.Follows.{Follows}
+use Rattle.machine_commands.specs.Last.{told}
+use Rattle.machine_commands.specs.Running.{fresh, status_of}
+use Rattle.machine_commands.specs.Schedule.{Extent, UpToOutput, ToStep, Whole}
+use Rattle.machine_commands.specs.Session.{Failures, FrontsOf, Taken, comes_by, extent_unread, plan_for, printed_in, summary_where}
+use Rattle.machine_commands.specs.Stops.{NeverStops, StopsAfter}
+use Rattle.machine_commands.specs.Teletype.{AreAll, run_of, types_by}
+use Rattle.machine_commands.specs.Trace.{traced}
+
+-- From w the step behind these events is the first event that stops the run; or none of these events stops it.
+abbrev pub StoppedSo : Stops → Profile → Bool → List Event → WorldState → Type 0
+StoppedSo stops profile true events w = StopsAfter stops profile true 0 (events ++ Step ∷ []) w (length events)
+StoppedSo stops profile false events w = NeverStops stops profile true 0 events w
+
+-- How much is told of the run without stops: what comes up to a step, and that step, where the run is stopped before it.
+abbrev pub extent_to_stop : Bool → Extent → Extent
+extent_to_stop true extent = ToStep
+extent_to_stop false extent = extent
+
+-- What is told of the run without stops: behind these events the step before which the run is stopped, if it is.
+abbrev pub to_stop : Bool → List Event → List Event
+to_stop true events = events ++ Step ∷ []
+to_stop false events = events
+
+-- How a run is said to have ended: where the program counter is, if a key interrupted it, and else as it ended. A run that a key interrupts
+-- ends because a key is asked for and none is left, so it does not halt and is not stopped; this is tested, not proved.
+abbrev pub leaving : Bool → End → WorldState → End
+leaving true last x = end.Interrupted x.state.pc
+leaving false last x = last
+
+-- From an image the events that come, up to the step before which the run is stopped if it is, and which is due then, lead to an end.
+-- The text is the trace, if one is asked for, the summary, and the cells to be shown, each with its word in the world in which the run
+-- ended; and these are the characters printed and the bytes punched. Where the run is not told whole, this is what its first events leave.
+pub record IsHeldToStop (comes : Profile → WorldState → Extent → List Event → Type 0) (options : RunOptions) (stops : Stops) (form : SummaryForm) (extent : Extent) (left : Bool) (image : List (Option ℕ)) (text printed punched : List ℕ) (status : Status) : Type 0 where
+  pub events : List Event
+  pub stopped : Bool
+  pub come : comes options.profile (fresh image options.start) (extent_to_stop stopped extent) (to_stop stopped events)
+  pub stop : StoppedSo stops options.profile stopped events (fresh image options.start)
+  pub lines : List ℕ
+  pub steps : ℕ
+  pub last : End
+  pub final : WorldState
+  pub follows : Follows options.profile true events (fresh image options.start) lines steps last final
+  pub text_is : text ≡ traced options.trace lines ++ summary_where (words options.show) form extent (leaving left (told stopped last final) final) final steps
+  pub printed_is : printed ≡ printed_in final
+  pub punched_is : punched ≡ final.devices.punch.output
+  pub status_is : status ≡ status_of (leaving left (told stopped last final) final)
+
+-- The tape is good, and these are what a run of it brings that may be stopped, with the frames of a reader and the bytes of keys, as
+-- many of each as there are rounds: no more can come.
+pub record IsSessionToStop (options : SessionOptions) (stops : Stops) (form : SummaryForm) (extent : Extent) (tape reader keys : Option (List ℕ)) (status : Status) (text printed punched : List ℕ) : Type 0 where
+  pub image : List (Option ℕ)
+  pub has_image : HasImage tape image
+  pub frames : List ℕ
+  pub frames_are : AreFirst options.run.rounds reader frames
+  pub bytes : List ℕ
+  pub bytes_are : AreFirst options.run.rounds keys bytes
+  pub session : IsHeldToStop (comes_by (plan_for options frames bytes)) options.run stops form extent false image text printed punched status
+
+-- What a run with an operator that has a fault may be about to write, to print and to punch. The summary, which a whole run alone has,
+-- is written last. Where neither the report nor the teletype failed, the run came to its end or to an event that prints or punches.
+pub record IsPartOfSessionToStop (options : SessionOptions) (stops : Stops) (form : SummaryForm) (reported typed : Bool) (tape reader keys : Option (List ℕ)) (extent : Extent) (text printed punched : List ℕ) : Type 0 where
+  pub summed : extent ≡ Whole → reported ≡ true
+  pub to_output : (reported || typed) ≡ false → extent ≡ UpToOutput
+  pub status : Status
+  pub is : IsSessionToStop options stops form extent tape reader keys status text printed punched
+
+-- Nothing was written at all, or fronts went out of what a run with an operator may be about to write, where these of its sinks failed.
+abbrev pub NothingOrStoppedFronts : SessionOptions → Stops → SummaryForm → Failures → Option (List ℕ) → Option (List ℕ) → Option (List ℕ) → Taken → Taken → Type 0
+NothingOrStoppedFronts options stops form failed tape reader keys old new =
+    (new ≡ old) ⊎ FrontsOf (IsPartOfSessionToStop options stops form failed.report failed.teletype tape reader keys) failed old new
+
+-- The tape is good, and this is what a session with it brings that may be stopped, by the frames of a reader and the bytes of keys, where
+-- the key that interrupts it was struck or not.
+pub record IsTypedToStop (options : TeletypeOptions) (stops : Stops) (form : SummaryForm) (extent : Extent) (left : Bool) (tape reader keys : Option (List ℕ)) (status : Status) (text printed punched : List ℕ) : Type 0 where
+  pub image : List (Option ℕ)
+  pub has_image : HasImage tape image
+  pub frames : List ℕ
+  pub frames_are : AreAll reader frames
+  pub bytes : List ℕ
+  pub bytes_are : AreAll keys bytes
+  pub session : IsHeldToStop (types_by options frames bytes) (run_of options) stops form extent left image text printed punched status
+
+-- What a session that has a fault may be about to write, to print and to punch. The summary, which a whole session alone has, is written
+-- last. Where neither the report nor the teletype failed, the session came to where a frame or a key was read, if that read failed, or
+-- else to its end or to an event that prints or punches. It may be told as interrupted only where the key was struck.
+pub record IsPartOfTypedToStop (options : TeletypeOptions) (stops : Stops) (form : SummaryForm) (left reported typed unread : Bool) (tape reader keys : Option (List ℕ)) (extent : Extent) (text printed punched : List ℕ) : Type 0 where
+  pub summed : extent ≡ Whole → reported ≡ true
+  pub to_there : (reported || typed) ≡ false → extent ≡ extent_unread unread
+  pub as_left : Bool
+  pub if_left : as_left ≡ true → left ≡ true
+  pub status : Status
+  pub is : IsTypedToStop options stops form extent as_left tape reader keys status text printed punched
+
+-- Fronts went out of what a session may be about to write, where these of its sinks failed, and a read of a frame or a key or none.
+abbrev pub StoppedTypedFronts : TeletypeOptions → Stops → SummaryForm → Bool → Failures → Bool → Option (List ℕ) → Option (List ℕ) → Option (List ℕ) → Taken → Taken → Type 0
+StoppedTypedFronts options stops form left failed unread tape reader keys old new =
+    FrontsOf (IsPartOfTypedToStop options stops form left failed.report failed.teletype unread tape reader keys) failed old new

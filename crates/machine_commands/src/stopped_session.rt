@@ -1,0 +1,371 @@
+//! A run with an operator, or a session at the teletype, up to where it is stopped.
+
+ghost use Rattle.std.specs.Prelude.{◌≡◌, ◌<◌, ◌≤◌, ◌+◌, IfSome, ◌||◌, ◌⊎◌, [], false, true, None, IfOk, IfErr, OnErr};
+ghost use Rattle.wordset.specs.Lanes.{words};
+ghost use Rattle.wordset.specs.Words.{nothing};
+ghost use Rattle.peripherals.specs.World.{view, profile_of};
+ghost use Rattle.command_parts.specs.Faults.{is_fault_of_tape, fails_to_read, fails_to_write, IsSessionFault};
+ghost use Rattle.command_parts.specs.Inputs.{TakesAtMost, TakesTape, input};
+ghost use Rattle.machine_commands.specs.Schedule.{Whole};
+ghost use Rattle.machine_commands.specs.Session.{BrokeOff, FrontsOf, IsHeldFault, WritesAll, failures, taken};
+ghost use Rattle.machine_commands.specs.SessionParts.{is_step, steps_in};
+ghost use Rattle.machine_commands.specs.StoppedSession.{leaving, IsHeldToStop, IsSessionToStop, IsTypedToStop, NothingOrStoppedFronts, StoppedTypedFronts};
+ghost use Rattle.machine_commands.specs.StoppedParts.{IsPartToStop, OperatedToStop, Passes, unstopped};
+ghost use Rattle.machine_commands.specs.Teletype.{IsTypedFault};
+
+use crate::follow::{End, RunOutcome, end_of};
+use crate::interrupted::OperatorPresence;
+use crate::running::status_of;
+use crate::schedule::Scheduler;
+use crate::session::{Outputs, apply_event};
+use crate::stops::{stops_before, visits_with};
+use crate::summary::closing_of;
+use crate::teletype::run_of;
+use crate::typist::Typist;
+use bin_tape::Image;
+use command_parts::inputs::{bytes_from, tape_from};
+use command_parts::options::{RunOptions, SessionOptions, Stops, SummaryForm};
+use command_parts::status::{Fault, Status};
+use peripherals::{Event, Operator, Seen, Start, World};
+use std::alloc::Allocator;
+use streams::{ByteSink, ByteSource, put};
+use wordset::WordSet;
+
+/// What never stops a run.
+pub fn no_stops() -> Stops
+    ensures place { result.place ≡ None }
+    ensures written { words result.written ≡ nothing }
+    ensures read { words result.read ≡ nothing }
+{
+    Stops {
+        place: None,
+        times: 1,
+        written: WordSet::empty(),
+        read: WordSet::empty(),
+    }
+}
+
+/// Whether an event is a step of the machine.
+fn is_step(event: &Event) -> bool
+    ensures { result ≡ is_step event.now }
+{
+    matches!(event, Event::Step)
+}
+
+/// How many steps came to the address, with an event, where so many came to it before; none where the event stops
+/// the run.
+pub(crate) fn visits_past<A: Allocator>(
+    stops: &Stops,
+    visits: usize,
+    world: &World<A>,
+    event: &Event,
+) -> Option<usize>
+    requires { visits + steps_in event.now < 18446744073709551616 }
+    ensures passes { Passes stops.now (profile_of world.now) visits (view world.now) event.now result }
+    ensures few { IfSome result (λ more. more ≤ visits + steps_in event.now) }
+{
+    if !is_step(event) {
+        return Some(visits);
+    }
+    if stops_before(stops, visits, world, event) {
+        return None;
+    }
+    Some(visits_with(stops, visits, world, event))
+}
+
+/// Lets happen what a schedule brings, up to the step before which the run is stopped. The run ends early at a
+/// halt and at an unsupported word.
+pub(crate) fn operate_to_stop<A: Allocator, S: Scheduler, W: ByteSink, T: ByteSink>(
+    world: &mut World<A>,
+    schedule: &mut S,
+    stops: &Stops,
+    trace: bool,
+    report: &mut W,
+    teletype: &mut T,
+) -> Result<RunOutcome, Fault>
+    requires writable { W.mark report.old ≡ false }
+    requires typable { T.mark teletype.old ≡ false }
+    requires readable { S.unread schedule.old ≡ false }
+    requires few { S.steps_to_come schedule.old < 18446744073709551616 }
+    requires unprinted { (view world.old).devices.printer.output ≡ [] }
+    ensures ran { IfOk result (λ outcome.
+        OperatedToStop (S.brings schedule.old (profile_of world.old) (view world.old)) false stops.now
+        (profile_of world.old) trace (view world.old) outcome
+        (view world.new) (W.taken report.old) (W.taken report.new)
+        (T.taken teletype.old) (T.taken teletype.new)) }
+    ensures broke { OnErr result
+        (BrokeOff (unstopped stops.now (S.brings schedule.old) (profile_of world.old)
+        (view world.old)) (profile_of world.old) trace (view world.old) (view world.new)
+        (W.mark report.new) (T.mark teletype.new) (S.unread schedule.new)
+        (W.taken report.old) (W.taken report.new)
+        (T.taken teletype.old) (T.taken teletype.new)) }
+    ensures faults { IfErr result IsHeldFault }
+    ensures marks { W.mark report.new || T.mark teletype.new ≡ fails_to_write result }
+    ensures reads { S.unread schedule.new ≡ fails_to_read result }
+{
+    let mut steps = 0;
+    let mut visits = 0;
+    while let Some(event) = schedule.next_event(world)? {
+        let Some(more) = visits_past(stops, visits, world, &event) else {
+            return Ok(RunOutcome {
+                steps,
+                end: End::Stopped(world.cpu().pc),
+            });
+        };
+        visits = more;
+        match apply_event(world, report, teletype, trace, event)? {
+            Seen::Ran => {
+                steps += 1;
+                schedule.complete_devices(world);
+            }
+            Seen::Halted => {
+                return Ok(RunOutcome {
+                    steps: steps + 1,
+                    end: end_of(world),
+                });
+            }
+            Seen::Unsupported(_) => {
+                return Ok(RunOutcome {
+                    steps,
+                    end: End::Unsupported(world.cpu().pc),
+                });
+            }
+            Seen::NotEnabled => {}
+            Seen::Changed => {}
+        }
+    }
+    Ok(RunOutcome {
+        steps,
+        end: end_of(world),
+    })
+}
+
+/// How a run is said to have ended that a key interrupted, or did not.
+pub(crate) fn leaving<A: Allocator>(left: bool, ran: RunOutcome, world: &World<A>) -> RunOutcome
+    ensures steps { result.steps ≡ ran.steps }
+    ensures end { result.end ≡ leaving left ran.end (view world.now) }
+{
+    if !left {
+        return ran;
+    }
+    RunOutcome {
+        steps: ran.steps,
+        end: End::Interrupted(world.cpu().pc),
+    }
+}
+
+/// Runs an image by a schedule up to where it is stopped, and writes what was punched in the end, also where the run
+/// broke off, and the summary in this form.
+pub(crate) fn run_scheduled_to_stop<
+    A: Allocator + Copy,
+    S: Scheduler + OperatorPresence,
+    W: ByteSink,
+    T: ByteSink,
+    P: ByteSink,
+>(
+    alloc: A,
+    image: &Image,
+    schedule: &mut S,
+    stops: &Stops,
+    options: RunOptions,
+    form: SummaryForm<'_>,
+    out: &mut Outputs<W, T, P>,
+) -> Result<Status, Fault>
+    requires writable { W.mark out.old.report ≡ false }
+    requires typable { T.mark out.old.teletype ≡ false }
+    requires punchable { P.mark out.old.punch ≡ false }
+    requires readable { S.unread schedule.old ≡ false }
+    requires few { S.steps_to_come schedule.old < 18446744073709551616 }
+    ensures run { IfOk result (λ status.
+        WritesAll (λ text printed punched.
+        IsHeldToStop (S.brings schedule.old) options stops.now form.entry Whole (S.left schedule.new) image.now text printed
+        punched status)
+        (taken (W.taken out.old.report) (T.taken out.old.teletype) (P.taken out.old.punch))
+        (taken (W.taken out.new.report) (T.taken out.new.teletype) (P.taken out.new.punch))) }
+    ensures front { OnErr result (FrontsOf
+        (IsPartToStop (S.brings schedule.old) options stops.now form.entry (S.left schedule.new) (W.mark out.new.report)
+        (T.mark out.new.teletype) (S.unread schedule.new) image.now)
+        (failures (W.mark out.new.report) (T.mark out.new.teletype) (P.mark out.new.punch))
+        (taken (W.taken out.old.report) (T.taken out.old.teletype) (P.taken out.old.punch))
+        (taken (W.taken out.new.report) (T.taken out.new.teletype) (P.taken out.new.punch))) }
+    ensures faults { IfErr result IsHeldFault }
+    ensures marks { (W.mark out.new.report || T.mark out.new.teletype) || P.mark out.new.punch
+        ≡ fails_to_write result }
+    ensures reads { fails_to_read result ≡ true → S.unread schedule.new ≡ true }
+    ensures read_told { S.unread schedule.new ≡ true →
+        (fails_to_read result ≡ true) ⊎ (P.mark out.new.punch ≡ true) }
+{
+    let mut world = World::load(alloc, image, options.start, &Start::zero(), options.profile);
+    let Outputs {
+        report,
+        teletype,
+        punch,
+    } = out;
+    let ran = operate_to_stop(&mut world, schedule, stops, options.trace, report, teletype);
+    put(punch, world.punched())?;
+    let came = ran?;
+    let outcome = leaving(schedule.has_left(), came, &world);
+    let text = closing_of(alloc, &outcome, &world, &form, &options.show)?;
+    put(report, &text)?;
+    Ok(status_of(outcome.end))
+}
+
+/// Shows that rounds are few.
+fn are_few(rounds: u32)
+    ensures { rounds < 18446744073709551616 }
+{}
+
+/// Runs a tape with an operator, as [`crate::session::run_session`] does, up to the step before which it is stopped.
+/// The summary then says where that is, and shows the machine as it was there. Where the run ends before, it writes
+/// as `run_session` does.
+///
+/// # Errors
+///
+/// As for `run_session`.
+#[tactic(auto, using(crate::proofs::UnreadLemmas::takes_no_text))]
+pub fn run_session_with_stops<
+    A: Allocator + Copy,
+    R: ByteSource,
+    F: ByteSource,
+    K: ByteSource,
+    W: ByteSink,
+    T: ByteSink,
+    P: ByteSink,
+>(
+    alloc: A,
+    tape: &mut R,
+    reader: &mut F,
+    keys: &mut K,
+    options: SessionOptions,
+    stops: &Stops,
+    form: SummaryForm<'_>,
+    out: &mut Outputs<W, T, P>,
+) -> Result<Status, Fault>
+    requires readable { R.mark tape.old ≡ false }
+    requires reader_readable { F.mark reader.old ≡ false }
+    requires keys_readable { K.mark keys.old ≡ false }
+    requires writable { W.mark out.old.report ≡ false }
+    requires typable { T.mark out.old.teletype ≡ false }
+    requires punchable { P.mark out.old.punch ≡ false }
+    // What is written, typed and punched is that of the run of the events that come, up to the first step that stops
+    // it.
+    ensures run { IfOk result (λ status.
+        WritesAll (IsSessionToStop options stops.now form.entry Whole (R.remaining tape.old)
+        (F.remaining reader.old) (K.remaining keys.old) status)
+        (taken (W.taken out.old.report) (T.taken out.old.teletype) (P.taken out.old.punch))
+        (taken (W.taken out.new.report) (T.taken out.new.teletype) (P.taken out.new.punch))) }
+    ensures faults { IfErr result (IsSessionFault options.run.rounds
+        (input (R.mark tape.new) (R.remaining tape.old) (R.remaining tape.new))
+        (input (F.mark reader.new) (F.remaining reader.old) (F.remaining reader.new))
+        (input (K.mark keys.new) (K.remaining keys.old) (K.remaining keys.new))) }
+    // After a fault fronts of what the first events leave went out, or nothing at all,
+    ensures front { OnErr result (NothingOrStoppedFronts options stops.now form.entry
+        (failures (W.mark out.new.report) (T.mark out.new.teletype) (P.mark out.new.punch))
+        (R.remaining tape.old) (F.remaining reader.old) (K.remaining keys.old)
+        (taken (W.taken out.old.report) (T.taken out.old.teletype) (P.taken out.old.punch))
+        (taken (W.taken out.new.report) (T.taken out.new.teletype) (P.taken out.new.punch))) }
+    // and nothing is written where the tape is refused or a read failed.
+    ensures nothing { IfErr result (λ fault. is_fault_of_tape fault ≡ true → out.new ≡ out.old) }
+    ensures nothing_after_failure { fails_to_read result ≡ true → out.new ≡ out.old }
+    // A write failed exactly where the answer says so, and so did a read.
+    ensures marks { (W.mark out.new.report || T.mark out.new.teletype) || P.mark out.new.punch
+        ≡ fails_to_write result }
+    ensures reads { (R.mark tape.new || F.mark reader.new) || K.mark keys.new
+        ≡ fails_to_read result }
+    // No input is read after one that is refused, or whose read failed.
+    ensures unread { IfErr result (λ fault. is_fault_of_tape fault ≡ true →
+        (reader.new ≡ reader.old) × (keys.new ≡ keys.old)) }
+    ensures unread_after_failure { R.mark tape.new ≡ true →
+        (reader.new ≡ reader.old) × (keys.new ≡ keys.old) }
+    ensures keys_unread_after_failure { F.mark reader.new ≡ true → keys.new ≡ keys.old }
+    // The tape is not read past its limit, and of frames and keys no more are taken than there are
+    // rounds.
+    ensures takes_tape { TakesTape (R.remaining tape.old) (R.remaining tape.new) }
+    ensures takes_frames { TakesAtMost options.run.rounds
+        (F.remaining reader.old) (F.remaining reader.new) }
+    ensures takes_keys { TakesAtMost options.run.rounds
+        (K.remaining keys.old) (K.remaining keys.new) }
+{
+    let image = tape_from(tape)?;
+    let frames = bytes_from(alloc, reader, options.run.rounds)?;
+    let struck = bytes_from(alloc, keys, options.run.rounds)?;
+    let mut operator = Operator::new(
+        options.switches,
+        options.run.rounds,
+        &frames,
+        &struck,
+        options.mark,
+    );
+    are_few(options.run.rounds);
+    run_scheduled_to_stop(alloc, &image, &mut operator, stops, options.run, form, out)
+}
+
+/// Runs a tape with somebody at the teletype, as [`crate::teletype::teletype`] does, up to the step before which the
+/// session is stopped. The summary then says where that is, and shows the machine as it was there; where the key was
+/// struck that interrupts the session, it says where that was. Where the session ends before, it writes as `teletype`
+/// does.
+///
+/// # Errors
+///
+/// As for `teletype`.
+pub fn teletype_with_stops<
+    A: Allocator + Copy,
+    R: ByteSource,
+    F: ByteSource,
+    K: ByteSource + OperatorPresence,
+    W: ByteSink,
+    T: ByteSink,
+    P: ByteSink,
+>(
+    alloc: A,
+    tape: &mut R,
+    typist: &mut Typist<F, K>,
+    stops: &Stops,
+    form: SummaryForm<'_>,
+    out: &mut Outputs<W, T, P>,
+) -> Result<Status, Fault>
+    requires readable { R.mark tape.old ≡ false }
+    requires reader_readable { F.mark typist.old.reader ≡ false }
+    requires keys_readable { K.mark typist.old.keys ≡ false }
+    requires writable { W.mark out.old.report ≡ false }
+    requires typable { T.mark out.old.teletype ≡ false }
+    requires punchable { P.mark out.old.punch ≡ false }
+    // What is written, typed and punched is that of the run of the events that come, up to the first step that stops
+    // it.
+    ensures run { IfOk result (λ status.
+        WritesAll (IsTypedToStop typist.old.options stops.now form.entry Whole (K.left typist.new.keys) (R.remaining tape.old)
+        (F.remaining typist.old.reader) (K.remaining typist.old.keys) status)
+        (taken (W.taken out.old.report) (T.taken out.old.teletype) (P.taken out.old.punch))
+        (taken (W.taken out.new.report) (T.taken out.new.teletype) (P.taken out.new.punch))) }
+    ensures faults { IfErr result (IsTypedFault
+        (input (R.mark tape.new) (R.remaining tape.old) (R.remaining tape.new))) }
+    // After a fault of a good tape fronts of what the first events leave went out.
+    ensures front { IfErr result (λ fault. (is_fault_of_tape fault ≡ true) ⊎ ((R.mark tape.new ≡ true)
+        ⊎ StoppedTypedFronts typist.old.options stops.now form.entry (K.left typist.new.keys)
+        (failures (W.mark out.new.report) (T.mark out.new.teletype) (P.mark out.new.punch))
+        (F.mark typist.new.reader || K.mark typist.new.keys)
+        (R.remaining tape.old) (F.remaining typist.old.reader) (K.remaining typist.old.keys)
+        (taken (W.taken out.old.report) (T.taken out.old.teletype) (P.taken out.old.punch))
+        (taken (W.taken out.new.report) (T.taken out.new.teletype) (P.taken out.new.punch)))) }
+    // Nothing is written where the tape is refused or a read of it failed, and no frame or key is read.
+    ensures nothing { IfErr result (λ fault. is_fault_of_tape fault ≡ true → out.new ≡ out.old) }
+    ensures nothing_after_failure { R.mark tape.new ≡ true → out.new ≡ out.old }
+    ensures unread { IfErr result (λ fault. is_fault_of_tape fault ≡ true →
+        typist.new ≡ typist.old) }
+    ensures unread_after_failure { R.mark tape.new ≡ true → typist.new ≡ typist.old }
+    // A write failed exactly where the answer says so; where it says that a read failed one did, and a read
+    // that failed is told unless what was punched couldn't be written after it.
+    ensures marks { (W.mark out.new.report || T.mark out.new.teletype) || P.mark out.new.punch
+        ≡ fails_to_write result }
+    ensures reads { fails_to_read result ≡ true →
+        (R.mark tape.new || (F.mark typist.new.reader || K.mark typist.new.keys)) ≡ true }
+    ensures read_told { (R.mark tape.new || (F.mark typist.new.reader || K.mark typist.new.keys)) ≡ true →
+        (fails_to_read result ≡ true) ⊎ (P.mark out.new.punch ≡ true) }
+    // The tape is not read past its limit.
+    ensures takes_tape { TakesTape (R.remaining tape.old) (R.remaining tape.new) }
+{
+    let image = tape_from(tape)?;
+    let options = run_of(typist.options());
+    typist.begin();
+    run_scheduled_to_stop(alloc, &image, typist, stops, options, form, out)
+}

@@ -1,0 +1,208 @@
+//! What is told of a watched run up to where it is stopped, with its last instructions.
+
+ghost use Rattle.std.specs.Prelude.{◌≡◌, ◌++◌, None, IfOk, IfErr};
+ghost use Rattle.wordset.specs.Lanes.{words};
+ghost use Rattle.declaration.specs.Kept.{meaning};
+ghost use Rattle.peripherals.specs.Operator.{plan_of};
+ghost use Rattle.peripherals.specs.World.{profile_of, view};
+ghost use Rattle.command_parts.specs.Answers.{IsMemoryFault};
+ghost use Rattle.command_parts.specs.Messages.{plain};
+ghost use Rattle.machine_commands.specs.Continued.{came_by};
+ghost use Rattle.machine_commands.specs.Running.{fresh};
+ghost use Rattle.machine_commands.specs.Session.{plan_for};
+ghost use Rattle.machine_commands.specs.StoppedWatch.{IsPlanToStop, IsWatch, IsWatchToStop};
+
+use crate::continuing::continued_events_of;
+use crate::declared_run::{declared_cut, lines_before};
+use crate::messages::{RunMessage, watch_continued, watch_offered};
+use crate::progress::{AvailableInput, offered_by};
+use crate::schedule::events_of;
+use bin_tape::Image;
+use command_parts::message::{Message, MessageWriter};
+use command_parts::options::{SessionOptions, Stops};
+use command_parts::status::Fault;
+use declaration::Declaration;
+use peripherals::{Event, NoMemory, Operator, Start, World};
+use std::alloc::Allocator;
+use wordset::WordSet;
+
+/// How a watched run is told.
+#[derive(Clone, Copy)]
+pub struct WatchOptions<'s> {
+    /// Where the run is stopped.
+    pub stops: &'s Stops,
+    /// How many of its last instructions are shown, if that is asked for.
+    pub last: Option<u32>,
+    /// Whether it is said what violates a rule, or how far the run got.
+    pub explained: bool,
+    /// The cells whose words are shown when the run is over.
+    pub show: &'s WordSet,
+}
+
+/// What is told of the run of some events, by what there was to come. With a number of times that the operator may
+/// press CONTINUE it is told how far it went.
+fn watch_of<A: Allocator + Copy, D: Allocator>(
+    alloc: A,
+    image: &Image,
+    declaration: &Declaration<D>,
+    events: &[Event],
+    offered: AvailableInput,
+    continues: Option<u32>,
+    telling: &WatchOptions<'_>,
+) -> Result<RunMessage<A>, Fault>
+    ensures told { IfOk result (λ run. IsWatch continues telling.now.explained
+        (words telling.now.show.now) image.now (meaning declaration.now) events.now run.status
+        (plain run.told)) }
+    ensures faults { IfErr result IsMemoryFault }
+{
+    let (explained, show) = (telling.explained, telling.show);
+    match continues {
+        None => watch_offered(alloc, image, declaration, events, offered, explained, show),
+        Some(times) => watch_continued(
+            alloc,
+            image,
+            declaration,
+            events,
+            offered,
+            times,
+            explained,
+            show,
+        ),
+    }
+}
+
+/// What is told, with a text before it.
+fn behind<A: Allocator + Copy>(
+    alloc: A,
+    before: Vec<u8, A>,
+    told: &Message<A>,
+) -> Result<Message<A>, NoMemory>
+    ensures { IfOk result (λ text. plain text ≡ before.items ++ plain told.now) }
+{
+    let mut text = Message::of(alloc, before);
+    text.push_message(told)?;
+    Ok(text)
+}
+
+/// What is told of the run of some events up to where it is stopped.
+fn told_to_stop<A: Allocator + Copy, D: Allocator>(
+    alloc: A,
+    image: &Image,
+    declaration: &Declaration<D>,
+    events: &[Event],
+    offered: AvailableInput,
+    continues: Option<u32>,
+    telling: &WatchOptions<'_>,
+) -> Result<RunMessage<A>, Fault>
+    ensures told { IfOk result (λ run. IsWatchToStop continues telling.now.stops.now telling.now.last
+        telling.now.explained (words telling.now.show.now) image.now (meaning declaration.now) events.now
+        run.status (plain run.told)) }
+    ensures faults { IfErr result IsMemoryFault }
+{
+    let cut = declared_cut(alloc, image, declaration, telling.stops, events)?;
+    let before = lines_before(alloc, image, declaration, &cut, telling.last)?;
+    let seen = watch_of(
+        alloc,
+        image,
+        declaration,
+        cut.events,
+        offered,
+        continues,
+        telling,
+    )?;
+    let RunMessage { told, status } = seen;
+    let told = behind(alloc, before, &told)?;
+    Ok(RunMessage { told, status })
+}
+
+/// What `watch` tells of a list of events, up to where their run is stopped: the lines of the last instructions, if
+/// so many are asked for, the line that says where it was stopped, and what it tells of the events up to there.
+///
+/// # Errors
+///
+/// `NoMemory`.
+#[inline(never)]
+pub fn watch_message_to_stop<A: Allocator + Copy, D: Allocator>(
+    alloc: A,
+    image: &Image,
+    declaration: &Declaration<D>,
+    events: &[Event],
+    telling: &WatchOptions<'_>,
+) -> Result<RunMessage<A>, Fault>
+    ensures told { IfOk result (λ run. IsWatchToStop None telling.now.stops.now telling.now.last
+        telling.now.explained (words telling.now.show.now) image.now (meaning declaration.now) events.now
+        run.status (plain run.told)) }
+    ensures faults { IfErr result IsMemoryFault }
+{
+    let offered = offered_by(events);
+    told_to_stop(alloc, image, declaration, events, offered, None, telling)
+}
+
+/// The events that an operator brings from here on, who presses CONTINUE at declared pauses if there is a number of
+/// times.
+fn events_that_come<A: Allocator + Copy, B: Allocator, D: Allocator>(
+    alloc: A,
+    world: &mut World<B>,
+    operator: &mut Operator<'_>,
+    declaration: &Declaration<D>,
+    continues: Option<u32>,
+) -> Result<Vec<Event, A>, NoMemory>
+    requires first { operator.old.last ≡ None }
+    requires profile { profile_of world.old ≡ (meaning declaration.now).profile }
+    ensures come { IfOk result (λ events. came_by continues (plan_of operator.old)
+        (meaning declaration.now) (view world.old) events.items) }
+{
+    match continues {
+        None => events_of(alloc, world, operator),
+        Some(times) => continued_events_of(alloc, world, operator, declaration, times),
+    }
+}
+
+/// What `watch` tells of a run with an operator, by the frames in the reader and the keys to strike, up to where it is
+/// stopped. With a number of times the operator presses CONTINUE at declared pauses, at most so many times.
+///
+/// # Errors
+///
+/// `NoMemory`.
+#[inline(never)]
+pub fn watch_session_message_to_stop<A: Allocator + Copy, D: Allocator>(
+    alloc: A,
+    image: &Image,
+    declaration: &Declaration<D>,
+    frames: &[u8],
+    keys: &[u8],
+    options: &SessionOptions,
+    continues: Option<u32>,
+    telling: &WatchOptions<'_>,
+) -> Result<RunMessage<A>, Fault>
+    ensures told { IfOk result (λ run. IsPlanToStop continues
+        (plan_for options.now frames.now keys.now) telling.now.stops.now telling.now.last
+        telling.now.explained (words telling.now.show.now) image.now (meaning declaration.now)
+        run.status (plain run.told)) }
+    ensures faults { IfErr result IsMemoryFault }
+{
+    let (rounds, mark) = (options.run.rounds, options.mark);
+    let mut operator = Operator::new(options.switches, rounds, frames, keys, mark);
+    let start = Start::zero();
+    let mut world = World::load(
+        alloc,
+        image,
+        declaration.start(),
+        &start,
+        declaration.profile(),
+    );
+    let offered = AvailableInput {
+        frames: frames.len(),
+        keys: keys.len(),
+    };
+    let events = events_that_come(alloc, &mut world, &mut operator, declaration, continues)?;
+    told_to_stop(
+        alloc,
+        image,
+        declaration,
+        &events,
+        offered,
+        continues,
+        telling,
+    )
+}

@@ -21,7 +21,7 @@ from pathlib import Path
 TOP = Path(__file__).resolve().parent.parent
 SPEED = TOP / 'crates' / 'speed' / 'out' / 'speed'
 # The crates over which tests/facts/cases.rattle is built.
-FACTS = 'word12 instruct wordset processor streams bin_tape peripherals declaration policy domain facts testing'.split()
+FACTS = 'word12 instruct wordset processor streams bin_tape peripherals declaration policy domain transfer facts testing'.split()
 
 
 # The stack of a program that is built with checks, in bytes: each of its frames is larger than in a proved program.

@@ -3,8 +3,8 @@ use Rattle.std.proofs.Common.{◌≡◌, ℕ, ◌<◌, ◌+◌, Bool, true, fals
 use Rattle.std.proofs.lemmas.Bool.{cases_eq}
 use Rattle.domain.specs.Facts.{Fact}
 use Rattle.declaration.specs.Declaration.{Declaration}
-use Rattle.certificate.specs.Certificate.{Certificate, has_any}
-use Rattle.certificate.specs.Kept.{Follows}
+use Rattle.certificate_lines.specs.Certificate.{Certificate, has_any}
+use Rattle.certificate_lines.specs.Kept.{Follows}
 use Rattle.analyser.specs.Attempts.{IsInSomeBody, StandsRight}
 
 -- What holds below a number and at it holds below the next.

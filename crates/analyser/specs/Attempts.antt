@@ -2,11 +2,11 @@
 use Rattle.std.specs.Prelude.{◌≡◌, ◌<◌, ℕ, ⊤, Bool, true, false, List, Option}
 use Rattle.declaration.specs.Declaration.{Declaration, Routine}
 use Rattle.declaration.specs.Kept as declared
-use Rattle.certificate.specs.Certificate.{Certificate, has_any, has_exits}
-use Rattle.certificate.specs.Kept.{Kept, claims, meaning}
+use Rattle.certificate_lines.specs.Certificate.{Certificate, has_any, has_exits}
+use Rattle.certificate_lines.specs.Kept.{Kept, claims, meaning}
 use Rattle.instruct.specs.declared.Profile.{Profile}
 use Rattle.analyser.specs.Accepted.{IsAccepted}
-use Rattle.certificate.specs.declared.Version.{Version}
+use Rattle.certificate_lines.specs.declared.Version.{Version}
 use Rattle.analyser.specs.Versions.{version_of, drafted_version, IsVersionFor}
 use Rattle.analyser.specs.declared.Attempt.{Attempt}
 use Rattle.analyser.specs.declared.Attempt.TheVariants.{Found, Stuck}

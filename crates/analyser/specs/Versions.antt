@@ -2,8 +2,8 @@
 use Rattle.std.specs.Prelude.{◌≡◌, ◌⊎◌}
 use Rattle.instruct.specs.declared.Profile.{Profile}
 use Rattle.instruct.specs.declared.Profile.TheVariants.{Pdp8I, Pdp8E}
-use Rattle.certificate.specs.declared.Version.{Version}
-use Rattle.certificate.specs.declared.Version.TheVariants.{One, Two, Three}
+use Rattle.certificate_lines.specs.declared.Version.{Version}
+use Rattle.certificate_lines.specs.declared.Version.TheVariants.{One, Two, Three}
 
 -- The first search makes certificates of version 1 for a PDP-8/I, and of version 2 for a PDP-8/E.
 abbrev pub version_of : Profile → Version

@@ -2,8 +2,8 @@
 
 ghost use Rattle.std.specs.Prelude.{◌≡◌, true};
 ghost use Rattle.declaration.specs.Kept.{meaning as declared};
-ghost use Rattle.certificate.specs.Certificate.{has_any};
-ghost use Rattle.certificate.specs.Kept.{claims};
+ghost use Rattle.certificate_lines.specs.Certificate.{has_any};
+ghost use Rattle.certificate_lines.specs.Kept.{claims};
 ghost use Rattle.analyser.specs.Attempts.{IsDraft, IsInSomeBody, StandsRight};
 
 use certificate::Certificate;

@@ -3,9 +3,9 @@
 
 ghost use Rattle.std.specs.Prelude.{◌≡◌, ◌≢◌, ◌≤◌, IfErr, IfOk};
 ghost use Rattle.declaration.specs.Kept.{meaning as declared};
-ghost use Rattle.certificate.specs.Kept.{claims, meaning};
+ghost use Rattle.certificate_lines.specs.Kept.{claims, meaning};
 ghost use Rattle.certificate.specs.Exact.{AreLines};
-ghost use Rattle.certificate.specs.declared.Version.TheVariants.{Three};
+ghost use Rattle.certificate_lines.specs.declared.Version.TheVariants.{Three};
 ghost use Rattle.judge.specs.Judged.{judged};
 ghost use Rattle.turns.specs.Counts.{IsSpentUp};
 ghost use Rattle.turns.specs.declared.GuessFault.TheVariants.{TurnsSpent};
@@ -22,7 +22,8 @@ use crate::draft::is_draft;
 use crate::length::is_short;
 use crate::sums::found_by_sums;
 use bin_tape::Image;
-use certificate::{Certificate, Version};
+use certificate::Certificate;
+use certificate_lines::Version;
 use declaration::Declaration;
 use fixpoint::{AnalysedProgram, Halt, MANY_RUNS, ONE_RUN, Search};
 use instruct::Profile;

@@ -1,9 +1,9 @@
 //! Certificates of version 3: facts with relations of sums, told apart in one way after another.
 
 ghost use Rattle.std.specs.Prelude.{◌≡◌, ◌≤◌, IfErr, IfOk};
-ghost use Rattle.certificate.specs.Kept.{meaning};
+ghost use Rattle.certificate_lines.specs.Kept.{meaning};
 ghost use Rattle.certificate.specs.Exact.{AreLines};
-ghost use Rattle.certificate.specs.declared.Version.TheVariants.{Three};
+ghost use Rattle.certificate_lines.specs.declared.Version.TheVariants.{Three};
 ghost use Rattle.turns.specs.Counts.{IsSpentUp};
 ghost use Rattle.analyser.specs.Accepted.{IsAccepted};
 

@@ -5,13 +5,13 @@ use Rattle.std.proofs.lemmas.Bool.{false≢true, eq-eqb, ne_eqb, cases_lt, cases
 use Rattle.word12.specs.Words.{octal_text}
 use Rattle.wordset.specs.Words.{Words}
 use Rattle.domain.specs.Locations.{Location, Ac, Cell}
-use Rattle.certificate.specs.declared.runs.Run.{Run}
-use Rattle.certificate.specs.FieldSpelling.{digits, set_text, name_text, rank_text}
-use Rattle.certificate.specs.FieldsLeft.{run_text}
-use Rattle.certificate.specs.LineFeeds.{NoFeed}
-use Rattle.certificate.specs.Runs.{StandApart}
-use Rattle.certificate.proofs.ApartLemmas.{more_text}
-use Rattle.certificate.proofs.SetLemmas.{by_words, empty_text}
+use Rattle.certificate_lines.specs.declared.runs.Run.{Run}
+use Rattle.certificate_lines.specs.FieldSpelling.{digits, set_text, name_text, rank_text}
+use Rattle.certificate_lines.specs.FieldsLeft.{run_text}
+use Rattle.certificate_lines.specs.LineFeeds.{NoFeed}
+use Rattle.certificate_lines.specs.Runs.{StandApart}
+use Rattle.certificate_lines.proofs.ApartLemmas.{more_text}
+use Rattle.certificate_lines.proofs.SetLemmas.{by_words, empty_text}
 
 -- Bytes with no line feed.
 unfoldable pub feedless : List ℕ → Bool

@@ -3,7 +3,7 @@ use Rattle.std.proofs.Common.{◌≡◌, ℕ, zero, suc, ◌+◌, ◌-◌, ◌<�
 use Rattle.std.specs.Prelude.{slice_index}
 use Rattle.std.proofs.lemmas.List.{take_more, take-append-drop}
 use Rattle.std.proofs.Math.Seq.{take-add}
-use Rattle.certificate.specs.LineFeeds.{NoFeed}
+use Rattle.certificate_lines.specs.LineFeeds.{NoFeed}
 
 -- The bytes that were taken, and those after them.
 pub piece_more : (before bytes : List ℕ) (i n : ℕ) → before ++ take i bytes ++ take n (drop i bytes) ≡ before ++ take (i + n) bytes

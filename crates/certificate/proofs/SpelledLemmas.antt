@@ -6,14 +6,14 @@ use Rattle.std.proofs.lemmas.List.{take_all, length-take, take-append-le}
 use Rattle.std.proofs.Math.Seq.{take-append-add}
 use Rattle.streams.specs.Bytes.{AppendsFront}
 use Rattle.wordset.specs.Words.{Words, all_words, difference, IsFirstFrom, HasNoneFrom}
-use Rattle.certificate.specs.FieldSpelling.{marks, set_text, digits}
-use Rattle.certificate.specs.FieldsLeft.{run_text}
-use Rattle.certificate.specs.declared.runs.Run.{Run}
-use Rattle.certificate.specs.Runs.{set_of_runs, StandApart}
-use Rattle.certificate.specs.LineText.{Adds, IsLastOf}
-use Rattle.certificate.proofs.SetLemmas.{text_of, text_all, some_runs}
-use Rattle.certificate.proofs.ApartLemmas.{runs_text, comma, has_more, runs_more, taken, Closed, found_run, closed_all, closed_apart}
-use Rattle.certificate.proofs.DigitLemmas.{digits_more, digits_none}
+use Rattle.certificate_lines.specs.FieldSpelling.{marks, set_text, digits}
+use Rattle.certificate_lines.specs.FieldsLeft.{run_text}
+use Rattle.certificate_lines.specs.declared.runs.Run.{Run}
+use Rattle.certificate_lines.specs.Runs.{set_of_runs, StandApart}
+use Rattle.certificate_lines.specs.LineText.{Adds, IsLastOf}
+use Rattle.certificate_lines.proofs.SetLemmas.{text_of, text_all, some_runs}
+use Rattle.certificate_lines.proofs.ApartLemmas.{runs_text, comma, has_more, runs_more, taken, Closed, found_run, closed_all, closed_apart}
+use Rattle.certificate_lines.proofs.DigitLemmas.{digits_more, digits_none}
 
 take_twice : (xs ys : List ℕ) (n : ℕ) → take n (take n xs ++ ys) ≡ take n (xs ++ ys)
 take_twice xs ys n = elim (cases_lt n (length xs)) [

@@ -6,24 +6,24 @@ use Rattle.std.specs.Str.{bytes_eq}
 use Rattle.std.proofs.lemmas.Bool.{cases_Bool}
 use Rattle.std.proofs.lemmas.List.Concat.{flat_map-append}
 use Rattle.std.proofs.Math.Seq.{take-append-add}
-use Rattle.certificate.specs.declared.Version.{Version}
-use Rattle.certificate.specs.declared.Version.TheVariants.{One, Two, Three}
-use Rattle.certificate.specs.declared.CertificateFault.{CertificateFault}
-use Rattle.certificate.specs.declared.CertificateFault.TheVariants as faults
-use Rattle.certificate.specs.FieldSpelling.{ended}
-use Rattle.certificate.specs.Pieces.{most_bytes, pieces}
-use Rattle.certificate.specs.ReadFaults.{is_of_bytes}
-use Rattle.certificate.specs.LineFeeds.{NoFeed}
-use Rattle.certificate.specs.Lines.{Line, is_end}
-use Rattle.certificate.specs.Spelling.{line_text, version_text}
-use Rattle.certificate.specs.LineOf.{line_of}
-use Rattle.certificate.specs.Order.{may_stand, comes_in_order, has_room, oldest}
-use Rattle.certificate.specs.Reading.{Text, Progress, Start, After, Failed, begun, with_line, after_line, at_last, answer_from, reading}
-use Rattle.certificate.specs.Found.{AreInOrder, newest_first}
-use Rattle.certificate.specs.Serving.{Settles, AsksForMemory, after_lines, front}
-use Rattle.certificate.proofs.TextLemmas.{seam}
+use Rattle.certificate_lines.specs.declared.Version.{Version}
+use Rattle.certificate_lines.specs.declared.Version.TheVariants.{One, Two, Three}
+use Rattle.certificate_lines.specs.declared.CertificateFault.{CertificateFault}
+use Rattle.certificate_lines.specs.declared.CertificateFault.TheVariants as faults
+use Rattle.certificate_lines.specs.FieldSpelling.{ended}
+use Rattle.certificate_lines.specs.Pieces.{most_bytes, pieces}
+use Rattle.certificate_lines.specs.ReadFaults.{is_of_bytes}
+use Rattle.certificate_lines.specs.LineFeeds.{NoFeed}
+use Rattle.certificate_lines.specs.Lines.{Line, is_end}
+use Rattle.certificate_lines.specs.Spelling.{line_text, version_text}
+use Rattle.certificate_lines.specs.LineOf.{line_of}
+use Rattle.certificate_lines.specs.Order.{may_stand, comes_in_order, has_room, oldest}
+use Rattle.certificate_lines.specs.Reading.{Text, Progress, Start, After, Failed, begun, with_line, after_line, at_last, answer_from, reading}
+use Rattle.certificate_lines.specs.Found.{AreInOrder, newest_first}
+use Rattle.certificate_lines.specs.Serving.{Settles, AsksForMemory, after_lines, front}
+use Rattle.certificate_lines.proofs.TextLemmas.{seam}
 use Rattle.certificate.proofs.SumLengthLemmas.{line_feed, version_feed}
-use Rattle.certificate.proofs.SumTextLemmas.{line_on, failed, line_taken, version_taken}
+use Rattle.certificate_lines.proofs.SumTextLemmas.{line_on, failed, line_taken, version_taken}
 
 -- Lines in order are read one after another.
 pub front_on : (long : Bool) (v : Version) (before : List Line) (rest : List ℕ) → AreInOrder v before →

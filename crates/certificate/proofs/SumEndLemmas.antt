@@ -3,16 +3,16 @@ use Rattle.std.proofs.Common.{◌≡◌, ℕ, ◌+◌, ◌*◌, ◌<◌, ◌&&�
 use Rattle.std.specs.Prelude.{nat_lt}
 use Rattle.std.specs.List.{list_any}
 use Rattle.std.proofs.lemmas.Bool.{true≢false, false≢true, cases_Bool, and_parts, ltb-true, lt-ltb}
-use Rattle.certificate.specs.declared.Version.{Version}
-use Rattle.certificate.specs.FieldSpelling.{RoutineLine}
-use Rattle.certificate.specs.Lines.{Line, RoutineIs, FactIs, ExitIs, CellIs, SumIs, ChainIs, End, is_end, is_detail}
-use Rattle.certificate.specs.LineOf.{has_form, most_offsets}
-use Rattle.certificate.specs.Order.{heads, follows_newest, place_of_head}
-use Rattle.certificate.specs.Packed.{Packed, said_lines}
-use Rattle.certificate.specs.Found.{newest_first, AreInOrder, IsNext, Follow, IsWhole}
+use Rattle.certificate_lines.specs.declared.Version.{Version}
+use Rattle.certificate_lines.specs.FieldSpelling.{RoutineLine}
+use Rattle.certificate_lines.specs.Lines.{Line, RoutineIs, FactIs, ExitIs, CellIs, SumIs, ChainIs, End, is_end, is_detail}
+use Rattle.certificate_lines.specs.LineOf.{has_form, most_offsets}
+use Rattle.certificate_lines.specs.Order.{heads, follows_newest, place_of_head}
+use Rattle.certificate_lines.specs.Packed.{Packed, said_lines}
+use Rattle.certificate_lines.specs.Found.{newest_first, AreInOrder, IsNext, Follow, IsWhole}
 use Rattle.certificate.specs.Exact.{AreLines}
-use Rattle.certificate.proofs.SumWholeLemmas.{follows}
-use Rattle.certificate.proofs.SumReaderLemmas.{most_few}
+use Rattle.certificate_lines.proofs.SumWholeLemmas.{follows}
+use Rattle.certificate_lines.proofs.SumReaderLemmas.{most_few}
 
 -- A line that is neither a detail nor the end has a lesser place than the end.
 below_end : (v : Version) (l : Line) → is_end l ≡ false → is_detail l ≡ false → has_form v l ≡ true → place_of_head l < 270336

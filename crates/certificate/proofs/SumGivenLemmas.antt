@@ -4,11 +4,11 @@ use Rattle.std.proofs.lemmas.Bool.{cases_Bool, and_parts, eqb-true}
 use Rattle.declaration.specs.Declaration.{Declaration}
 use Rattle.domain.specs.Facts.{Fact}
 use Rattle.wordset.specs.Words.{Words}
-use Rattle.certificate.specs.FieldSpelling.{RoutineLine, Registers}
-use Rattle.certificate.specs.Lines.{Line, RoutineIs, FactIs, ExitIs, CellIs, SumIs, ChainIs, End}
-use Rattle.certificate.specs.Certificate.{Certificate}
-use Rattle.certificate.specs.Reading.{Text, cells_under, relations_under, chains_under, fact_said, all_offsets, facts_at, exits_at, routine_at, is_listed, rank_in, sites_in, writes_in, certificate_of}
-use Rattle.certificate.specs.Made.{sites_at, sited_by, with_sites, given_sites, SitesAreAdded}
+use Rattle.certificate_lines.specs.FieldSpelling.{RoutineLine, Registers}
+use Rattle.certificate_lines.specs.Lines.{Line, RoutineIs, FactIs, ExitIs, CellIs, SumIs, ChainIs, End}
+use Rattle.certificate_lines.specs.Certificate.{Certificate}
+use Rattle.certificate_lines.specs.Reading.{Text, cells_under, relations_under, chains_under, fact_said, all_offsets, facts_at, exits_at, routine_at, is_listed, rank_in, sites_in, writes_in, certificate_of}
+use Rattle.certificate_lines.specs.Made.{sites_at, sited_by, with_sites, given_sites, SitesAreAdded}
 
 module _ (d : Declaration) (c : Certificate) where
   cells_same : (ls : List Line) → cells_under (map (sited_by d c) ls) ≡ cells_under ls

@@ -7,15 +7,15 @@ use Rattle.domain.specs.Terms.{Term, Holding, Behind, Summand, Sum}
 use Rattle.domain.specs.Shapes.{has_shape}
 use Rattle.domain.specs.Chains.{Step, Operates, Ands, Adds, Chain}
 use Rattle.domain.specs.Facts.{Relation}
-use Rattle.certificate.specs.declared.Version.{Version}
-use Rattle.certificate.specs.declared.Version.TheVariants.{One, Two, Three}
-use Rattle.certificate.specs.FieldSpelling.{Registers, begins, ends}
-use Rattle.certificate.specs.LineFeeds.{NoFeed}
-use Rattle.certificate.specs.Lines.{Line, RoutineIs, FactIs, ExitIs, CellIs, SumIs, ChainIs, End}
-use Rattle.certificate.specs.Spelling.{offset_mark, offset_marks, offsets_line, offset_text, sites_text, mq_text, words_text, term_text, coefficient_text, further_text, sum_text, names_text, word_text, equation_line, relation_line, step_text, line_text, version_text}
-use Rattle.certificate.specs.LineOf.{has_form}
+use Rattle.certificate_lines.specs.declared.Version.{Version}
+use Rattle.certificate_lines.specs.declared.Version.TheVariants.{One, Two, Three}
+use Rattle.certificate_lines.specs.FieldSpelling.{Registers, begins, ends}
+use Rattle.certificate_lines.specs.LineFeeds.{NoFeed}
+use Rattle.certificate_lines.specs.Lines.{Line, RoutineIs, FactIs, ExitIs, CellIs, SumIs, ChainIs, End}
+use Rattle.certificate_lines.specs.Spelling.{offset_mark, offset_marks, offsets_line, offset_text, sites_text, mq_text, words_text, term_text, coefficient_text, further_text, sum_text, names_text, word_text, equation_line, relation_line, step_text, line_text, version_text}
+use Rattle.certificate_lines.specs.LineOf.{has_form}
 use Rattle.certificate.proofs.LengthLemmas.{Part, feedless, no_feeds, both, most, choice, none, as_is, digit, word, set, digits_of, name, rank}
-use Rattle.certificate.proofs.SumFieldLemmas.{shape_of}
+use Rattle.certificate_lines.proofs.SumFieldLemmas.{shape_of}
 
 mark : (s : Words) (o : ℕ) → Part 6 (offset_mark s o)
 unfolding feedless

@@ -10,23 +10,23 @@ use Rattle.domain.specs.Facts.{Relation}
 use Rattle.domain.specs.CellsInCode.{cell_sets_of}
 use Rattle.domain.specs.FactInCode.{fact_in_code}
 use Rattle.domain.specs.declared.sum_fact.SumFact.{SumFact}
-use Rattle.certificate.specs.declared.Version.{Version}
-use Rattle.certificate.specs.declared.Version.TheVariants.{One, Two, Three}
-use Rattle.certificate.specs.FieldSpelling.{RoutineLine, Registers, ended}
-use Rattle.certificate.specs.RisingLists.{Each, EndsBefore}
-use Rattle.certificate.specs.Lines.{Line, RoutineIs, FactIs, ExitIs, CellIs, SumIs, ChainIs, End, is_end, is_of_sums}
-use Rattle.certificate.specs.Spelling.{version_text}
-use Rattle.certificate.specs.LineOf.{is_relation, has_form}
-use Rattle.certificate.specs.Reading.{Text}
-use Rattle.certificate.specs.Laws.{bytes_of}
-use Rattle.certificate.specs.Found.{IsLine, AreInOrder, Follow, newest_first, unended, IsWhole}
-use Rattle.certificate.specs.Packed.{Packed, said_lines}
-use Rattle.certificate.specs.Spelled.{all_ended}
-use Rattle.certificate.specs.Kept.{Kept, meaning}
-use Rattle.certificate.specs.Made.{details_of, lines_of_fact, lines_of_exit, before_end, with_lines, MayAdd, AreDetails}
-use Rattle.certificate.proofs.SumTextLemmas.{both_ended}
-use Rattle.certificate.proofs.SumWholeLemmas.{newest_both, followed, whole}
-use Rattle.certificate.proofs.SumReaderLemmas.{has_place}
+use Rattle.certificate_lines.specs.declared.Version.{Version}
+use Rattle.certificate_lines.specs.declared.Version.TheVariants.{One, Two, Three}
+use Rattle.certificate_lines.specs.FieldSpelling.{RoutineLine, Registers, ended}
+use Rattle.certificate_lines.specs.RisingLists.{Each, EndsBefore}
+use Rattle.certificate_lines.specs.Lines.{Line, RoutineIs, FactIs, ExitIs, CellIs, SumIs, ChainIs, End, is_end, is_of_sums}
+use Rattle.certificate_lines.specs.Spelling.{version_text}
+use Rattle.certificate_lines.specs.LineOf.{is_relation, has_form}
+use Rattle.certificate_lines.specs.Reading.{Text}
+use Rattle.certificate_lines.specs.Laws.{bytes_of}
+use Rattle.certificate_lines.specs.Found.{IsLine, AreInOrder, Follow, newest_first, unended, IsWhole}
+use Rattle.certificate_lines.specs.Packed.{Packed, said_lines}
+use Rattle.certificate_lines.specs.Spelled.{all_ended}
+use Rattle.certificate_lines.specs.Kept.{Kept, meaning}
+use Rattle.certificate_lines.specs.Made.{details_of, lines_of_fact, lines_of_exit, before_end, with_lines, MayAdd, AreDetails}
+use Rattle.certificate_lines.proofs.SumTextLemmas.{both_ended}
+use Rattle.certificate_lines.proofs.SumWholeLemmas.{newest_both, followed, whole}
+use Rattle.certificate_lines.proofs.SumReaderLemmas.{has_place}
 
 pub text_ended : (v : Version) (ls : List Line) → ended (version_text v) ++ all_ended v ls ++ ended (codes "end") ≡ bytes_of (record { version = v; lines = ls ++ End ∷ [] })
 text_ended v ls =

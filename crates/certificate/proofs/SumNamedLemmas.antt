@@ -5,18 +5,18 @@ use Rattle.std.proofs.lemmas.Bool.{true≢false, false≢true, cases_Bool, cases
 use Rattle.std.proofs.lemmas.Bool.Decides.{eqb_tells}
 use Rattle.wordset.specs.Words.{some_below, HasNoneFrom, IsFirstFrom}
 use Rattle.wordset.proofs.Tests.{some_from, some_none_of}
-use Rattle.certificate.specs.declared.Version.{Version}
-use Rattle.certificate.specs.RisingLists.{Each}
-use Rattle.certificate.specs.FieldSpelling.{RoutineLine}
-use Rattle.certificate.specs.Certificate.{has_any}
-use Rattle.certificate.specs.Lines.{Line, RoutineIs, FactIs, ExitIs, CellIs, SumIs, ChainIs, End, is_detail}
-use Rattle.certificate.specs.LineOf.{has_form}
-use Rattle.certificate.specs.Order.{place_of_head}
-use Rattle.certificate.specs.Reading.{facts_at, exits_at, routine_at, is_listed}
-use Rattle.certificate.specs.Packed.{Packed, said_lines}
-use Rattle.certificate.specs.Kept.{BeginAt}
-use Rattle.certificate.specs.Found.{IsLine, IsWhole, AreRising, from_place, begins_at, least_place}
-use Rattle.certificate.proofs.SumReaderLemmas.{has_place, formed, line_formed, begin_found, NextLine, next_line, facts_end, exits_end}
+use Rattle.certificate_lines.specs.declared.Version.{Version}
+use Rattle.certificate_lines.specs.RisingLists.{Each}
+use Rattle.certificate_lines.specs.FieldSpelling.{RoutineLine}
+use Rattle.certificate_lines.specs.Certificate.{has_any}
+use Rattle.certificate_lines.specs.Lines.{Line, RoutineIs, FactIs, ExitIs, CellIs, SumIs, ChainIs, End, is_detail}
+use Rattle.certificate_lines.specs.LineOf.{has_form}
+use Rattle.certificate_lines.specs.Order.{place_of_head}
+use Rattle.certificate_lines.specs.Reading.{facts_at, exits_at, routine_at, is_listed}
+use Rattle.certificate_lines.specs.Packed.{Packed, said_lines}
+use Rattle.certificate_lines.specs.Kept.{BeginAt}
+use Rattle.certificate_lines.specs.Found.{IsLine, IsWhole, AreRising, from_place, begins_at, least_place}
+use Rattle.certificate_lines.proofs.SumReaderLemmas.{has_place, formed, line_formed, begin_found, NextLine, next_line, facts_end, exits_end}
 
 -- A line of another kind than a detail has this place.
 is_at : ℕ → Line → Bool

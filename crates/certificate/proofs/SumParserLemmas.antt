@@ -3,30 +3,30 @@ use Rattle.std.proofs.Common.{◌≡◌, ◌≢◌, ◌⊎◌, ℕ, ◌+◌, ◌
 use Rattle.std.specs.Prelude.{IfSome, IfOk, IfErr, MatchResult, not, ◌&&◌, ◌||◌}
 use Rattle.std.specs.List.{list_any}
 use Rattle.std.proofs.lemmas.Bool.{true≢false, false≢true, eqb-true, eq-eqb, ne_eqb, cases_lt}
-use Rattle.certificate.specs.declared.Version.{Version}
-use Rattle.certificate.specs.declared.Version.TheVariants.{One, Two, Three}
-use Rattle.certificate.specs.declared.CertificateFault.{CertificateFault}
-use Rattle.certificate.specs.declared.CertificateFault.TheVariants as faults
-use Rattle.certificate.specs.declared.progress.Progress.{Progress}
+use Rattle.certificate_lines.specs.declared.Version.{Version}
+use Rattle.certificate_lines.specs.declared.Version.TheVariants.{One, Two, Three}
+use Rattle.certificate_lines.specs.declared.CertificateFault.{CertificateFault}
+use Rattle.certificate_lines.specs.declared.CertificateFault.TheVariants as faults
+use Rattle.certificate_lines.specs.declared.progress.Progress.{Progress}
 use Rattle.certificate.specs.declared.parser.Parser.{Parser}
-use Rattle.certificate.specs.Pieces.{most_bytes, pieces}
-use Rattle.certificate.specs.Lines.{Line, End, is_end}
-use Rattle.certificate.specs.Spelling.{version_text, line_text}
-use Rattle.certificate.specs.LineOf.{line_of}
-use Rattle.certificate.specs.Order.{may_stand, oldest}
-use Rattle.certificate.specs.Progress.{Tracks, Continues}
-use Rattle.certificate.specs.Packed.{Packed, said_lines}
-use Rattle.certificate.specs.Found.{AreInOrder, Keeps, IsWhole, unended}
-use Rattle.certificate.specs.Reading.{Text, Progress as ReadingProgress, Start, After, Failed, after_line, at_last, answer_from, reading}
-use Rattle.certificate.specs.Serving.{Settles, AsksForMemory, front}
-use Rattle.certificate.specs.Kept.{Kept as KeptCertificate}
+use Rattle.certificate_lines.specs.Pieces.{most_bytes, pieces}
+use Rattle.certificate_lines.specs.Lines.{Line, End, is_end}
+use Rattle.certificate_lines.specs.Spelling.{version_text, line_text}
+use Rattle.certificate_lines.specs.LineOf.{line_of}
+use Rattle.certificate_lines.specs.Order.{may_stand, oldest}
+use Rattle.certificate_lines.specs.Progress.{Tracks, Continues}
+use Rattle.certificate_lines.specs.Packed.{Packed, said_lines}
+use Rattle.certificate_lines.specs.Found.{AreInOrder, Keeps, IsWhole, unended}
+use Rattle.certificate_lines.specs.Reading.{Text, Progress as ReadingProgress, Start, After, Failed, after_line, at_last, answer_from, reading}
+use Rattle.certificate_lines.specs.Serving.{Settles, AsksForMemory, front}
+use Rattle.certificate_lines.specs.Kept.{Kept as KeptCertificate}
 use Rattle.certificate.specs.Parser.{NoFeed, Reached, HasRead, WasRead, Parts, Seen, Refuses, IsParsed}
 use Rattle.certificate.proofs.LengthLemmas.{no_feed_both}
 use Rattle.certificate.proofs.SumLengthLemmas.{line_short}
-use Rattle.certificate.proofs.SumTextLemmas.{no_line_of, bad_line, no_version, end_on, few_read}
+use Rattle.certificate_lines.proofs.SumTextLemmas.{no_line_of, bad_line, no_version, end_on, few_read}
 use Rattle.certificate.proofs.SumAnswerLemmas as answer
 use Rattle.certificate.proofs.SumAnswerLemmas.{front_on, end_read, oldest_newest, fault_of_bytes, asks}
-use Rattle.certificate.proofs.SumWholeLemmas.{not_end, whole}
+use Rattle.certificate_lines.proofs.SumWholeLemmas.{not_end, whole}
 
 long_bad : (v : Version) (bytes : List ℕ) → 49152 < length bytes → line_of v bytes ≡ None
 long_bad v bytes h = no_line_of v bytes (λ l spells.

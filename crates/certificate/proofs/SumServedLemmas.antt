@@ -8,20 +8,20 @@ use Rattle.std.proofs.lemmas.Bool.{false≢true, cases_Bool, lt-ltb}
 use Rattle.std.proofs.lemmas.List.{take-append-le, take-append-drop, length-replicate}
 use Rattle.std.proofs.Math.Seq.{take-append-add}
 use Rattle.streams.specs.Bytes.{Gave}
-use Rattle.certificate.specs.declared.CertificateFault.{CertificateFault}
-use Rattle.certificate.specs.declared.CertificateFault.TheVariants as faults
-use Rattle.certificate.specs.declared.progress.Progress.{Progress}
+use Rattle.certificate_lines.specs.declared.CertificateFault.{CertificateFault}
+use Rattle.certificate_lines.specs.declared.CertificateFault.TheVariants as faults
+use Rattle.certificate_lines.specs.declared.progress.Progress.{Progress}
 use Rattle.certificate.specs.declared.parser.Parser.{Parser}
-use Rattle.certificate.specs.FieldSpelling.{ended}
-use Rattle.certificate.specs.Pieces.{most_bytes}
-use Rattle.certificate.specs.ReadFaults.{is_read_fault, failed_to_read}
-use Rattle.certificate.specs.Lines.{is_end}
-use Rattle.certificate.specs.Packed.{Packed}
-use Rattle.certificate.specs.Order.{oldest}
-use Rattle.certificate.specs.Reading.{Text, at_last, reading}
-use Rattle.certificate.specs.Kept.{Kept}
+use Rattle.certificate_lines.specs.FieldSpelling.{ended}
+use Rattle.certificate_lines.specs.Pieces.{most_bytes}
+use Rattle.certificate_lines.specs.ReadFaults.{is_read_fault, failed_to_read}
+use Rattle.certificate_lines.specs.Lines.{is_end}
+use Rattle.certificate_lines.specs.Packed.{Packed}
+use Rattle.certificate_lines.specs.Order.{oldest}
+use Rattle.certificate_lines.specs.Reading.{Text, at_last, reading}
+use Rattle.certificate_lines.specs.Kept.{Kept}
 use Rattle.certificate.specs.Parser.{NoFeed, HasRead, CameTo, Told, IsAnswered, Serves, Parts, Seen, IsSmall, Refuses, IsParsed}
-use Rattle.certificate.specs.Serving.{Settles, IsUnanswered, AsksForMemory}
+use Rattle.certificate_lines.specs.Serving.{Settles, IsUnanswered, AsksForMemory}
 use Rattle.certificate.proofs.LengthLemmas.{feed_taken}
 use Rattle.certificate.proofs.SumAnswerLemmas.{fault_of_bytes}
 use Rattle.certificate.proofs.SumParserLemmas.{place_at, seen_answer, seen_read}

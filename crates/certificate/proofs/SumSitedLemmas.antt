@@ -9,27 +9,27 @@ use Rattle.wordset.specs.Words.{Words, nothing, one, has_some, some_below}
 use Rattle.wordset.proofs.Tests.{IsSome, some_from, some_to, some_none_of, and_both, and_first, and_second, both_ways}
 use Rattle.declaration.specs.Declaration.{Declaration, Routine}
 use Rattle.domain.specs.Facts.{Relation}
-use Rattle.certificate.specs.declared.Version.{Version}
-use Rattle.certificate.specs.declared.Version.TheVariants.{One, Two, Three}
-use Rattle.certificate.specs.FieldSpelling.{RoutineLine, Registers}
-use Rattle.certificate.specs.RisingLists.{Each, EndsBefore}
-use Rattle.certificate.specs.Lines.{Line, RoutineIs, FactIs, ExitIs, CellIs, SumIs, ChainIs, End, is_end, is_detail, has_details, is_routine, is_cell, is_sum, is_chain, is_of_sums}
-use Rattle.certificate.specs.Order.{may_stand, heads, details_of_last, place_of_head, detail_is_before, may_follow, follows_newest, comes_in_order, how_many, has_room}
-use Rattle.certificate.specs.LineOf.{has_form, has_registers, is_relation}
-use Rattle.certificate.specs.Laws.{MqFits, RegistersFit, LineFits}
-use Rattle.certificate.specs.Certificate.{Certificate}
-use Rattle.certificate.specs.Reading.{routine_at, is_listed, sites_in}
-use Rattle.certificate.specs.Found.{IsLine, AreInOrder, newest_first, IsWhole}
-use Rattle.certificate.specs.Packed.{Packed, said_lines, said_at, sited_line, IsNumbered}
-use Rattle.certificate.specs.Made.{sites_by, sited_by}
-use Rattle.certificate.specs.declared.runs.Run.{Run}
+use Rattle.certificate_lines.specs.declared.Version.{Version}
+use Rattle.certificate_lines.specs.declared.Version.TheVariants.{One, Two, Three}
+use Rattle.certificate_lines.specs.FieldSpelling.{RoutineLine, Registers}
+use Rattle.certificate_lines.specs.RisingLists.{Each, EndsBefore}
+use Rattle.certificate_lines.specs.Lines.{Line, RoutineIs, FactIs, ExitIs, CellIs, SumIs, ChainIs, End, is_end, is_detail, has_details, is_routine, is_cell, is_sum, is_chain, is_of_sums}
+use Rattle.certificate_lines.specs.Order.{may_stand, heads, details_of_last, place_of_head, detail_is_before, may_follow, follows_newest, comes_in_order, how_many, has_room}
+use Rattle.certificate_lines.specs.LineOf.{has_form, has_registers, is_relation}
+use Rattle.certificate_lines.specs.Laws.{MqFits, RegistersFit, LineFits}
+use Rattle.certificate_lines.specs.Certificate.{Certificate}
+use Rattle.certificate_lines.specs.Reading.{routine_at, is_listed, sites_in}
+use Rattle.certificate_lines.specs.Found.{IsLine, AreInOrder, newest_first, IsWhole}
+use Rattle.certificate_lines.specs.Packed.{Packed, said_lines, said_at, sited_line, IsNumbered}
+use Rattle.certificate_lines.specs.Made.{sites_by, sited_by}
+use Rattle.certificate_lines.specs.declared.runs.Run.{Run}
 use Rattle.domain.specs.declared.chains.Step.{Step}
-use Rattle.certificate.specs.declared.packed.PackedLine.{PackedLine}
-use Rattle.certificate.specs.declared.packed.PackedLine.TheVariants as packed
-use Rattle.certificate.specs.Kept.{Kept, claims}
+use Rattle.certificate_lines.specs.declared.packed.PackedLine.{PackedLine}
+use Rattle.certificate_lines.specs.declared.packed.PackedLine.TheVariants as packed
+use Rattle.certificate_lines.specs.Kept.{Kept, claims}
 use Rattle.certificate.proofs.SumMadeLemmas.{mq_one}
-use Rattle.certificate.proofs.SumWholeLemmas.{whole}
-use Rattle.certificate.proofs.SumReaderLemmas.{has_place, formed}
+use Rattle.certificate_lines.proofs.SumWholeLemmas.{whole}
+use Rattle.certificate_lines.proofs.SumReaderLemmas.{has_place, formed}
 use Rattle.certificate.proofs.SumNamedLemmas.{routine_end}
 
 -- The sites of a routine by its line.

@@ -12,16 +12,16 @@ use Rattle.domain.specs.declared.chains.Step.{Step}
 use Rattle.std.specs.Io.KnownBytes.{Appends}
 use Rattle.streams.specs.Bytes.{AppendsFront}
 use Rattle.streams.proofs.BytesLemmas.{front_after}
-use Rattle.certificate.specs.declared.Version.{Version}
-use Rattle.certificate.specs.RisingLists.{Each}
-use Rattle.certificate.specs.FieldSpelling.{begins, ends, digits, offsets_text, ended}
-use Rattle.certificate.specs.Lines.{Line}
-use Rattle.certificate.specs.Spelled.{all_ended}
-use Rattle.certificate.specs.LineText.{Adds}
-use Rattle.certificate.specs.Spelling.{offset_mark, offset_marks, coefficient_text, step_text, line_text}
-use Rattle.certificate.specs.Fields.{offset_set_text, third_text}
+use Rattle.certificate_lines.specs.declared.Version.{Version}
+use Rattle.certificate_lines.specs.RisingLists.{Each}
+use Rattle.certificate_lines.specs.FieldSpelling.{begins, ends, digits, offsets_text, ended}
+use Rattle.certificate_lines.specs.Lines.{Line}
+use Rattle.certificate_lines.specs.Spelled.{all_ended}
+use Rattle.certificate_lines.specs.LineText.{Adds}
+use Rattle.certificate_lines.specs.Spelling.{offset_mark, offset_marks, coefficient_text, step_text, line_text}
+use Rattle.certificate_lines.specs.Fields.{offset_set_text, third_text}
 use Rattle.certificate.proofs.SpelledLemmas.{joined, none, front_more}
-use Rattle.certificate.proofs.OffsetTextLemmas.{marks_more}
+use Rattle.certificate_lines.proofs.OffsetTextLemmas.{marks_more}
 
 -- Offsets looked through one by one.
 pub none_yet : (s : Words) (v : ℕ) → v < 0 → s v ≡ false

@@ -1,16 +1,16 @@
 -- One spelling has one meaning: what a text is read as has that text, and it is read as what has it.
 use Rattle.std.specs.Prelude.{◌≡◌, ℕ, ◌≤◌, true, List, [], length, Some, Ok, Err}
 use Rattle.std.specs.List.{list_any}
-use Rattle.certificate.specs.declared.CertificateFault.{CertificateFault}
-use Rattle.certificate.specs.Pieces.{most_bytes}
-use Rattle.certificate.specs.ReadFaults.{is_of_bytes}
-use Rattle.certificate.specs.declared.Version.{Version}
-use Rattle.certificate.specs.Lines.{Line, is_end}
-use Rattle.certificate.specs.LineOf.{line_of}
-use Rattle.certificate.specs.Reading.{Text, reading}
-use Rattle.certificate.specs.Laws.{SpelledIsRead, bytes_of}
-use Rattle.certificate.specs.Line.{Spells}
-use Rattle.certificate.specs.Found.{Follow}
+use Rattle.certificate_lines.specs.declared.CertificateFault.{CertificateFault}
+use Rattle.certificate_lines.specs.Pieces.{most_bytes}
+use Rattle.certificate_lines.specs.ReadFaults.{is_of_bytes}
+use Rattle.certificate_lines.specs.declared.Version.{Version}
+use Rattle.certificate_lines.specs.Lines.{Line, is_end}
+use Rattle.certificate_lines.specs.LineOf.{line_of}
+use Rattle.certificate_lines.specs.Reading.{Text, reading}
+use Rattle.certificate_lines.specs.Laws.{SpelledIsRead, bytes_of}
+use Rattle.certificate_lines.specs.Line.{Spells}
+use Rattle.certificate_lines.specs.Found.{Follow}
 
 -- Each line is of its form, its version can say what it says, and it may come after those before it; and one of them is the end, after
 -- which none may come.

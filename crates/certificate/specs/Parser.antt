@@ -1,18 +1,18 @@
 -- What the parser of a text has seen, in all versions, and what reading in pieces keeps; for private contracts.
 use Rattle.std.specs.Prelude.{◌≡◌, ◌≢◌, ℕ, ◌+◌, ◌<◌, ◌≤◌, ◌⊎◌, Bool, true, false, List, [], ◌∷◌, ◌++◌, length, take, Option, Some, None, IfSome, Result, Ok, Err, MatchResult}
 use Rattle.std.specs.Io.KnownBytes.{Consumes, IsAtEnd}
-use Rattle.certificate.specs.declared.CertificateFault.{CertificateFault}
-use Rattle.certificate.specs.declared.CertificateFault.TheVariants.{NoMemory, ReadFault}
-use Rattle.certificate.specs.declared.progress.Progress.{Progress}
+use Rattle.certificate_lines.specs.declared.CertificateFault.{CertificateFault}
+use Rattle.certificate_lines.specs.declared.CertificateFault.TheVariants.{NoMemory, ReadFault}
+use Rattle.certificate_lines.specs.declared.progress.Progress.{Progress}
 use Rattle.certificate.specs.declared.parser.Parser.{Parser}
-use Rattle.certificate.specs.Lines.{Line}
-use Rattle.certificate.specs.Found.{AreInOrder, Keeps, unended}
-use Rattle.certificate.specs.Progress.{Tracks}
-use Rattle.certificate.specs.Pieces.{most_bytes}
-use Rattle.certificate.specs.Packed.{Packed}
-use Rattle.certificate.specs.Kept.{Kept, meaning}
-use Rattle.certificate.specs.Reading.{reading}
-use Rattle.certificate.specs.Serving.{Settles, IsUnanswered, AsksForMemory, front}
+use Rattle.certificate_lines.specs.Lines.{Line}
+use Rattle.certificate_lines.specs.Found.{AreInOrder, Keeps, unended}
+use Rattle.certificate_lines.specs.Progress.{Tracks}
+use Rattle.certificate_lines.specs.Pieces.{most_bytes}
+use Rattle.certificate_lines.specs.Packed.{Packed}
+use Rattle.certificate_lines.specs.Kept.{Kept, meaning}
+use Rattle.certificate_lines.specs.Reading.{reading}
+use Rattle.certificate_lines.specs.Serving.{Settles, IsUnanswered, AsksForMemory, front}
 
 -- No byte is a line feed.
 abbrev pub NoFeed : List ℕ → Type 0

@@ -4,55 +4,36 @@
 ghost use Rattle.std.specs.Prelude.{◌≡◌, ◌+◌, ◌*◌, ◌<◌, ◌⊎◌, [], ◌∷◌, true, false, is_some, is_err, None, Ok, Err, Some, IfSome, IfOk, IfErr, OnOk, OnErr, MatchOption};
 ghost use Rattle.std.specs.Io.KnownBytes.{Appends};
 ghost use Rattle.streams.specs.Bytes.{AppendsFront};
-ghost use Rattle.certificate.specs.declared.CertificateFault.TheVariants as faults;
+ghost use Rattle.certificate_lines.specs.declared.CertificateFault.TheVariants as faults;
 ghost use Rattle.wordset.specs.Words.{HasNoneFrom, IsFirstFrom};
 ghost use Rattle.wordset.specs.Lanes.{words};
 ghost use Rattle.domain.specs.FactInCode.{fact_in_code};
-ghost use Rattle.certificate.specs.Certificate.{names_routine, claimed, has_any};
-ghost use Rattle.certificate.specs.Reading.{reading};
-ghost use Rattle.certificate.specs.Laws.{bytes_of};
-ghost use Rattle.certificate.specs.Made.{SitesAreAdded};
-ghost use Rattle.certificate.specs.Serving.{AsksForMemory};
-ghost use Rattle.certificate.specs.Kept.{meaning, claims, facts_from, exits_from, IsBeforeFacts, IsBeforeExits, HasShape, Follows};
+ghost use Rattle.certificate_lines.specs.Certificate.{names_routine, claimed, has_any};
+ghost use Rattle.certificate_lines.specs.Reading.{reading};
+ghost use Rattle.certificate_lines.specs.Laws.{bytes_of};
+ghost use Rattle.certificate_lines.specs.Made.{SitesAreAdded};
+ghost use Rattle.certificate_lines.specs.Serving.{AsksForMemory};
+ghost use Rattle.certificate_lines.specs.Kept.{meaning, claims, facts_from, exits_from, IsBeforeFacts, IsBeforeExits, HasShape, Follows};
 ghost use Rattle.certificate.specs.Exact.{AreLines, SpellingLaw, ReadingLaw};
-ghost use Rattle.certificate.specs.Written.{fact_text_at};
+ghost use Rattle.certificate_lines.specs.Written.{fact_text_at};
 
-use crate::lines::{behind, end_of, fact_line, first_routine, first_said};
-use crate::packed::{CertifiedFact, PackedLines};
 use crate::parser::Parser;
-use crate::progress::{FIRST_EXIT, FIRST_FACT};
 use crate::spelled::{put_lines, put_text};
+use certificate_lines::{
+    CertificateFault, CertifiedFact, FIRST_EXIT, FIRST_FACT, PackedLines, RoutineClaim, Version,
+    behind, end_of, fact_line, first_routine, first_said,
+};
 use std::alloc::Allocator;
 use std::marker::Model;
 use streams::ByteSink;
 use thiserror::Error;
 use word12::Word;
-use wordset::WordSet;
 
-mod fields;
-mod line;
 mod line_text;
-mod lines;
 mod makers;
-mod packed;
 mod parser;
 mod pieces;
-mod progress;
-mod runs;
 mod spelled;
-mod sum_fields;
-
-/// What is claimed of a routine: its rank, below 64 in a certificate, the addresses of the JMS words
-/// that call it, and the cells that it and its callees may write.
-#[derive(Clone, Copy, PartialEq, Eq, Debug)]
-pub struct RoutineClaim {
-    /// Its rank.
-    pub rank: usize,
-    /// The addresses of the JMS words that call it.
-    pub sites: WordSet,
-    /// The cells that it and its callees may write.
-    pub writes: WordSet,
-}
 
 /// A growth of a certificate was refused.
 #[derive(Clone, Copy, PartialEq, Eq, Debug, Error)]
@@ -64,42 +45,6 @@ pub struct NoMemory;
 #[error("WriteFault")]
 pub struct WriteFault;
 
-/// Why a text is no certificate.
-#[derive(Clone, Copy, PartialEq, Eq, Debug, Error)]
-pub enum CertificateFault {
-    /// The first line is that of no version.
-    #[error("Version")]
-    Version,
-    /// The line of this number, counted from 1, is none of the lines that may stand there, or isn't
-    /// ended, or is lacking.
-    #[error("BadLine {0}")]
-    BadLine(usize),
-    /// The line of this number is out of order or repeated.
-    #[error("Order {0}")]
-    Order(usize),
-    /// The text has more than 1,048,576 bytes or more than 64 routines, or a fact or an exit has more
-    /// than 64 cells or 32 equations.
-    #[error("TooMany")]
-    TooMany,
-    /// A growth of what is kept of the text was refused.
-    #[error("NoMemory")]
-    NoMemory,
-    /// A read failed.
-    #[error("ReadFault")]
-    ReadFault,
-}
-
-/// The version of a certificate's text.
-#[derive(Clone, Copy, PartialEq, Eq, Debug)]
-pub enum Version {
-    /// Nothing is said of MQ.
-    One,
-    /// Facts and exits say which words MQ may hold.
-    Two,
-    /// Several facts may stand at an address, with sites, sums and chains.
-    Three,
-}
-
 /// What is claimed of a program, so that a checker can test it.
 ///
 /// Contracts see its lines as `meaning` gives them, and what they claim as `claims` gives it.
@@ -110,8 +55,8 @@ pub struct Certificate<A: Allocator> {
 }
 
 impl<A: Allocator> Model for Certificate<A> {
-    ghost use Rattle.certificate.specs.Kept.{Kept};
-    ghost use Rattle.certificate.specs.Found.{IsWhole};
+    ghost use Rattle.certificate_lines.specs.Kept.{Kept};
+    ghost use Rattle.certificate_lines.specs.Found.{IsWhole};
 
     ghost Value = { Kept };
 

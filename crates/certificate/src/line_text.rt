@@ -5,13 +5,13 @@ ghost use Rattle.word12.specs.Words.{octal_text};
 ghost use Rattle.wordset.specs.Lanes.{words};
 ghost use Rattle.wordset.specs.Links.{links_of};
 ghost use Rattle.domain.specs.LocationsInCode.{location_of};
-ghost use Rattle.certificate.specs.FieldSpelling.{marks, set_text, digits, name_text, rank_text, routine_line, cell_line};
-ghost use Rattle.certificate.specs.FieldsLeft.{run_text};
-ghost use Rattle.certificate.specs.LineText.{Adds};
-ghost use Rattle.certificate.specs.Runs.{set_of_runs, set_at, routine_at, AreWithin, StandApart};
+ghost use Rattle.certificate_lines.specs.FieldSpelling.{marks, set_text, digits, name_text, rank_text, routine_line, cell_line};
+ghost use Rattle.certificate_lines.specs.FieldsLeft.{run_text};
+ghost use Rattle.certificate_lines.specs.LineText.{Adds};
+ghost use Rattle.certificate_lines.specs.Runs.{set_of_runs, set_at, routine_at, AreWithin, StandApart};
 
-use crate::runs::{PackedRoutine, Run, last_before, set_of, stand_apart};
 use arrayvec::ArrayVec;
+use certificate_lines::{PackedRoutine, Run, last_before, set_of, stand_apart};
 use domain::Location;
 use word12::Word;
 use wordset::{Links, WordSet};

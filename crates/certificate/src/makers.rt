@@ -3,17 +3,17 @@
 ghost use Rattle.std.specs.Prelude.{◌≡◌, ◌<◌, List, [], ◌∷◌, ◌++◌, map, false, IfOk, OnOk, OnErr};
 ghost use Rattle.wordset.specs.Lanes.{words};
 ghost use Rattle.declaration.specs.Kept.{meaning as declared};
-ghost use Rattle.certificate.specs.declared.runs.Run.{Run};
+ghost use Rattle.certificate_lines.specs.declared.runs.Run.{Run};
 ghost use Rattle.domain.specs.declared.chains.Step.{Step};
-ghost use Rattle.certificate.specs.RisingLists.{Each};
-ghost use Rattle.certificate.specs.Packed.{said_at, said_lines};
-ghost use Rattle.certificate.specs.Found.{IsLine};
-ghost use Rattle.certificate.specs.Lines.{is_of_sums};
-ghost use Rattle.certificate.specs.Kept.{meaning, claims};
-ghost use Rattle.certificate.specs.Made.{no_lines, routine_line_of, lines_of_fact, lines_of_exit, MayAdd, with_lines, migrated, sites_at, sites_by, sited_by, with_sites};
+ghost use Rattle.certificate_lines.specs.RisingLists.{Each};
+ghost use Rattle.certificate_lines.specs.Packed.{said_at, said_lines};
+ghost use Rattle.certificate_lines.specs.Found.{IsLine};
+ghost use Rattle.certificate_lines.specs.Lines.{is_of_sums};
+ghost use Rattle.certificate_lines.specs.Kept.{meaning, claims};
+ghost use Rattle.certificate_lines.specs.Made.{no_lines, routine_line_of, lines_of_fact, lines_of_exit, MayAdd, with_lines, migrated, sites_at, sites_by, sited_by, with_sites};
 
-use crate::packed::{CertifiedFact, Claim, PackedLine, PackedLines};
-use crate::{Certificate, NoMemory, RoutineClaim, Version};
+use crate::{Certificate, NoMemory};
+use certificate_lines::{CertifiedFact, Claim, PackedLine, PackedLines, RoutineClaim, Version};
 use declaration::{Declaration, Owner};
 use std::alloc::{AllocError, Allocator};
 use word12::Word;

@@ -2,18 +2,16 @@
 
 ghost use Rattle.std.specs.Prelude.{ℕ, ◌≡◌, ◌+◌, ◌<◌, ◌≤◌, ◌^◌, List, [], ◌∷◌, ◌++◌, length, take, get_or, IfOk, MatchResult, Some, None, Err};
 ghost use Rattle.std.specs.Prelude.{IfSome, false, true};
-ghost use Rattle.certificate.specs.declared.Version.{Version as Spelled};
-ghost use Rattle.certificate.specs.Spelling.{version_text};
-ghost use Rattle.certificate.specs.Pieces.{most_bytes};
-ghost use Rattle.certificate.specs.Reading.{reading};
-ghost use Rattle.certificate.specs.Packed.{Packed};
+ghost use Rattle.certificate_lines.specs.declared.Version.{Version as Spelled};
+ghost use Rattle.certificate_lines.specs.Spelling.{version_text};
+ghost use Rattle.certificate_lines.specs.Pieces.{most_bytes};
+ghost use Rattle.certificate_lines.specs.Reading.{reading};
+ghost use Rattle.certificate_lines.specs.Packed.{Packed};
 ghost use Rattle.certificate.specs.Parser.{NoFeed, WasRead, Parts, Seen, IsSmall, Refuses, IsParsed};
 
-use crate::packed::{PackedLines, Steps};
-use crate::progress::Progress;
-use crate::runs::Runs;
-use crate::{Certificate, CertificateFault, Version};
+use crate::Certificate;
 use arrayvec::ArrayVec;
+use certificate_lines::{CertificateFault, PackedLines, Progress, Runs, Steps, Version};
 use memchr::memchr;
 use std::alloc::Allocator;
 

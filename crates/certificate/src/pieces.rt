@@ -2,15 +2,16 @@
 
 ghost use Rattle.std.specs.Prelude.{◌≡◌, ◌⊎◌, ◌≤◌, Ok, Err, IfErr, IfOk, IfSome, false, length};
 ghost use Rattle.streams.specs.Bytes.{Gave};
-ghost use Rattle.certificate.specs.declared.CertificateFault.TheVariants.{NoMemory, ReadFault};
-ghost use Rattle.certificate.specs.Reading.{reading};
-ghost use Rattle.certificate.specs.Kept.{meaning};
-ghost use Rattle.certificate.specs.ReadFaults.{failed_to_read};
-ghost use Rattle.certificate.specs.Serving.{IsPrompt, IsUnanswered, AsksForMemory};
+ghost use Rattle.certificate_lines.specs.declared.CertificateFault.TheVariants.{NoMemory, ReadFault};
+ghost use Rattle.certificate_lines.specs.Reading.{reading};
+ghost use Rattle.certificate_lines.specs.Kept.{meaning};
+ghost use Rattle.certificate_lines.specs.ReadFaults.{failed_to_read};
+ghost use Rattle.certificate_lines.specs.Serving.{IsPrompt, IsUnanswered, AsksForMemory};
 ghost use Rattle.certificate.specs.Parser.{Serves};
 
+use crate::Certificate;
 use crate::parser::Parser;
-use crate::{Certificate, CertificateFault};
+use certificate_lines::CertificateFault;
 use std::alloc::Allocator;
 use streams::ByteSource;
 

@@ -8,26 +8,24 @@ ghost use Rattle.wordset.specs.Links.{links_of};
 ghost use Rattle.domain.specs.InCode.{term_of, summand_of};
 ghost use Rattle.domain.specs.ChainsInCode.{step_of};
 ghost use Rattle.domain.specs.Offsets.{offsets_in};
-ghost use Rattle.certificate.specs.FieldSpelling.{begins, ends, offsets_text, set_text, rank_text, ended};
-ghost use Rattle.certificate.specs.RisingLists.{Each};
-ghost use Rattle.certificate.specs.LineText.{Adds};
-ghost use Rattle.certificate.specs.Runs.{set_of_runs, set_at, registers_at, AreWithin};
+ghost use Rattle.certificate_lines.specs.FieldSpelling.{begins, ends, offsets_text, set_text, rank_text, ended};
+ghost use Rattle.certificate_lines.specs.RisingLists.{Each};
+ghost use Rattle.certificate_lines.specs.LineText.{Adds};
+ghost use Rattle.certificate_lines.specs.Runs.{set_of_runs, set_at, registers_at, AreWithin};
 ghost use Rattle.domain.specs.declared.chains.Step.{Step};
-ghost use Rattle.certificate.specs.declared.packed.PackedLine.TheVariants as packed;
-ghost use Rattle.certificate.specs.Spelling.{offset_mark, offsets_line, offset_text, sites_text, mq_text, words_text, term_text, coefficient_text, further_text, sum_text, equation_line, relation_line, step_text, chain_line, line_text, version_text, word_text};
-ghost use Rattle.certificate.specs.LineOf.{most_offsets};
-ghost use Rattle.certificate.specs.Fields.{offset_set_text, third_text};
-ghost use Rattle.certificate.specs.Packed.{packed_sum_of, said_at, said_of, said_lines, LiesWithin, LieWithin};
-ghost use Rattle.certificate.specs.Found.{IsLine};
-ghost use Rattle.certificate.specs.Spelled.{all_ended};
+ghost use Rattle.certificate_lines.specs.declared.packed.PackedLine.TheVariants as packed;
+ghost use Rattle.certificate_lines.specs.Spelling.{offset_mark, offsets_line, offset_text, sites_text, mq_text, words_text, term_text, coefficient_text, further_text, sum_text, equation_line, relation_line, step_text, chain_line, line_text, version_text, word_text};
+ghost use Rattle.certificate_lines.specs.LineOf.{most_offsets};
+ghost use Rattle.certificate_lines.specs.Fields.{offset_set_text, third_text};
+ghost use Rattle.certificate_lines.specs.Packed.{packed_sum_of, said_at, said_of, said_lines, LiesWithin, LieWithin};
+ghost use Rattle.certificate_lines.specs.Found.{IsLine};
+ghost use Rattle.certificate_lines.specs.Spelled.{all_ended};
 
-use crate::Version;
 use crate::line_text::LineText;
-use crate::packed::sum::PackedSum;
-use crate::packed::{
-    LentLine, PackedChain, PackedExit, PackedFact, PackedLine, PackedLines, runs_from,
+use certificate_lines::{
+    LentLine, PackedChain, PackedExit, PackedFact, PackedLine, PackedLines, PackedRegisters,
+    PackedSum, Run, Version, runs_from, set_of,
 };
-use crate::runs::{PackedRegisters, Run, set_of};
 use domain::{ReturnOffsets, Step, Summand, Term, is_sign, negated};
 use std::alloc::Allocator;
 use streams::{ByteSink, Failed, put};

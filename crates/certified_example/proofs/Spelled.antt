@@ -4,14 +4,14 @@ use Rattle.std.proofs.lemmas.Bool.{le-ltb, lt-ltb, ne_eqb}
 use Rattle.wordset.specs.Words.{Words, nothing, all_words, all_links, one, some_below}
 use Rattle.wordset.proofs.LinkLemmas.{two_are}
 use Rattle.wordset.proofs.SetLemmas.{all_past}
-use Rattle.certificate.specs.declared.Version.TheVariants.{One}
-use Rattle.certificate.specs.Pieces.{most_bytes}
-use Rattle.certificate.specs.FieldSpelling.{marks, digits}
-use Rattle.certificate.specs.RisingLists.{EndsBefore}
+use Rattle.certificate_lines.specs.declared.Version.TheVariants.{One}
+use Rattle.certificate_lines.specs.Pieces.{most_bytes}
+use Rattle.certificate_lines.specs.FieldSpelling.{marks, digits}
+use Rattle.certificate_lines.specs.RisingLists.{EndsBefore}
 use Rattle.certificate.specs.Exact.{AreLines}
-use Rattle.certificate.specs.Found.{IsLine}
-use Rattle.certificate.specs.Laws.{RegistersFit, bytes_of}
-use Rattle.certificate.specs.Reading.{reading}
+use Rattle.certificate_lines.specs.Found.{IsLine}
+use Rattle.certificate_lines.specs.Laws.{RegistersFit, bytes_of}
+use Rattle.certificate_lines.specs.Reading.{reading}
 use Rattle.certificate.proofs.SumExactLemmas.{reading_law}
 use Rattle.certified_example.specs.Example.{in_main, lines, with_ac}
 use Rattle.certified_example.specs.Written.{IsWritten, certificate_text}

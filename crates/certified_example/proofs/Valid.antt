@@ -12,13 +12,13 @@ use Rattle.domain.specs.Facts.{Fact, Place, OfEquations}
 use Rattle.domain.specs.Narrowing.{narrowed, words_known}
 use Rattle.domain.specs.Moves.{joined}
 use Rattle.facts.specs.declared.Condition.TheVariants.{V1, V2, V3, V4, V5, V6, V7, V8, V9, V10, V11, V12, V13, V14, V15, V16}
-use Rattle.facts.specs.References.{possible}
-use Rattle.facts.specs.Outcomes.{Successor, Goes, given, dca_case, stored_by}
-use Rattle.facts.specs.Operations.{operated2, part2}
+use Rattle.transfer.specs.References.{possible}
+use Rattle.transfer.specs.Outcomes.{Successor, Goes, given, dca_case, stored_by}
+use Rattle.transfer.specs.Operations.{operated2, part2}
 use Rattle.facts.specs.Entailment.{Entails}
 use Rattle.facts.specs.Starts.{start_fact}
-use Rattle.certificate.specs.Certificate.{has_exits}
-use Rattle.certificate.specs.Reading.{all_offsets, sets_of}
+use Rattle.certificate_lines.specs.Certificate.{has_exits}
+use Rattle.certificate_lines.specs.Reading.{all_offsets, sets_of}
 use Rattle.facts.specs.Conditions.{EachIsHeldBy}
 use Rattle.judge.specs.Landing.{exits_of, place_in, sited, asked, asked_at, called_from, LandsAt, EachLandsAfter, EachSuccessor, SuccessorLands}
 use Rattle.judge.specs.Conditions.{EachFact, HoldsForWords, IsPlaced, IsValid, MayReturn}

@@ -4,11 +4,11 @@ use Rattle.instruct.specs.declared.Profile.TheVariants.{Pdp8I}
 use Rattle.wordset.specs.Words.{Words, nothing, all_words, all_links, one}
 use Rattle.processor.specs.Runs.{Image}
 use Rattle.declaration.specs.Declaration.{Routine, Declaration}
-use Rattle.certificate.specs.FieldSpelling.{Registers}
-use Rattle.certificate.specs.declared.Version.TheVariants.{One}
-use Rattle.certificate.specs.Certificate.{Certificate}
-use Rattle.certificate.specs.Lines.{Line, RoutineIs, FactIs, ExitIs, CellIs, End}
-use Rattle.certificate.specs.Reading.{Text, certificate_of}
+use Rattle.certificate_lines.specs.FieldSpelling.{Registers}
+use Rattle.certificate_lines.specs.declared.Version.TheVariants.{One}
+use Rattle.certificate_lines.specs.Certificate.{Certificate}
+use Rattle.certificate_lines.specs.Lines.{Line, RoutineIs, FactIs, ExitIs, CellIs, End}
+use Rattle.certificate_lines.specs.Reading.{Text, certificate_of}
 use Rattle.judge.specs.Landing.{Case}
 
 -- 0200: DCA 0202, which clears the accumulator; 0201: DCA 0202, which makes the next word AND 0000; 0202: NOP on the tape;

@@ -1,8 +1,8 @@
 -- The text of the small program's certificate.
 use Rattle.std.specs.Prelude.{◌≡◌, ℕ, List, [], ◌∷◌, ◌++◌, codes, Ok}
 use Rattle.certificate.specs.Exact.{AreLines}
-use Rattle.certificate.specs.Laws.{bytes_of}
-use Rattle.certificate.specs.Reading.{reading}
+use Rattle.certificate_lines.specs.Laws.{bytes_of}
+use Rattle.certificate_lines.specs.Reading.{reading}
 use Rattle.certified_example.specs.Example.{lines}
 
 -- A line and what follows it.

@@ -6,16 +6,16 @@ use Rattle.peripherals.specs.Loading.{image_of}
 use Rattle.declaration.specs.Declaration.{Declaration}
 use Rattle.declaration.proofs.AnswerLemmas.{one_declaration}
 use Rattle.domain.specs.Facts.{Rules}
-use Rattle.certificate.specs.declared.Version.{Version}
-use Rattle.certificate.specs.declared.Version.TheVariants.{One, Two, Three}
-use Rattle.certificate.specs.Pieces.{most_bytes}
-use Rattle.certificate.specs.Certificate.{Certificate}
+use Rattle.certificate_lines.specs.declared.Version.{Version}
+use Rattle.certificate_lines.specs.declared.Version.TheVariants.{One, Two, Three}
+use Rattle.certificate_lines.specs.Pieces.{most_bytes}
+use Rattle.certificate_lines.specs.Certificate.{Certificate}
 use Rattle.certificate.specs.Exact.{AreLines}
-use Rattle.certificate.specs.Found.{Follow}
-use Rattle.certificate.specs.Laws.{bytes_of}
-use Rattle.certificate.specs.Lines.{Line, rules_of}
-use Rattle.certificate.specs.Made.{migrated, with_mq}
-use Rattle.certificate.specs.Reading.{Text, certificate_of}
+use Rattle.certificate_lines.specs.Found.{Follow}
+use Rattle.certificate_lines.specs.Laws.{bytes_of}
+use Rattle.certificate_lines.specs.Lines.{Line, rules_of}
+use Rattle.certificate_lines.specs.Made.{migrated, with_mq}
+use Rattle.certificate_lines.specs.Reading.{Text, certificate_of}
 use Rattle.certificate.proofs.SumExactLemmas.{spelling_law}
 use Rattle.certificate.proofs.SumMadeLemmas.{line_two}
 use Rattle.judge.specs.Landing.{Case}

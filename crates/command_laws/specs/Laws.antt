@@ -17,7 +17,7 @@ use Rattle.pal_text.specs.declared.names.Name.{Name}
 use Rattle.pal_acts.specs.Permanent.{permanent_symbols}
 use Rattle.pal_asm.specs.Sources.{Means, IsFault}
 use Rattle.pal_asm.specs.declared.fault.PalFault.{PalFault}
-use Rattle.certificate.specs.Pieces.{most_bytes}
+use Rattle.certificate_lines.specs.Pieces.{most_bytes}
 use Rattle.search_commands.specs.GuessText.{IsGuess}
 use Rattle.search_commands.specs.MigrateText.{IsMigrated}
 use Rattle.diagnostics.specs.CheckText.{IsCheckedSo}

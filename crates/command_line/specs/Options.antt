@@ -5,8 +5,8 @@ use Rattle.clap.specs.Matches.{first_value, found_of, matched_of, one_text, raw_
 use Rattle.clap.specs.declared.parser.matches.ArgMatches.{ArgMatches}
 use Rattle.instruct.specs.declared.Profile.{Profile}
 use Rattle.instruct.specs.declared.Profile.TheVariants.{Pdp8I, Pdp8E}
-use Rattle.certificate.specs.declared.Version.{Version}
-use Rattle.certificate.specs.declared.Version.TheVariants.{One, Two, Three}
+use Rattle.certificate_lines.specs.declared.Version.{Version}
+use Rattle.certificate_lines.specs.declared.Version.TheVariants.{One, Two, Three}
 use Rattle.streams.specs.Text.{decimal_between}
 use Rattle.word12.specs.Octal.{octal_reading}
 use Rattle.word12.specs.declared.OctalFault.{OctalFault}

@@ -21,7 +21,7 @@ use crate::values::{
     declare_options, is_given, is_start_named, read_standard_input_once, refute_options,
     verify_options,
 };
-use certificate::Version;
+use certificate_lines::Version;
 use clap::ArgMatches;
 use command_parts::options::{DeclareOptions, RefuteOptions, VerifyOptions};
 use std::alloc::Global;

@@ -12,8 +12,8 @@ use Rattle.peripherals.specs.declared.event_text.EventsFault.TheVariants as even
 use Rattle.declaration.specs.Text.{Fails as FailsAsDeclaration, most_bytes as most_declaration_bytes}
 use Rattle.declaration.specs.declared.DeclarationFault.{DeclarationFault}
 use Rattle.declaration.specs.declared.DeclarationFault.TheVariants as declaration_fault
-use Rattle.certificate.specs.declared.CertificateFault.{CertificateFault}
-use Rattle.certificate.specs.declared.CertificateFault.TheVariants as certificate_fault
+use Rattle.certificate_lines.specs.declared.CertificateFault.{CertificateFault}
+use Rattle.certificate_lines.specs.declared.CertificateFault.TheVariants as certificate_fault
 use Rattle.turns.specs.declared.GuessFault.{GuessFault}
 use Rattle.turns.specs.declared.GuessFault.TheVariants as guess_fault
 use Rattle.turns.specs.declared.ProposeFault.{ProposeFault}

@@ -7,7 +7,8 @@ ghost use Rattle.command_parts.specs.Faults.{fault_of_certificate, fault_of_decl
 ghost use Rattle.command_parts.specs.Statuses.{code_of, status_of_fault};
 
 use bin_tape::TapeFault;
-use certificate::{CertificateFault, WriteFault};
+use certificate::WriteFault;
+use certificate_lines::CertificateFault;
 use declaration::DeclarationFault;
 use pal_asm::PalFault;
 use peripherals::{EventsFault, NoMemory};

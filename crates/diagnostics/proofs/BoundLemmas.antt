@@ -3,7 +3,7 @@ use Rattle.std.proofs.Common.{ℕ, ◌≡◌, ◌≤◌, List, [], ◌∷◌, �
 use Rattle.domain.specs.Locations.{Location}
 use Rattle.domain.specs.Terms.{Sum, difference_of}
 use Rattle.domain.specs.Facts.{Fact, Relation}
-use Rattle.facts.specs.Shaped.{HaveFewTerms}
+use Rattle.transfer.specs.Shaped.{HaveFewTerms}
 use Rattle.judge.specs.Shapes.{HasShape}
 
 few_more : (rs : List Relation) (r : Relation) → length r.sum ≤ 3 → HaveFewTerms rs → HaveFewTerms (rs ++ r ∷ [])

@@ -1,8 +1,8 @@
 -- Which faults a certificate that is read may have, and how a command reads it.
 use Rattle.std.specs.Prelude.{◌≡◌, IfSome, Result, Err, ⊤}
 use Rattle.streams.specs.Bytes.{Gave}
-use Rattle.certificate.specs.Reading.{reading}
-use Rattle.certificate.specs.Serving.{AsksForMemory}
+use Rattle.certificate_lines.specs.Reading.{reading}
+use Rattle.certificate_lines.specs.Serving.{AsksForMemory}
 use Rattle.command_parts.specs.declared.status.Fault.{Fault}
 use Rattle.command_parts.specs.declared.status.Fault.TheVariants.{Certificate, Device}
 use Rattle.command_parts.specs.declared.status.Fault.TheVariants as fault

@@ -1,12 +1,12 @@
 -- What a command read of a certificate, as far as a source tells its bytes.
 use Rattle.std.specs.Prelude.{ℕ, ◌≡◌, ◌≤◌, true, IfSome, List, Option, length}
 use Rattle.streams.specs.Bytes.{Gave}
-use Rattle.certificate.specs.Pieces.{most_bytes}
+use Rattle.certificate_lines.specs.Pieces.{most_bytes}
 use Rattle.certificate.specs.Exact.{AreLines}
-use Rattle.certificate.specs.Laws.{bytes_of}
-use Rattle.certificate.specs.Reading.{Text}
-use Rattle.certificate.specs.Serving.{IsUnanswered}
-use Rattle.certificate.specs.Serving as serving
+use Rattle.certificate_lines.specs.Laws.{bytes_of}
+use Rattle.certificate_lines.specs.Reading.{Text}
+use Rattle.certificate_lines.specs.Serving.{IsUnanswered}
+use Rattle.certificate_lines.specs.Serving as serving
 use Rattle.declaration.specs.Declaration.{Declaration}
 use Rattle.command_parts.specs.Inputs.{HasDeclaration, HasImage, Input, TakesAtMost}
 

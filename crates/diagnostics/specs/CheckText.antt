@@ -7,7 +7,7 @@ use Rattle.declaration.specs.Declaration.{Declaration}
 use Rattle.policy.specs.Runs.{IsSafe}
 use Rattle.facts.specs.declared.Condition.{Condition}
 use Rattle.facts.specs.declared.Condition.TheVariants as condition
-use Rattle.certificate.specs.Reading.{Text, certificate_of}
+use Rattle.certificate_lines.specs.Reading.{Text, certificate_of}
 use Rattle.judge.specs.Landing.{Case}
 use Rattle.judge.specs.Conditions.{IsValid, IsFirst}
 use Rattle.judge.specs.declared.judging.Refusal.{Refusal}

@@ -6,7 +6,7 @@ use Rattle.domain.specs.Locations.{Ac, Cell}
 use Rattle.domain.specs.Facts.{Fact}
 use Rattle.domain.specs.FactInCode.{rules_of}
 use Rattle.facts.specs.Landing.{fact_at}
-use Rattle.certificate.specs.Certificate.{Certificate}
+use Rattle.certificate_lines.specs.Certificate.{Certificate}
 use Rattle.judge.specs.declared.judging.Refusal.{Refusal}
 use Rattle.reasons.specs.declared.reason.Reason.{Reason}
 use Rattle.reasons.specs.declared.reason.Reason.TheVariants as reason

@@ -16,7 +16,7 @@ use Rattle.domain.specs.Terms.{Term, Holding, Behind, Summand, Sum}
 use Rattle.domain.specs.InCode.{sum_of, summand_at}
 use Rattle.domain.specs.declared.sum_fact.Rules.{Rules}
 use Rattle.domain.specs.declared.sum_fact.Rules.TheVariants.{OfEquations, OfSums}
-use Rattle.certificate.specs.Reading.{Text, certificate_of}
+use Rattle.certificate_lines.specs.Reading.{Text, certificate_of}
 use Rattle.judge.specs.Landing.{Case}
 use Rattle.judge.specs.Conditions.{IsFirst}
 use Rattle.judge.specs.declared.judging.Refusal.{Refusal}
@@ -37,7 +37,7 @@ use Rattle.command_parts.specs.declared.status.Status.{Status}
 use Rattle.command_parts.specs.Dumping.{dump_line}
 use Rattle.command_parts.specs.LinkText.{link_text}
 use Rattle.diagnostics.specs.CheckText.{IsVerdict, checked_case, condition_text, verdict_status, verdict_text}
-use Rattle.certificate.specs.Written.{fact_text_at}
+use Rattle.certificate_lines.specs.Written.{fact_text_at}
 use Rattle.diagnostics.specs.Telling.{IsTellingOf, place_of_reason}
 use Rattle.diagnostics.specs.declared.verdicts.telling.Mark.{Mark}
 use Rattle.diagnostics.specs.declared.verdicts.telling.Mark.TheVariants as mark

@@ -8,7 +8,7 @@ mod omissions;
 mod tapes;
 
 use crate::inputs::forms::{certificate_form, event_form};
-use certificate::CertificateFault;
+use certificate_lines::CertificateFault;
 use command_parts::status::Fault;
 pub use lines::push_numbered;
 pub use omissions::{push_omissions, push_stuck_remedy};

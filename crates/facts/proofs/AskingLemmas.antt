@@ -16,9 +16,9 @@ use Rattle.declaration.specs.Declaration.{IsListed}
 use Rattle.domain.specs.Locations.{is_routine}
 use Rattle.domain.specs.Facts.{Fact, Place}
 use Rattle.facts.specs.Instructions.{reads_operand, stores, counts, deposits, calls}
-use Rattle.facts.specs.References.{targets}
+use Rattle.transfer.specs.References.{targets}
 use Rattle.facts.specs.Conditions.{may_read, may_write, called, MayCount, CountsItsReturn, reach, AreInReach, MovesItsReturn, ReadsAreListed}
-use Rattle.facts.specs.Outcomes.{ac_of}
+use Rattle.transfer.specs.Outcomes.{ac_of}
 use Rattle.facts.specs.PlaceInCode.{meaning_in}
 pub use Rattle.facts.proofs.AskedLemmas.{refers_in, unless_memory}
 

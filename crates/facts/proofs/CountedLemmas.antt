@@ -12,7 +12,7 @@ use Rattle.domain.specs.Adding.{times}
 use Rattle.domain.specs.Moves.{counted_sum, has_behind, moved_relation}
 use Rattle.domain.specs.ChainsInCode.{chain_of, AreShort}
 use Rattle.domain.specs.declared.chains.Chain.{Chain}
-use Rattle.facts.specs.Shaped.{HaveFewTerms}
+use Rattle.transfer.specs.Shaped.{HaveFewTerms}
 
 length_counted : (a d : ℕ) (sum : Sum) → length (counted_sum a d sum) ≡ length sum
 length_counted a d [] = refl

@@ -19,12 +19,12 @@ use Rattle.domain.proofs.SumLemmas.{same_name}
 use Rattle.domain.proofs.AddingLemmas.{given_is_so, adding_keeps, all_added_is_so, name_val}
 use Rattle.domain.proofs.MoveLemmas.{taking_holds, moved_is_so, weakly_updated_holds, sum_kept}
 use Rattle.facts.specs.States.{IsState, TopIsEntry}
-use Rattle.facts.specs.Additions.{names, has_ac}
-use Rattle.facts.specs.Stores.{with_cell_for_ac, has_all_words, after_store, all_after_store, stored, copied_for, copied}
+use Rattle.transfer.specs.Additions.{names, has_ac}
+use Rattle.transfer.specs.Stores.{with_cell_for_ac, has_all_words, after_store, all_after_store, stored, copied_for, copied}
 use Rattle.facts.specs.Conditions.{AreInReach}
-use Rattle.facts.specs.Outcomes.{ac_of, goes, stored_by, moved, dca_case}
+use Rattle.transfer.specs.Outcomes.{ac_of, goes, stored_by, moved, dca_case}
 use Rattle.facts.specs.Laws.{LandsIn, SomeOutcome}
-use Rattle.facts.proofs.OneTarget.{direct_only}
+use Rattle.transfer.proofs.OneTarget.{direct_only}
 use Rattle.facts.proofs.WordLemmas.{once, minus_lt, some_from, has_all, shift_true}
 use Rattle.facts.proofs.TermLemmas.{without_less}
 use Rattle.facts.proofs.StateLemmas.{ac_values, updated_values, updated_same, hidden_values, rest_updated, stands_like, value_of, values_words, words_updated, vals, means_updated, ac_true, names_words, goes_to, some_target}

@@ -14,10 +14,10 @@ use Rattle.wordset.specs.Words.{Words, all_words, between, one, plus, or_any}
 use Rattle.domain.specs.Locations.{Ac}
 use Rattle.domain.specs.Facts.{Fact, Place}
 use Rattle.domain.specs.Moves.{taking}
-use Rattle.facts.specs.Outcomes.{Successor, goes, ac_of}
-use Rattle.facts.specs.Operations.{operated3, device_outcomes, outcomes_of}
+use Rattle.transfer.specs.Outcomes.{Successor, goes, ac_of}
+use Rattle.transfer.specs.Operations.{operated3, device_outcomes, outcomes_of}
 use Rattle.facts.specs.PlaceInCode.{meaning_in}
-use Rattle.facts.proofs.EntailLemmas.{none_is, some_is}
+use Rattle.transfer.proofs.EntailLemmas.{none_is, some_is}
 
 -- the words of a byte
 pub bytes_same : {s : Words} (low high : ℕ) → s ≡ between low high → low ≡ 0 → high ≡ 255 → s ≡ (λ v. nat_lt v 256)

@@ -14,7 +14,7 @@ use Rattle.domain.specs.Narrowing.{words_by, words_known}
 use Rattle.facts.specs.TapeWords.{AreTapeWords}
 use Rattle.facts.specs.Entailment.{Entails, KnowsAll, KnowsBy, ShowsChains, ShowsDifference}
 use Rattle.facts.specs.Starts.{words_at_start, start_fact, HoldsOfStarts, IsEquation, StartsAreExact}
-use Rattle.facts.proofs.OneTarget.{direct_only}
+use Rattle.transfer.proofs.OneTarget.{direct_only}
 use Rattle.facts.proofs.BeginningLemmas.{narrowed_plain}
 use Rattle.facts.proofs.EntailedLemmas.{difference_value, entailed_facts_hold}
 use Rattle.facts.proofs.StartedLemmas.{start_is_begun, start_fact_holds}

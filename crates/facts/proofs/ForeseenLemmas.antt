@@ -8,7 +8,7 @@ use Rattle.policy.specs.Calls.{Calls}
 use Rattle.policy.specs.Rules.{pointer_of, read_by, written_by}
 use Rattle.domain.specs.Facts.{Fact, Place}
 use Rattle.facts.specs.States.{IsState}
-use Rattle.facts.specs.References.{targets}
+use Rattle.transfer.specs.References.{targets}
 use Rattle.facts.specs.Conditions.{may_read, may_write, WritesAreDeclared}
 use Rattle.facts.specs.Access.{IsStateOf, ReadsAreForeseen, WritesAreForeseen, CallsAreForeseen, WordsAreForeseen}
 use Rattle.facts.proofs.WordLemmas.{or_left}

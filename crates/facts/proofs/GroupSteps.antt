@@ -20,10 +20,10 @@ use Rattle.domain.proofs.Numbers.{plus_lt}
 use Rattle.domain.proofs.NarrowingLemmas.{narrowed_holds, void_never_holds}
 use Rattle.domain.proofs.MoveLemmas.{longer_is_so, free_true}
 use Rattle.facts.specs.States.{IsState}
-use Rattle.facts.specs.Additions.{complemented, incremented, turned}
-use Rattle.facts.specs.Stores.{with_begun}
-use Rattle.facts.specs.Outcomes.{Successor, ac_of, goes, with_link}
-use Rattle.facts.specs.Operations.{ac_after, link_after, moves_bits, relations_operated, chains_operated, operated, images_under, operated_under, all_operated1, part2, tested, cleared2, may_be, operated2, all_operated2}
+use Rattle.transfer.specs.Additions.{complemented, incremented, turned}
+use Rattle.transfer.specs.Stores.{with_begun}
+use Rattle.transfer.specs.Outcomes.{Successor, ac_of, goes, with_link}
+use Rattle.transfer.specs.Operations.{ac_after, link_after, moves_bits, relations_operated, chains_operated, operated, images_under, operated_under, all_operated1, part2, tested, cleared2, may_be, operated2, all_operated2}
 use Rattle.facts.specs.Laws.{LandsIn, SomeOutcome}
 use Rattle.facts.proofs.WordLemmas.{bit_one, next_word, some_from, has_all, image_true, ac_plain, ac_after_word, link_after_bit, operate2_word, or_word_true}
 use Rattle.facts.proofs.StateLemmas.{set_at, ac_values, some_given, some_left, some_right, vals, means_like, same_step, ac_true, alive_true, goes_to}

@@ -7,7 +7,7 @@ use Rattle.wordset.specs.Words.{Words, IsWithin, SameWords, IsFirstFrom, HasNone
 use Rattle.domain.specs.Facts.{Fact, Place}
 use Rattle.declaration.specs.Declaration.{Assertion, Holding, Returning}
 use Rattle.std.proofs.Math.ListN.{drop_of_length-le}
-use Rattle.facts.proofs.EntailLemmas.{drop_item}
+use Rattle.transfer.proofs.EntailLemmas.{drop_item}
 use Rattle.facts.specs.Conditions.{link_words, may_be, IsAsserted, IsDenied, EachIsHeld, EachIsHeldBy}
 
 -- ---- links as words

@@ -13,7 +13,7 @@ use Rattle.domain.specs.ChainsInCode.{AreShort}
 use Rattle.domain.specs.Adding.{times, is_kept, with_relation, with_term_in, with_shape_in, with_spelled_in, adding, adding_all}
 use Rattle.domain.specs.Narrowing.{narrowed, parts_of, parts_of_chain, links_of_chain}
 use Rattle.domain.proofs.AddingLemmas.{adding_keeps}
-use Rattle.facts.specs.Shaped.{HaveFewTerms}
+use Rattle.transfer.specs.Shaped.{HaveFewTerms}
 
 pub shape_few : (sum : Sum) → has_shape sum ≡ true → length sum ≤ 3
 shape_few [] h = omega arith

@@ -1,8 +1,5 @@
-pub mod EntailLemmas
 pub mod StartLemmas
 pub mod PlaceLemmas
-pub mod OutcomeLemmas
-pub mod SkipLemmas
 pub mod DispatchLemmas
 pub mod EachLemmas
 pub mod AskedLemmas
@@ -25,16 +22,11 @@ pub mod ForeseenLemmas
 pub mod ShowingLemmas
 pub mod SplitLemmas
 pub mod BeginningLemmas
-pub mod EachRelation
-pub mod CarryingLemmas
-pub mod RowsLemmas
 pub mod OperandLemmas
 pub mod CountedLemmas
 pub mod AskingLemmas
-pub mod ComesLemmas
 pub mod DeviceLemmas
 pub mod KeepingLemmas
 pub mod ExactLemmas
-pub mod OneTarget
 pub mod AssertedLemmas
 mod MovedLemmas

@@ -10,7 +10,7 @@ use Rattle.domain.specs.Locations.{Cell}
 use Rattle.domain.specs.Facts.{Fact, Place}
 use Rattle.domain.specs.Narrowing.{words_known}
 use Rattle.domain.specs.Moves.{counted}
-use Rattle.facts.specs.References.{own_words, words_in, words_at, is_fixed, are_fixed}
+use Rattle.transfer.specs.References.{own_words, words_in, words_at, is_fixed, are_fixed}
 use Rattle.facts.proofs.EachLemmas.{some_has, none_has}
 
 -- the words of the running routine's entry, one offset after the other

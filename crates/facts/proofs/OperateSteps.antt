@@ -16,8 +16,8 @@ use Rattle.domain.specs.Laws.{IsBegun}
 use Rattle.domain.proofs.Numbers.{plus_lt}
 use Rattle.domain.proofs.MoveLemmas.{taking_holds}
 use Rattle.facts.specs.States.{IsState}
-use Rattle.facts.specs.Outcomes.{ac_of, goes, with_mq}
-use Rattle.facts.specs.Operations.{operated3, device_outcomes}
+use Rattle.transfer.specs.Outcomes.{ac_of, goes, with_mq}
+use Rattle.transfer.specs.Operations.{operated3, device_outcomes}
 use Rattle.facts.specs.Laws.{LandsIn, SomeOutcome}
 use Rattle.facts.proofs.WordLemmas.{has_all, ors_true, mq_words}
 use Rattle.facts.proofs.StateLemmas.{ac_values, some_left, some_right, vals, means_like, same_step, ac_true, goes_to}

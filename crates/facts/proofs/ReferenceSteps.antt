@@ -18,10 +18,10 @@ use Rattle.domain.specs.Laws.{IsBegun, CountsReturn}
 use Rattle.domain.proofs.Numbers.{plus_lt, minus_plus}
 use Rattle.domain.proofs.MoveLemmas.{taking_holds, weakly_updated_holds, longer_is_so, counted_up_is_so}
 use Rattle.facts.specs.States.{IsState, TopIsEntry}
-use Rattle.facts.specs.References.{own_words, words_at}
+use Rattle.transfer.specs.References.{own_words, words_at}
 use Rattle.facts.specs.Conditions.{MayCount}
-use Rattle.facts.specs.Stores.{with_begun}
-use Rattle.facts.specs.Outcomes.{Goes, given, ac_of, alive, chains_after_and, anded, isz_case, jmp}
+use Rattle.transfer.specs.Stores.{with_begun}
+use Rattle.transfer.specs.Outcomes.{Goes, given, ac_of, alive, chains_after_and, anded, isz_case, jmp}
 use Rattle.facts.specs.Laws.{LandsIn, SomeOutcome}
 use Rattle.facts.proofs.WordLemmas.{next_word, some_from, has_all, shift_true, and_word, ands_true}
 use Rattle.facts.proofs.StateLemmas.{set_at, ac_values, updated_values, hidden_values, value_of, updated_same, words_updated, rest_updated, stands_like, some_given, some_left, some_right, vals, means_like, means_updated, same_step, ac_true, variable_true, own_true, words_at_true, counted_cell_holds, alive_true, goes_to, some_target}

@@ -14,8 +14,8 @@ use Rattle.domain.proofs.Numbers.{plus_lt}
 use Rattle.domain.proofs.SumLemmas.{sums_are_kept, same_is, val_lt}
 use Rattle.domain.proofs.AddingLemmas.{all_append}
 use Rattle.domain.proofs.MoveLemmas.{sum_kept}
-use Rattle.facts.specs.Additions.{names, has_ac, if_without_ac, ac_with_rest, complemented, incremented}
-use Rattle.facts.specs.Stores.{begun_on, begun_by, has_chain_on, all_begun, with_begun}
+use Rattle.transfer.specs.Additions.{names, has_ac, if_without_ac, ac_with_rest, complemented, incremented}
+use Rattle.transfer.specs.Stores.{begun_on, begun_by, has_chain_on, all_begun, with_begun}
 use Rattle.facts.proofs.WordLemmas.{once, some_from, shift_true}
 use Rattle.facts.proofs.TermLemmas.{term_apart, without_ac}
 

@@ -27,7 +27,7 @@ use Rattle.domain.specs.Knowing.{said_of}
 use Rattle.domain.specs.Adding.{set_of_sum}
 use Rattle.facts.specs.Entailment.{Among, EachGives, KnowsAll, KnowsBy, ShowsChain, ShowsChains, Entails}
 use Rattle.facts.specs.Entailing.{EachWithin, EntailsRegisters, GivesIfAllowed, GivesAllowed}
-use Rattle.facts.proofs.EntailLemmas.{not_true, drop_item}
+use Rattle.transfer.proofs.EntailLemmas.{not_true, drop_item}
 
 -- Lists of which each member has a property, in code and as they are meant.
 pub each_step : {A : Type 0} {B : Type 0} (f : A → B) (P : List B → Type 0) (p : B → Type 0) → ((b : B) (bs : List B) → P (b ∷ bs) → p b × P bs) → ((b : B) (bs : List B) → p b × P bs → P (b ∷ bs)) →

@@ -19,7 +19,7 @@ use Rattle.domain.specs.Narrowing.{narrowed}
 use Rattle.domain.proofs.SumLemmas.{same_name}
 use Rattle.facts.specs.Entailment.{Entails, EntailsOne, IsVoid, met_at, TakesWord, IsSplit, PartLands, with_one_link, LandsBy, Lands, IsIdle}
 use Rattle.facts.specs.Landing.{fact_at, Takes, TakesAt, IsSplitBy, AllowAll, IsTakenWhole, LandsUnder, IsIdleUnder}
-use Rattle.facts.proofs.EntailLemmas.{not_true, drop_item}
+use Rattle.transfer.proofs.EntailLemmas.{not_true, drop_item}
 use Rattle.facts.proofs.ShowingLemmas.{words_small}
 
 -- the fact at a place, and those behind it

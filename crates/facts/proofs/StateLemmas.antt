@@ -19,8 +19,8 @@ use Rattle.domain.proofs.SumLemmas.{same_name}
 use Rattle.domain.proofs.NarrowingLemmas.{known_is_so}
 use Rattle.domain.proofs.MoveLemmas.{counted_holds}
 use Rattle.facts.specs.States.{IsState, TopIsEntry}
-use Rattle.facts.specs.References.{own_words, words_in, possible, stepped, targets, words_at}
-use Rattle.facts.specs.Outcomes.{Successor, given, ac_of, is_alive, alive, goes}
+use Rattle.transfer.specs.References.{own_words, words_in, possible, stepped, targets, words_at}
+use Rattle.transfer.specs.Outcomes.{Successor, given, ac_of, is_alive, alive, goes}
 use Rattle.facts.specs.Laws.{LandsIn, SomeOutcome}
 use Rattle.facts.proofs.WordLemmas.{if_below, some_from, shift_true}
 

@@ -19,10 +19,10 @@ use Rattle.domain.specs.Moves.{counted}
 use Rattle.domain.specs.Laws.{IsBegun}
 use Rattle.domain.proofs.Numbers.{plus_lt}
 use Rattle.facts.specs.States.{IsState, TopIsEntry, IsOrdinary}
-use Rattle.facts.specs.References.{stepped, targets}
+use Rattle.transfer.specs.References.{stepped, targets}
 use Rattle.facts.specs.Conditions.{may_write, WritesAreDeclared, MayCount, AreInReach, EntriesAreKept}
-use Rattle.facts.specs.Outcomes.{ac_of}
-use Rattle.facts.specs.Operations.{ac_after, link_after, all_operated2, outcomes_of}
+use Rattle.transfer.specs.Outcomes.{ac_of}
+use Rattle.transfer.specs.Operations.{ac_after, link_after, all_operated2, outcomes_of}
 use Rattle.facts.specs.Laws.{LandsIn, SomeOutcome, StepLaw}
 use Rattle.facts.proofs.WordLemmas.{next_word, if_below, or_left, or_right, and_word, or_word, or_byte_true, ac_after_word, link_after_bit, operate2_word, mq_words}
 use Rattle.facts.proofs.StateLemmas.{words_updated, seen_words, seen_place, after_pointer, pointer_state, pointer_means, target_true, ac_true}

@@ -20,9 +20,9 @@ use Rattle.domain.proofs.SumLemmas.{val_lt, append_val}
 use Rattle.domain.proofs.AddingLemmas.{adding_keeps, all_added_is_so, name_val, all_append}
 use Rattle.domain.proofs.MoveLemmas.{longer_is_so, free_true, sum_kept}
 use Rattle.facts.specs.States.{IsState}
-use Rattle.facts.specs.References.{words_at, is_fixed, are_fixed, one_target, operand_term}
-use Rattle.facts.specs.Additions.{names, has_ac, if_without_ac, less, ac_with_rest, brought_by, brought, after_tad, all_after_tad, without_sums, summed, equations_moved, equations_after_tad, sums_under, chains_after_tad}
-use Rattle.facts.specs.Outcomes.{ac_of, goes, added_under, added, tad_by}
+use Rattle.transfer.specs.References.{words_at, is_fixed, are_fixed, one_target, operand_term}
+use Rattle.transfer.specs.Additions.{names, has_ac, if_without_ac, less, ac_with_rest, brought_by, brought, after_tad, all_after_tad, without_sums, summed, equations_moved, equations_after_tad, sums_under, chains_after_tad}
+use Rattle.transfer.specs.Outcomes.{ac_of, goes, added_under, added, tad_by}
 use Rattle.facts.specs.Laws.{LandsIn, SomeOutcome}
 use Rattle.facts.proofs.WordLemmas.{bit_one, or_left, or_right, some_from, has_all, shift_true, carry_number, toggle_true, carrying_true}
 use Rattle.facts.proofs.TermLemmas.{term_apart, without_less}

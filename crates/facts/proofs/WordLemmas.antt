@@ -8,8 +8,8 @@ use Rattle.instruct.specs.Operates.{cleared, complemented, counted, left, right,
 use Rattle.wordset.specs.Words.{plus, minus, Words, some_below, all_words, has_some, shifted, carries, toggled, ands, ors, or_any, images_at, images}
 use Rattle.processor.specs.Machine.{next_pc}
 use Rattle.domain.proofs.Numbers.{plus_lt}
-use Rattle.facts.specs.Additions.{sums_carrying}
-use Rattle.facts.specs.Operations.{ac_after, link_after, moves_bits}
+use Rattle.transfer.specs.Additions.{sums_carrying}
+use Rattle.transfer.specs.Operations.{ac_after, link_after, moves_bits}
 pub use Rattle.wordset.proofs.Tests.{both_ways, or_left, or_right, some_from}
 
 pub minus_lt : (a k : ℕ) → minus a k < 4096

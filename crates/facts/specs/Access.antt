@@ -9,7 +9,7 @@ use Rattle.policy.specs.Rules.{read_by, written_by}
 use Rattle.domain.specs.Facts.{Fact, Place, Means}
 use Rattle.domain.specs.Laws.{IsBegun}
 use Rattle.facts.specs.States.{IsState, TopIsEntry}
-use Rattle.facts.specs.References.{possible}
+use Rattle.transfer.specs.References.{possible}
 use Rattle.facts.specs.Conditions.{may_read, may_write, called, WritesAreDeclared}
 
 -- A state of a fact at a place, of a declared program that was loaded.

@@ -8,8 +8,8 @@ use Rattle.declaration.specs.declared.Subject.TheVariants as subject
 use Rattle.policy.specs.Rules.{pointer_of}
 use Rattle.domain.specs.Facts.{Fact, Place, Rules, OfEquations, OfSums}
 use Rattle.facts.specs.Instructions.{MayWrite}
-use Rattle.facts.specs.References.{targets, own_words, words_in}
-use Rattle.facts.specs.Outcomes.{ac_of}
+use Rattle.transfer.specs.References.{targets, own_words, words_in}
+use Rattle.transfer.specs.Outcomes.{ac_of}
 
 -- The cells in which ISZ or DCA may store.
 abbrev pub may_store : Place → Fact → Meaning → Words

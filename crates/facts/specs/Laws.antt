@@ -12,8 +12,8 @@ use Rattle.domain.specs.Moves.{joined}
 use Rattle.domain.specs.Laws.{IsBegun}
 use Rattle.facts.specs.States.{IsState, TopIsEntry, IsOrdinary}
 use Rattle.facts.specs.Conditions.{WritesAreDeclared, EntriesAreKept}
-use Rattle.facts.specs.Outcomes.{Successor, Goes, CallsTo, Returns}
-use Rattle.facts.specs.Operations.{outcomes_of}
+use Rattle.transfer.specs.Outcomes.{Successor, Goes, CallsTo, Returns}
+use Rattle.transfer.specs.Operations.{outcomes_of}
 use Rattle.facts.specs.Entailment.{Entails, Lands, IsIdle}
 
 -- A state is at one of an outcome's addresses, and its fact holds, of the same call list.

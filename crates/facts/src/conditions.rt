@@ -15,10 +15,10 @@ ghost use Rattle.facts.specs.PlaceInCode.{place_in_code, meaning_in};
 use crate::instructions::{counts, deposits, is_jms, reads_operand, steps_pointer, stores};
 use crate::place::Place;
 use crate::references::put_own_words;
-use crate::sets::named_if;
 use domain::{Location, ReturnOffsets, Rules, SumFact};
 use instruct::{refers_indirectly, target};
 use std::alloc::Allocator;
+use transfer::named_if;
 use word12::Word;
 use wordset::WordSet;
 

@@ -11,19 +11,18 @@ ghost use Rattle.domain.specs.CellsInCode.{cell_sets_of};
 ghost use Rattle.domain.specs.RelationsInCode.{relations_of};
 ghost use Rattle.domain.specs.ChainsInCode.{AreShort};
 ghost use Rattle.domain.specs.FactInCode.{fact_in_code};
-ghost use Rattle.facts.specs.References.{stepped, targets};
-ghost use Rattle.facts.specs.Operations.{outcomes_of};
-ghost use Rattle.facts.specs.Shaped.{HaveFewTerms};
+ghost use Rattle.transfer.specs.References.{stepped, targets};
+ghost use Rattle.transfer.specs.Operations.{outcomes_of};
+ghost use Rattle.transfer.specs.Shaped.{HaveFewTerms};
 ghost use Rattle.facts.specs.PlaceInCode.{place_in_code, meaning_in};
-ghost use Rattle.facts.specs.OutcomesInCode.{outcome_in, outcomes_in};
+ghost use Rattle.transfer.specs.OutcomesInCode.{outcome_in, outcomes_in};
 
 use crate::instructions::steps_pointer;
-use crate::outcomes::{Outcome, Outcomes};
 use crate::place::Place;
-use crate::sets::single_target;
 use domain::SumFact;
 use instruct::{DeviceOperation, Instruction, Operation, decode, halts, refers_indirectly, target};
 use std::alloc::Allocator;
+use transfer::{Outcome, Outcomes, single_target};
 use word12::Word;
 use wordset::WordSet;
 

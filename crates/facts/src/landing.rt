@@ -16,10 +16,11 @@ ghost use Rattle.facts.specs.PlaceInCode.{place_in_code};
 use crate::known::KnownFact;
 use crate::parts::{LinkPart, Part};
 use crate::place::Place;
-use crate::rooms::{Fact, NextFact};
+use crate::rooms::Fact;
 use crate::source::FactSource;
 use domain::{CellSet, Location, Rules, SumFact};
 use std::alloc::Allocator;
+use transfer::NextFact;
 use word12::Link;
 use wordset::WordSet;
 

@@ -3,13 +3,11 @@
 
 ghost use Rattle.facts.specs.Access.{CallsAreForeseen, ReadsAreForeseen, WordsAreForeseen, WritesAreForeseen};
 ghost use Rattle.facts.specs.Laws.{EntailedFactsHold, IdleNeverHolds, JoinedHolds, OneLandedHolds, StepLaw};
-ghost use Rattle.facts.specs.Shaped.{NarrowingKeepsShape};
+ghost use Rattle.transfer.specs.Shaped.{NarrowingKeepsShape};
 ghost use Rattle.facts.specs.Starts.{StartFactHolds, StartsAreExact, StartsLand};
 
-mod additions;
 mod asked;
 mod assertions;
-mod carrying;
 mod conditions;
 mod dispatch;
 mod entailment;
@@ -17,19 +15,14 @@ mod instructions;
 mod known;
 mod landing;
 mod memory;
-mod operations;
-mod outcomes;
 mod parts;
 mod place;
 mod references;
 mod registers;
 mod rooms;
-mod sets;
-mod skipping;
 mod source;
 mod start_fact;
 mod starts;
-mod stores;
 
 pub use domain::{
     BriefSet, CellSet, CellSets, Chain, Location, Relation, Relations, ReturnOffsets, Rules, Step,
@@ -38,12 +31,9 @@ pub use domain::{
 pub use entailment::Allowed;
 pub use known::KnownFact;
 pub use landing::{LandingRooms, cells_told};
-pub use outcomes::{Kind, Outcome, Outcomes};
 pub use parts::{LinkPart, Part};
 pub use place::Place;
-pub use rooms::{
-    ChosenFact, Fact, MetFact, NarrowedFact, NextFact, PartFact, SteppedFact, TestedFact,
-};
+pub use rooms::{ChosenFact, Fact, MetFact, NarrowedFact, PartFact};
 pub use source::FactSource;
 pub use start_fact::StartFact;
 pub use starts::{StartPart, start_part};

@@ -9,19 +9,19 @@ ghost use Rattle.domain.specs.CellsInCode.{cell_sets_of};
 ghost use Rattle.domain.specs.RelationsInCode.{relations_of};
 ghost use Rattle.domain.specs.ChainsInCode.{AreShort};
 ghost use Rattle.domain.specs.FactInCode.{fact_in_code, rules_of};
-ghost use Rattle.facts.specs.Shaped.{has_last_or_other};
-ghost use Rattle.facts.specs.Outcomes.{anded, chains_after_and, tad, isz_case, dca_case, deposited, moved, stored_by, jmp, call};
-ghost use Rattle.facts.specs.Shaped.{HaveFewTerms};
+ghost use Rattle.transfer.specs.Shaped.{has_last_or_other};
+ghost use Rattle.transfer.specs.Outcomes.{anded, chains_after_and, tad, isz_case, dca_case, deposited, moved, stored_by, jmp, call};
+ghost use Rattle.transfer.specs.Shaped.{HaveFewTerms};
 ghost use Rattle.facts.specs.PlaceInCode.{place_in_code};
-ghost use Rattle.facts.specs.OutcomesInCode.{outcome_in};
+ghost use Rattle.transfer.specs.OutcomesInCode.{outcome_in};
 
-use crate::additions::{put_added, put_added_under};
-use crate::outcomes::{Outcome, is_alive};
 use crate::place::Place;
-use crate::sets::has_some;
-use crate::stores::{put_begun_longer, put_copied, put_stored};
 use domain::{Location, ReturnOffsets, Rules, Step, SumFact};
 use std::alloc::Allocator;
+use transfer::{
+    Outcome, has_some, is_alive, put_added, put_added_under, put_begun_longer, put_copied,
+    put_stored,
+};
 use word12::{Link, Word};
 use wordset::WordSet;
 

@@ -17,10 +17,11 @@ ghost use Rattle.facts.specs.PartInCode.{part_in_code};
 ghost use Rattle.facts.specs.PlaceInCode.{place_in_code};
 
 use crate::place::Place;
-use crate::rooms::{ChosenFact, Fact, MetFact, NextFact, PartFact};
+use crate::rooms::{ChosenFact, Fact, MetFact, PartFact};
 use crate::source::FactSource;
 use domain::{CellSet, Location, SumFact};
 use std::alloc::Allocator;
+use transfer::NextFact;
 use word12::Link;
 use wordset::{Links, WordSet};
 

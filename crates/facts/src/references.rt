@@ -10,15 +10,15 @@ ghost use Rattle.domain.specs.CellsInCode.{cell_sets_of};
 ghost use Rattle.domain.specs.RelationsInCode.{relations_of};
 ghost use Rattle.domain.specs.FactInCode.{fact_in_code};
 ghost use Rattle.domain.specs.Moves.{counted};
-ghost use Rattle.facts.specs.References.{own_words, words_in, possible, targets, words_at, is_fixed, are_fixed, one_target, operand_term};
-ghost use Rattle.facts.specs.Shaped.{term_if};
+ghost use Rattle.transfer.specs.References.{own_words, words_in, possible, targets, words_at, is_fixed, are_fixed, one_target, operand_term};
+ghost use Rattle.transfer.specs.Shaped.{term_if};
 ghost use Rattle.facts.specs.PlaceInCode.{place_in_code};
 
 use crate::instructions::steps_pointer;
 use crate::place::Place;
-use crate::sets::{put_one, word_of};
 use domain::{Location, SumFact, Term};
 use std::alloc::Allocator;
+use transfer::{put_one, word_of};
 use word12::Word;
 use wordset::WordSet;
 

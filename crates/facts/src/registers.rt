@@ -15,19 +15,19 @@ ghost use Rattle.domain.specs.CellsInCode.{cell_sets_of};
 ghost use Rattle.domain.specs.RelationsInCode.{relations_of};
 ghost use Rattle.domain.specs.ChainsInCode.{AreShort};
 ghost use Rattle.domain.specs.FactInCode.{fact_in_code};
-ghost use Rattle.facts.specs.Outcomes.{ac_of, goes, with_mq};
-ghost use Rattle.facts.specs.Operations.{all_operated1, all_operated2, operated2, operated3, device_outcomes};
-ghost use Rattle.facts.specs.Shaped.{HaveFewTerms};
+ghost use Rattle.transfer.specs.Outcomes.{ac_of, goes, with_mq};
+ghost use Rattle.transfer.specs.Operations.{all_operated1, all_operated2, operated2, operated3, device_outcomes};
+ghost use Rattle.transfer.specs.Shaped.{HaveFewTerms};
 ghost use Rattle.facts.specs.PlaceInCode.{place_in_code};
-ghost use Rattle.facts.specs.OutcomesInCode.{outcome_in, outcomes_in};
+ghost use Rattle.transfer.specs.OutcomesInCode.{outcome_in, outcomes_in};
 
-use crate::operations::{put_all_operated, put_branch, put_operated_under};
-use crate::outcomes::{Outcome, Outcomes, is_alive};
 use crate::place::Place;
-use crate::rooms::TestedFact;
 use domain::{Location, Rules, SumFact};
 use instruct::DeviceOperation;
 use std::alloc::Allocator;
+use transfer::{
+    Outcome, Outcomes, TestedFact, is_alive, put_all_operated, put_branch, put_operated_under,
+};
 use word12::{Link, Word};
 use wordset::WordSet;
 

@@ -12,15 +12,6 @@ pub type Fact = SumFact<64, 32>;
 /// of equations.
 pub type NarrowedFact = SumFact<132, 68>;
 
-/// Room for such a fact after the pointer of a reference was counted up.
-pub type SteppedFact = SumFact<133, 68>;
-
-/// Room for a fact that is narrowed once more, after the test of a skip.
-pub type TestedFact = SumFact<273, 140>;
-
-/// Room for the fact of an outcome.
-pub type NextFact = SumFact<278, 140>;
-
 /// Room for a part of an outcome: the fact of one link, narrowed.
 pub type PartFact = SumFact<632, 352>;
 

@@ -6,7 +6,7 @@ use Rattle.domain.specs.Facts.{Fact}
 use Rattle.domain.specs.ChainsInCode.{chain_of, AreShort}
 use Rattle.domain.specs.FactInCode.{fact_in_code}
 use Rattle.domain.specs.declared.sum_fact.SumFact.{SumFact}
-use Rattle.facts.specs.Shaped.{HaveFewTerms}
+use Rattle.transfer.specs.Shaped.{HaveFewTerms}
 use Rattle.fixpoint.specs.Asked.{MayBeAsked}
 
 pub few_chains : (f : SumFact 64 32) → MayBeAsked f → length f.chains.items ≡ 0

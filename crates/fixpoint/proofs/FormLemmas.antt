@@ -13,10 +13,10 @@ use Rattle.domain.specs.Locations.{Location, Ac, Cell}
 use Rattle.domain.specs.TrackedCells.{TrackedCell}
 use Rattle.domain.specs.Terms.{Term, Holding, name_of_term}
 use Rattle.domain.specs.Facts.{Relation}
-use Rattle.certificate.specs.declared.Version.TheVariants.{One, Two}
-use Rattle.certificate.specs.RisingLists.{EndsBefore}
-use Rattle.certificate.specs.LineOf.{is_relation}
-use Rattle.certificate.proofs.SumReadLemmas.{difference_formed}
+use Rattle.certificate_lines.specs.declared.Version.TheVariants.{One, Two}
+use Rattle.certificate_lines.specs.RisingLists.{EndsBefore}
+use Rattle.certificate_lines.specs.LineOf.{is_relation}
+use Rattle.certificate_lines.proofs.SumReadLemmas.{difference_formed}
 use Rattle.fixpoint.specs.Form.{IsBehind, IsCellBehind, IsCellLine, IsDifference, IsName, HasOneWord, IsEquationLine, IsInForm}
 
 -- A cell that has a word is of the form of a line.

@@ -2,7 +2,7 @@
 use Rattle.std.specs.Prelude.{◌≡◌, []}
 use Rattle.domain.specs.FactInCode.{fact_in_code}
 use Rattle.domain.specs.declared.sum_fact.SumFact.{SumFact}
-use Rattle.facts.specs.Shaped.{HaveFewTerms}
+use Rattle.transfer.specs.Shaped.{HaveFewTerms}
 
 -- The fact's relations have few terms each, and it has no chains.
 pub record MayBeAsked (f : SumFact 64 32) : Type 0 where

@@ -1,7 +1,7 @@
 //! Whether what is kept is of the form that the text of a certificate wants.
 
 ghost use Rattle.std.specs.Prelude.{◌≡◌, true, map};
-ghost use Rattle.certificate.specs.RisingLists.{Each, RiseFrom};
+ghost use Rattle.certificate_lines.specs.RisingLists.{Each, RiseFrom};
 ghost use Rattle.wordset.specs.Lanes.{words};
 ghost use Rattle.domain.specs.LocationsInCode.{location_of};
 ghost use Rattle.domain.specs.Brief.{brief_words};
@@ -9,13 +9,13 @@ ghost use Rattle.domain.specs.InCode.{sum_of, term_of};
 ghost use Rattle.domain.specs.Offsets.{offsets_in};
 ghost use Rattle.domain.specs.RelationsInCode.{relation_of};
 ghost use Rattle.fixpoint.specs.Claimed.{cell_of};
-ghost use Rattle.certificate.specs.LineOf.{most_offsets};
-ghost use Rattle.certificate.specs.Laws.{MqFits};
+ghost use Rattle.certificate_lines.specs.LineOf.{most_offsets};
+ghost use Rattle.certificate_lines.specs.Laws.{MqFits};
 ghost use Rattle.fixpoint.specs.Form.{IsAfter, IsCellLine, sum_if, IsName, IsBehind, IsCellBehind, IsDifference, HasOneWord, IsEquationLine, IsInForm, AreBelow, SumsRise, HasWords, AreCellLines, AreRelationLines, IsFactInForm};
 
 use crate::invariant::{CellInvariant, Invariant, MOST_CELLS, MOST_RELATIONS};
 use crate::sums::{is_before, is_left_of};
-use certificate::Version;
+use certificate_lines::Version;
 use domain::{BriefSet, Location, Relation, ReturnOffsets, Sum, Term};
 use std::alloc::Allocator;
 use wordset::WordSet;

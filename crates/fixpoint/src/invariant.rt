@@ -4,7 +4,7 @@ ghost use Rattle.std.specs.Prelude.{◌≡◌, ◌≤◌, ◌+◌, ◌++◌, [],
 ghost use Rattle.domain.specs.CellsInCode.{cell_sets_of};
 ghost use Rattle.domain.specs.RelationsInCode.{relation_of, relations_of};
 ghost use Rattle.domain.specs.FactInCode.{fact_in_code};
-ghost use Rattle.facts.specs.Shaped.{HaveFewTerms};
+ghost use Rattle.transfer.specs.Shaped.{HaveFewTerms};
 ghost use Rattle.fixpoint.specs.Asked.{MayBeAsked};
 ghost use Rattle.fixpoint.specs.Claimed.{cell_of, cells_of, said_of, said_in};
 

@@ -8,9 +8,10 @@ use crate::widening::Limits;
 use bin_tape::Image;
 use declaration::{Declaration, Owner, Subject};
 use domain::Rules;
-use facts::{Fact, Outcomes, Place};
+use facts::{Fact, Place};
 use instruct::{Instruction, decode, halts, refers_indirectly, target};
 use std::alloc::Allocator;
+use transfer::Outcomes;
 use word12::Word;
 use wordset::WordSet;
 

@@ -2,7 +2,7 @@
 
 use crate::making::MOST_ROUTINES;
 use crate::table::Candidate;
-use certificate::RoutineClaim;
+use certificate_lines::RoutineClaim;
 use declaration::Declaration;
 use std::alloc::Allocator;
 use word12::Word;

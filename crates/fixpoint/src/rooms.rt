@@ -2,8 +2,9 @@
 
 use crate::halt::Halt;
 use domain::{Rules, SumFact};
-use facts::{Fact, Outcomes};
+use facts::Fact;
 use std::alloc::Allocator;
+use transfer::Outcomes;
 use wordset::WordSet;
 
 /// Room for what holds after a call: what is told of the cells and relations of two facts.

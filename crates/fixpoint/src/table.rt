@@ -8,7 +8,7 @@ use crate::halt::Halt;
 use crate::invariant::Invariant;
 use crate::known::Known;
 use crate::widening::{Limits, Pace};
-use certificate::RoutineClaim;
+use certificate_lines::RoutineClaim;
 use facts::{Fact, KnownFact};
 use std::alloc::Allocator;
 use std::collections::BTreeMap;

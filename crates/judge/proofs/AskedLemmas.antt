@@ -11,14 +11,14 @@ use Rattle.declaration.specs.Declaration.{Routine, IsDeclared}
 use Rattle.domain.specs.Facts.{Fact, Place, Rules, OfEquations, OfSums}
 use Rattle.domain.specs.Adding.{is_void}
 use Rattle.domain.specs.Narrowing.{narrowed}
-use Rattle.facts.specs.References.{possible}
+use Rattle.transfer.specs.References.{possible}
 use Rattle.facts.specs.Landing.{fact_at}
 use Rattle.facts.proofs.SplitLemmas.{fact_dropped}
 use Rattle.facts.specs.declared.Condition.{Condition}
 use Rattle.facts.specs.declared.Condition.TheVariants.{V1, V2, V3, V16}
 use Rattle.facts.specs.Conditions.{EachIsHeldBy}
 use Rattle.wordset.proofs.Tests.{or_right, none_of_some}
-use Rattle.certificate.specs.Certificate.{has_any, has_exits}
+use Rattle.certificate_lines.specs.Certificate.{has_any, has_exits}
 use Rattle.judge.specs.ConditionOrder.{place_among}
 use Rattle.judge.specs.FewWords.{asks_few}
 use Rattle.judge.proofs.WordLemmas.{count_one}

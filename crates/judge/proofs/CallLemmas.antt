@@ -14,7 +14,7 @@ use Rattle.facts.specs.Conditions.{called}
 use Rattle.facts.specs.Entailment.{Lands}
 use Rattle.facts.specs.Landing.{fact_at}
 use Rattle.facts.proofs.SplitLemmas.{fact_dropped}
-use Rattle.certificate.specs.Certificate.{Certificate, has_any, writes_of}
+use Rattle.certificate_lines.specs.Certificate.{Certificate, has_any, writes_of}
 use Rattle.judge.specs.Landing.{Case, place_in, sites_of, sited, LandsAt, LandsAtExit, LandsAfter, EachLandsAfter, called_from}
 use Rattle.judge.specs.Conditions.{EachTarget, KeepsPointer, CoversCallee, MayReturn, ReturnsWell}
 use Rattle.judge.specs.Callees.{LandsBy, LandsWith, ReturnsBy, ReturnsThrough}

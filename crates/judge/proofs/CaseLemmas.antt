@@ -12,14 +12,14 @@ use Rattle.domain.specs.Facts.{Fact, Place, Rules, OfEquations, OfSums}
 use Rattle.facts.specs.Conditions.{EachIsHeldBy}
 use Rattle.facts.specs.Landing.{fact_at}
 use Rattle.facts.proofs.SplitLemmas.{fact_dropped}
-use Rattle.certificate.specs.Certificate.{has_any}
+use Rattle.certificate_lines.specs.Certificate.{has_any}
 use Rattle.domain.specs.Adding.{is_void}
 use Rattle.domain.specs.CellsInCode.{cell_sets_of}
 use Rattle.domain.specs.RelationsInCode.{relations_of}
 use Rattle.domain.specs.Chains.{Chain}
 use Rattle.domain.specs.ChainsInCode.{chain_of, AreShort}
 use Rattle.domain.specs.FactInCode.{fact_in_code}
-use Rattle.facts.specs.Shaped.{HaveFewTerms}
+use Rattle.transfer.specs.Shaped.{HaveFewTerms}
 use Rattle.domain.specs.Narrowing.{narrowed}
 use Rattle.domain.specs.declared.sum_fact.SumFact.{SumFact}
 use Rattle.facts.proofs.KeepingLemmas.{narrowed_few, narrowed_short, narrowed_chains}

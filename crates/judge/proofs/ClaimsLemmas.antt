@@ -4,17 +4,17 @@ use Rattle.std.specs.Prelude.{nat_le}
 use Rattle.std.specs.List.{list_all}
 use Rattle.std.proofs.lemmas.Bool.{true≢false, and_parts}
 use Rattle.wordset.specs.Words.{nothing}
-use Rattle.certificate.specs.FieldSpelling.{RoutineLine}
-use Rattle.certificate.specs.RisingLists.{Each}
-use Rattle.certificate.specs.LineOf.{is_relation, is_summand}
-use Rattle.certificate.specs.Lines.{Line}
-use Rattle.certificate.specs.Reading.{routine_at, is_listed, rank_in, sites_in, writes_in}
-use Rattle.certificate.specs.Kept.{Follows, HasShape as IsShaped}
+use Rattle.certificate_lines.specs.FieldSpelling.{RoutineLine}
+use Rattle.certificate_lines.specs.RisingLists.{Each}
+use Rattle.certificate_lines.specs.LineOf.{is_relation, is_summand}
+use Rattle.certificate_lines.specs.Lines.{Line}
+use Rattle.certificate_lines.specs.Reading.{routine_at, is_listed, rank_in, sites_in, writes_in}
+use Rattle.certificate_lines.specs.Kept.{Follows, HasShape as IsShaped}
 use Rattle.domain.specs.Chains.{Chain}
 use Rattle.domain.specs.ChainsInCode.{AreShort}
 use Rattle.domain.specs.Facts.{Fact, Relation}
 use Rattle.domain.specs.Shapes.{has_shape}
-use Rattle.facts.specs.Shaped.{HaveFewTerms}
+use Rattle.transfer.specs.Shaped.{HaveFewTerms}
 use Rattle.facts.specs.Landing.{fact_at}
 use Rattle.facts.proofs.KeepingLemmas.{shape_few}
 use Rattle.facts.proofs.SplitLemmas.{fact_dropped}

@@ -14,10 +14,10 @@ use Rattle.domain.specs.Laws.{IsBegun}
 use Rattle.facts.specs.States.{IsState}
 use Rattle.facts.specs.declared.Condition.{Condition}
 use Rattle.facts.specs.declared.Condition.TheVariants.{V3, V4, V5, V6, V7, V8, V9, V10, V11, V12, V13, V14, V15, V16}
-use Rattle.facts.specs.References.{possible}
+use Rattle.transfer.specs.References.{possible}
 use Rattle.facts.proofs.WordLemmas.{or_left, or_right, some_from}
 use Rattle.domain.proofs.NarrowingLemmas.{narrowed_holds, void_never_holds}
-use Rattle.certificate.specs.Certificate.{has_any, has_exits, claimed}
+use Rattle.certificate_lines.specs.Certificate.{has_any, has_exits, claimed}
 use Rattle.judge.specs.Landing.{Case, place_in, sited, sites_of, facts_in, exits_of, asked, asked_at}
 use Rattle.judge.specs.Conditions.{EachFact, HoldsFor, HoldsForWords, HoldsForEach, IsValid}
 

@@ -12,7 +12,7 @@ use Rattle.facts.specs.Instructions.{MayWrite}
 use Rattle.facts.specs.States.{IsState, TopIsEntry}
 use Rattle.facts.specs.Laws.{KeepsOutside, KeepsReturns}
 use Rattle.facts.proofs.StateLemmas.{updated_other}
-use Rattle.certificate.specs.Certificate.{writes_of}
+use Rattle.certificate_lines.specs.Certificate.{writes_of}
 use Rattle.judge.specs.Landing.{Case, place_in, LandsAfter}
 
 module _ (j : Case) (start : Cells) where

@@ -17,8 +17,8 @@ use Rattle.domain.specs.Laws.{IsBegun}
 use Rattle.domain.proofs.Numbers.{plus_lt}
 use Rattle.facts.specs.Instructions.{is_jump}
 use Rattle.facts.specs.States.{IsState, IsOrdinary}
-use Rattle.facts.specs.Outcomes.{Successor, Goes, CallsTo, Returns}
-use Rattle.facts.specs.Operations.{outcomes_of}
+use Rattle.transfer.specs.Outcomes.{Successor, Goes, CallsTo, Returns}
+use Rattle.transfer.specs.Operations.{outcomes_of}
 use Rattle.facts.specs.Conditions.{may_write}
 use Rattle.facts.specs.Entailment.{Lands}
 use Rattle.facts.specs.Laws.{LandsIn, SomeOutcome, KeepsReturns}

@@ -22,7 +22,7 @@ use Rattle.facts.proofs.AssertedLemmas.{asserted_so}
 use Rattle.facts.proofs.LandedLemmas.{one_landed_holds}
 use Rattle.facts.proofs.StartedLemmas.{start_is_begun, start_fact_holds}
 use Rattle.facts.proofs.StepLemmas.{NamesWord, meaning_names, Accessed}
-use Rattle.certificate.specs.Certificate.{claimed}
+use Rattle.certificate_lines.specs.Certificate.{claimed}
 use Rattle.judge.specs.Landing.{Case, place_in, exits_of, asked, LandsAt}
 use Rattle.judge.specs.Conditions.{MayReturn, IsValid}
 use Rattle.judge.proofs.Fine.{OneOf, one_of, asked_means, each_in, is_exit_line, Fine}

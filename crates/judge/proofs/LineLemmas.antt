@@ -10,7 +10,7 @@ use Rattle.facts.specs.Entailment.{Lands}
 use Rattle.facts.specs.Starts.{start_fact}
 use Rattle.facts.specs.declared.Condition.{Condition}
 use Rattle.facts.specs.declared.Condition.TheVariants.{V1, V2, V16}
-use Rattle.certificate.specs.Certificate.{Certificate, has_any, has_exits, claimed, names_routine}
+use Rattle.certificate_lines.specs.Certificate.{Certificate, has_any, has_exits, claimed, names_routine}
 use Rattle.judge.specs.ConditionOrder.{place_among}
 use Rattle.judge.specs.Landing.{Case, place_in, facts_in}
 use Rattle.judge.specs.Conditions.{HoldsAt, EachFact, ExitsAreHeld, IsPlaced, IsOfMain, IsOfRoutine, HasSites, LinesArePlaced}

@@ -3,7 +3,7 @@ use Rattle.std.proofs.Common.{◌≡◌, ℕ, ◌+◌, ◌*◌, ◌<◌, ◌≤�
 use Rattle.std.specs.Prelude.{if◌then◌else◌, ◌||◌, ◌↔◌, IsTrue, MatchOption}
 use Rattle.std.proofs.lemmas.Bool.{cases_order, cases_lt, true≢false}
 use Rattle.wordset.specs.Words.{IsFirstFrom, HasNoneFrom}
-use Rattle.certificate.specs.Certificate.{Certificate, claimed, names_routine, has_any}
+use Rattle.certificate_lines.specs.Certificate.{Certificate, claimed, names_routine, has_any}
 use Rattle.facts.specs.declared.Condition.{Condition}
 use Rattle.facts.specs.declared.Condition.TheVariants.{V1, V2}
 use Rattle.judge.specs.ConditionOrder.{is_first_condition, place_among, order}

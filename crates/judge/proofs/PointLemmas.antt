@@ -13,12 +13,12 @@ use Rattle.wordset.proofs.Tests.{none_of_some}
 use Rattle.wordset.proofs.Firsts.{IsOnly, only_word}
 use Rattle.instruct.specs.Instructions.{Meaning, Jms, Jmp}
 use Rattle.facts.specs.Instructions.{is_call, is_jump}
-use Rattle.facts.specs.References.{stepped, targets}
-use Rattle.facts.specs.Outcomes.{Successor, Goes, CallsTo, Returns, alive, given}
-use Rattle.facts.specs.Operations.{outcomes_of}
+use Rattle.transfer.specs.References.{stepped, targets}
+use Rattle.transfer.specs.Outcomes.{Successor, Goes, CallsTo, Returns, alive, given}
+use Rattle.transfer.specs.Operations.{outcomes_of}
 use Rattle.facts.specs.PlaceInCode.{place_in_code}
 use Rattle.facts.specs.declared.place.Place.{Place as KeptPlace}
-use Rattle.certificate.specs.Certificate.{Certificate}
+use Rattle.certificate_lines.specs.Certificate.{Certificate}
 use Rattle.judge.specs.declared.point.Point.{Point}
 use Rattle.judge.specs.Landing.{Case, place_in, facts_in, sited, sites_of, LandsAt, LandsBeyond, EachSuccessor, SuccessorLands, as_main, abandons}
 use Rattle.judge.specs.Jumps.{SuccessorStays, SuccessorJumps, MayAbandon}

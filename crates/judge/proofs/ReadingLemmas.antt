@@ -8,10 +8,10 @@ use Rattle.declaration.specs.Declaration.{Declaration}
 use Rattle.declaration.specs.Text.{Declares, ListsRoutines}
 use Rattle.declaration.proofs.AnswerLemmas.{one_declaration}
 use Rattle.facts.specs.declared.Condition.{Condition}
-use Rattle.certificate.specs.Certificate.{Certificate}
-use Rattle.certificate.specs.Kept as certified
-use Rattle.certificate.specs.Reading.{Text, certificate_of, reading}
-use Rattle.certificate.specs.declared.CertificateFault.{CertificateFault}
+use Rattle.certificate_lines.specs.Certificate.{Certificate}
+use Rattle.certificate_lines.specs.Kept as certified
+use Rattle.certificate_lines.specs.Reading.{Text, certificate_of, reading}
+use Rattle.certificate_lines.specs.declared.CertificateFault.{CertificateFault}
 use Rattle.judge.specs.Landing.{Case}
 use Rattle.judge.specs.Conditions.{IsFirst, IsValid}
 use Rattle.judge.specs.Certifying.{Parts, AreRead, IsTapeOf, case_of, declaration_of}

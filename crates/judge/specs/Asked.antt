@@ -3,9 +3,9 @@ use Rattle.std.specs.Prelude.{◌≡◌, ℕ, ◌<◌, ◌≤◌, true, ◌⊎�
 use Rattle.wordset.specs.Words.{how_many}
 use Rattle.declaration.specs.Declaration.{Routine}
 use Rattle.domain.specs.Facts.{Fact}
-use Rattle.facts.specs.References.{possible}
+use Rattle.transfer.specs.References.{possible}
 use Rattle.facts.specs.declared.Condition.{Condition}
-use Rattle.certificate.specs.Certificate.{claimed, names_routine}
+use Rattle.certificate_lines.specs.Certificate.{claimed, names_routine}
 use Rattle.judge.specs.ConditionOrder.{place_among}
 use Rattle.judge.specs.FewWords.{asks_few}
 use Rattle.judge.specs.Landing.{Case, place_in, sited, sites_of, exits_of, asked}

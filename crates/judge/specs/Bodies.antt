@@ -3,7 +3,7 @@ use Rattle.std.specs.Prelude.{◌≡◌, ℕ, true, Some, None}
 use Rattle.wordset.specs.Lanes.{words}
 use Rattle.declaration.specs.Declaration.{Routine}
 use Rattle.domain.specs.Facts.{Fact, Rules}
-use Rattle.certificate.specs.Certificate.{Certificate, writes_of}
+use Rattle.certificate_lines.specs.Certificate.{Certificate, writes_of}
 use Rattle.judge.specs.Landing.{sites_of}
 use Rattle.judge.specs.Conditions.{IsOfMain, IsOfRoutine}
 use Rattle.judge.specs.declared.body.Body.{Body}

@@ -4,7 +4,7 @@ use Rattle.wordset.specs.Words.{Words}
 use Rattle.domain.specs.Brief.{brief_words}
 use Rattle.domain.specs.Facts.{OfEquations}
 use Rattle.domain.specs.FactInCode.{fact_in_code}
-use Rattle.certificate.specs.Certificate.{Certificate}
+use Rattle.certificate_lines.specs.Certificate.{Certificate}
 use Rattle.judge.specs.Landing.{with_sites, sited}
 use Rattle.judge.specs.Shapes.{HasShape}
 use Rattle.judge.specs.declared.cache.FactCache.{FactCache}

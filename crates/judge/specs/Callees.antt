@@ -6,7 +6,7 @@ use Rattle.domain.specs.Facts.{Fact}
 use Rattle.domain.specs.Moves.{joined}
 use Rattle.facts.specs.declared.Condition.{Condition}
 use Rattle.facts.specs.declared.Condition.TheVariants.{V7, V8, V9, V10, V11}
-use Rattle.certificate.specs.Certificate.{Certificate}
+use Rattle.certificate_lines.specs.Certificate.{Certificate}
 use Rattle.judge.specs.Landing.{Case, LandsAt, exits_of, called_from, EachLandsAfter, LandsAfter}
 use Rattle.judge.specs.Conditions.{MayCall, CoversCallee, IsSite, MayReturn}
 

@@ -7,9 +7,9 @@ use Rattle.declaration.specs.Kept as declared
 use Rattle.declaration.specs.Text.{Declares, Fails, ListsRoutines}
 use Rattle.declaration.specs.Declaration.{Declaration}
 use Rattle.declaration.specs.declared.DeclarationFault.TheVariants as declaration
-use Rattle.certificate.specs.Kept as certified
-use Rattle.certificate.specs.Reading.{Text, reading}
-use Rattle.certificate.specs.Serving.{AsksForMemory}
+use Rattle.certificate_lines.specs.Kept as certified
+use Rattle.certificate_lines.specs.Reading.{Text, reading}
+use Rattle.certificate_lines.specs.Serving.{AsksForMemory}
 use Rattle.processor.specs.Runs.{Image}
 use Rattle.judge.specs.Landing.{Case}
 use Rattle.judge.specs.Conditions.{IsFirst, IsValid}

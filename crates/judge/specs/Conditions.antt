@@ -6,11 +6,11 @@ use Rattle.processor.specs.Machine.{steps_pointer}
 use Rattle.declaration.specs.Declaration.{Routine}
 use Rattle.policy.specs.Rules.{IsSupported, HaltsDeclared}
 use Rattle.domain.specs.Facts.{Fact, Rules, OfEquations, OfSums, last_site}
-use Rattle.facts.specs.References.{possible, targets}
-use Rattle.facts.specs.Operations.{outcomes_of}
+use Rattle.transfer.specs.References.{possible, targets}
+use Rattle.transfer.specs.Operations.{outcomes_of}
 use Rattle.facts.specs.Conditions.{WritesAreDeclared, EntriesAreKept, WritesAreListed, ReadsAreListed, EachIsHeld, EachIsHeldBy}
 use Rattle.facts.specs.Starts.{start_fact}
-use Rattle.certificate.specs.Certificate.{Certificate, writes_of, claimed, has_exits}
+use Rattle.certificate_lines.specs.Certificate.{Certificate, writes_of, claimed, has_exits}
 use Rattle.judge.specs.Landing.{Case, place_in, asked, asked_at, exits_of, LandsAt, LandsAtExit, SuccessorLands, EachSuccessor, called_from, LandsAfter}
 use Rattle.judge.specs.ConditionOrder.{is_first_condition, order}
 use Rattle.facts.specs.declared.Condition.{Condition}

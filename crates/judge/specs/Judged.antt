@@ -2,7 +2,7 @@
 use Rattle.std.specs.Prelude.{List, Option, ℕ}
 use Rattle.peripherals.specs.Loading.{image_of}
 use Rattle.declaration.specs.Kept.{Kept, meaning}
-use Rattle.certificate.specs.Certificate.{Certificate}
+use Rattle.certificate_lines.specs.Certificate.{Certificate}
 use Rattle.judge.specs.Landing.{Case}
 use Rattle.judge.specs.declared.case.Case.{Case as KeptCase}
 

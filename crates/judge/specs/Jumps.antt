@@ -2,7 +2,7 @@
 use Rattle.std.specs.Prelude.{◌≡◌, ℕ, ◌<◌, Bool, true, false}
 use Rattle.instruct.specs.Instructions.{Meaning, Jmp}
 use Rattle.declaration.specs.Declaration.{Routine}
-use Rattle.facts.specs.Outcomes.{Successor, Goes, CallsTo, Returns}
+use Rattle.transfer.specs.Outcomes.{Successor, Goes, CallsTo, Returns}
 use Rattle.judge.specs.Landing.{Case, LandsAt, LandsBeyond, abandons}
 
 -- Where the run goes on in the same body, the outcome's fact lands.

@@ -8,9 +8,9 @@ use Rattle.domain.specs.Facts.{Fact, Place, Rules, OfEquations, OfSums}
 use Rattle.domain.specs.Adding.{is_void}
 use Rattle.domain.specs.Narrowing.{narrowed}
 use Rattle.domain.specs.Moves.{joined}
-use Rattle.facts.specs.Outcomes.{Successor, Goes, CallsTo, Returns}
+use Rattle.transfer.specs.Outcomes.{Successor, Goes, CallsTo, Returns}
 use Rattle.facts.specs.Entailment.{Lands, IsIdle}
-use Rattle.certificate.specs.Certificate.{Certificate, place_of}
+use Rattle.certificate_lines.specs.Certificate.{Certificate, place_of}
 
 -- What is judged: a tape's words, a declaration and a certificate.
 pub record Case : Type 0 where

@@ -5,9 +5,9 @@ use Rattle.wordset.specs.Lanes.{words}
 use Rattle.instruct.specs.Instructions.{meaning_of}
 use Rattle.domain.specs.Facts.{Fact}
 use Rattle.domain.specs.FactInCode.{fact_in_code, rules_of}
-use Rattle.facts.specs.References.{possible}
+use Rattle.transfer.specs.References.{possible}
 use Rattle.facts.specs.declared.Condition.{Condition}
-use Rattle.certificate.specs.Certificate.{Certificate, writes_of}
+use Rattle.certificate_lines.specs.Certificate.{Certificate, writes_of}
 use Rattle.judge.specs.Landing.{Case, place_in, sites_of}
 use Rattle.judge.specs.Conditions.{HoldsFor, HoldsForWords}
 use Rattle.judge.specs.Judged.{judged}

@@ -6,7 +6,7 @@ use Rattle.domain.specs.RelationsInCode.{relations_of}
 use Rattle.domain.specs.ChainsInCode.{AreShort}
 use Rattle.domain.specs.FactInCode.{fact_in_code}
 use Rattle.domain.specs.declared.sum_fact.SumFact.{SumFact}
-use Rattle.facts.specs.Shaped.{HaveFewTerms}
+use Rattle.transfer.specs.Shaped.{HaveFewTerms}
 
 -- A claimed fact's relations have few terms, and it has few chains, each with room for a step more.
 pub record HasShape (f : Fact) : Type 0 where

@@ -3,7 +3,7 @@ use Rattle.std.specs.Prelude.{List}
 use Rattle.wordset.specs.Words.{Words}
 use Rattle.wordset.specs.Lanes.{words}
 use Rattle.domain.specs.Facts.{Fact, Rules, OfEquations, OfSums}
-use Rattle.certificate.specs.Certificate.{Certificate}
+use Rattle.certificate_lines.specs.Certificate.{Certificate}
 use Rattle.judge.specs.Landing.{with_sites, sited}
 use Rattle.judge.specs.declared.sources.FactsAt.{FactsAt}
 use Rattle.judge.specs.declared.sources.ExitsFor.{ExitsFor}

@@ -2,12 +2,12 @@
 
 ghost use Rattle.std.specs.Prelude.{◌≡◌, ◌↔◌, None, Some, true, IsTrue};
 ghost use Rattle.domain.specs.FactInCode.{fact_in_code, rules_of};
-ghost use Rattle.certificate.specs.Certificate as said;
+ghost use Rattle.certificate_lines.specs.Certificate as said;
 ghost use Rattle.judge.specs.Conditions.{IsOfMain, IsOfRoutine};
 ghost use Rattle.judge.specs.Bodies.{Tells, IsOfBody};
 
 use crate::claims::Claims;
-use certificate::RoutineClaim;
+use certificate_lines::RoutineClaim;
 use domain::Rules;
 use facts::Fact;
 use word12::Word;

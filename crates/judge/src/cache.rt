@@ -3,7 +3,7 @@
 ghost use Rattle.std.specs.Prelude.{◌≡◌, None, Some, [], ◌∷◌, true, false, IsTrue};
 ghost use Rattle.wordset.specs.Lanes.{words};
 ghost use Rattle.domain.specs.FactInCode.{fact_in_code};
-ghost use Rattle.certificate.specs.Certificate as said;
+ghost use Rattle.certificate_lines.specs.Certificate as said;
 ghost use Rattle.judge.specs.Shapes.{HasShape};
 ghost use Rattle.judge.specs.Caches.{Shows, StandsAhead};
 

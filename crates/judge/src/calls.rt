@@ -14,10 +14,11 @@ ghost use Rattle.judge.specs.Points.{IsPoint, HoldsHere, case_of, fact_asked};
 use crate::claims::Claims;
 use crate::point::{Others, Point};
 use crate::sources::ExitsFor;
-use certificate::RoutineClaim;
+use certificate_lines::RoutineClaim;
 use domain::{ReturnOffsets, Rules};
-use facts::{Condition, FactSource, NextFact};
+use facts::{Condition, FactSource};
 use std::alloc::Allocator;
+use transfer::NextFact;
 use word12::Word;
 use wordset::WordSet;
 

@@ -5,12 +5,13 @@ ghost use Rattle.wordset.specs.Words.{nothing, HasNoneFrom, IsFirstFrom};
 ghost use Rattle.wordset.specs.Lanes.{words};
 ghost use Rattle.domain.specs.FactInCode.{fact_in_code, rules_of};
 ghost use Rattle.facts.specs.Landing.{fact_at};
-ghost use Rattle.certificate.specs.Certificate as said;
-ghost use Rattle.certificate.specs.Certificate.{names_routine, claimed, has_any};
-ghost use Rattle.certificate.specs.Kept.{claims};
+ghost use Rattle.certificate_lines.specs.Certificate as said;
+ghost use Rattle.certificate_lines.specs.Certificate.{names_routine, claimed, has_any};
+ghost use Rattle.certificate_lines.specs.Kept.{claims};
 ghost use Rattle.judge.specs.Shapes.{HasShape};
 
-use certificate::{Certificate, RoutineClaim, Version};
+use certificate::Certificate;
+use certificate_lines::{RoutineClaim, Version};
 use domain::Rules;
 use facts::Fact;
 use std::alloc::Allocator;

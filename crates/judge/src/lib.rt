@@ -20,7 +20,7 @@ mod words;
 pub use body::Body;
 pub use cache::FactCache;
 pub use case::{Case, Rooms, put_asked};
-pub use certificate::RoutineClaim;
+pub use certificate_lines::RoutineClaim;
 pub use claims::Claims;
 pub use facts::Condition;
 pub use judging::{Refusal, judge};

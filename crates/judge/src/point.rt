@@ -14,8 +14,9 @@ use crate::claims::Claims;
 use bin_tape::Image;
 use declaration::Declaration;
 use domain::{Rules, SumFact};
-use facts::{Fact, LandingRooms, NextFact, Outcomes, Place};
+use facts::{Fact, LandingRooms, Place};
 use std::alloc::{AllocError, Allocator};
+use transfer::{NextFact, Outcomes};
 use word12::Word;
 
 /// Room for further facts, with which the one at an address is compared or which come of it. The large ones have memory of

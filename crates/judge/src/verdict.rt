@@ -6,8 +6,8 @@ ghost use Rattle.bin_tape.specs.declared.fault.TapeFault.{TapeFault as TapesFaul
 ghost use Rattle.declaration.specs.Text.{Fails};
 ghost use Rattle.declaration.specs.declared.DeclarationFault.{DeclarationFault as DeclarationsFault};
 ghost use Rattle.declaration.specs.declared.DeclarationFault.TheVariants as declaration_fault;
-ghost use Rattle.certificate.specs.declared.CertificateFault.{CertificateFault as CertificatesFault};
-ghost use Rattle.certificate.specs.Reading.{Text, reading};
+ghost use Rattle.certificate_lines.specs.declared.CertificateFault.{CertificateFault as CertificatesFault};
+ghost use Rattle.certificate_lines.specs.Reading.{Text, reading};
 ghost use Rattle.judge.specs.declared.judging.Refusal.{Refusal as Refusals};
 ghost use Rattle.judge.specs.declared.verdict.CertifyFault.TheVariants as fault;
 ghost use Rattle.peripherals.specs.World.{view, profile_of};
@@ -19,7 +19,8 @@ ghost use Rattle.judge.specs.Certifying.{AreRead, AreValid, FailFirst, IsRefused
 use crate::case::Rooms;
 use crate::judging::{Refusal, judge};
 use bin_tape::{Image, TapeFault, read_tape};
-use certificate::{Certificate, CertificateFault};
+use certificate::Certificate;
+use certificate_lines::CertificateFault;
 use declaration::{Declaration, DeclarationFault};
 use peripherals::{Event, NoMemory, Start, World};
 use policy::run_declared;

@@ -6,10 +6,11 @@ use crate::fixtures::{
 };
 use analyser::{GuessFault, Turns, guess_within};
 use bin_tape::Image;
-use certificate::{Certificate, Version};
+use certificate::Certificate;
+use certificate_lines::Version;
 use declaration::Declaration;
 use domain::{Chain, Location, ReturnOffsets, Rules, Step, Sum, Summand, Term};
-use facts::{Fact, NextFact, Place};
+use facts::{Fact, Place};
 use instruct::Profile;
 use judge::{Claims, certify};
 use pal_asm::{assemble, translate};
@@ -18,6 +19,7 @@ use peripherals::Start;
 use proposer::{Verdict, propose};
 use std::alloc::Global;
 use std::test::Fail;
+use transfer::NextFact;
 use word12::{Link, Word};
 use wordset::{Links, WordSet};
 

@@ -2,7 +2,8 @@
 
 use crate::fixtures::{HELLO_CERTIFICATE, HELLO_TAPE, HELLO_WORDS, SEVERAL, image};
 use bin_tape::{ByteSource, Failed, TapeFault, read_from, read_tape};
-use certificate::{Certificate, CertificateFault};
+use certificate::Certificate;
+use certificate_lines::CertificateFault;
 use std::alloc::Global;
 use testing::memory::MemorySource;
 

@@ -6,7 +6,8 @@ use crate::fixtures::{
     rounds, word,
 };
 use analyser::{GuessFault, guess};
-use certificate::{Certificate, CertificateFault};
+use certificate::Certificate;
+use certificate_lines::CertificateFault;
 use declaration::{Declaration, DeclarationFault};
 use instruct::Profile;
 use judge::{CertifyFault, certify};

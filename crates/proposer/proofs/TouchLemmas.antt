@@ -14,9 +14,9 @@ use Rattle.domain.specs.Facts.{Fact, Place, Rules, OfEquations, OfSums}
 use Rattle.domain.specs.FactInCode.{nothing_known}
 use Rattle.facts.specs.Landing.{fact_at}
 use Rattle.facts.specs.PlaceInCode.{meaning_in}
-use Rattle.facts.specs.References.{possible}
+use Rattle.transfer.specs.References.{possible}
 use Rattle.facts.proofs.SplitLemmas.{fact_dropped}
-use Rattle.certificate.specs.Certificate.{Certificate}
+use Rattle.certificate_lines.specs.Certificate.{Certificate}
 use Rattle.judge.specs.Asked.{asked_of}
 use Rattle.judge.specs.Conditions.{HasSites, IsPlaced}
 use Rattle.judge.specs.Landing.{Case, place_in, sites_of}

@@ -5,7 +5,7 @@ use Rattle.declaration.specs.Declaration.{Routine}
 use Rattle.domain.specs.Facts.{Fact, Place}
 use Rattle.facts.specs.Conditions.{may_read}
 use Rattle.facts.specs.PlaceInCode.{meaning_in}
-use Rattle.facts.specs.References.{possible}
+use Rattle.transfer.specs.References.{possible}
 use Rattle.judge.specs.Landing.{Case, asked_at, place_in}
 
 -- Some fact of the list has the property.

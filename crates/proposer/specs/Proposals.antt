@@ -6,8 +6,8 @@ use Rattle.declaration.specs.Declaration.{IsDeclared}
 use Rattle.declaration.specs.Kept.{Kept, meaning, routines_of}
 use Rattle.declaration.specs.Text.{Declares, ListsRoutines}
 use Rattle.policy.specs.Runs.{IsSafe}
-use Rattle.certificate.specs.Kept as certified
-use Rattle.certificate.specs.Reading.{Text}
+use Rattle.certificate_lines.specs.Kept as certified
+use Rattle.certificate_lines.specs.Reading.{Text}
 use Rattle.certificate.specs.Exact.{AreLines}
 use Rattle.judge.specs.Conditions.{IsValid}
 use Rattle.judge.specs.Judged.{judged}

@@ -7,8 +7,8 @@ use Rattle.domain.specs.Facts.{Fact, Place}
 use Rattle.facts.specs.Conditions.{may_read, may_write}
 use Rattle.facts.specs.Landing.{fact_at}
 use Rattle.facts.specs.PlaceInCode.{meaning_in}
-use Rattle.facts.specs.References.{possible}
-use Rattle.certificate.specs.Certificate.{Certificate}
+use Rattle.transfer.specs.References.{possible}
+use Rattle.certificate_lines.specs.Certificate.{Certificate}
 use Rattle.judge.specs.Asked.{asked_of}
 use Rattle.judge.specs.Landing.{Case, asked_at, place_in}
 use Rattle.proposer.specs.Needed.{SomeFact}

@@ -4,7 +4,7 @@
 ghost use Rattle.std.specs.Prelude.{ℕ, ◌≡◌, ◌≢◌, ◌≤◌, List, Option, IfOk, IfErr, None, is_some, true};
 ghost use Rattle.analyser.specs.Versions.{IsVersionFor};
 ghost use Rattle.turns.specs.declared.GuessFault.TheVariants as guess_fault;
-ghost use Rattle.certificate.specs.Kept as certified;
+ghost use Rattle.certificate_lines.specs.Kept as certified;
 ghost use Rattle.certificate.specs.Exact.{AreLines};
 ghost use Rattle.declaration.specs.Kept.{Kept, meaning, routines_of};
 ghost use Rattle.declaration.specs.Text.{Declares, ListsRoutines};

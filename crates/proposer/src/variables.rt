@@ -4,7 +4,7 @@ ghost use Rattle.std.specs.Prelude.{ℕ, ◌≡◌, ◌<◌, ◌↔◌, ◌&&◌
 ghost use Rattle.wordset.specs.Lanes.{words};
 ghost use Rattle.domain.specs.FactInCode.{fact_in_code};
 ghost use Rattle.facts.specs.PlaceInCode.{meaning_in, place_in_code};
-ghost use Rattle.certificate.specs.Kept.{claims};
+ghost use Rattle.certificate_lines.specs.Kept.{claims};
 ghost use Rattle.judge.specs.Bodies.{Tells};
 ghost use Rattle.judge.specs.Judged.{case_kept, judged};
 ghost use Rattle.proposer.specs.Needed.{ReadsAreNeeded};

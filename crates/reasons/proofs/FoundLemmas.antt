@@ -8,11 +8,11 @@ use Rattle.declaration.specs.Declaration.{Routine, IsDeclared, IsListed}
 use Rattle.domain.specs.Facts.{Fact}
 use Rattle.facts.specs.Instructions.{calls_through_index, returned_through}
 use Rattle.facts.specs.Conditions.{called}
-use Rattle.facts.specs.Operations.{outcomes_of}
-use Rattle.facts.specs.Outcomes.{Successor, Goes, CallsTo, Returns}
+use Rattle.transfer.specs.Operations.{outcomes_of}
+use Rattle.transfer.specs.Outcomes.{Successor, Goes, CallsTo, Returns}
 use Rattle.facts.specs.declared.Condition.{Condition}
 use Rattle.facts.specs.declared.Condition.TheVariants.{V1, V2, V3, V4, V5, V6, V7, V8, V9, V10, V11, V12, V13, V14, V15, V16}
-use Rattle.certificate.specs.Certificate.{Certificate, has_exits}
+use Rattle.certificate_lines.specs.Certificate.{Certificate, has_exits}
 use Rattle.judge.specs.FewWords.{asks_few}
 use Rattle.judge.specs.ConditionOrder.{order, place_among}
 use Rattle.judge.specs.Asked.{HoldsOfFact, RoutinesArePlaced, asked_of}

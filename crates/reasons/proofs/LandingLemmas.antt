@@ -9,7 +9,7 @@ use Rattle.reasons.proofs.ReasonLemmas.{left_here}
 use Rattle.domain.specs.Facts.{Fact, Place}
 use Rattle.facts.specs.Entailment.{Entails, EntailsOne, IsIdle, Lands}
 use Rattle.facts.specs.Landing.{fact_at}
-use Rattle.facts.specs.Outcomes.{Successor}
+use Rattle.transfer.specs.Outcomes.{Successor}
 use Rattle.judge.specs.Landing.{Case, EachSuccessor, LandsAt, exits_of, facts_in, place_in}
 use Rattle.domain.specs.Moves.{joined}
 use Rattle.wordset.specs.Words.{Words, plus}

@@ -18,10 +18,10 @@ use Rattle.domain.specs.RelationsInCode.{relation_of}
 use Rattle.domain.specs.declared.relations.Relation.{Relation as CodeRelation}
 use Rattle.facts.specs.Instructions.{MayWrite}
 use Rattle.facts.specs.Entailment.{EachGives, KnowsAll, TakesWord}
-use Rattle.facts.proofs.EntailLemmas.{drop_item}
+use Rattle.transfer.proofs.EntailLemmas.{drop_item}
 use Rattle.facts.specs.Landing.{fact_at}
 use Rattle.facts.proofs.SplitLemmas.{TakenSoFar, fact_dropped}
-use Rattle.certificate.specs.Certificate.{Certificate, writes_of}
+use Rattle.certificate_lines.specs.Certificate.{Certificate, writes_of}
 use Rattle.judge.specs.Conditions.{Covers, CoversCallee, EachFact, IsPlaced}
 use Rattle.judge.specs.Landing.{Case, facts_in, place_in}
 use Rattle.judge.specs.Bodies.{IsOfBody}

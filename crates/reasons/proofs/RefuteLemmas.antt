@@ -13,12 +13,12 @@ use Rattle.domain.specs.Narrowing.{narrowed}
 use Rattle.facts.specs.Instructions.{calls_through_index, returned_through}
 use Rattle.facts.specs.Conditions.{IsAsserted, IsDenied, EachIsHeld, EachIsHeldBy, called}
 use Rattle.facts.specs.Landing.{fact_at}
-use Rattle.facts.specs.Operations.{outcomes_of}
-use Rattle.facts.specs.Outcomes.{Successor, Goes, CallsTo, Returns}
-use Rattle.facts.specs.References.{possible}
+use Rattle.transfer.specs.Operations.{outcomes_of}
+use Rattle.transfer.specs.Outcomes.{Successor, Goes, CallsTo, Returns}
+use Rattle.transfer.specs.References.{possible}
 use Rattle.facts.specs.declared.Condition.{Condition}
 use Rattle.facts.specs.declared.Condition.TheVariants.{V1, V2, V3, V4, V5, V6, V7, V8, V9, V10, V11, V12, V13, V14, V15, V16}
-use Rattle.certificate.specs.Certificate.{Certificate, has_exits}
+use Rattle.certificate_lines.specs.Certificate.{Certificate, has_exits}
 use Rattle.judge.specs.Landing.{Case, place_in, sited, with_sites, sites_of, asked, asked_at, abandons, LandsAt, LandsBeyond, SuccessorLands, EachSuccessor, EachLandsAfter, exits_of, called_from, LandsAfter}
 use Rattle.judge.specs.Conditions.{EachFact, IsPlaced, IsOfMain, HasSites, LinesArePlaced, EachTarget, KeepsPointer, IsLower, MayCall, Covers, CoversCallee, IsSite, MayReturn, ReturnsWell, HoldsFor, HoldsForWords, HoldsAt}
 use Rattle.reasons.specs.Breaches.{Breaks, CallBreaks, MissesAfter, MissesBeyond, OutcomeMisses, ReturnBreaks, SomeDenied, SomeOutcome, condition_of, condition_of_call}

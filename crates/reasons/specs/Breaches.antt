@@ -8,13 +8,13 @@ use Rattle.policy.specs.Rules.{IsSupported, HaltsDeclared}
 use Rattle.domain.specs.Facts.{Fact, Place, last_site}
 use Rattle.domain.specs.Moves.{joined}
 use Rattle.facts.specs.Instructions.{MayWrite, calls_through_index, returned_through}
-use Rattle.facts.specs.Outcomes.{Successor, Goes, CallsTo, Returns}
-use Rattle.facts.specs.Operations.{outcomes_of}
+use Rattle.transfer.specs.Outcomes.{Successor, Goes, CallsTo, Returns}
+use Rattle.transfer.specs.Operations.{outcomes_of}
 use Rattle.facts.specs.Landing.{fact_at}
 use Rattle.facts.specs.Conditions.{EntriesAreKept, IsDenied, may_write, may_read, called}
 use Rattle.facts.specs.declared.Condition.{Condition}
 use Rattle.facts.specs.declared.Condition.TheVariants.{V3, V4, V5, V6, V7, V8, V9, V10, V11, V12, V13, V14, V15, V16}
-use Rattle.certificate.specs.Certificate.{writes_of}
+use Rattle.certificate_lines.specs.Certificate.{writes_of}
 use Rattle.judge.specs.Landing.{Case, place_in, exits_of, called_from, abandons, as_main}
 use Rattle.reasons.specs.Landing.{Misses, MissesExit}
 use Rattle.reasons.specs.declared.breach.Landing.{Landing}

@@ -11,12 +11,12 @@ use Rattle.domain.specs.Moves.{joined}
 use Rattle.facts.specs.Instructions.{calls_through_index, returned_through}
 use Rattle.facts.specs.Conditions.{WritesAreDeclared, WritesAreListed, EntriesAreKept, ReadsAreListed, EachIsHeld, called}
 use Rattle.facts.specs.Entailment.{IsIdle}
-use Rattle.facts.specs.Operations.{outcomes_of}
-use Rattle.facts.specs.Outcomes.{Successor, Goes, CallsTo, Returns}
-use Rattle.facts.specs.References.{possible}
+use Rattle.transfer.specs.Operations.{outcomes_of}
+use Rattle.transfer.specs.Outcomes.{Successor, Goes, CallsTo, Returns}
+use Rattle.transfer.specs.References.{possible}
 use Rattle.facts.specs.declared.Condition.{Condition}
 use Rattle.facts.specs.declared.Condition.TheVariants.{V3, V4, V5, V6, V7, V8, V9, V10, V11, V12, V13, V14, V15, V16}
-use Rattle.certificate.specs.Certificate.{Certificate, writes_of}
+use Rattle.certificate_lines.specs.Certificate.{Certificate, writes_of}
 use Rattle.judge.specs.Asked.{asked_of}
 use Rattle.judge.specs.Conditions.{CoversCallee, EachFact}
 use Rattle.judge.specs.Landing.{Case, place_in, exits_of, sites_of, called_from, LandsAt, LandsAtExit, EachSuccessor, abandons, as_main}

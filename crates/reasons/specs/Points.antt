@@ -2,7 +2,7 @@
 use Rattle.std.specs.Prelude.{◌≡◌, ℕ, ◌<◌, Bool, true, false, [], ◌∷◌}
 use Rattle.instruct.specs.Instructions.{Meaning, meaning_of}
 use Rattle.facts.specs.declared.Condition.{Condition}
-use Rattle.certificate.specs.Certificate.{Certificate}
+use Rattle.certificate_lines.specs.Certificate.{Certificate}
 use Rattle.declaration.specs.Declaration.{Routine, Holding}
 use Rattle.domain.specs.Facts.{Fact, Place}
 use Rattle.facts.specs.Conditions.{EachIsHeld, IsDenied}

@@ -7,11 +7,11 @@ use Rattle.declaration.specs.declared.Subject.{Subject}
 use Rattle.domain.specs.Facts.{Fact, Place, OfSums}
 use Rattle.facts.specs.Conditions.{IsDenied}
 use Rattle.facts.specs.Landing.{fact_at}
-use Rattle.facts.specs.References.{possible}
+use Rattle.transfer.specs.References.{possible}
 use Rattle.facts.specs.Starts.{start_fact}
 use Rattle.facts.specs.declared.Condition.{Condition}
 use Rattle.facts.specs.declared.Condition.TheVariants.{V1, V2, V3, V16}
-use Rattle.certificate.specs.Certificate.{names_routine}
+use Rattle.certificate_lines.specs.Certificate.{names_routine}
 use Rattle.judge.specs.Landing.{Case, place_in, sited, sites_of, asked, exits_of}
 use Rattle.reasons.specs.Landing.{Misses}
 use Rattle.reasons.specs.Breaches.{Breaks, condition_of}

@@ -14,8 +14,9 @@ ghost use Rattle.reasons.specs.Landing.{ExcludesOne, IsLeft, IsNotTaken};
 use crate::breach::Landing;
 use crate::counterexample::{Counterexample, gap_between};
 use domain::{Location, Rules};
-use facts::{Fact, FactSource, KnownFact, LinkPart, NextFact, Part, Place, cells_told};
+use facts::{Fact, FactSource, KnownFact, LinkPart, Part, Place, cells_told};
 use std::alloc::Allocator;
+use transfer::NextFact;
 use word12::{Link, Word};
 use wordset::WordSet;
 

@@ -2,9 +2,10 @@
 //! another.
 
 use domain::SumFact;
-use facts::{Fact, LandingRooms, LinkPart, NarrowedFact, NextFact, Outcomes};
+use facts::{Fact, LandingRooms, LinkPart, NarrowedFact};
 use std::alloc::{AllocError, Allocator};
 use std::boxed::Box;
+use transfer::{NextFact, Outcomes};
 
 /// Room for finding out what of a fact is left where it lands.
 #[derive(Drop)]

@@ -2,7 +2,7 @@
 use Rattle.std.specs.Prelude.{ℕ, ◌≡◌, ◌++◌, codes, List, Option}
 use Rattle.word12.specs.Words.{octal_text}
 use Rattle.analyser.specs.Attempts.{IsDraft}
-use Rattle.certificate.specs.Certificate.{Certificate}
+use Rattle.certificate_lines.specs.Certificate.{Certificate}
 use Rattle.declaration.specs.Declaration.{Declaration}
 use Rattle.turns.specs.declared.GuessFault.TheVariants as guess_fault
 use Rattle.command_parts.specs.Answers.{IsMemoryFault}

@@ -1,6 +1,6 @@
 -- What `report` writes.
 use Rattle.std.specs.Prelude.{ℕ, ◌≡◌, ◌++◌, List, Option}
-use Rattle.certificate.specs.Reading.{Text}
+use Rattle.certificate_lines.specs.Reading.{Text}
 use Rattle.declaration.specs.Declaration.{Declaration}
 use Rattle.command_parts.specs.declared.status.Status.{Status}
 use Rattle.reports.specs.declared.writer.ReportForm.{ReportForm}

@@ -3,7 +3,7 @@
 ghost use Rattle.std.specs.Prelude.{◌≡◌, ◌++◌, ◌⊎◌, false, true, IfOk, OnErr};
 ghost use Rattle.declaration.specs.Kept.{meaning};
 ghost use Rattle.analyser.specs.Attempts.{IsDraft};
-ghost use Rattle.certificate.specs.Kept.{claims};
+ghost use Rattle.certificate_lines.specs.Kept.{claims};
 ghost use Rattle.command_parts.specs.Answers.{IsLaterFault, ReadsTwo};
 ghost use Rattle.command_parts.specs.Faults.{fails_to_write};
 ghost use Rattle.command_parts.specs.Inputs.{input};

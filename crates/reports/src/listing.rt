@@ -5,7 +5,7 @@ ghost use Rattle.wordset.specs.Lanes.{words};
 ghost use Rattle.facts.specs.Landing.{fact_at};
 ghost use Rattle.peripherals.specs.Loading.{image_of};
 ghost use Rattle.declaration.specs.Kept.{meaning};
-ghost use Rattle.certificate.specs.Kept.{claims};
+ghost use Rattle.certificate_lines.specs.Kept.{claims};
 ghost use Rattle.reports.specs.Kinds.{IsKind};
 ghost use Rattle.reports.specs.Shown.{ShowsFact, fact_of, is_even, unknown_of};
 
@@ -17,7 +17,8 @@ use crate::report::{Finding, Kind, Report, before, claimed_of, routine_of, uncla
 use crate::routines::{write_exits, write_routine};
 use crate::source_notes::SourceNote;
 use crate::writer::ReportWriter;
-use certificate::{Certificate, RoutineClaim};
+use certificate::Certificate;
+use certificate_lines::RoutineClaim;
 use instruct::{Instruction, decode, name, refers_indirectly, target};
 use judge::Claims;
 use std::alloc::{AllocError, Allocator};

@@ -1,7 +1,7 @@
 //! The command that writes what a certificate says.
 
 ghost use Rattle.std.specs.Prelude.{◌≡◌, ◌++◌, false, IfOk, IfErr};
-ghost use Rattle.certificate.specs.Kept.{meaning as text_of};
+ghost use Rattle.certificate_lines.specs.Kept.{meaning as text_of};
 ghost use Rattle.declaration.specs.Kept.{meaning};
 ghost use Rattle.command_parts.specs.Answers.{IsLaterFault, IsMemoryFault, WritesAnswer, output};
 ghost use Rattle.command_parts.specs.Faults.{fails_to_write};

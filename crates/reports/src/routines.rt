@@ -2,14 +2,14 @@
 
 ghost use Rattle.wordset.specs.Lanes.{words};
 ghost use Rattle.facts.specs.Landing.{fact_at};
-ghost use Rattle.certificate.specs.Kept.{claims};
+ghost use Rattle.certificate_lines.specs.Kept.{claims};
 ghost use Rattle.reports.specs.Shown.{ShowsExit};
 
 use crate::known::write_exit;
 use crate::known_fact::KnownFact;
 use crate::report::{Report, claimed_of};
 use crate::writer::ReportWriter;
-use certificate::RoutineClaim as Claimed;
+use certificate_lines::RoutineClaim as Claimed;
 use declaration::{Declaration, Routine};
 use judge::Claims;
 use std::alloc::Allocator;

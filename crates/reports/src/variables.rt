@@ -3,7 +3,8 @@
 use crate::known_fact::KnownFact;
 use crate::report::{claimed_of, unclaimed};
 use bin_tape::Image;
-use certificate::{Certificate, RoutineClaim};
+use certificate::Certificate;
+use certificate_lines::RoutineClaim;
 use declaration::{Declaration, Owner};
 use domain::Location;
 use judge::Claims;

@@ -3,7 +3,7 @@ use Rattle.std.proofs.Common.{ℕ, ◌≡◌, Bool, true, false, List, Option, N
 use Rattle.std.proofs.lemmas.Bool.{true≢false}
 use Rattle.declaration.specs.Kept.{meaning}
 use Rattle.certificate.specs.declared.Certificate.{Certificate}
-use Rattle.certificate.specs.Kept as certified
+use Rattle.certificate_lines.specs.Kept as certified
 use Rattle.proposer.specs.Proposals.{AreNeeded, Fits, IsListed, IsShown}
 use Rattle.proposer.specs.declared.Proposal.{Proposal}
 use Rattle.proposer.specs.declared.Verdict.TheVariants.{Safe}

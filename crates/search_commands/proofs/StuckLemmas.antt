@@ -2,7 +2,7 @@
 use Rattle.std.proofs.Common.{ℕ, ◌≡◌, List, Option}
 use Rattle.analyser.specs.Versions.{version_of}
 use Rattle.certificate.specs.Exact.{AreLines}
-use Rattle.certificate.specs.Reading.{Text}
+use Rattle.certificate_lines.specs.Reading.{Text}
 use Rattle.declaration.specs.Declaration.{Declaration}
 use Rattle.command_parts.specs.Inputs.{HasDeclaration, HasImage}
 use Rattle.search_commands.specs.StuckText.{IsReport, IsStuck}

@@ -2,8 +2,8 @@
 use Rattle.std.specs.Prelude.{ℕ, ◌≡◌, List, Option}
 use Rattle.analyser.specs.Versions.{IsVersionFor}
 use Rattle.certificate.specs.Exact.{AreLines}
-use Rattle.certificate.specs.Laws.{bytes_of}
-use Rattle.certificate.specs.Reading.{Text}
+use Rattle.certificate_lines.specs.Laws.{bytes_of}
+use Rattle.certificate_lines.specs.Reading.{Text}
 use Rattle.declaration.specs.Declaration.{Declaration}
 use Rattle.diagnostics.specs.CheckText.{IsYes, checked_case}
 use Rattle.command_parts.specs.Answers.{OfProgram}

@@ -1,10 +1,10 @@
 -- What `migrate` writes.
 use Rattle.std.specs.Prelude.{ℕ, ◌≡◌, List, Option, if◌then◌else◌}
 use Rattle.declaration.specs.Declaration.{Declaration}
-use Rattle.certificate.specs.Laws.{bytes_of}
-use Rattle.certificate.specs.Lines.{is_of_sums}
-use Rattle.certificate.specs.Made.{migrated, with_sites}
-use Rattle.certificate.specs.Reading.{Text}
+use Rattle.certificate_lines.specs.Laws.{bytes_of}
+use Rattle.certificate_lines.specs.Lines.{is_of_sums}
+use Rattle.certificate_lines.specs.Made.{migrated, with_sites}
+use Rattle.certificate_lines.specs.Reading.{Text}
 use Rattle.command_parts.specs.Inputs.{HasDeclaration}
 use Rattle.diagnostics.specs.CertificateInputs.{HasCertificate}
 

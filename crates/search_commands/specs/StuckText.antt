@@ -5,7 +5,7 @@ use Rattle.instruct.specs.declared.Profile.{Profile}
 use Rattle.analyser.specs.Attempts.{IsDraft}
 use Rattle.analyser.specs.Versions.{version_of}
 use Rattle.certificate.specs.Exact.{AreLines}
-use Rattle.certificate.specs.Reading.{Text, certificate_of}
+use Rattle.certificate_lines.specs.Reading.{Text, certificate_of}
 use Rattle.declaration.specs.Declaration.{Declaration}
 use Rattle.judge.specs.Landing.{Case}
 use Rattle.judge.specs.declared.judging.Refusal.{Refusal}

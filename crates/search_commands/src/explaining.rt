@@ -1,7 +1,7 @@
 //! The command that checks a certificate and says why a verdict is no.
 
 ghost use Rattle.std.specs.Prelude.{◌≡◌, false, IfOk, IfErr};
-ghost use Rattle.certificate.specs.Kept.{meaning as lines_of};
+ghost use Rattle.certificate_lines.specs.Kept.{meaning as lines_of};
 ghost use Rattle.declaration.specs.Kept.{meaning};
 ghost use Rattle.command_parts.specs.Answers.{IsLaterFault, IsMemoryFault, WritesAnswer, output};
 ghost use Rattle.command_parts.specs.Faults.{fails_to_write};

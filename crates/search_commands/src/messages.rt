@@ -5,7 +5,7 @@ ghost use Rattle.std.specs.Prelude.{◌≡◌, ◌++◌, false, [], IfOk, IfErr}
 ghost use Rattle.declaration.specs.Kept.{meaning};
 ghost use Rattle.analyser.specs.Attempts.{IsAcceptedIfFound, claimed_by};
 ghost use Rattle.certificate.specs.Exact.{AreLines};
-ghost use Rattle.certificate.specs.Kept.{meaning as lines_of};
+ghost use Rattle.certificate_lines.specs.Kept.{meaning as lines_of};
 ghost use Rattle.command_parts.specs.Answers.{IsMemoryFault};
 ghost use Rattle.command_parts.specs.Faults.{fails_to_write};
 ghost use Rattle.command_parts.specs.Messages.{plain};

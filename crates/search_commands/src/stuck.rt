@@ -3,7 +3,7 @@
 ghost use Rattle.std.specs.Prelude.{◌≡◌, ◌⊎◌, ◌++◌, false, true, IfOk, OnErr, OnOk, Ok};
 ghost use Rattle.declaration.specs.Kept.{meaning};
 ghost use Rattle.analyser.specs.Attempts.{IsDraft};
-ghost use Rattle.certificate.specs.Kept.{claims, meaning as lines_of};
+ghost use Rattle.certificate_lines.specs.Kept.{claims, meaning as lines_of};
 ghost use Rattle.search_commands.specs.GuessText.{IsGuess};
 ghost use Rattle.search_commands.specs.SearchFaults.{IsSearchFault};
 ghost use Rattle.command_parts.specs.Answers.{IsLaterFault, ReadsTwo};

@@ -5,9 +5,10 @@ ghost use Rattle.judge.specs.Shapes.{IsRoomy};
 use bin_tape::Image;
 use certificate::Certificate;
 use declaration::Declaration;
-use facts::{Fact, Kind, NarrowedFact, Outcomes, Place};
+use facts::{Fact, NarrowedFact, Place};
 use judge::{Claims, put_asked};
 use std::alloc::{AllocError, Allocator};
+use transfer::{Kind, Outcomes};
 use word12::Word;
 
 /// TAD of the cell 0010.

@@ -1,6 +1,6 @@
 use Rattle.std.proofs.Common.{◌≡◌, subst, sym}
 use Rattle.std.proofs.lemmas.Result.{IfOk-weaker}
-use Rattle.certificate.specs.Kept.{meaning}
+use Rattle.certificate_lines.specs.Kept.{meaning}
 use Rattle.certificate.specs.Exact.{AreLines}
 use Rattle.analyser.proofs.found_by.Goals as goal
 

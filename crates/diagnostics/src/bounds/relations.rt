@@ -1,7 +1,7 @@
 //! Where the distance between a pointer and another cell is lost, though a loop keeps it on another way.
 
 ghost use Rattle.std.specs.Prelude.{◌<◌, length};
-ghost use Rattle.certificate.specs.Kept.{claims};
+ghost use Rattle.certificate_lines.specs.Kept.{claims};
 ghost use Rattle.domain.specs.FactInCode.{fact_in_code};
 ghost use Rattle.judge.specs.Shapes.{HasShape};
 
@@ -11,9 +11,10 @@ use bin_tape::Image;
 use certificate::Certificate;
 use declaration::Declaration;
 use domain::{Location, Relation as SumRelation, Sum};
-use facts::{Fact, Kind, NarrowedFact, NextFact, Outcome, Outcomes};
+use facts::{Fact, NarrowedFact};
 use judge::{Body, Case, Claims, place_of, put_asked, put_sites};
 use std::alloc::{AllocError, Allocator};
+use transfer::{Kind, NextFact, Outcome, Outcomes};
 use word12::Word;
 use wordset::WordSet;
 

@@ -1,10 +1,10 @@
 //! A verdict and why it is, over whatever takes a text for people.
 
 ghost use Rattle.std.specs.Prelude.{ℕ, ◌≡◌, ◌++◌, length, IfOk, OnOk};
-ghost use Rattle.certificate.specs.Kept.{claims, meaning as text_of};
+ghost use Rattle.certificate_lines.specs.Kept.{claims, meaning as text_of};
 ghost use Rattle.declaration.specs.Kept.{meaning};
 ghost use Rattle.diagnostics.specs.CheckText.{checked_case, verdict_text};
-ghost use Rattle.certificate.specs.Written.{fact_text_at};
+ghost use Rattle.certificate_lines.specs.Written.{fact_text_at};
 ghost use Rattle.diagnostics.specs.Telling.{IsTellingOf};
 ghost use Rattle.diagnostics.specs.WhyText.{AddsExplanation, IsReason, fact_shown, place_shown, shown_text, why_text};
 

@@ -2,7 +2,7 @@
 //! source.
 
 ghost use Rattle.std.specs.Prelude.{IfOk};
-ghost use Rattle.certificate.specs.Kept.{meaning as text_of};
+ghost use Rattle.certificate_lines.specs.Kept.{meaning as text_of};
 ghost use Rattle.command_parts.specs.Messages.{plain};
 ghost use Rattle.declaration.specs.Kept.{meaning};
 ghost use Rattle.diagnostics.specs.WhyText.{IsExplanationOf};

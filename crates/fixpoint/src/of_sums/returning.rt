@@ -6,7 +6,7 @@ use crate::of_sums::rooms::SumRooms;
 use crate::of_sums::search::SumSearch;
 use crate::of_sums::splits::Case;
 use crate::of_sums::steps::Goal;
-use certificate::RoutineClaim;
+use certificate_lines::RoutineClaim;
 use facts::{Fact, KnownFact, Place};
 use std::alloc::Allocator;
 use word12::Word;

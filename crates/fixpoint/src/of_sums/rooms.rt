@@ -4,8 +4,9 @@ use crate::halt::Halt;
 use crate::of_sums::kept::{has_room_for_cell, narrow};
 use bin_tape::Image;
 use domain::{Location, ReturnOffsets, Rules};
-use facts::{ChosenFact, Fact, LinkPart, MetFact, NarrowedFact, NextFact, Outcomes, PartFact};
+use facts::{ChosenFact, Fact, LinkPart, MetFact, NarrowedFact, PartFact};
 use std::alloc::Allocator;
+use transfer::{NextFact, Outcomes};
 use word12::Word;
 use wordset::WordSet;
 

@@ -6,8 +6,9 @@ use crate::program::{AnalysedProgram, Body, Visit};
 use crate::rooms::Returns;
 use crate::search::{Search, known_of};
 use domain::ReturnOffsets;
-use facts::{Fact, Outcome};
+use facts::Fact;
 use std::alloc::Allocator;
+use transfer::Outcome;
 use word12::Word;
 use wordset::WordSet;
 

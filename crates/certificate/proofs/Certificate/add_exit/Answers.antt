@@ -1,9 +1,9 @@
 use Rattle.std.specs.Prelude.{is_ok}
 use Rattle.domain.specs.CellsInCode.{cell_sets_of}
 use Rattle.domain.specs.FactInCode.{fact_in_code}
-use Rattle.certificate.specs.Lines.{ExitIs, is_of_sums}
-use Rattle.certificate.specs.Packed.{said_lines, sites_if, registers_in_fact}
-use Rattle.certificate.specs.Made.{lines_of_exit}
+use Rattle.certificate_lines.specs.Lines.{ExitIs, is_of_sums}
+use Rattle.certificate_lines.specs.Packed.{said_lines, sites_if, registers_in_fact}
+use Rattle.certificate_lines.specs.Made.{lines_of_exit}
 use Rattle.certificate.proofs.SumMadeLemmas.{added, all_whole, details, may_add_exit, no_end_details}
 use Rattle.certificate.proofs.Certificate.add_exit.Goals as goal
 use Rattle.certificate.proofs.Certificate.add_exit.Goals.{in-Ok, in-Err}

@@ -1,5 +1,5 @@
 use Rattle.std.proofs.Common.{[], ◌∷◌, refl}
-use Rattle.certificate.specs.Made.{routine_line_of}
+use Rattle.certificate_lines.specs.Made.{routine_line_of}
 use Rattle.certificate.proofs.SumMadeLemmas.{added, either_whole}
 use Rattle.certificate.proofs.Certificate.add_routine.Goals as goal
 use Rattle.certificate.proofs.Certificate.add_routine.Goals.{in-Ok, in-Err}

@@ -1,7 +1,7 @@
 use Rattle.std.proofs.Common.{◌≡◌, ◌+◌, ◌*◌, ℕ, drop, subst, arith}
-use Rattle.certificate.specs.Packed.{said_lines}
-use Rattle.certificate.specs.Found.{from_place}
-use Rattle.certificate.proofs.SumReaderLemmas.{exits_begin}
+use Rattle.certificate_lines.specs.Packed.{said_lines}
+use Rattle.certificate_lines.specs.Found.{from_place}
+use Rattle.certificate_lines.proofs.SumReaderLemmas.{exits_begin}
 use Rattle.certificate.proofs.Certificate.exits_from.Goals as goal
 
 pub returns : goal.returns

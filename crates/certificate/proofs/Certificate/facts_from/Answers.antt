@@ -1,6 +1,6 @@
 use Rattle.std.proofs.Common.{arith}
-use Rattle.certificate.specs.Packed.{said_lines}
-use Rattle.certificate.proofs.SumReaderLemmas.{facts_begin}
+use Rattle.certificate_lines.specs.Packed.{said_lines}
+use Rattle.certificate_lines.proofs.SumReaderLemmas.{facts_begin}
 use Rattle.certificate.proofs.Certificate.facts_from.Goals as goal
 
 pub returns : goal.returns

@@ -1,8 +1,8 @@
 use Rattle.std.proofs.Common.{◌≡◌, ◌+◌, ◌*◌, true, false, ℕ, sym, subst, drop, arith}
-use Rattle.certificate.specs.Packed.{said_lines}
-use Rattle.certificate.specs.Found.{begins_at}
-use Rattle.certificate.proofs.SumReaderLemmas.{fit_next, exit_next, has_said, no_exit_left}
-use Rattle.certificate.proofs.SumSkipLemmas.{has_shape_there}
+use Rattle.certificate_lines.specs.Packed.{said_lines}
+use Rattle.certificate_lines.specs.Found.{begins_at}
+use Rattle.certificate_lines.proofs.SumReaderLemmas.{fit_next, exit_next, has_said, no_exit_left}
+use Rattle.certificate_lines.proofs.SumSkipLemmas.{has_shape_there}
 use Rattle.certificate.proofs.Certificate.next_exit.Goals as goal
 
 pub returns-then-not-is_at-clause-none : goal.returns-then-not-is_at-clause-none

@@ -1,6 +1,6 @@
 use Rattle.std.proofs.Common.{◌+◌, sym, arith}
-use Rattle.certificate.proofs.SumReaderLemmas.{fit_next, fact_next, has_said, none_left}
-use Rattle.certificate.proofs.SumSkipLemmas.{has_shape_there}
+use Rattle.certificate_lines.proofs.SumReaderLemmas.{fit_next, fact_next, has_said, none_left}
+use Rattle.certificate_lines.proofs.SumSkipLemmas.{has_shape_there}
 use Rattle.certificate.proofs.Certificate.next_fact.Goals as goal
 
 pub returns-then-not-is_at-clause-none : goal.returns-then-not-is_at-clause-none

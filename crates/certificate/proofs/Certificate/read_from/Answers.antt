@@ -1,4 +1,4 @@
-use Rattle.certificate.specs.Serving.{AsksForMemory, IsUnanswered}
+use Rattle.certificate_lines.specs.Serving.{AsksForMemory, IsUnanswered}
 use Rattle.certificate.proofs.SumServedLemmas.{gave, serves_read, serves_refused}
 use Rattle.certificate.proofs.Certificate.read_from.Goals as goal
 

@@ -1,9 +1,9 @@
 use Rattle.std.proofs.Common.{◌∙◌, ap, sym}
 use Rattle.std.proofs.lemmas.Option.{IfSome_then}
-use Rattle.certificate.specs.Lines.{is_routine}
-use Rattle.certificate.specs.Packed.{said_lines}
-use Rattle.certificate.specs.Found.{begins}
-use Rattle.certificate.specs.Reading.{is_listed, rank_in, sites_in, writes_in}
+use Rattle.certificate_lines.specs.Lines.{is_routine}
+use Rattle.certificate_lines.specs.Packed.{said_lines}
+use Rattle.certificate_lines.specs.Found.{begins}
+use Rattle.certificate_lines.specs.Reading.{is_listed, rank_in, sites_in, writes_in}
 use Rattle.certificate.proofs.SumNamedLemmas.{RoutineHere, routine_here, not_listed}
 use Rattle.certificate.proofs.Certificate.routine.Goals as goal
 

@@ -1,8 +1,8 @@
 use Rattle.std.proofs.Common.{◌≡◌, ◌+◌, ◌*◌, ℕ, true, false, sym, subst, drop, arith}
-use Rattle.certificate.specs.Packed.{said_lines}
-use Rattle.certificate.specs.Found.{begins_at}
-use Rattle.certificate.proofs.SumReaderLemmas.{no_exit_left}
-use Rattle.certificate.proofs.SumSkipLemmas.{exit_skipped, begun_within}
+use Rattle.certificate_lines.specs.Packed.{said_lines}
+use Rattle.certificate_lines.specs.Found.{begins_at}
+use Rattle.certificate_lines.proofs.SumReaderLemmas.{no_exit_left}
+use Rattle.certificate_lines.proofs.SumSkipLemmas.{exit_skipped, begun_within}
 use Rattle.certificate.proofs.Certificate.skip_exit.Goals as goal
 
 pub returns-then-not-is_at-clause-none : goal.returns-then-not-is_at-clause-none

@@ -1,7 +1,7 @@
 use Rattle.std.proofs.Common.{◌≡◌, ◌+◌, true, false, sym, arith}
-use Rattle.certificate.proofs.SumReaderLemmas.{none_left}
-use Rattle.certificate.proofs.SumSkipLemmas.{fact_skipped, begun_within}
-use Rattle.certificate.specs.Packed.{said_lines}
+use Rattle.certificate_lines.proofs.SumReaderLemmas.{none_left}
+use Rattle.certificate_lines.proofs.SumSkipLemmas.{fact_skipped, begun_within}
+use Rattle.certificate_lines.specs.Packed.{said_lines}
 use Rattle.certificate.proofs.Certificate.skip_fact.Goals as goal
 
 pub returns-then-not-is_at-clause-none : goal.returns-then-not-is_at-clause-none

@@ -1,9 +1,9 @@
 use Rattle.std.proofs.Common.{◌∙◌, map, ap}
 use Rattle.declaration.specs.Kept.{meaning as declared}
-use Rattle.certificate.specs.Kept.{Kept, claims}
-use Rattle.certificate.specs.Packed.{said_lines}
-use Rattle.certificate.specs.Made.{sited_by}
-use Rattle.certificate.proofs.SumReaderLemmas.{formed}
+use Rattle.certificate_lines.specs.Kept.{Kept, claims}
+use Rattle.certificate_lines.specs.Packed.{said_lines}
+use Rattle.certificate_lines.specs.Made.{sited_by}
+use Rattle.certificate_lines.proofs.SumReaderLemmas.{formed}
 use Rattle.certificate.proofs.SumSitedLemmas.{whole_sited}
 use Rattle.certificate.proofs.Certificate.with_sites.Goals as goal
 

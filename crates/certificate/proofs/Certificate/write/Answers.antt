@@ -1,12 +1,12 @@
 use Rattle.std.proofs.Common.{◌≡◌, ◌++◌}
 use Rattle.std.specs.Prelude.{codes}
-use Rattle.certificate.specs.FieldSpelling.{ended}
-use Rattle.certificate.specs.Spelling.{version_text}
-use Rattle.certificate.specs.Spelled.{all_ended}
-use Rattle.certificate.specs.Laws.{bytes_of}
-use Rattle.certificate.specs.Kept.{meaning}
-use Rattle.certificate.specs.Packed.{said_lines}
-use Rattle.certificate.proofs.SumReaderLemmas.{formed}
+use Rattle.certificate_lines.specs.FieldSpelling.{ended}
+use Rattle.certificate_lines.specs.Spelling.{version_text}
+use Rattle.certificate_lines.specs.Spelled.{all_ended}
+use Rattle.certificate_lines.specs.Laws.{bytes_of}
+use Rattle.certificate_lines.specs.Kept.{meaning}
+use Rattle.certificate_lines.specs.Packed.{said_lines}
+use Rattle.certificate_lines.proofs.SumReaderLemmas.{formed}
 use Rattle.certificate.proofs.SumMadeLemmas.{text_ended}
 use Rattle.certificate.proofs.Certificate.write.Goals as goal
 

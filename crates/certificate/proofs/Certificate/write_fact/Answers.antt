@@ -1,8 +1,8 @@
 use Rattle.std.proofs.Common.{◌∙◌, List, [], get_or, ap, sym}
-use Rattle.certificate.specs.Lines.{Line}
-use Rattle.certificate.specs.Packed.{said_lines}
-use Rattle.certificate.proofs.SumReaderLemmas.{formed}
-use Rattle.certificate.proofs.SumWrittenLemmas.{lines_end}
+use Rattle.certificate_lines.specs.Lines.{Line}
+use Rattle.certificate_lines.specs.Packed.{said_lines}
+use Rattle.certificate_lines.proofs.SumReaderLemmas.{formed}
+use Rattle.certificate_lines.proofs.SumWrittenLemmas.{lines_end}
 use Rattle.certificate.proofs.Certificate.write_fact.Goals as goal
 
 pub fact_line-start-requires : goal.fact_line-start-requires

@@ -1,10 +1,10 @@
 use Rattle.std.proofs.Common.{refl, ap, arith}
 use Rattle.wordset.specs.Words.{Words}
 use Rattle.declaration.specs.Kept.{meaning as declared}
-use Rattle.certificate.specs.Kept.{meaning, claims}
-use Rattle.certificate.specs.Found.{IsLine}
-use Rattle.certificate.specs.Packed.{said_lines, said_of, sited_line}
-use Rattle.certificate.specs.Made.{sited_by}
+use Rattle.certificate_lines.specs.Kept.{meaning, claims}
+use Rattle.certificate_lines.specs.Found.{IsLine}
+use Rattle.certificate_lines.specs.Packed.{said_lines, said_of, sited_line}
+use Rattle.certificate_lines.specs.Made.{sited_by}
 use Rattle.certificate.proofs.SumSpelledLemmas.{each_line}
 use Rattle.certificate.proofs.SumSitedLemmas.{numbered, sited_next, sited_all}
 use Rattle.certificate.proofs.makers.put_sited.Goals as goal

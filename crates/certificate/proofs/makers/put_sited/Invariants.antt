@@ -1,8 +1,8 @@
 use Rattle.std.proofs.Common.{◌≡◌, ◌++◌, map, drop}
 use Rattle.declaration.specs.Kept.{meaning as declared}
-use Rattle.certificate.specs.Kept.{claims}
-use Rattle.certificate.specs.Packed.{said_lines}
-use Rattle.certificate.specs.Made.{sited_by}
+use Rattle.certificate_lines.specs.Kept.{claims}
+use Rattle.certificate_lines.specs.Packed.{said_lines}
+use Rattle.certificate_lines.specs.Made.{sited_by}
 use Rattle.certificate.proofs.makers.put_sited.Given as goal
 
 abbrev pub invariant-loop-at : goal.invariant-loop-at

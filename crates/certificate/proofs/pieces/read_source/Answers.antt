@@ -1,6 +1,6 @@
 use Rattle.std.proofs.Common.{◌≡◌, ◌≤◌, ◌<◌, ◌∙◌, arith, rules, false, List, ℕ, length, take, drop, length-append, sym}
 use Rattle.std.proofs.lemmas.List.{length-take-le, take-append-le, length-drop}
-use Rattle.certificate.specs.Pieces.{most_bytes}
+use Rattle.certificate_lines.specs.Pieces.{most_bytes}
 use Rattle.certificate.specs.Parser.{IsParsed}
 use Rattle.certificate.proofs.SumServedLemmas.{came_none, came_on, serve_failed, serve_end, serve_refused, no_read_parsed, no_read_refused}
 use Rattle.certificate.proofs.SumParserLemmas.{was_read}

@@ -1,9 +1,9 @@
 use Rattle.std.proofs.Common.{◌≡◌, ◌++◌, ◌∙◌, refl, []}
 use Rattle.std.proofs.KnownBytes.{Appends-nil, Appends-trans}
-use Rattle.certificate.specs.FieldSpelling.{ended}
-use Rattle.certificate.specs.Spelling.{line_text}
-use Rattle.certificate.specs.Found.{IsLine}
-use Rattle.certificate.specs.Packed.{said_of, said_lines}
+use Rattle.certificate_lines.specs.FieldSpelling.{ended}
+use Rattle.certificate_lines.specs.Spelling.{line_text}
+use Rattle.certificate_lines.specs.Found.{IsLine}
+use Rattle.certificate_lines.specs.Packed.{said_of, said_lines}
 use Rattle.certificate.proofs.SumSpelledLemmas.{each_line}
 use Rattle.certificate.proofs.SumSpelledLemmas.{line_next, line_cut, lines_done}
 use Rattle.certificate.proofs.spelled.put_lines.Goals as goal

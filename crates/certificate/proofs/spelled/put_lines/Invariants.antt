@@ -1,8 +1,8 @@
 use Rattle.std.proofs.Common.{◌≡◌, ◌++◌, ℕ, List, false}
 use Rattle.std.specs.Prelude.{slice_range}
 use Rattle.std.specs.Io.KnownBytes.{Appends}
-use Rattle.certificate.specs.Spelled.{all_ended}
-use Rattle.certificate.specs.Packed.{said_lines}
+use Rattle.certificate_lines.specs.Spelled.{all_ended}
+use Rattle.certificate_lines.specs.Packed.{said_lines}
 use Rattle.certificate.proofs.spelled.put_lines.Given as goal
 
 abbrev pub invariant-loop-at : goal.invariant-loop-at

@@ -1,14 +1,14 @@
 use Rattle.std.proofs.Common.{◌++◌}
 use Rattle.std.specs.Prelude.{codes}
 use Rattle.std.proofs.KnownBytes.{Appends-trans}
-use Rattle.certificate.specs.FieldSpelling.{ended}
-use Rattle.certificate.specs.Spelling.{version_text}
-use Rattle.certificate.specs.Spelled.{all_ended}
-use Rattle.certificate.specs.Packed.{said_lines}
+use Rattle.certificate_lines.specs.FieldSpelling.{ended}
+use Rattle.certificate_lines.specs.Spelling.{version_text}
+use Rattle.certificate_lines.specs.Spelled.{all_ended}
+use Rattle.certificate_lines.specs.Packed.{said_lines}
 use Rattle.streams.proofs.BytesLemmas.{front_after}
 use Rattle.certificate.proofs.SpelledLemmas.{front_more}
 use Rattle.certificate.proofs.SumSpelledLemmas.{all_lines}
-use Rattle.certificate.proofs.PutLemmas.{on_err, any_err}
+use Rattle.certificate_lines.proofs.PutLemmas.{on_err, any_err}
 use Rattle.certificate.proofs.spelled.put_text.Goals as goal
 
 pub returns-in_err-put_lines-clause-front : goal.returns-in_err-put_lines-clause-front

@@ -1,5 +1,5 @@
 use Rattle.facts.proofs.ShowingLemmas.{gives_step, gives_fails}
-use Rattle.facts.proofs.EntailLemmas.{not_both}
+use Rattle.transfer.proofs.EntailLemmas.{not_both}
 use Rattle.domain.specs.ChainsInCode.{chain_of}
 use Rattle.facts.proofs.entailment.each_gives.Goals as goal
 

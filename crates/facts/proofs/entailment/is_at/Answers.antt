@@ -1,6 +1,6 @@
 use Rattle.std.proofs.Common.{arith}
 use Rattle.facts.proofs.ShowingLemmas.{among_at, among_behind}
-use Rattle.facts.proofs.EntailLemmas.{not_both}
+use Rattle.transfer.proofs.EntailLemmas.{not_both}
 use Rattle.domain.specs.RelationsInCode.{relation_of}
 use Rattle.facts.proofs.entailment.is_at.Goals as goal
 

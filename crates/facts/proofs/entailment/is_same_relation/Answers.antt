@@ -1,5 +1,5 @@
 use Rattle.facts.proofs.ShowingLemmas.{one_sum, same_sums}
-use Rattle.facts.proofs.EntailLemmas.{not_true, not_both}
+use Rattle.transfer.proofs.EntailLemmas.{not_true, not_both}
 use Rattle.std.proofs.Common.{◌∙◌, sym}
 use Rattle.facts.proofs.entailment.is_same_relation.Goals as goal
 

@@ -1,4 +1,4 @@
-use Rattle.facts.proofs.OutcomeLemmas.{plus_two}
+use Rattle.transfer.proofs.OutcomeLemmas.{plus_two}
 use Rattle.facts.proofs.registers.next_address.Goals as goal
 
 pub returns-then-skip : goal.returns-then-skip

@@ -1,5 +1,5 @@
 use Rattle.std.proofs.Common.{drop, map}
-use Rattle.certificate.specs.RisingLists.{Each}
+use Rattle.certificate_lines.specs.RisingLists.{Each}
 use Rattle.domain.specs.RelationsInCode.{relation_of}
 use Rattle.fixpoint.specs.Form.{IsInForm}
 use Rattle.fixpoint.proofs.form.are_in_form.Given as goal

@@ -1,5 +1,5 @@
 use Rattle.std.proofs.Common.{drop, map}
-use Rattle.certificate.specs.RisingLists.{RiseFrom}
+use Rattle.certificate_lines.specs.RisingLists.{RiseFrom}
 use Rattle.fixpoint.specs.Claimed.{cell_of}
 use Rattle.fixpoint.proofs.form.cells_rise.Given as goal
 

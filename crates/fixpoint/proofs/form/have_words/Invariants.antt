@@ -1,5 +1,5 @@
 use Rattle.std.proofs.Common.{drop, map}
-use Rattle.certificate.specs.RisingLists.{Each}
+use Rattle.certificate_lines.specs.RisingLists.{Each}
 use Rattle.fixpoint.specs.Form.{IsCellLine}
 use Rattle.fixpoint.specs.Claimed.{cell_of}
 use Rattle.fixpoint.proofs.form.have_words.Given as goal

@@ -1,6 +1,6 @@
 use Rattle.std.proofs.Common.{drop, map}
 use Rattle.domain.specs.RelationsInCode.{relation_of}
-use Rattle.facts.specs.Shaped.{HaveFewTerms}
+use Rattle.transfer.specs.Shaped.{HaveFewTerms}
 use Rattle.fixpoint.proofs.invariant.are_short.Given as goal
 
 abbrev pub invariant-loop-relation : goal.invariant-loop-relation

@@ -5,7 +5,7 @@ use Rattle.judge.specs.Conditions.{IsFirst, IsValid}
 use Rattle.judge.specs.Asked.{HoldsBetween}
 use Rattle.judge.specs.Judged.{judged}
 use Rattle.facts.specs.declared.Condition.TheVariants.{V1}
-use Rattle.certificate.specs.Certificate.{claimed, names_routine}
+use Rattle.certificate_lines.specs.Certificate.{claimed, names_routine}
 use Rattle.facts.proofs.EachLemmas.{one_more}
 use Rattle.judge.proofs.OrderLemmas.{is_valid, first_at, first_at_start, before, all_hold, is_named, named_later}
 use Rattle.judge.proofs.Legal.{runs_are_safe}

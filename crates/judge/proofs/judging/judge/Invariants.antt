@@ -1,5 +1,5 @@
 use Rattle.std.proofs.Common.{◌≡◌, ◌<◌, ◌-◌, ℕ, true}
-use Rattle.certificate.specs.Certificate.{claimed}
+use Rattle.certificate_lines.specs.Certificate.{claimed}
 use Rattle.judge.specs.Asked.{HoldsBetween}
 use Rattle.judge.specs.Judged.{judged}
 use Rattle.judge.specs.Bodies.{Tells}

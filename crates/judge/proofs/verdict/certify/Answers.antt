@@ -1,7 +1,7 @@
 use Rattle.std.proofs.Common.{◌≡◌, ◌≢◌, Err, ap, inl, inr, refl, rules}
 use Rattle.declaration.specs.declared.DeclarationFault.TheVariants as declaration_fault
-use Rattle.certificate.specs.declared.CertificateFault.TheVariants as certificate_fault
-use Rattle.certificate.specs.Reading.{reading}
+use Rattle.certificate_lines.specs.declared.CertificateFault.TheVariants as certificate_fault
+use Rattle.certificate_lines.specs.Reading.{reading}
 use Rattle.judge.specs.declared.verdict.CertifyFault.TheVariants as fault
 use Rattle.judge.specs.Certifying.{Parts, AreRead, declaration_of}
 use Rattle.judge.proofs.ReadingLemmas.{are_read, first_too, none_fails, not_both, one_fault, one_refusal, valid_too}

@@ -2,7 +2,7 @@ use Rattle.std.proofs.Common.{arith, ap, ◌∙◌, sym}
 use Rattle.std.proofs.lemmas.Bool.{true≢false}
 use Rattle.wordset.specs.Words.{Words}
 use Rattle.wordset.specs.Lanes.{words}
-use Rattle.certificate.specs.Kept.{claims}
+use Rattle.certificate_lines.specs.Kept.{claims}
 use Rattle.judge.specs.Judged.{judged}
 use Rattle.proposer.specs.Touched.{IsTouched}
 use Rattle.proposer.proofs.TouchLemmas.{AreGathered, first_of, in_either, next_below, second_of}

@@ -1,6 +1,6 @@
 use Rattle.std.proofs.Common.{arith}
 use Rattle.wordset.specs.Lanes.{words}
-use Rattle.certificate.specs.Kept.{claims}
+use Rattle.certificate_lines.specs.Kept.{claims}
 use Rattle.judge.specs.Judged.{case_kept}
 use Rattle.proposer.proofs.TouchLemmas.{all_found, none_yet, one_more}
 use Rattle.proposer.proofs.variables.touched_by_facts.Goals as goal

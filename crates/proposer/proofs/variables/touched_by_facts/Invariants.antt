@@ -1,5 +1,5 @@
 use Rattle.wordset.specs.Lanes.{words}
-use Rattle.certificate.specs.Kept.{claims}
+use Rattle.certificate_lines.specs.Kept.{claims}
 use Rattle.judge.specs.Judged.{case_kept}
 use Rattle.proposer.proofs.TouchLemmas.{FoundSoFar}
 use Rattle.proposer.proofs.variables.touched_by_facts.Given as goal

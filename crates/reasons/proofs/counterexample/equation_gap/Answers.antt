@@ -3,7 +3,7 @@ use Rattle.domain.specs.InCode.{sum_of}
 use Rattle.domain.specs.RelationsInCode.{relation_of}
 use Rattle.facts.specs.Entailment.{KnowsAll, KnowsBy}
 use Rattle.facts.specs.PlaceInCode.{place_in_code}
-use Rattle.facts.proofs.EntailLemmas.{not_both}
+use Rattle.transfer.proofs.EntailLemmas.{not_both}
 use Rattle.facts.proofs.ShowingLemmas.{known_step}
 use Rattle.reasons.specs.Gaps.{IsUnknown, SomeRelation}
 use Rattle.reasons.proofs.ReasonLemmas.{some_relation, all_known}

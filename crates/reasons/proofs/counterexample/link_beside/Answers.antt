@@ -3,7 +3,7 @@ use Rattle.wordset.specs.Lanes.{words}
 use Rattle.wordset.specs.Links.{links_of}
 use Rattle.domain.specs.ChainsInCode.{chain_of}
 use Rattle.facts.specs.Entailing.{GivesIfAllowed}
-use Rattle.facts.proofs.EntailLemmas.{not_both}
+use Rattle.transfer.proofs.EntailLemmas.{not_both}
 use Rattle.reasons.proofs.LandingLemmas.{both_links}
 use Rattle.reasons.proofs.counterexample.link_beside.Goals as goal
 

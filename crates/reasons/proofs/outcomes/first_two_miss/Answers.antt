@@ -1,4 +1,4 @@
-use Rattle.facts.specs.OutcomesInCode.{outcome_in}
+use Rattle.transfer.specs.OutcomesInCode.{outcome_in}
 use Rattle.judge.specs.Points.{case_of}
 use Rattle.wordset.specs.Lanes.{words}
 use Rattle.reasons.specs.Breaches.{OutcomeMisses}

@@ -1,9 +1,9 @@
 use Rattle.std.proofs.Common.{List, refl, subst}
-use Rattle.facts.specs.Operations.{outcomes_of}
-use Rattle.facts.specs.Outcomes.{Successor}
+use Rattle.transfer.specs.Operations.{outcomes_of}
+use Rattle.transfer.specs.Outcomes.{Successor}
 use Rattle.facts.specs.PlaceInCode.{meaning_in}
 use Rattle.wordset.specs.Words.{Words}
-use Rattle.facts.specs.OutcomesInCode.{outcomes_in}
+use Rattle.transfer.specs.OutcomesInCode.{outcomes_in}
 use Rattle.judge.specs.Landing.{EachSuccessor, abandons}
 use Rattle.judge.specs.Points.{case_of, fact_asked}
 use Rattle.judge.proofs.PointLemmas.{meant}

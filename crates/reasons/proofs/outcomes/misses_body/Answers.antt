@@ -1,6 +1,6 @@
 use Rattle.std.proofs.Common.{refl}
 use Rattle.domain.specs.FactInCode.{fact_in_code}
-use Rattle.facts.proofs.EntailLemmas.{not_both}
+use Rattle.transfer.proofs.EntailLemmas.{not_both}
 use Rattle.judge.specs.Points.{case_of}
 use Rattle.reasons.proofs.LandingLemmas.{idle_outside}
 use Rattle.reasons.proofs.outcomes.misses_body.Goals as goal

@@ -1,7 +1,7 @@
 use Rattle.std.proofs.Common.{ap, ◌∙◌}
 use Rattle.wordset.specs.Words.{Words}
 use Rattle.domain.specs.FactInCode.{fact_in_code}
-use Rattle.facts.proofs.EntailLemmas.{not_both}
+use Rattle.transfer.proofs.EntailLemmas.{not_both}
 use Rattle.judge.specs.Landing.{sited}
 use Rattle.judge.specs.Points.{case_of}
 use Rattle.judge.proofs.PointLemmas.{made_place}

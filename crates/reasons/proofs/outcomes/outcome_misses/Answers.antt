@@ -2,7 +2,7 @@ use Rattle.std.proofs.Common.{inl, subst, sym}
 use Rattle.std.specs.Prelude.{IfNone, IfSome}
 use Rattle.domain.specs.Brief.{brief_words}
 use Rattle.domain.specs.FactInCode.{fact_in_code}
-use Rattle.facts.specs.OutcomesInCode.{outcome_of}
+use Rattle.transfer.specs.OutcomesInCode.{outcome_of}
 use Rattle.judge.specs.Landing.{EachSuccessor}
 use Rattle.judge.specs.Points.{case_of}
 use Rattle.wordset.specs.Lanes.{words}

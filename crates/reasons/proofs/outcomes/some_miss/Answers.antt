@@ -1,6 +1,6 @@
 use Rattle.std.proofs.Common.{subst}
-use Rattle.facts.specs.OutcomesInCode.{outcome_in}
-use Rattle.facts.specs.declared.outcomes.Outcome.{Outcome}
+use Rattle.transfer.specs.OutcomesInCode.{outcome_in}
+use Rattle.transfer.specs.declared.outcomes.Outcome.{Outcome}
 use Rattle.judge.specs.Landing.{EachSuccessor}
 use Rattle.judge.specs.Points.{case_of}
 use Rattle.wordset.specs.Lanes.{words}

@@ -5,7 +5,7 @@ use Rattle.wordset.specs.Words.{Words}
 use Rattle.domain.specs.Facts.{Fact}
 use Rattle.facts.specs.Entailment.{Lands}
 use Rattle.facts.specs.PlaceInCode.{place_in_code}
-use Rattle.facts.proofs.EntailLemmas.{not_both}
+use Rattle.transfer.proofs.EntailLemmas.{not_both}
 use Rattle.judge.specs.Landing.{place_in, sited, sites_of}
 use Rattle.judge.specs.Points.{case_of, fact_asked}
 use Rattle.judge.proofs.CallLemmas.{lands_among}

@@ -2,7 +2,7 @@ use Rattle.std.proofs.Common.{refl, sym, subst, ◌∙◌}
 use Rattle.judge.specs.Points.{case_of, fact_asked}
 use Rattle.reasons.specs.Keeping.{ReturnsThrough}
 use Rattle.reasons.specs.Points.{counts_lines}
-use Rattle.facts.proofs.EntailLemmas.{none_is, some_is}
+use Rattle.transfer.proofs.EntailLemmas.{none_is, some_is}
 use Rattle.reasons.proofs.returns.returns_wrongly.Goals as goal
 
 pub returns-in_err-entry-clause-none : goal.returns-in_err-entry-clause-none

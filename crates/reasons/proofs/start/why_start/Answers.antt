@@ -1,6 +1,6 @@
 use Rattle.std.proofs.Common.{ap}
 use Rattle.wordset.specs.Words.{Words}
-use Rattle.facts.proofs.EntailLemmas.{not_both}
+use Rattle.transfer.proofs.EntailLemmas.{not_both}
 use Rattle.judge.specs.Landing.{sited}
 use Rattle.judge.specs.Judged.{case_kept}
 use Rattle.judge.proofs.LineLemmas.{start_place}

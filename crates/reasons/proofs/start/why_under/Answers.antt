@@ -5,7 +5,7 @@ use Rattle.domain.specs.Facts.{Fact}
 use Rattle.facts.specs.Entailment.{EntailsOne, PartLands}
 use Rattle.facts.specs.PlaceInCode.{place_in_code}
 use Rattle.facts.specs.Starts.{start_fact}
-use Rattle.facts.proofs.EntailLemmas.{not_both}
+use Rattle.transfer.proofs.EntailLemmas.{not_both}
 use Rattle.facts.proofs.BeginningLemmas.{begun, one_link_begun}
 use Rattle.reasons.proofs.LandingLemmas.{several}
 use Rattle.reasons.proofs.ReasonLemmas.{excludes_equally}

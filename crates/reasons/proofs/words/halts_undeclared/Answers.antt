@@ -1,5 +1,5 @@
 use Rattle.std.proofs.Common.{refl}
-use Rattle.facts.proofs.EntailLemmas.{not_both}
+use Rattle.transfer.proofs.EntailLemmas.{not_both}
 use Rattle.reasons.proofs.words.halts_undeclared.Goals as goal
 
 pub returns-then-halts_are_declared-clause-none : goal.returns-then-halts_are_declared-clause-none

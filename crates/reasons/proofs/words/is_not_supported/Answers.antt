@@ -1,5 +1,5 @@
 use Rattle.std.proofs.Common.{refl}
-use Rattle.facts.proofs.EntailLemmas.{not_both}
+use Rattle.transfer.proofs.EntailLemmas.{not_both}
 use Rattle.reasons.proofs.words.is_not_supported.Goals as goal
 
 pub returns-then-is_supported-clause-none : goal.returns-then-is_supported-clause-none

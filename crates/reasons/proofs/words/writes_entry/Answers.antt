@@ -4,7 +4,7 @@ use Rattle.std.proofs.lemmas.Bool.{true≢false}
 use Rattle.wordset.specs.Words.{Words}
 use Rattle.facts.specs.Conditions.{EntriesAreKept}
 use Rattle.facts.specs.PlaceInCode.{meaning_in}
-use Rattle.facts.proofs.EntailLemmas.{not_both}
+use Rattle.transfer.proofs.EntailLemmas.{not_both}
 use Rattle.judge.specs.Points.{fact_asked}
 use Rattle.judge.proofs.PointLemmas.{meant}
 use Rattle.reasons.proofs.words.writes_entry.Goals as goal

@@ -1,7 +1,7 @@
 use Rattle.std.proofs.Common.{◌≡◌, rules, refl, Err, inl}
 use Rattle.declaration.specs.Kept.{meaning}
-use Rattle.certificate.specs.Kept.{meaning as lines_of}
-use Rattle.certificate.specs.Laws.{bytes_of}
+use Rattle.certificate_lines.specs.Kept.{meaning as lines_of}
+use Rattle.certificate_lines.specs.Laws.{bytes_of}
 use Rattle.command_parts.specs.Faults.{fault_of_guess}
 use Rattle.command_parts.specs.declared.status.Status.TheVariants.{Done}
 use Rattle.command_parts.proofs.AnswerLemmas.{nothing_written, outcome_written, two_good, two_refused, write_follows}

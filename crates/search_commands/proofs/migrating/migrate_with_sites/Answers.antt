@@ -1,6 +1,6 @@
 use Rattle.std.proofs.Common.{◌≡◌, false, rules, refl, ap, ◌∙◌, Err, inl, inr}
-use Rattle.certificate.specs.Kept.{meaning as lines_of}
-use Rattle.certificate.specs.Laws.{bytes_of}
+use Rattle.certificate_lines.specs.Kept.{meaning as lines_of}
+use Rattle.certificate_lines.specs.Laws.{bytes_of}
 use Rattle.declaration.specs.Kept.{meaning}
 use Rattle.command_parts.specs.Faults.{fails_to_write}
 use Rattle.command_parts.specs.declared.status.Fault.TheVariants.{NoMemory}

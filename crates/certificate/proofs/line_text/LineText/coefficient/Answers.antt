@@ -1,5 +1,5 @@
 use Rattle.std.proofs.Common.{sym, arith}
-use Rattle.certificate.proofs.SumFieldLemmas.{digits_are}
+use Rattle.certificate_lines.proofs.SumFieldLemmas.{digits_are}
 use Rattle.certificate.proofs.SumSpelledLemmas.{plus_text, minus_text}
 use Rattle.certificate.proofs.line_text.LineText.coefficient.Goals as goal
 

@@ -1,4 +1,4 @@
-use Rattle.certificate.specs.FieldSpelling.{digits}
+use Rattle.certificate_lines.specs.FieldSpelling.{digits}
 use Rattle.certificate.proofs.SpelledLemmas.{joined}
 use Rattle.certificate.proofs.line_text.LineText.links.Goals as goal
 

@@ -1,6 +1,6 @@
 use Rattle.domain.specs.Offsets.{offsets_in}
-use Rattle.certificate.specs.FieldSpelling.{digits}
-use Rattle.certificate.specs.LineText.{Adds}
+use Rattle.certificate_lines.specs.FieldSpelling.{digits}
+use Rattle.certificate_lines.specs.LineText.{Adds}
 use Rattle.certificate.proofs.line_text.LineText.offset_digits.Given as goal
 
 abbrev pub invariant-loop-offset : goal.invariant-loop-offset

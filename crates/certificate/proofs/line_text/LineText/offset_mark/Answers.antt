@@ -1,6 +1,6 @@
 use Rattle.std.proofs.Common.{sym}
 use Rattle.domain.specs.Offsets.{offsets_in}
-use Rattle.certificate.proofs.OffsetTextLemmas.{mark_first, mark_last}
+use Rattle.certificate_lines.proofs.OffsetTextLemmas.{mark_first, mark_last}
 use Rattle.certificate.proofs.SpelledLemmas.{joined, none}
 use Rattle.certificate.proofs.SumSpelledLemmas.{mark_none}
 use Rattle.certificate.proofs.line_text.LineText.offset_mark.Goals as goal

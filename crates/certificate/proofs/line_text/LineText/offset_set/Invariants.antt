@@ -1,6 +1,6 @@
 use Rattle.domain.specs.Offsets.{offsets_in}
-use Rattle.certificate.specs.LineText.{Adds}
-use Rattle.certificate.specs.Spelling.{offset_marks}
+use Rattle.certificate_lines.specs.LineText.{Adds}
+use Rattle.certificate_lines.specs.Spelling.{offset_marks}
 use Rattle.certificate.proofs.line_text.LineText.offset_set.Given as goal
 
 abbrev pub invariant-loop-offset : goal.invariant-loop-offset

@@ -1,6 +1,6 @@
 use Rattle.std.proofs.Common.{◌≤◌, [], ◌∷◌, length, length-append, arith}
-use Rattle.certificate.specs.Spelling.{line_text}
-use Rattle.certificate.specs.Packed.{said_of}
+use Rattle.certificate_lines.specs.Spelling.{line_text}
+use Rattle.certificate_lines.specs.Packed.{said_of}
 use Rattle.certificate.proofs.SumLengthLemmas.{line_short}
 use Rattle.certificate.proofs.SpelledLemmas.{joined, whole}
 use Rattle.certificate.proofs.line_text.LineText.put_told.Goals as goal

@@ -1,5 +1,5 @@
-use Rattle.certificate.specs.FieldSpelling.{rank_text}
-use Rattle.certificate.specs.LineText.{Adds}
+use Rattle.certificate_lines.specs.FieldSpelling.{rank_text}
+use Rattle.certificate_lines.specs.LineText.{Adds}
 use Rattle.certificate.proofs.SpelledLemmas.{joined}
 use Rattle.certificate.proofs.line_text.LineText.routine.Goals as goal
 

@@ -1,5 +1,5 @@
 use Rattle.std.proofs.Common.{◌≡◌, ◌==◌, false, sym, ◌∙◌}
-use Rattle.certificate.proofs.DigitLemmas.{not_true}
+use Rattle.certificate_lines.proofs.DigitLemmas.{not_true}
 use Rattle.certificate.proofs.SpelledLemmas.{joined}
 use Rattle.certificate.proofs.line_text.LineText.run.Goals as goal
 

@@ -1,8 +1,8 @@
 use Rattle.std.proofs.Common.{map, take}
 use Rattle.std.specs.Prelude.{flat_map}
 use Rattle.domain.specs.ChainsInCode.{step_of}
-use Rattle.certificate.specs.LineText.{Adds}
-use Rattle.certificate.specs.Spelling.{step_text}
+use Rattle.certificate_lines.specs.LineText.{Adds}
+use Rattle.certificate_lines.specs.Spelling.{step_text}
 use Rattle.certificate.proofs.line_text.LineText.steps.Given as goal
 
 abbrev pub invariant-loop-step : goal.invariant-loop-step

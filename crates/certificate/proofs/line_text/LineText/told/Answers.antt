@@ -1,6 +1,6 @@
-use Rattle.certificate.specs.LineText.{Adds}
-use Rattle.certificate.specs.Runs.{registers_at}
-use Rattle.certificate.specs.Spelling.{words_text}
+use Rattle.certificate_lines.specs.LineText.{Adds}
+use Rattle.certificate_lines.specs.Runs.{registers_at}
+use Rattle.certificate_lines.specs.Spelling.{words_text}
 use Rattle.certificate.proofs.SpelledLemmas.{joined}
 use Rattle.certificate.proofs.line_text.LineText.told.Goals as goal
 

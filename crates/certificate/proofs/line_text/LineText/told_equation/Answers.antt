@@ -1,8 +1,8 @@
 use Rattle.wordset.specs.Words.{only}
-use Rattle.certificate.specs.Runs.{set_at}
-use Rattle.certificate.specs.LineText.{Adds}
-use Rattle.certificate.specs.Spelling.{word_text}
-use Rattle.certificate.proofs.PackedLemmas.{front_of}
+use Rattle.certificate_lines.specs.Runs.{set_at}
+use Rattle.certificate_lines.specs.LineText.{Adds}
+use Rattle.certificate_lines.specs.Spelling.{word_text}
+use Rattle.certificate_lines.proofs.PackedLemmas.{front_of}
 use Rattle.certificate.proofs.SpelledLemmas.{joined}
 use Rattle.certificate.proofs.line_text.LineText.told_equation.Goals as goal
 

@@ -1,6 +1,6 @@
 use Rattle.std.proofs.Common.{drop}
-use Rattle.certificate.specs.Spelling.{sites_text, words_text}
-use Rattle.certificate.specs.Runs.{set_at, registers_at}
+use Rattle.certificate_lines.specs.Spelling.{sites_text, words_text}
+use Rattle.certificate_lines.specs.Runs.{set_at, registers_at}
 use Rattle.certificate.proofs.SumSpelledLemmas.{exit_written}
 use Rattle.certificate.proofs.line_text.LineText.told_exit.Goals as goal
 

@@ -1,7 +1,7 @@
 use Rattle.std.proofs.Common.{drop}
-use Rattle.certificate.specs.Spelling.{sites_text, words_text, offsets_line}
+use Rattle.certificate_lines.specs.Spelling.{sites_text, words_text, offsets_line}
 use Rattle.domain.specs.Offsets.{offsets_in}
-use Rattle.certificate.specs.Runs.{set_at, registers_at}
+use Rattle.certificate_lines.specs.Runs.{set_at, registers_at}
 use Rattle.certificate.proofs.SumSpelledLemmas.{fact_written}
 use Rattle.certificate.proofs.line_text.LineText.told_fact.Goals as goal
 

@@ -1,6 +1,6 @@
 use Rattle.std.specs.Prelude.{nat_lt}
 use Rattle.std.proofs.lemmas.Bool.{and_parts, ltb-true}
-use Rattle.certificate.specs.LineOf.{most_offsets}
+use Rattle.certificate_lines.specs.LineOf.{most_offsets}
 use Rattle.certificate.proofs.line_text.LineText.told_line.Goals as goal
 
 pub routine-requires-clause-rank : goal.routine-requires-clause-rank

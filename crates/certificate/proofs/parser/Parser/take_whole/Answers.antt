@@ -1,7 +1,7 @@
 use Rattle.std.proofs.Common.{List, ℕ, [], ◌∷◌, ◌++◌, ◌+◌, ◌-◌, ◌<◌, ◌≤◌, length, subst, sym, arith, append_assoc, length-append}
 use Rattle.std.proofs.lemmas.List.{take-append-le}
-use Rattle.certificate.specs.declared.CertificateFault.TheVariants as faults
-use Rattle.certificate.specs.Pieces.{most_bytes}
+use Rattle.certificate_lines.specs.declared.CertificateFault.TheVariants as faults
+use Rattle.certificate_lines.specs.Pieces.{most_bytes}
 use Rattle.certificate.specs.Parser.{NoFeed, Refuses}
 use Rattle.certificate.proofs.LengthLemmas.{feed_taken}
 use Rattle.certificate.proofs.SumParserLemmas.{then_seen, few_more, whole_line}

@@ -1,5 +1,5 @@
 use Rattle.std.proofs.Common.{Err, ap, ◌∙◌}
-use Rattle.certificate.specs.ReadFaults.{is_read_fault}
+use Rattle.certificate_lines.specs.ReadFaults.{is_read_fault}
 use Rattle.diagnostics.proofs.CheckLemmas.{has_certificate, certificate_fault_is}
 use Rattle.diagnostics.proofs.verdicts.certificates.certificate_from.Goals as goal
 

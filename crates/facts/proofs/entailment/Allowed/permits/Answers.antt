@@ -3,7 +3,7 @@ use Rattle.wordset.specs.Lanes.{words}
 use Rattle.wordset.specs.Links.{links_of}
 use Rattle.domain.specs.ChainsInCode.{chain_of}
 use Rattle.facts.proofs.ShowingLemmas.{no_accumulator, no_link, gives_it, allowed_not_given, not_each_given}
-use Rattle.facts.proofs.EntailLemmas.{not_both}
+use Rattle.transfer.proofs.EntailLemmas.{not_both}
 use Rattle.facts.proofs.entailment.Allowed.permits.Goals as goal
 
 pub returns-then-not-contains : goal.returns-then-not-contains

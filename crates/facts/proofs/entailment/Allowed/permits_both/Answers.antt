@@ -3,7 +3,7 @@ use Rattle.wordset.specs.Lanes.{words}
 use Rattle.wordset.specs.Links.{links_of}
 use Rattle.domain.specs.ChainsInCode.{chain_of}
 use Rattle.facts.proofs.ShowingLemmas.{each_link, Allows}
-use Rattle.facts.proofs.EntailLemmas.{not_true, not_both}
+use Rattle.transfer.proofs.EntailLemmas.{not_true, not_both}
 use Rattle.facts.proofs.entailment.Allowed.permits_both.Goals as goal
 
 pub returns-then-not-permits : goal.returns-then-not-permits

@@ -3,7 +3,7 @@ use Rattle.wordset.specs.Lanes.{words}
 use Rattle.wordset.specs.Links.{links_of}
 use Rattle.domain.specs.ChainsInCode.{chain_of}
 use Rattle.facts.proofs.ShowingLemmas.{by_accumulators, to_accumulators}
-use Rattle.facts.proofs.EntailLemmas.{not_true, not_both}
+use Rattle.transfer.proofs.EntailLemmas.{not_true, not_both}
 use Rattle.wordset.proofs.IterLemmas.{all_pass, given_word}
 use Rattle.facts.proofs.entailment.Allowed.permits_each.Goals as goal
 

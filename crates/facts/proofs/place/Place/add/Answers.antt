@@ -7,10 +7,10 @@ use Rattle.facts.specs.PlaceInCode.{place_in_code}
 use Rattle.std.specs.Prelude.{Option}
 use Rattle.domain.specs.Terms.{Term}
 use Rattle.domain.specs.FactInCode.{rules_of}
-use Rattle.facts.specs.References.{words_at, operand_term, one_target}
-use Rattle.facts.specs.Outcomes.{tad_by, ac_of, added, added_under}
-use Rattle.facts.specs.Shaped.{term_if}
-use Rattle.facts.proofs.ComesLemmas.{goes_on, both_are, none_after, all_reached}
+use Rattle.transfer.specs.References.{words_at, operand_term, one_target}
+use Rattle.transfer.specs.Outcomes.{tad_by, ac_of, added, added_under}
+use Rattle.transfer.specs.Shaped.{term_if}
+use Rattle.transfer.proofs.ComesLemmas.{goes_on, both_are, none_after, all_reached}
 use Rattle.facts.proofs.place.Place.add.Goals as goal
 
 pub returns-in-OfSums : goal.returns-in-OfSums

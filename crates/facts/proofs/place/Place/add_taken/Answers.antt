@@ -5,7 +5,7 @@ use Rattle.std.specs.Prelude.{◌||◌}
 use Rattle.domain.specs.LocationsInCode.{location_of}
 use Rattle.domain.specs.FactInCode.{fact_in_code}
 use Rattle.facts.specs.PlaceInCode.{place_in_code}
-use Rattle.facts.proofs.EntailLemmas.{not_both}
+use Rattle.transfer.proofs.EntailLemmas.{not_both}
 use Rattle.facts.proofs.SplitLemmas.{taken_before, taken_now, not_taken}
 use Rattle.facts.proofs.place.Place.add_taken.Goals as goal
 

@@ -1,7 +1,7 @@
 use Rattle.std.proofs.Common.{◌≡◌, true}
 use Rattle.wordset.specs.Lanes.{words}
 use Rattle.wordset.proofs.IterLemmas.{Passed}
-use Rattle.facts.specs.References.{is_fixed}
+use Rattle.transfer.specs.References.{is_fixed}
 use Rattle.facts.specs.PlaceInCode.{place_in_code}
 use Rattle.facts.proofs.place.Place.are_fixed.Given as goal
 

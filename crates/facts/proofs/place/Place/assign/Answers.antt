@@ -6,7 +6,7 @@ use Rattle.domain.specs.FactInCode.{fact_in_code}
 use Rattle.facts.specs.PlaceInCode.{place_in_code}
 use Rattle.domain.specs.Locations.{Ac}
 use Rattle.domain.specs.Moves.{taking}
-use Rattle.facts.specs.Outcomes.{goes}
+use Rattle.transfer.specs.Outcomes.{goes}
 use Rattle.facts.proofs.place.Place.assign.Goals as goal
 
 pub returns : goal.returns

@@ -1,9 +1,9 @@
 use Rattle.std.proofs.Common.{true, false}
 use Rattle.domain.specs.FactInCode.{fact_in_code}
-use Rattle.facts.specs.Operations.{operated2}
+use Rattle.transfer.specs.Operations.{operated2}
 use Rattle.facts.specs.PlaceInCode.{place_in_code}
-use Rattle.facts.specs.OutcomesInCode.{outcome_in}
-use Rattle.facts.proofs.ComesLemmas.{two_pairs}
+use Rattle.transfer.specs.OutcomesInCode.{outcome_in}
+use Rattle.transfer.proofs.ComesLemmas.{two_pairs}
 use Rattle.facts.proofs.place.Place.branch.Goals as goal
 
 pub returns : goal.returns

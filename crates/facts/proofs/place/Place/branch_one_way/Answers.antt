@@ -2,10 +2,10 @@ use Rattle.std.proofs.Common.{◌∙◌, ap, refl, ℕ}
 use Rattle.wordset.specs.Words.{one, all_words, has_some}
 use Rattle.domain.specs.Facts.{Fact}
 use Rattle.domain.specs.FactInCode.{fact_in_code}
-use Rattle.facts.specs.Outcomes.{alive, goes}
-use Rattle.facts.specs.Operations.{part2, tested, may_be, cleared2}
+use Rattle.transfer.specs.Outcomes.{alive, goes}
+use Rattle.transfer.specs.Operations.{part2, tested, may_be, cleared2}
 use Rattle.facts.specs.PlaceInCode.{place_in_code}
-use Rattle.facts.proofs.ComesLemmas.{test_fails, test_passes}
+use Rattle.transfer.proofs.ComesLemmas.{test_fails, test_passes}
 use Rattle.facts.proofs.place.Place.branch_one_way.Goals as goal
 
 pub returns-then-not-put_branch : goal.returns-then-not-put_branch

@@ -1,4 +1,4 @@
-use Rattle.facts.proofs.ComesLemmas.{both_are}
+use Rattle.transfer.proofs.ComesLemmas.{both_are}
 use Rattle.facts.proofs.place.Place.branch_under.Goals as goal
 
 pub returns : goal.returns

@@ -8,9 +8,9 @@ use Rattle.std.specs.Prelude.{Option, ℕ}
 use Rattle.wordset.specs.Words.{ands, only}
 use Rattle.domain.specs.Locations.{Ac}
 use Rattle.domain.specs.Moves.{taking}
-use Rattle.facts.specs.References.{words_at}
-use Rattle.facts.specs.Outcomes.{ac_of, chains_after_and}
-use Rattle.facts.proofs.ComesLemmas.{goes_on, all_reached}
+use Rattle.transfer.specs.References.{words_at}
+use Rattle.transfer.specs.Outcomes.{ac_of, chains_after_and}
+use Rattle.transfer.proofs.ComesLemmas.{goes_on, all_reached}
 use Rattle.facts.proofs.place.Place.combine.Goals as goal
 
 pub returns : goal.returns

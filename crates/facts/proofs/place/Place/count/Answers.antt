@@ -1,5 +1,5 @@
 use Rattle.std.proofs.Common.{◌∙◌, sym}
-use Rattle.facts.proofs.ComesLemmas.{none_after}
+use Rattle.transfer.proofs.ComesLemmas.{none_after}
 use Rattle.facts.proofs.place.Place.count.Goals as goal
 
 pub returns-in-None : goal.returns-in-None

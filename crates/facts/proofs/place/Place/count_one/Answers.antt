@@ -7,8 +7,8 @@ use Rattle.facts.specs.PlaceInCode.{place_in_code}
 use Rattle.wordset.specs.Words.{shifted, without, has_some}
 use Rattle.domain.specs.Locations.{Cell}
 use Rattle.domain.specs.Narrowing.{words_known}
-use Rattle.facts.proofs.OutcomeLemmas.{plus_two}
-use Rattle.facts.proofs.ComesLemmas.{goes_on, chosen_goes, counted_to, both_are, zero_there}
+use Rattle.transfer.proofs.OutcomeLemmas.{plus_two}
+use Rattle.transfer.proofs.ComesLemmas.{goes_on, chosen_goes, counted_to, both_are, zero_there}
 use Rattle.facts.proofs.place.Place.count_one.Goals as goal
 
 pub returns : goal.returns

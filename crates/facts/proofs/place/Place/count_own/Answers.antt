@@ -6,7 +6,7 @@ use Rattle.domain.specs.FactInCode.{fact_in_code}
 use Rattle.facts.specs.PlaceInCode.{place_in_code}
 use Rattle.domain.specs.Moves.{counted_up}
 use Rattle.domain.specs.Offsets.{offsets_in}
-use Rattle.facts.proofs.ComesLemmas.{goes_on, all_reached}
+use Rattle.transfer.proofs.ComesLemmas.{goes_on, all_reached}
 use Rattle.facts.proofs.place.Place.count_own.Goals as goal
 
 pub returns : goal.returns

@@ -4,8 +4,8 @@ use Rattle.wordset.specs.Lanes.{words}
 use Rattle.domain.specs.Facts.{Fact}
 use Rattle.domain.specs.FactInCode.{fact_in_code}
 use Rattle.facts.specs.PlaceInCode.{place_in_code}
-use Rattle.facts.proofs.OutcomeLemmas.{plus_two}
-use Rattle.facts.proofs.ComesLemmas.{chosen_goes, both_are, all_reached}
+use Rattle.transfer.proofs.OutcomeLemmas.{plus_two}
+use Rattle.transfer.proofs.ComesLemmas.{chosen_goes, both_are, all_reached}
 use Rattle.facts.proofs.place.Place.count_several.Goals as goal
 
 pub returns : goal.returns

@@ -2,7 +2,7 @@ use Rattle.std.proofs.Common.{◌≡◌, ◌∙◌, sym, ap, refl, Some, None}
 use Rattle.std.proofs.lemmas.Bool.{eqb-true, eq-eqb}
 use Rattle.wordset.specs.Words.{only}
 use Rattle.domain.specs.FactInCode.{fact_in_code}
-use Rattle.facts.specs.References.{targets}
+use Rattle.transfer.specs.References.{targets}
 use Rattle.facts.specs.PlaceInCode.{place_in_code}
 use Rattle.facts.proofs.AskedLemmas.{false_iff}
 use Rattle.facts.proofs.AskingLemmas.{counts_in}

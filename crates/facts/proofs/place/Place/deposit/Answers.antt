@@ -7,8 +7,8 @@ use Rattle.facts.specs.PlaceInCode.{place_in_code}
 use Rattle.wordset.specs.Words.{has_some}
 use Rattle.domain.specs.Locations.{Ac}
 use Rattle.domain.specs.Moves.{taking, weakly_updated}
-use Rattle.facts.specs.Outcomes.{ac_of, deposited}
-use Rattle.facts.proofs.ComesLemmas.{goes_on, all_reached}
+use Rattle.transfer.specs.Outcomes.{ac_of, deposited}
+use Rattle.transfer.proofs.ComesLemmas.{goes_on, all_reached}
 use Rattle.facts.proofs.place.Place.deposit.Goals as goal
 
 pub returns-in-Some : goal.returns-in-Some

@@ -7,7 +7,7 @@ use Rattle.facts.specs.Entailing.{EachWithin}
 use Rattle.domain.specs.Locations.{Ac}
 use Rattle.domain.specs.CellsInCode.{cell_sets_of}
 use Rattle.facts.proofs.ShowingLemmas.{entails_iff, entails_cells, entails_registers}
-use Rattle.facts.proofs.EntailLemmas.{not_true, not_both}
+use Rattle.transfer.proofs.EntailLemmas.{not_true, not_both}
 use Rattle.facts.proofs.place.Place.entails.Goals as goal
 
 pub returns-then-not-entails_registers : goal.returns-then-not-entails_registers

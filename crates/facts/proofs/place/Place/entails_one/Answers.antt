@@ -2,7 +2,7 @@ use Rattle.std.proofs.Common.{arith}
 use Rattle.facts.specs.PlaceInCode.{place_in_code}
 use Rattle.domain.specs.FactInCode.{fact_in_code}
 use Rattle.facts.proofs.SplitLemmas.{one_found, one_step, one_none}
-use Rattle.facts.proofs.EntailLemmas.{not_both}
+use Rattle.transfer.proofs.EntailLemmas.{not_both}
 use Rattle.facts.proofs.place.Place.entails_one.Goals as goal
 
 pub returns-then-entails : goal.returns-then-entails

@@ -1,7 +1,7 @@
 use Rattle.facts.specs.PlaceInCode.{place_in_code}
 use Rattle.domain.specs.FactInCode.{fact_in_code}
 use Rattle.facts.proofs.ShowingLemmas.{registers_iff, registers_not_link, registers_not_offsets, registers_not_mq, registers_not_sites}
-use Rattle.facts.proofs.EntailLemmas.{not_both}
+use Rattle.transfer.proofs.EntailLemmas.{not_both}
 use Rattle.facts.proofs.place.Place.entails_registers.Goals as goal
 
 pub returns-then-not-is_subset : goal.returns-then-not-is_subset

@@ -6,7 +6,7 @@ use Rattle.facts.specs.PlaceInCode.{place_in_code}
 use Rattle.instruct.specs.Operates.{Mql, Mqa, Swp, Cam, ClaMqa, ClaSwp}
 use Rattle.domain.specs.Locations.{Ac}
 use Rattle.domain.specs.Moves.{taking}
-use Rattle.facts.specs.Outcomes.{ac_of, goes, with_mq}
+use Rattle.transfer.specs.Outcomes.{ac_of, goes, with_mq}
 use Rattle.facts.proofs.DeviceLemmas.{exchange_is}
 use Rattle.facts.proofs.place.Place.exchange.Goals as goal
 

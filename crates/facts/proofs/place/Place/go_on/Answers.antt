@@ -1,7 +1,7 @@
 use Rattle.std.proofs.Common.{refl}
 use Rattle.wordset.specs.Words.{one, all_words}
 use Rattle.facts.specs.PlaceInCode.{place_in_code}
-use Rattle.facts.proofs.ComesLemmas.{goes_on, all_reached}
+use Rattle.transfer.proofs.ComesLemmas.{goes_on, all_reached}
 use Rattle.facts.proofs.place.Place.go_on.Goals as goal
 
 pub returns : goal.returns

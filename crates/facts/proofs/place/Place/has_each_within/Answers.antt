@@ -1,5 +1,5 @@
 use Rattle.facts.proofs.ShowingLemmas.{within_step, within_fails}
-use Rattle.facts.proofs.EntailLemmas.{not_both}
+use Rattle.transfer.proofs.EntailLemmas.{not_both}
 use Rattle.facts.specs.PlaceInCode.{place_in_code}
 use Rattle.domain.specs.CellsInCode.{cell_set_of}
 use Rattle.facts.proofs.place.Place.has_each_within.Goals as goal

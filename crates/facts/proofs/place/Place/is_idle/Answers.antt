@@ -5,7 +5,7 @@ use Rattle.domain.specs.Facts.{Fact}
 use Rattle.domain.specs.FactInCode.{fact_in_code, rules_of}
 use Rattle.facts.specs.Landing.{IsIdleUnder}
 use Rattle.facts.proofs.SplitLemmas.{both_idle, first_not_idle, never_idle}
-use Rattle.facts.proofs.EntailLemmas.{not_both}
+use Rattle.transfer.proofs.EntailLemmas.{not_both}
 use Rattle.facts.proofs.place.Place.is_idle.Goals as goal
 
 pub returns-in-OfEquations-clause-idle : goal.returns-in-OfEquations-clause-idle

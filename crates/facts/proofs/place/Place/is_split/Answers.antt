@@ -6,7 +6,7 @@ use Rattle.domain.specs.Locations.{Ac, Cell}
 use Rattle.facts.specs.Entailment.{IsSplit}
 use Rattle.facts.specs.Landing.{IsSplitBy, AllowAll, IsTakenWhole}
 use Rattle.facts.proofs.SplitLemmas.{split_iff}
-use Rattle.facts.proofs.EntailLemmas.{not_both}
+use Rattle.transfer.proofs.EntailLemmas.{not_both}
 use Rattle.facts.proofs.place.Place.is_split.Goals as goal
 
 pub returns-then-is_split_by-clause-split : goal.returns-then-is_split_by-clause-split

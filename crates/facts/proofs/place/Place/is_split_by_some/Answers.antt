@@ -3,7 +3,7 @@ use Rattle.domain.specs.Locations.{Cell}
 use Rattle.domain.specs.Facts.{Fact}
 use Rattle.facts.specs.PlaceInCode.{place_in_code}
 use Rattle.facts.specs.Landing.{IsSplitBy}
-use Rattle.facts.proofs.EntailLemmas.{not_both}
+use Rattle.transfer.proofs.EntailLemmas.{not_both}
 use Rattle.wordset.proofs.IterLemmas.{none_yet, one_more, all_pass}
 use Rattle.facts.proofs.place.Place.is_split_by_some.Goals as goal
 

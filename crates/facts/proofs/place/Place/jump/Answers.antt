@@ -4,8 +4,8 @@ use Rattle.wordset.specs.Lanes.{words}
 use Rattle.domain.specs.Facts.{Fact}
 use Rattle.domain.specs.FactInCode.{fact_in_code}
 use Rattle.facts.specs.PlaceInCode.{place_in_code}
-use Rattle.facts.specs.Outcomes.{Goes, Returns, given, alive}
-use Rattle.facts.proofs.ComesLemmas.{comes_by, all_reached}
+use Rattle.transfer.specs.Outcomes.{Goes, Returns, given, alive}
+use Rattle.transfer.proofs.ComesLemmas.{comes_by, all_reached}
 use Rattle.facts.proofs.place.Place.jump.Goals as goal
 
 pub returns-then-is_returning : goal.returns-then-is_returning

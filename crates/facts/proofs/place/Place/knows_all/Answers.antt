@@ -1,5 +1,5 @@
 use Rattle.facts.proofs.ShowingLemmas.{known_step, known_fails}
-use Rattle.facts.proofs.EntailLemmas.{not_both}
+use Rattle.transfer.proofs.EntailLemmas.{not_both}
 use Rattle.facts.specs.PlaceInCode.{place_in_code}
 use Rattle.domain.specs.RelationsInCode.{relation_of}
 use Rattle.facts.proofs.place.Place.knows_all.Goals as goal

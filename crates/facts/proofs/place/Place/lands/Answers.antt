@@ -5,7 +5,7 @@ use Rattle.domain.specs.Facts.{Fact}
 use Rattle.domain.specs.FactInCode.{fact_in_code, rules_of}
 use Rattle.facts.specs.Landing.{LandsUnder}
 use Rattle.facts.proofs.SplitLemmas.{both_land, first_fails, one_lands}
-use Rattle.facts.proofs.EntailLemmas.{not_both}
+use Rattle.transfer.proofs.EntailLemmas.{not_both}
 use Rattle.facts.proofs.place.Place.lands.Goals as goal
 
 pub returns-in-OfEquations-clause-lands : goal.returns-in-OfEquations-clause-lands

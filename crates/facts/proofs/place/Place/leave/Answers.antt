@@ -3,7 +3,7 @@ use Rattle.wordset.specs.Words.{one, all_words}
 use Rattle.domain.specs.Facts.{Fact}
 use Rattle.domain.specs.FactInCode.{fact_in_code}
 use Rattle.facts.specs.PlaceInCode.{place_in_code}
-use Rattle.facts.specs.Outcomes.{goes}
+use Rattle.transfer.specs.Outcomes.{goes}
 use Rattle.facts.proofs.place.Place.leave.Goals as goal
 
 pub returns : goal.returns

@@ -4,7 +4,7 @@ use Rattle.wordset.proofs.IterLemmas.{Passed}
 use Rattle.domain.specs.Locations.{Cell}
 use Rattle.domain.specs.Narrowing.{words_known}
 use Rattle.domain.specs.FactInCode.{fact_in_code}
-use Rattle.facts.specs.Shaped.{has_last_or_other}
+use Rattle.transfer.specs.Shaped.{has_last_or_other}
 use Rattle.facts.specs.PlaceInCode.{place_in_code}
 use Rattle.facts.proofs.place.Place.may_some_hold.Given as goal
 

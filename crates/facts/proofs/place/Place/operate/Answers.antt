@@ -7,9 +7,9 @@ use Rattle.wordset.specs.Words.{images}
 use Rattle.domain.specs.Locations.{Ac}
 use Rattle.domain.specs.Adding.{with_name}
 use Rattle.domain.specs.Facts.{OfEquations}
-use Rattle.facts.specs.Outcomes.{goes, ac_of, with_link}
-use Rattle.facts.specs.Operations.{all_operated1, operated, operated_under, ac_after, link_after}
-use Rattle.facts.proofs.ComesLemmas.{both_are, none_after}
+use Rattle.transfer.specs.Outcomes.{goes, ac_of, with_link}
+use Rattle.transfer.specs.Operations.{all_operated1, operated, operated_under, ac_after, link_after}
+use Rattle.transfer.proofs.ComesLemmas.{both_are, none_after}
 use Rattle.facts.proofs.place.Place.operate.Goals as goal
 
 pub returns-in-OfSums : goal.returns-in-OfSums

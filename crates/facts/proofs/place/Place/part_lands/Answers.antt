@@ -1,7 +1,7 @@
 use Rattle.std.proofs.Common.{◌∙◌, sym}
 use Rattle.facts.specs.PlaceInCode.{place_in_code}
 use Rattle.facts.proofs.SplitLemmas.{part_void, part_entails, part_split}
-use Rattle.facts.proofs.EntailLemmas.{not_both}
+use Rattle.transfer.proofs.EntailLemmas.{not_both}
 use Rattle.facts.proofs.place.Place.part_lands.Goals as goal
 
 pub returns-then-is_none-clause-lands : goal.returns-then-is_none-clause-lands

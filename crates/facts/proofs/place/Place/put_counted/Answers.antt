@@ -4,7 +4,7 @@ use Rattle.domain.specs.Locations.{Cell}
 use Rattle.domain.specs.FactInCode.{fact_in_code}
 use Rattle.domain.specs.Narrowing.{words_known}
 use Rattle.facts.specs.PlaceInCode.{place_in_code}
-use Rattle.facts.proofs.ComesLemmas.{counted_is}
+use Rattle.transfer.proofs.ComesLemmas.{counted_is}
 use Rattle.facts.proofs.CountedLemmas.{as_many_chains}
 use Rattle.domain.specs.Facts.{Fact}
 use Rattle.facts.proofs.place.Place.put_counted.Goals as goal

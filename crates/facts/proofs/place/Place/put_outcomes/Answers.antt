@@ -2,9 +2,9 @@ use Rattle.std.proofs.Common.{◌∙◌, sym, arith, rules}
 use Rattle.instruct.proofs.KindLemmas.{reference_meaning, group1_meaning, group2_meaning, undefined_meaning}
 use Rattle.domain.specs.FactInCode.{fact_in_code}
 use Rattle.facts.specs.PlaceInCode.{place_in_code}
-use Rattle.facts.specs.OutcomesInCode.{outcome_in}
+use Rattle.transfer.specs.OutcomesInCode.{outcome_in}
 use Rattle.facts.proofs.DispatchLemmas.{first_group_8e, kind_here}
-use Rattle.facts.proofs.ComesLemmas.{none_behind, none_alone}
+use Rattle.transfer.proofs.ComesLemmas.{none_behind, none_alone}
 use Rattle.facts.proofs.DeviceLemmas.{of_meaning, of_group3}
 use Rattle.facts.proofs.place.Place.put_outcomes.Goals as goal
 

@@ -1,5 +1,5 @@
 use Rattle.std.proofs.Common.{◌∙◌, sym}
-use Rattle.facts.specs.References.{possible}
+use Rattle.transfer.specs.References.{possible}
 use Rattle.facts.proofs.place.Place.put_possible.Goals as goal
 
 pub returns-then-is_variable : goal.returns-then-is_variable

@@ -2,7 +2,7 @@ use Rattle.wordset.specs.Words.{nothing}
 use Rattle.wordset.specs.Lanes.{words}
 use Rattle.wordset.proofs.IterLemmas.{Gathered}
 use Rattle.domain.specs.FactInCode.{fact_in_code}
-use Rattle.facts.specs.References.{words_in}
+use Rattle.transfer.specs.References.{words_in}
 use Rattle.facts.specs.PlaceInCode.{place_in_code}
 use Rattle.facts.proofs.place.Place.put_words_at_each.Given as goal
 

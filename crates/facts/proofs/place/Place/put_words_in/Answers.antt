@@ -1,5 +1,5 @@
 use Rattle.std.proofs.Common.{◌∙◌, sym}
-use Rattle.facts.specs.References.{words_in}
+use Rattle.transfer.specs.References.{words_in}
 use Rattle.facts.proofs.place.Place.put_words_in.Goals as goal
 
 pub returns-then-is_variable : goal.returns-then-is_variable

@@ -2,13 +2,13 @@ use Rattle.std.proofs.Common.{◌∙◌, sym, Bool, ap, refl, subst, arith, lit<
 use Rattle.wordset.specs.Words.{one, only}
 use Rattle.domain.specs.Facts.{Fact}
 use Rattle.domain.specs.ChainsInCode.{AreShort}
-use Rattle.facts.specs.Shaped.{HaveFewTerms}
+use Rattle.transfer.specs.Shaped.{HaveFewTerms}
 use Rattle.facts.proofs.CountedLemmas.{few_moved, short_counted}
 use Rattle.domain.specs.FactInCode.{fact_in_code}
-use Rattle.facts.specs.References.{targets}
+use Rattle.transfer.specs.References.{targets}
 use Rattle.facts.specs.PlaceInCode.{place_in_code}
-use Rattle.facts.specs.OutcomesInCode.{outcome_in}
-use Rattle.facts.proofs.ComesLemmas.{none_behind}
+use Rattle.transfer.specs.OutcomesInCode.{outcome_in}
+use Rattle.transfer.proofs.ComesLemmas.{none_behind}
 use Rattle.facts.proofs.place.Place.refer.Goals as goal
 
 pub returns-then-steps_pointer : goal.returns-then-steps_pointer

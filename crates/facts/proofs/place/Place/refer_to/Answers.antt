@@ -1,5 +1,5 @@
 use Rattle.std.proofs.Common.{◌∙◌, sym}
-use Rattle.facts.proofs.ComesLemmas.{none_after}
+use Rattle.transfer.proofs.ComesLemmas.{none_after}
 use Rattle.facts.proofs.place.Place.refer_to.Goals as goal
 
 pub returns-in-And : goal.returns-in-And

@@ -1,5 +1,5 @@
 use Rattle.facts.proofs.ShowingLemmas.{chain_step, chain_fails}
-use Rattle.facts.proofs.EntailLemmas.{not_both}
+use Rattle.transfer.proofs.EntailLemmas.{not_both}
 use Rattle.facts.specs.PlaceInCode.{place_in_code}
 use Rattle.domain.specs.ChainsInCode.{chain_of}
 use Rattle.facts.proofs.place.Place.shows_chains.Goals as goal

@@ -8,7 +8,7 @@ use Rattle.facts.specs.Entailment.{EntailsOne}
 use Rattle.facts.specs.Starts.{start_fact}
 use Rattle.facts.proofs.SplitLemmas.{both_parts_land, first_part_fails, one_lands}
 use Rattle.facts.proofs.BeginningLemmas.{begun}
-use Rattle.facts.proofs.EntailLemmas.{not_both}
+use Rattle.transfer.proofs.EntailLemmas.{not_both}
 use Rattle.facts.proofs.place.Place.starts_land.Goals as goal
 
 pub returns-in-OfEquations : goal.returns-in-OfEquations

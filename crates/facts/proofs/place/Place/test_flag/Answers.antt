@@ -2,9 +2,9 @@ use Rattle.std.proofs.Common.{◌∙◌, ap}
 use Rattle.wordset.specs.Words.{one, all_words}
 use Rattle.domain.specs.FactInCode.{fact_in_code}
 use Rattle.facts.specs.PlaceInCode.{place_in_code}
-use Rattle.facts.specs.Outcomes.{goes}
-use Rattle.facts.proofs.OutcomeLemmas.{plus_two}
-use Rattle.facts.proofs.ComesLemmas.{both_are}
+use Rattle.transfer.specs.Outcomes.{goes}
+use Rattle.transfer.proofs.OutcomeLemmas.{plus_two}
+use Rattle.transfer.proofs.ComesLemmas.{both_are}
 use Rattle.facts.proofs.place.Place.test_flag.Goals as goal
 
 pub returns : goal.returns

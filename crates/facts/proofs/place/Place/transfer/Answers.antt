@@ -3,11 +3,11 @@ use Rattle.instruct.specs.declared.devices.DeviceOperation.{DeviceOperation}
 use Rattle.instruct.specs.declared.devices.DeviceOperation.TheVariants.{SkipOnReaderFlag, SkipOnPunchFlag, SkipOnKeyboardFlag, SkipOnPrinterFlag, ReadReaderBuffer, ReadReaderBufferAndFetchFrame, ReadKeyboardBuffer, ClearKeyboardFlagAndAccumulator, TakeKeyboardByte}
 use Rattle.instruct.specs.Instructions.{Ors, Leaves, processor_action}
 use Rattle.wordset.specs.Words.{all_words, one}
-use Rattle.facts.specs.Outcomes.{goes}
-use Rattle.facts.specs.Operations.{device_outcomes}
+use Rattle.transfer.specs.Outcomes.{goes}
+use Rattle.transfer.specs.Operations.{device_outcomes}
 use Rattle.domain.specs.FactInCode.{fact_in_code}
 use Rattle.facts.specs.PlaceInCode.{place_in_code}
-use Rattle.facts.proofs.ComesLemmas.{none_after}
+use Rattle.transfer.proofs.ComesLemmas.{none_after}
 use Rattle.facts.proofs.DeviceLemmas.{byte_in, zero_in, byte_taken}
 use Rattle.facts.proofs.place.Place.transfer.Goals as goal
 

@@ -2,8 +2,8 @@ use Rattle.std.proofs.Common.{◌∙◌, ap}
 use Rattle.instruct.specs.Devices.{device_operation}
 use Rattle.domain.specs.FactInCode.{fact_in_code}
 use Rattle.facts.specs.PlaceInCode.{place_in_code}
-use Rattle.facts.specs.OutcomesInCode.{outcome_in}
-use Rattle.facts.proofs.ComesLemmas.{none_behind}
+use Rattle.transfer.specs.OutcomesInCode.{outcome_in}
+use Rattle.transfer.proofs.ComesLemmas.{none_behind}
 use Rattle.facts.proofs.DeviceLemmas.{of_device, of_no_device}
 use Rattle.facts.proofs.place.Place.transfer_by.Goals as goal
 

@@ -9,7 +9,7 @@ use Rattle.facts.specs.PlaceInCode.{place_in_code}
 use Rattle.facts.specs.StartInCode.{start_in_code}
 use Rattle.facts.specs.Starts.{words_at_start}
 use Rattle.facts.proofs.StartLemmas.{tape_words}
-use Rattle.facts.proofs.RowsLemmas.{some_there, none_there}
+use Rattle.transfer.proofs.RowsLemmas.{some_there, none_there}
 use Rattle.facts.proofs.BeginningLemmas.{unlinked_taken, empty_taken, entailed_taken, not_linked, linked}
 use Rattle.facts.proofs.starts.StartPartPart.is_taken.Goals as goal
 

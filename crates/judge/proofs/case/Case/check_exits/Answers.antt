@@ -2,7 +2,7 @@ use Rattle.judge.specs.Judged.{case_kept}
 use Rattle.judge.proofs.LineLemmas.{no_facts, exits_fail}
 use Rattle.judge.proofs.CaseLemmas.{empty_returns}
 use Rattle.judge.proofs.TrueLemmas.{unreturned_is_held}
-use Rattle.facts.proofs.EntailLemmas.{not_both}
+use Rattle.transfer.proofs.EntailLemmas.{not_both}
 use Rattle.judge.proofs.case.Case.check_exits.Goals as goal
 
 pub returns-then-is_empty : goal.returns-then-is_empty

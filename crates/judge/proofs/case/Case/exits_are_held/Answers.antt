@@ -1,5 +1,5 @@
 use Rattle.judge.specs.Judged.{case_kept}
-use Rattle.facts.proofs.EntailLemmas.{not_both}
+use Rattle.transfer.proofs.EntailLemmas.{not_both}
 use Rattle.judge.proofs.CaseLemmas.{held_further, held_everywhere, not_held}
 use Rattle.judge.proofs.case.Case.exits_are_held.Goals as goal
 

@@ -4,7 +4,7 @@ use Rattle.wordset.specs.Words.{Words}
 use Rattle.wordset.specs.Lanes.{words}
 use Rattle.domain.specs.Facts.{Fact}
 use Rattle.domain.specs.FactInCode.{fact_in_code}
-use Rattle.facts.proofs.EntailLemmas.{not_both}
+use Rattle.transfer.proofs.EntailLemmas.{not_both}
 use Rattle.judge.specs.Judged.{case_kept}
 use Rattle.judge.specs.Landing.{sited}
 use Rattle.judge.proofs.CaseLemmas.{one_is_held, one_is_not, all_are_held}

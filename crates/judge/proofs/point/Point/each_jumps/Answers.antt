@@ -1,6 +1,6 @@
 use Rattle.judge.specs.Jumps.{SuccessorJumps}
-use Rattle.facts.specs.OutcomesInCode.{outcome_in}
-use Rattle.facts.proofs.EntailLemmas.{not_both}
+use Rattle.transfer.specs.OutcomesInCode.{outcome_in}
+use Rattle.transfer.proofs.EntailLemmas.{not_both}
 use Rattle.judge.specs.Points.{case_of}
 use Rattle.judge.proofs.PointLemmas.{four_land, first_fails, second_fails, third_fails}
 use Rattle.judge.proofs.point.Point.each_jumps.Goals as goal

@@ -1,5 +1,5 @@
 use Rattle.judge.specs.Points.{case_of, fact_asked}
-use Rattle.facts.proofs.EntailLemmas.{not_both}
+use Rattle.transfer.proofs.EntailLemmas.{not_both}
 use Rattle.judge.proofs.CallLemmas.{lands_further, lands_everywhere, lacks_one}
 use Rattle.judge.proofs.point.Point.lands_after.Goals as goal
 

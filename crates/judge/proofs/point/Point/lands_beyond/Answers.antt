@@ -5,7 +5,7 @@ use Rattle.wordset.specs.Lanes.{words}
 use Rattle.domain.specs.Brief.{brief_words}
 use Rattle.domain.specs.Facts.{Fact}
 use Rattle.domain.specs.FactInCode.{fact_in_code}
-use Rattle.facts.proofs.EntailLemmas.{not_both}
+use Rattle.transfer.proofs.EntailLemmas.{not_both}
 use Rattle.judge.specs.Landing.{LandsAt}
 use Rattle.judge.specs.Points.{case_of}
 use Rattle.judge.proofs.PointLemmas.{lands_split, lands_not_here, is_as_main}

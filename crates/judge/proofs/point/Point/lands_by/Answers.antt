@@ -7,7 +7,7 @@ use Rattle.domain.specs.FactInCode.{fact_in_code}
 use Rattle.judge.specs.Landing.{sited, EachLandsAfter}
 use Rattle.judge.specs.Callees.{LandsWith}
 use Rattle.judge.specs.Points.{case_of, fact_asked}
-use Rattle.facts.proofs.EntailLemmas.{not_both}
+use Rattle.transfer.proofs.EntailLemmas.{not_both}
 use Rattle.judge.proofs.CallLemmas.{one_lands, one_lacks, all_land}
 use Rattle.judge.proofs.point.Point.lands_by.Goals as goal
 

@@ -1,6 +1,6 @@
 use Rattle.std.specs.Prelude.{IsTrue, ◌↔◌, List}
-use Rattle.facts.specs.Outcomes.{Successor}
-use Rattle.facts.specs.Operations.{outcomes_of}
+use Rattle.transfer.specs.Outcomes.{Successor}
+use Rattle.transfer.specs.Operations.{outcomes_of}
 use Rattle.facts.specs.PlaceInCode.{place_in_code, meaning_in}
 use Rattle.judge.specs.Landing.{EachSuccessor, SuccessorLands}
 use Rattle.std.proofs.Common.{sym, ◌∙◌, subst, arith}

@@ -1,7 +1,7 @@
 use Rattle.std.proofs.Common.{subst, arith}
 use Rattle.std.specs.Prelude.{IsTrue, ◌↔◌}
 use Rattle.wordset.specs.Words.{Words}
-use Rattle.certificate.specs.Certificate.{writes_of}
+use Rattle.certificate_lines.specs.Certificate.{writes_of}
 use Rattle.facts.specs.Conditions.{WritesAreListed}
 use Rattle.facts.specs.PlaceInCode.{place_in_code, meaning_in}
 use Rattle.judge.specs.Points.{fact_asked}

@@ -1,0 +1,193 @@
+-- Runs that stand apart: their text, their set, and how far a set is gone through by them.
+use Rattle.std.proofs.Common.{◌≡◌, ◌⊎◌, ℕ, ◌+◌, ◌*◌, ◌<◌, ◌≤◌, Bool, true, false, not, ◌&&◌, ◌||◌, List, [], ◌∷◌, ◌++◌, length, get_or, take, drop, refl, ap, ◌∙◌, sym, inl, inr, arith, append_assoc, append-nil, length-append}
+use Rattle.std.specs.Prelude.{if◌then◌else◌}
+use Rattle.std.proofs.lemmas.Bool.{true≢false, cases_lt}
+use Rattle.std.proofs.lemmas.List.{take_all, take_more, drop_at}
+use Rattle.std.proofs.Math.Bool.{or-false, or_assoc}
+use Rattle.wordset.specs.Words.{Words, nothing, between, union, difference, all_words, IsFirstFrom, HasNoneFrom}
+use Rattle.wordset.specs.Lanes.{words}
+use Rattle.certificate_lines.specs.declared.runs.Run.{Run}
+use Rattle.certificate_lines.specs.FieldsLeft.{run_text}
+use Rattle.certificate_lines.specs.LineText.{IsLastOf}
+use Rattle.certificate_lines.specs.Runs.{joined, set_of_runs, added, StandApart}
+use Rattle.certificate_lines.proofs.PackedLemmas.{joined_more, or_with, in_between, below_between, above_between, still_in, set_is}
+
+-- The text of runs: each one after the first has a comma before it.
+abbrev pub more_text : List Run → List ℕ
+more_text [] = []
+more_text (r ∷ rs) = 44 ∷ (run_text r.first r.last ++ more_text rs)
+
+abbrev pub runs_text : List Run → List ℕ
+runs_text [] = []
+runs_text (r ∷ rs) = run_text r.first r.last ++ more_text rs
+
+-- There are runs; and what is written after them before a further one.
+abbrev pub has : List Run → Bool
+has [] = false
+has (r ∷ rs) = true
+
+abbrev pub comma : List Run → List ℕ
+comma rs = if has rs then 44 ∷ [] else []
+
+pub has_more : (rs : List Run) (r : Run) → has (rs ++ r ∷ []) ≡ true
+has_more [] r = refl
+has_more (x ∷ rs) r = refl
+
+more_on : (rs : List Run) (r : Run) → more_text (rs ++ r ∷ []) ≡ more_text rs ++ 44 ∷ run_text r.first r.last
+more_on [] r = ap (λ (y : List ℕ). 44 ∷ y) (append-nil (run_text r.first r.last))
+more_on (x ∷ rs) r =
+    ap (λ (y : List ℕ). 44 ∷ y) (ap (λ (y : List ℕ). run_text x.first x.last ++ y) (more_on rs r) ∙
+    sym (append_assoc (run_text x.first x.last) (more_text rs) (44 ∷ run_text r.first r.last)))
+
+pub runs_more : (rs : List Run) (r : Run) → runs_text (rs ++ r ∷ []) ≡ runs_text rs ++ comma rs ++ run_text r.first r.last
+runs_more [] r = append-nil (run_text r.first r.last)
+runs_more (x ∷ rs) r =
+    ap (λ (y : List ℕ). run_text x.first x.last ++ y) (more_on rs r) ∙
+    (sym (append_assoc (run_text x.first x.last) (more_text rs) (44 ∷ run_text r.first r.last)) ∙
+    sym (append_assoc (run_text x.first x.last ++ more_text rs) (44 ∷ []) (run_text r.first r.last)))
+
+-- There are at most 2048 of them.
+pub few_apart : (n : ℕ) (rs : List Run) → n ≤ 4097 → StandApart n rs → 2 * length rs + n ≤ 4097
+few_apart n [] few h = omega arith
+few_apart n (r ∷ rs) few h =
+    let a : n ≤ r.first = h.0 in
+    let b : r.first ≤ r.last = h.1 in
+    let c : r.last < 4096 = h.2 in
+    let d : 2 * length rs + (r.last + 2) ≤ 4097 = few_apart (r.last + 2) rs (omega arith) h.3 in
+    omega arith
+
+-- More runs may stand after those up to an index.
+pub taken : (rs : List Run) (i : ℕ) (r : Run) → i < length rs → r ≡ get_or rs i r → take (i + 1) rs ≡ take i rs ++ r ∷ []
+taken rs i r h is = take_more rs i r h ∙ ap (λ (x : Run). take i rs ++ x ∷ []) (sym is)
+
+pub one_apart : (runs rest : List Run) (i n : ℕ) (r : Run) → i < length runs → r ≡ get_or runs i r →
+    ((rest : List Run) → StandApart n rest → StandApart 0 (take i runs ++ rest)) → n ≤ r.first → r.first ≤ r.last → r.last < 4096 →
+    StandApart (r.last + 2) rest → StandApart 0 (take (i + 1) runs ++ rest)
+one_apart runs rest i n r h is so reached order small more =
+    rw (taken runs i r h is, append_assoc (take i runs) (r ∷ []) rest) (so (r ∷ rest) (reached, order, small, more))
+
+pub all_apart : (runs : List Run) (i n : ℕ) → length runs ≤ i → ((rest : List Run) → StandApart n rest → StandApart 0 (take i runs ++ rest)) →
+    StandApart 0 runs
+all_apart runs i n h so = rw (take_all i runs h, append-nil runs) at (so [] tt)
+
+-- A set and more runs.
+joined_or : (t : Words) (rs : List Run) (v : ℕ) → joined t rs v ≡ (t v || joined nothing rs v)
+joined_or t [] v = sym (or-false (t v))
+joined_or t (r ∷ rs) v =
+    joined_or (union t (between r.first r.last)) rs v ∙
+    (or_assoc (t v) (between r.first r.last v) (joined nothing rs v) ∙
+    ap (λ x. t v || x) (sym (joined_or (union nothing (between r.first r.last)) rs v)))
+
+-- A word is in the first run or in the others.
+pub first_or : (r : Run) (rs : List Run) (v : ℕ) → joined nothing (r ∷ rs) v ≡ (between r.first r.last v || joined nothing rs v)
+first_or r rs v = joined_or (union nothing (between r.first r.last)) rs v
+
+pub in_first : (r : Run) (rs : List Run) (v : ℕ) → r.first ≤ v → v ≤ r.last → joined nothing (r ∷ rs) v ≡ true
+in_first r rs v a b = first_or r rs v ∙ or_with _ _ true (joined nothing rs v) (in_between r.first r.last v a b) refl
+
+pub past_first : (r : Run) (rs : List Run) (v : ℕ) → r.last < v → joined nothing (r ∷ rs) v ≡ joined nothing rs v
+past_first r rs v a = first_or r rs v ∙ or_with _ _ false (joined nothing rs v) (above_between r.first r.last v a) refl
+
+-- No word stands before the first run.
+pub before_all : (n : ℕ) (rs : List Run) (v : ℕ) → StandApart n rs → v < n → joined nothing rs v ≡ false
+before_all n [] v h small = refl
+before_all n (r ∷ rs) v h small =
+    let a : n ≤ r.first = h.0 in
+    let b : r.first ≤ r.last = h.1 in
+    first_or r rs v ∙ or_with _ _ false false (below_between r.first r.last v (omega arith)) (before_all (r.last + 2) rs v h.3 (omega arith))
+
+pub run_is : (a b : Run) → a.first ≡ b.first → a.last ≡ b.last → a ≡ b
+run_is a b e f = ap (λ (n : ℕ). record a { first = n }) e ∙ ap (λ (n : ℕ). record b { last = n }) f
+
+-- The words of a set below n are those of these runs, after which the next one may begin at another number.
+pub record Closed (s : Words) (rs : List Run) (n next : ℕ) : Type 0 where
+  pub apart : (ts : List Run) → StandApart next ts → StandApart 0 (rs ++ ts)
+  pub same : (v : ℕ) → v < n → v < 4096 → s v ≡ joined nothing rs v
+  pub above : (v : ℕ) → n ≤ v → joined nothing rs v ≡ false
+
+pub none_closed : (s : Words) → Closed s [] 0 0
+none_closed s = record { apart = λ ts h. h; same = λ v a b. absurd (omega arith); above = λ v a. refl }
+
+pub later : (n m : ℕ) (ts : List Run) → n ≤ m → StandApart m ts → StandApart n ts
+later n m [] a h = tt
+later n m (t ∷ ts) a h = ((let b : m ≤ t.first = h.0 in omega arith), h.1, h.2, h.3)
+
+-- Absent words are passed over.
+pub skip : (s : Words) (rs : List Run) (n next m : ℕ) → Closed s rs n next → n ≤ m → next ≤ m → ((v : ℕ) → n ≤ v → v < m → v < 4096 → s v ≡ false) →
+    Closed s rs m m
+skip s rs n next m h a b none = record {
+  apart = λ ts w. h.apart ts (later next m ts b w);
+  same = λ v c d. elim (cases_lt v n) [ inl e ↦ h.same v e d | inr e ↦ none v e c d ∙ sym (h.above v e) ];
+  above = λ v c. h.above v (omega arith);
+}
+
+-- A run more.
+pub close : (s : Words) (rs : List Run) (r : Run) → Closed s rs r.first r.first → r.first ≤ r.last → r.last < 4096 →
+    ((v : ℕ) → r.first ≤ v → v ≤ r.last → s v ≡ true) → Closed s (rs ++ r ∷ []) (r.last + 1) (r.last + 2)
+close s rs r h order small inside = record {
+  apart = λ ts w. rw (append_assoc rs (r ∷ []) ts) (h.apart (r ∷ ts) (omega arith, order, small, w));
+  same = λ v a b. elim (cases_lt v r.first) [
+    | inl c ↦ h.same v c b ∙ sym (at v ∙ (or_with _ _ (joined nothing rs v) false refl (below_between r.first r.last v c) ∙ or-false (joined nothing rs v)))
+    | inr c ↦ inside v c (omega arith) ∙ sym (at v ∙ or_with _ _ false true (h.above v c) (in_between r.first r.last v c (omega arith)))
+  ];
+  above = λ v a. at v ∙ or_with _ _ false false (h.above v (omega arith)) (above_between r.first r.last v (omega arith));
+}
+  where
+    at : (v : ℕ) → joined nothing (rs ++ r ∷ []) v ≡ (joined nothing rs v || between r.first r.last v)
+    at v = ap (λ (k : Words). k v) (joined_more nothing rs r)
+
+-- The next run, by the words that aren't in the set.
+pub found_run : (s others : Words) (rs : List Run) (n : ℕ) (r : Run) → Closed s rs n n → IsFirstFrom n s r.first → IsLastOf others r.first r.last →
+    others ≡ difference all_words s → Closed s (rs ++ r ∷ []) (r.last + 2) (r.last + 2)
+found_run s others rs n r h f l are =
+    skip s (rs ++ r ∷ []) (r.last + 1) (r.last + 2) (r.last + 2)
+    (close s rs r (skip s rs n n r.first h f.reached f.reached (λ v a b c. f.before v a b)) l.order l.small
+    (λ v a b. still_in s v (let q : r.last < 4096 = l.small in omega arith) (sym (at v) ∙ l.inside v a b)))
+    (omega arith) (omega arith) (λ v a b c. let z : v ≡ r.last + 1 = omega arith in rw z (after l.stops (omega arith)))
+  where
+    at : (v : ℕ) → others v ≡ difference all_words s v
+    at v = ap (λ (k : Words). k v) are
+
+    gone : (b c : Bool) → (c && not b) ≡ true → b ≡ false
+    gone false c q = refl
+    gone true true q = absurd (true≢false (sym q))
+    gone true false q = absurd (true≢false (sym q))
+
+    after : (r.last ≡ 4095) ⊎ (others (r.last + 1) ≡ true) → r.last < 4095 → s (r.last + 1) ≡ false
+    after (inl e) w = absurd (omega arith)
+    after (inr e) w = gone (s (r.last + 1)) (all_words (r.last + 1)) (sym (at (r.last + 1)) ∙ e)
+
+pub closed_all : (s : Words) (rs : List Run) (n next : ℕ) → Closed s rs n next → HasNoneFrom n s → (v : ℕ) → v < 4096 → s v ≡ joined nothing rs v
+closed_all s rs n next h none v a = elim (cases_lt v n) [ inl b ↦ h.same v b a | inr b ↦ none v b a ∙ sym (h.above v b) ]
+
+pub closed_apart : (s : Words) (rs : List Run) (n next : ℕ) → Closed s rs n next → StandApart 0 rs
+closed_apart s rs n next h = rw (append-nil rs) at (h.apart [] tt)
+
+-- The runs of a set that were added so far: those of its words below n.
+pub record RunsSofar (old new : List Run) (set : Words) (n : ℕ) : Type 0 where
+  pub more : List Run
+  pub is : new ≡ old ++ more
+  pub closed : Closed set more n n
+
+pub no_runs : (old : List Run) (set : Words) → RunsSofar old old set 0
+no_runs old set = record { more = []; is = sym (append-nil old); closed = none_closed set }
+
+pub run_added : (old now new : List Run) (set others : Words) (n : ℕ) (run : Run) → RunsSofar old now set n → IsFirstFrom n set run.first →
+    IsLastOf others run.first run.last → others ≡ difference all_words set → new ≡ now ++ run ∷ [] → RunsSofar old new set (run.last + 2)
+run_added old now new set others n run s f l are e = record {
+  more = s.more ++ run ∷ [];
+  is = e ∙ (ap (λ (x : List Run). x ++ run ∷ []) s.is ∙ append_assoc old s.more (run ∷ []));
+  closed = found_run set others s.more n run s.closed f l are;
+}
+
+pub few_runs : (old new : List Run) (set : Words) (n : ℕ) → RunsSofar old new set n → length new ≤ length old + 4096
+few_runs old new set n s =
+    let p : 2 * length s.more + 0 ≤ 4097 = few_apart 0 s.more (omega arith) (closed_apart set s.more n n s.closed) in
+    let e : length new ≡ length old + length s.more = ap length s.is ∙ length-append old s.more in omega arith
+
+-- All of them were added.
+pub all_runs : (old new : List Run) (lanes : List ℕ) (n : ℕ) → RunsSofar old new (words lanes) n → HasNoneFrom n (words lanes) →
+    added old new ≡ words lanes
+all_runs old new lanes n s none =
+    let e : drop (length old) new ≡ s.more = ap (drop (length old)) s.is ∙ drop_at old s.more (length old) refl in
+    ap set_of_runs e ∙ sym (set_is lanes s.more (closed_all (words lanes) s.more n n s.closed none))

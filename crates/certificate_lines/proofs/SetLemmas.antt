@@ -1,0 +1,250 @@
+-- What is written of a set is the text of its runs, and each set has some.
+use Rattle.std.proofs.Common.{◌≡◌, ◌⊎◌, ℕ, zero, suc, ◌+◌, ◌-◌, ◌<◌, ◌≤◌, ◌==◌, Bool, true, false, not, ◌&&◌, ◌||◌, List, [], ◌∷◌, ◌++◌, refl, ap, ◌∙◌, sym, inl, inr, arith, append_assoc, append-nil}
+use Rattle.std.specs.Prelude.{if◌then◌else◌, codes}
+use Rattle.std.proofs.lemmas.Bool.{true≢false, eq-eqb, ne_eqb, cases_lt, cases_Bool}
+use Rattle.std.proofs.Math.Bool.{and-false, or-true}
+use Rattle.word12.specs.Words.{octal_text}
+use Rattle.wordset.specs.Words.{Words, SameWords, nothing, some_below, has_some}
+use Rattle.wordset.proofs.Tests.{some_from, some_none_of, none_of_some}
+use Rattle.certificate_lines.specs.declared.runs.Run.{Run}
+use Rattle.certificate_lines.specs.FieldSpelling.{begins, ends, mark, marks, set_text}
+use Rattle.certificate_lines.specs.FieldsLeft.{run_text}
+use Rattle.certificate_lines.specs.Runs.{joined, set_of_runs, StandApart}
+use Rattle.certificate_lines.proofs.PackedLemmas.{runs_within}
+use Rattle.certificate_lines.proofs.ApartLemmas.{more_text, runs_text, in_first, past_first, before_all, later}
+
+nothing_more : (b : Bool) (x : List ℕ) → (if b && false then x else []) ≡ []
+nothing_more true x = refl
+nothing_more false x = refl
+
+mark_first : (s : Words) (a : ℕ) → begins s a ≡ true → mark s a ≡ (if some_below a s then codes "," else []) ++ octal_text a
+mark_first s a e = rw e (rw (nothing_more (ends s a) (codes "-" ++ octal_text a)) (append-nil ((if some_below a s then codes "," else []) ++ octal_text a)))
+
+mark_last : (s : Words) (a : ℕ) → begins s a ≡ false → ends s a ≡ true → mark s a ≡ codes "-" ++ octal_text a
+mark_last s a e f = rw (e, f) refl
+
+absent : (s : Words) (a : ℕ) → s a ≡ false → mark s a ≡ []
+absent s a e = rw e refl
+
+marks_more : (n : ℕ) (s : Words) → marks (n + 1) s ≡ marks n s ++ mark s n
+unfolding marks
+marks_more n s = let e : n + 1 ≡ suc n = omega arith in ap (λ k. marks k s) e
+
+-- Where nothing is written, the text stays.
+still : (s : Words) (n k m : ℕ) → m ≡ n + k → ((v : ℕ) → n ≤ v → v < m → mark s v ≡ []) → marks m s ≡ marks n s
+still s n zero m e none = let f : m ≡ n = omega arith in ap (λ i. marks i s) f
+still s n (suc k) m e none =
+    let f : m ≡ n + k + 1 = omega arith in
+    ap (λ i. marks i s) f ∙ (marks_more (n + k) s ∙ (ap (λ (x : List ℕ). marks (n + k) s ++ x) (none (n + k) (omega arith) (omega arith)) ∙
+    (append-nil (marks (n + k) s) ∙ still s n k (n + k) refl (λ v a b. none v a (omega arith)))))
+
+-- What is written at the words of a run.
+run_marks : (s : Words) (low high : ℕ) → low ≤ high → high < 4096 → begins s low ≡ true → ((v : ℕ) → low ≤ v → v ≤ high → s v ≡ true) →
+    (high < 4095 → s (high + 1) ≡ false) → marks (high + 1) s ≡ marks low s ++ ((if some_below low s then codes "," else []) ++ run_text low high)
+run_marks s low high order small starts inside stops = elim (cases_lt low high) [
+  | inl h ↦
+      marks_more high s ∙ (ap (λ (x : List ℕ). marks high s ++ x) (mark_last s high (inner high h (omega arith)) last) ∙
+      (ap (λ (x : List ℕ). x ++ (codes "-" ++ octal_text high)) (still s (low + 1) (high - (low + 1)) high (omega arith) (quiet h) ∙ first) ∙
+      (append_assoc (marks low s) (comma ++ octal_text low) (codes "-" ++ octal_text high) ∙
+      ap (λ (x : List ℕ). marks low s ++ x) (append_assoc comma (octal_text low) (codes "-" ++ octal_text high) ∙ rw (ne_eqb low high (λ z. omega arith)) refl))))
+  | inr h ↦ (let z : high ≡ low = omega arith in rw (z, eq-eqb low low refl, append-nil (octal_text low)) first)
+]
+  where
+    comma : List ℕ
+    comma = if some_below low s then codes "," else []
+
+    first : marks (low + 1) s ≡ marks low s ++ (comma ++ octal_text low)
+    first = marks_more low s ∙ ap (λ (x : List ℕ). marks low s ++ x) (mark_first s low starts)
+
+    inner : (v : ℕ) → low < v → v ≤ high → begins s v ≡ false
+    inner v a b = rw (ne_eqb v 0 (λ z. omega arith), inside (v - 1) (omega arith) (omega arith)) (and-false (s v))
+
+    quiet : low < high → (v : ℕ) → low + 1 ≤ v → v < high → mark s v ≡ []
+    quiet h v a b =
+        let e : ends s v ≡ false = rw (ne_eqb v 4095 (λ z. omega arith), inside (v + 1) (omega arith) (omega arith)) (and-false (s v)) in
+        rw (inner v (omega arith) (omega arith), e) refl
+
+    last : ends s high ≡ true
+    last = elim (cases_lt high 4095) [
+      | inl a ↦ rw (inside high order (omega arith), stops a) (or-true (high == 4095))
+      | inr a ↦ rw (inside high order (omega arith), eq-eqb high 4095 (omega arith)) refl
+    ]
+
+-- The text of runs, of which the first has a comma before it if words came before.
+after : Bool → List Run → List ℕ
+after b [] = []
+after b (r ∷ rs) = ((if b then codes "," else []) ++ run_text r.first r.last) ++ more_text rs
+
+after_some : (rs : List Run) → after true rs ≡ more_text rs
+unfolding after
+after_some [] = refl
+after_some (r ∷ rs) = refl
+
+after_none : (rs : List Run) → after false rs ≡ runs_text rs
+unfolding after
+after_none [] = refl
+after_none (r ∷ rs) = refl
+
+-- From n on a set's words are those of runs that begin at another number or after it.
+marks_runs : (s : Words) (b : Bool) (n next : ℕ) (rs : List Run) → n ≤ 4096 → n ≤ next → (n ≡ 0) ⊎ (n < next) → StandApart next rs →
+    ((v : ℕ) → n ≤ v → v < 4096 → s v ≡ joined nothing rs v) →
+    ((m : ℕ) → n ≤ m → ((v : ℕ) → n ≤ v → v < m → s v ≡ false) → some_below m s ≡ b) → marks 4096 s ≡ marks n s ++ after b rs
+unfolding after
+marks_runs s b n next [] small within start apart same some =
+    still s n (4096 - n) 4096 (omega arith) (λ v c d. absent s v (same v c d)) ∙ sym (append-nil (marks n s))
+marks_runs s b n next (r ∷ rs) small within start apart same some =
+    marks_runs s true (r.last + 1) (r.last + 2) rs (omega arith) (omega arith) (inr (omega arith)) apart.3
+    (λ v c d. same v (omega arith) d ∙ past_first r rs v (omega arith))
+    (λ m c none. some_from m s r.last (omega arith) (inside r.last order (omega arith))) ∙
+    (ap (λ (x : List ℕ). marks (r.last + 1) s ++ x) (after_some rs) ∙
+    (ap (λ (x : List ℕ). x ++ more_text rs) run ∙ append_assoc (marks n s) ((if b then codes "," else []) ++ run_text r.first r.last) (more_text rs)))
+  where
+    reached : next ≤ r.first
+    reached = apart.0
+
+    order : r.first ≤ r.last
+    order = apart.1
+
+    high : r.last < 4096
+    high = apart.2
+
+    gap : (v : ℕ) → n ≤ v → v < r.first → s v ≡ false
+    gap v c d = same v c (omega arith) ∙ before_all r.first (r ∷ rs) v (omega arith, order, high, apart.3) d
+
+    inside : (v : ℕ) → r.first ≤ v → v ≤ r.last → s v ≡ true
+    inside v c d = same v (omega arith) (omega arith) ∙ in_first r rs v c d
+
+    before : (n ≡ 0) ⊎ (n < next) → 0 < r.first → n ≤ r.first - 1
+    before (inl e) p = omega arith
+    before (inr e) p = omega arith
+
+    starts : (r.first == 0 || not (s (r.first - 1))) ≡ true
+    starts = elim (cases_lt 0 r.first) [
+      | inl p ↦ rw (gap (r.first - 1) (before start p) (omega arith)) (or-true (r.first == 0))
+      | inr p ↦ rw (eq-eqb r.first 0 (omega arith)) refl
+    ]
+
+    run : marks (r.last + 1) s ≡ marks n s ++ ((if b then codes "," else []) ++ run_text r.first r.last)
+    run =
+        run_marks s r.first r.last order high (rw (inside r.first (omega arith) order) starts) inside
+        (λ c. same (r.last + 1) (omega arith) (omega arith) ∙ (past_first r rs (r.last + 1) (omega arith) ∙ before_all (r.last + 2) rs (r.last + 1) apart.3 (omega arith))) ∙
+        (ap (λ (x : List ℕ). x ++ ((if some_below r.first s then codes "," else []) ++ run_text r.first r.last))
+        (still s n (r.first - n) r.first (omega arith) (λ v c d. absent s v (gap v c d))) ∙
+        ap (λ c. marks n s ++ ((if c then codes "," else []) ++ run_text r.first r.last)) (some r.first (omega arith) gap))
+
+pub text_all : (s : Words) (rs : List Run) → StandApart 0 rs → ((v : ℕ) → v < 4096 → s v ≡ joined nothing rs v) → marks 4096 s ≡ runs_text rs
+unfolding marks
+text_all s rs h same =
+    marks_runs s false 0 0 rs (omega arith) (omega arith) (inl refl) h (λ v a b. same v b)
+    (λ m a none. some_none_of m s (λ v b. none v (omega arith) b)) ∙ after_none rs
+
+-- ---- the runs of a set
+
+-- The runs of a set's words from n on.
+pub record RunsFrom (s : Words) (n : ℕ) : Type 0 where
+  pub runs : List Run
+  pub apart : StandApart n runs
+  pub same : (v : ℕ) → n ≤ v → v < 4096 → s v ≡ joined nothing runs v
+
+-- A run at the front, and further ones.
+begun : (s : Words) (n last : ℕ) (rs : List Run) → n ≤ last → last < 4096 → StandApart (last + 2) rs → ((v : ℕ) → n ≤ v → v ≤ last → s v ≡ true) →
+    ((v : ℕ) → last < v → v < 4096 → s v ≡ joined nothing rs v) → RunsFrom s n
+begun s n last rs order small apart inside same = record {
+  runs = run ∷ rs;
+  apart = (omega arith, order, small, apart);
+  same = λ v a b. elim (cases_lt last v) [
+    | inl c ↦ same v c b ∙ sym (past_first run rs v c)
+    | inr c ↦ inside v a (omega arith) ∙ sym (in_first run rs v a (omega arith))
+  ];
+}
+  where
+    run : Run
+    run = record { first = n; last = last }
+
+-- The runs from a word on by those from the next one on.
+one_down : (s : Words) (n : ℕ) → n < 4096 → s n ≡ true → (rs : List Run) → StandApart (n + 1) rs →
+    ((v : ℕ) → n + 1 ≤ v → v < 4096 → s v ≡ joined nothing rs v) → RunsFrom s n
+one_down s n small here [] apart same =
+    begun s n n [] (omega arith) small tt (λ v a b. let z : v ≡ n = omega arith in rw z here) (λ v a b. same v (omega arith) b)
+one_down s n small here (r ∷ rs) apart same = elim (cases_lt (n + 1) r.first) [
+  | inl h ↦ begun s n n (r ∷ rs) (omega arith) small (omega arith, apart.1, apart.2, apart.3) (λ v a b. let z : v ≡ n = omega arith in rw z here)
+      (λ v a b. same v (omega arith) b)
+  | inr h ↦ (let low : n + 1 ≤ r.first = apart.0 in let order : r.first ≤ r.last = apart.1 in let high : r.last < 4096 = apart.2 in
+      begun s n r.last rs (omega arith) high apart.3
+      (λ v a b. elim (cases_lt n v) [
+        | inl c ↦ same v (omega arith) (omega arith) ∙ in_first r rs v (omega arith) b
+        | inr c ↦ (let z : v ≡ n = omega arith in rw z here)
+      ])
+      (λ v a b. same v (omega arith) b ∙ past_first r rs v a))
+]
+
+runs_down : (s : Words) (k n : ℕ) → k + n ≡ 4096 → RunsFrom s n
+runs_down s zero n e = record { runs = []; apart = tt; same = λ v a b. absurd (omega arith) }
+runs_down s (suc k) n e =
+    let f : RunsFrom s (n + 1) = runs_down s k (n + 1) (omega arith) in
+    elim (cases_Bool (s n)) [
+      | inl here ↦ one_down s n (omega arith) here f.runs f.apart f.same
+      | inr none ↦ record {
+        runs = f.runs;
+        apart = later n (n + 1) f.runs (omega arith) f.apart;
+        same = λ v a b. elim (cases_lt n v) [
+          | inl c ↦ f.same v (omega arith) b
+          | inr c ↦ (let z : v ≡ n = omega arith in rw z (none ∙ sym (before_all (n + 1) f.runs n f.apart (omega arith))))
+        ];
+      }
+    ]
+
+pub set_runs : (s : Words) → RunsFrom s 0
+set_runs s = runs_down s 4096 0 (omega arith)
+
+pub text_of : (rs : List Run) → StandApart 0 rs → marks 4096 (set_of_runs rs) ≡ runs_text rs
+text_of rs h = text_all (set_of_runs rs) rs h (λ v a. sym (runs_within rs v a))
+
+-- The set of some runs has a word.
+pub some_runs : (n : ℕ) (r : Run) (rs : List Run) → StandApart n (r ∷ rs) → has_some (set_of_runs (r ∷ rs)) ≡ true
+some_runs n r rs h =
+    let order : r.first ≤ r.last = h.1 in
+    let small : r.last < 4096 = h.2 in
+    some_from 4096 (set_of_runs (r ∷ rs)) r.first (omega arith)
+    (sym (runs_within (r ∷ rs) r.first (omega arith)) ∙ in_first r rs r.first (omega arith) order)
+
+-- The runs of a set with a word.
+pub record RunsOf (s : Words) : Type 0 where
+  pub first : Run
+  pub more : List Run
+  pub apart : StandApart 0 (first ∷ more)
+  pub same : SameWords (set_of_runs (first ∷ more)) s
+  pub text : marks 4096 s ≡ runs_text (first ∷ more)
+
+pub runs_of : (s : Words) → has_some s ≡ true → RunsOf s
+runs_of s full = go c.runs c.apart (λ v a. c.same v (omega arith) a)
+  where
+    c : RunsFrom s 0
+    c = set_runs s
+
+    go : (rs : List Run) → StandApart 0 rs → ((v : ℕ) → v < 4096 → s v ≡ joined nothing rs v) → RunsOf s
+    go [] apart same = absurd (true≢false (sym full ∙ some_none_of 4096 s (λ v a. same v a)))
+    go (r ∷ rs) apart same = record {
+      first = r;
+      more = rs;
+      apart = apart;
+      same = λ v a. sym (same v a ∙ runs_within (r ∷ rs) v a);
+      text = text_all s (r ∷ rs) apart same;
+    }
+
+pub empty_text : (s : Words) → ((v : ℕ) → v < 4096 → s v ≡ false) → set_text s ≡ 45 ∷ []
+empty_text s none = rw (some_none_of 4096 s none) refl
+
+pub full_text : (s : Words) → has_some s ≡ true → set_text s ≡ marks 4096 s
+full_text s e = rw e refl
+
+-- A set is empty, or has runs of which the text is its own.
+pub record Full (s : Words) : Type 0 where
+  pub runs : RunsOf s
+  pub text : set_text s ≡ runs_text (runs.first ∷ runs.more)
+
+pub by_words : (s : Words) → Full s ⊎ ((v : ℕ) → v < 4096 → s v ≡ false)
+by_words s = elim (cases_Bool (has_some s)) [
+  | inl e ↦ inl (record { runs = runs_of s e; text = full_text s e ∙ (runs_of s e).text })
+  | inr e ↦ inr (none_of_some 4096 s e)
+]

@@ -1,0 +1,70 @@
+//! Lines of certificates: their spelling, how they are read and kept, and their order.
+#![tactic(auto)]
+
+use thiserror::Error;
+use wordset::WordSet;
+
+mod fields;
+mod line;
+mod lines;
+mod packed;
+mod progress;
+mod runs;
+mod sum_fields;
+
+pub use lines::{behind, end_of, fact_line, first_routine, first_said};
+pub use packed::sum::PackedSum;
+pub use packed::{
+    CertifiedFact, Claim, LentLine, PackedChain, PackedExit, PackedFact, PackedLine, PackedLines,
+    Steps, runs_from,
+};
+pub use progress::{FIRST_EXIT, FIRST_FACT, Progress};
+pub use runs::{PackedRegisters, PackedRoutine, Run, Runs, last_before, set_of, stand_apart};
+
+/// What is claimed of a routine: its rank, below 64 in a certificate, the addresses of the JMS words
+/// that call it, and the cells that it and its callees may write.
+#[derive(Clone, Copy, PartialEq, Eq, Debug)]
+pub struct RoutineClaim {
+    /// Its rank.
+    pub rank: usize,
+    /// The addresses of the JMS words that call it.
+    pub sites: WordSet,
+    /// The cells that it and its callees may write.
+    pub writes: WordSet,
+}
+
+/// Why a text is no certificate.
+#[derive(Clone, Copy, PartialEq, Eq, Debug, Error)]
+pub enum CertificateFault {
+    /// The first line is that of no version.
+    #[error("Version")]
+    Version,
+    /// The line of this number, counted from 1, is none of the lines that may stand there, or isn't
+    /// ended, or is lacking.
+    #[error("BadLine {0}")]
+    BadLine(usize),
+    /// The line of this number is out of order or repeated.
+    #[error("Order {0}")]
+    Order(usize),
+    /// The text has more than 1,048,576 bytes or more than 64 routines, or a fact or an exit has more
+    /// than 64 cells or 32 equations.
+    #[error("TooMany")]
+    TooMany,
+    /// A growth of what is kept of the text was refused.
+    #[error("NoMemory")]
+    NoMemory,
+    /// A read failed.
+    #[error("ReadFault")]
+    ReadFault,
+}
+
+/// The version of a certificate's text.
+#[derive(Clone, Copy, PartialEq, Eq, Debug)]
+pub enum Version {
+    /// Nothing is said of MQ.
+    One,
+    /// Facts and exits say which words MQ may hold.
+    Two,
+    /// Several facts may stand at an address, with sites, sums and chains.
+    Three,
+}

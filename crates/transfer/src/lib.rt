@@ -1,0 +1,18 @@
+//! Transfer functions: what the operations of a word make of a fact, and the outcomes of a word.
+#![tactic(auto)]
+
+mod additions;
+mod carrying;
+mod operations;
+mod outcomes;
+mod rooms;
+mod sets;
+mod skipping;
+mod stores;
+
+pub use additions::{put_added, put_added_under};
+pub use operations::{put_all_operated, put_branch, put_operated_under};
+pub use outcomes::{Kind, Outcome, Outcomes, is_alive};
+pub use rooms::{NextFact, SteppedFact, TestedFact};
+pub use sets::{has_some, named_if, put_one, single_target, word_of};
+pub use stores::{put_begun_longer, put_copied, put_stored};

@@ -3,7 +3,7 @@ use Rattle.std.specs.Prelude.{◌≡◌, ◌==◌, false, ◌||◌, if◌then◌
 use Rattle.wordset.specs.Words.{Words, nothing, one}
 use Rattle.processor.specs.Machine.{State, Answer}
 use Rattle.processor.specs.Runs.{Image, IsStart}
-use Rattle.declaration.specs.Declaration.{Routine, Declaration, Holding}
+use Rattle.declaration.specs.Declaration.{Routine, Declaration, PlaceAssertion}
 use Rattle.declaration.specs.declared.Subject.TheVariants.{Accumulator}
 use Rattle.policy.specs.Calls.{Calls}
 use Rattle.policy.specs.declared.rules.Rule.{Rule}
@@ -32,7 +32,7 @@ body_of_two None a = a == 0o200 || a == 0o201
 body_of_two (Some e) a = false
 
 -- Whenever control is at 0200, AC has none of all words.
-abbrev pub impossible : Holding
+abbrev pub impossible : PlaceAssertion
 impossible = record { places = one 0o200; assertion = record { subject = Accumulator; words = nothing } }
 
 -- The declaration of one word, by which this is to hold.

@@ -8,10 +8,10 @@ use Rattle.instruct.specs.declared.Profile.{Profile}
 use Rattle.streams.specs.Text.{text_lines}
 use Rattle.wordset.specs.Words.{Words, first_below, IsFirstFrom, HasNoneFrom}
 use Rattle.wordset.proofs.Firsts.{first_of}
-use Rattle.declaration.specs.Declaration.{Routine, Declaration, Holding, Returning}
+use Rattle.declaration.specs.Declaration.{Routine, Declaration, PlaceAssertion, ReturnAssertion}
 use Rattle.declaration.specs.Drafts.{with_line, MayFollow}
 use Rattle.declaration.specs.Laws.{DeclarationIsOne, DeclarationFaultIsOne, DeclarationIsNoFault, EachTextIsAnswered}
-use Rattle.declaration.specs.Lines.{Line, Nothing, Start, Main, Sub, Variables, Stops, Pauses, Machine, Reads, Skip, Moves, Abandon, Hold, Return, line_of}
+use Rattle.declaration.specs.Lines.{Line, Nothing, Start, Main, Sub, Variables, Stops, Pauses, Machine, Reads, Skips, Moves, Abandon, Holds, Returns, line_of}
 use Rattle.declaration.specs.Text.{Contents, contents, Says, Declares, StandsAfter, FailsAtLine, FailsAtRule, LineFails, RuleFails, AreGood, HasGoodLines, Fails, profile_of, overlaps, entry_in_index, halt_outside, misplaced, assertions_in, most_bytes, most_routines, most_skips, most_assertions}
 use Rattle.declaration.specs.declared.DeclarationFault.{DeclarationFault}
 use Rattle.declaration.specs.declared.DeclarationFault.TheVariants.{BadLine, TwoStarts, TwoProfiles, NoStart, Overlap, EntryInAutoIndex, StartNotInMain, TooMany, HaltNotInBody, Misplaced, NoMemory}
@@ -31,7 +31,7 @@ all_some (x ∷ xs) (y ∷ ys) e =
     let rest : xs ≡ ys = all_some xs ys others in
     cc
 
-abbrev declared : ℕ → (Routine → Words) → Words → (ℕ → Words) → Words → Words → Words → Profile → Option Words → Words → Words → List Holding → List Returning → Declaration
+abbrev declared : ℕ → (Routine → Words) → Words → (ℕ → Words) → Words → Words → Words → Profile → Option Words → Words → Words → List PlaceAssertion → List ReturnAssertion → Declaration
 declared s b e o v t u p q m a h r = record {
   start = s;
   body = b;
@@ -48,7 +48,7 @@ declared s b e o v t u p q m a h r = record {
   returns = r;
 }
 
-same_declared : {s s' : ℕ} {b b' : Routine → Words} {e e' : Words} {o o' : ℕ → Words} {v v' t t' u u' : Words} {p p' : Profile} {q q' : Option Words} {m m' a a' : Words} {h h' : List Holding} {r r' : List Returning}
+same_declared : {s s' : ℕ} {b b' : Routine → Words} {e e' : Words} {o o' : ℕ → Words} {v v' t t' u u' : Words} {p p' : Profile} {q q' : Option Words} {m m' a a' : Words} {h h' : List PlaceAssertion} {r r' : List ReturnAssertion}
     → s ≡ s' → b ≡ b' → e ≡ e' → o ≡ o' → v ≡ v' → t ≡ t' → u ≡ u' → p ≡ p' → q ≡ q' → m ≡ m' → a ≡ a' → h ≡ h' → r ≡ r' → declared s b e o v t u p q m a h r ≡ declared s' b' e' o' v' t' u' p' q' m' a' h' r'
 same_declared es eb ee eo ev et eu ep eq em ea eh er = rw (es, eb, ee, eo, ev, et, eu, ep, eq, em, ea, eh, er) refl
 
@@ -184,19 +184,19 @@ may_follow c number (Machine x) starts profiles = elim (none_or_one c.profiles p
   | inr one ↦ inr (TwoProfiles number, (λ e. cc), (refl, x, refl, one))
 ]
 may_follow c number (Reads x) starts profiles = inl tt
-may_follow c number (Skip x) starts profiles = elim (cases_lt (length c.skips) most_skips) [
+may_follow c number (Skips x) starts profiles = elim (cases_lt (length c.skips) most_skips) [
   | inl fits ↦ inl fits
-  | inr full ↦ inr (TooMany, (λ e. cc), (Skip x, refl, full))
+  | inr full ↦ inr (TooMany, (λ e. cc), (Skips x, refl, full))
 ]
 may_follow c number (Moves x) starts profiles = inl tt
 may_follow c number (Abandon x) starts profiles = inl tt
-may_follow c number (Hold x) starts profiles = elim (cases_lt (assertions_in c) most_assertions) [
+may_follow c number (Holds x) starts profiles = elim (cases_lt (assertions_in c) most_assertions) [
   | inl fits ↦ inl fits
-  | inr full ↦ inr (TooMany, (λ e. cc), (Hold x, refl, full))
+  | inr full ↦ inr (TooMany, (λ e. cc), (Holds x, refl, full))
 ]
-may_follow c number (Return x) starts profiles = elim (cases_lt (assertions_in c) most_assertions) [
+may_follow c number (Returns x) starts profiles = elim (cases_lt (assertions_in c) most_assertions) [
   | inl fits ↦ inl fits
-  | inr full ↦ inr (TooMany, (λ e. cc), (Return x, refl, full))
+  | inr full ↦ inr (TooMany, (λ e. cc), (Returns x, refl, full))
 ]
 
 at_next : (text : List ℕ) → length text ≤ most_bytes → (before : List (List ℕ)) (t : List ℕ) (ts : List (List ℕ)) → text_lines text ≡ before ++ t ∷ ts → (c : Contents) → Gathers before c

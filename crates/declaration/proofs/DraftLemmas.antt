@@ -8,8 +8,8 @@ use Rattle.std.proofs.lemmas.List.{map-append}
 use Rattle.std.proofs.lemmas.List.Folds.{list_any-append}
 use Rattle.instruct.specs.declared.Profile.{Profile}
 use Rattle.wordset.specs.Words.{Words, nothing, union}
-use Rattle.declaration.specs.Lines.{Subroutine, Line, Nothing, Start, Main, Sub, Variables, Stops, Pauses, Machine, Reads, Skip, Moves, Abandon, Hold, Return, Further, line_of}
-use Rattle.declaration.specs.Declaration.{Holding, Returning}
+use Rattle.declaration.specs.Lines.{Subroutine, Line, Nothing, Start, Main, Sub, Variables, Stops, Pauses, Machine, Reads, Skips, Moves, Abandon, Holds, Returns, FurtherOffsets, line_of}
+use Rattle.declaration.specs.Declaration.{PlaceAssertion, ReturnAssertion}
 use Rattle.declaration.proofs.LineLemmas.{or_nothing}
 use Rattle.declaration.specs.Text.{Contents, contents, in_some, start_in, profile_in, main_in, routine_in, variable_in, stop_in, pause_in, reads_in, lists_reads, skips_in, moves_in, abandon_in, holds_in, returns_in, assertions_in, AreGood, most_routines, most_skips, most_assertions}
 use Rattle.declaration.specs.Drafts.{with_line, MayFollow}
@@ -40,7 +40,7 @@ reads_same ls l unlisted none =
     let same : in_some reads_in (ls ++ l ∷ []) ≡ in_some reads_in ls = some_nothing reads_in ls l none in
     ap (λ b. if b then Some (in_some reads_in (ls ++ l ∷ [])) else None) listed ∙ ap (λ s. if list_any lists_reads ls then Some s else None) same
 
-abbrev pub parts : List ℕ → List Profile → Words → List Subroutine → Words → Words → Words → Option Words → List Further → Words → Words → List Holding → List Returning → Contents
+abbrev pub parts : List ℕ → List Profile → Words → List Subroutine → Words → Words → Words → Option Words → List FurtherOffsets → Words → Words → List PlaceAssertion → List ReturnAssertion → Contents
 parts s p m r v t u q k n b h w = record {
   starts = s;
   profiles = p;
@@ -57,7 +57,7 @@ parts s p m r v t u q k n b h w = record {
   returns = w;
 }
 
-pub same_parts : {s s' : List ℕ} {p p' : List Profile} {m m' : Words} {r r' : List Subroutine} {v v' t t' u u' : Words} {q q' : Option Words} {k k' : List Further} {n n' b b' : Words} {h h' : List Holding} {w w' : List Returning}
+pub same_parts : {s s' : List ℕ} {p p' : List Profile} {m m' : Words} {r r' : List Subroutine} {v v' t t' u u' : Words} {q q' : Option Words} {k k' : List FurtherOffsets} {n n' b b' : Words} {h h' : List PlaceAssertion} {w w' : List ReturnAssertion}
     → s ≡ s' → p ≡ p' → m ≡ m' → r ≡ r' → v ≡ v' → t ≡ t' → u ≡ u' → q ≡ q' → k ≡ k' → n ≡ n' → b ≡ b' → h ≡ h' → w ≡ w' → parts s p m r v t u q k n b h w ≡ parts s' p' m' r' v' t' u' q' k' n' b' h' w'
 same_parts es ep em er ev et eu eq ek en eb eh ew = rw (es, ep, em, er, ev, et, eu, eq, ek, en, eb, eh, ew) refl
 
@@ -72,11 +72,11 @@ no_reads (Stops x) a unlisted = refl
 no_reads (Pauses x) a unlisted = refl
 no_reads (Machine x) a unlisted = refl
 no_reads (Reads x) a unlisted = absurd (cc)
-no_reads (Skip x) a unlisted = refl
+no_reads (Skips x) a unlisted = refl
 no_reads (Moves x) a unlisted = refl
 no_reads (Abandon x) a unlisted = refl
-no_reads (Hold x) a unlisted = refl
-no_reads (Return x) a unlisted = refl
+no_reads (Holds x) a unlisted = refl
+no_reads (Returns x) a unlisted = refl
 
 or_first : (a b : Bool) → (a || b) ≡ false → a ≡ false
 or_first true b e = e
@@ -139,10 +139,10 @@ contents-push ls (Reads x) =
     same_parts (list_same start_in ls (Reads x) refl) (list_same profile_in ls (Reads x) refl) (some_nothing main_in ls (Reads x) refl) (list_same routine_in ls (Reads x) refl)
     (some_nothing variable_in ls (Reads x) refl) (some_nothing stop_in ls (Reads x) refl) (some_nothing pause_in ls (Reads x) refl) (reads_more ls x)
     (list_same skips_in ls (Reads x) refl) (some_nothing moves_in ls (Reads x) refl) (some_nothing abandon_in ls (Reads x) refl) (list_same holds_in ls (Reads x) refl) (list_same returns_in ls (Reads x) refl)
-contents-push ls (Skip x) =
-    same_parts (list_same start_in ls (Skip x) refl) (list_same profile_in ls (Skip x) refl) (some_nothing main_in ls (Skip x) refl) (list_same routine_in ls (Skip x) refl)
-    (some_nothing variable_in ls (Skip x) refl) (some_nothing stop_in ls (Skip x) refl) (some_nothing pause_in ls (Skip x) refl) (reads_same ls (Skip x) refl refl)
-    (list_more skips_in ls (Skip x) x refl) (some_nothing moves_in ls (Skip x) refl) (some_nothing abandon_in ls (Skip x) refl) (list_same holds_in ls (Skip x) refl) (list_same returns_in ls (Skip x) refl)
+contents-push ls (Skips x) =
+    same_parts (list_same start_in ls (Skips x) refl) (list_same profile_in ls (Skips x) refl) (some_nothing main_in ls (Skips x) refl) (list_same routine_in ls (Skips x) refl)
+    (some_nothing variable_in ls (Skips x) refl) (some_nothing stop_in ls (Skips x) refl) (some_nothing pause_in ls (Skips x) refl) (reads_same ls (Skips x) refl refl)
+    (list_more skips_in ls (Skips x) x refl) (some_nothing moves_in ls (Skips x) refl) (some_nothing abandon_in ls (Skips x) refl) (list_same holds_in ls (Skips x) refl) (list_same returns_in ls (Skips x) refl)
 contents-push ls (Moves x) =
     same_parts (list_same start_in ls (Moves x) refl) (list_same profile_in ls (Moves x) refl) (some_nothing main_in ls (Moves x) refl) (list_same routine_in ls (Moves x) refl)
     (some_nothing variable_in ls (Moves x) refl) (some_nothing stop_in ls (Moves x) refl) (some_nothing pause_in ls (Moves x) refl) (reads_same ls (Moves x) refl refl)
@@ -151,17 +151,17 @@ contents-push ls (Abandon x) =
     same_parts (list_same start_in ls (Abandon x) refl) (list_same profile_in ls (Abandon x) refl) (some_nothing main_in ls (Abandon x) refl) (list_same routine_in ls (Abandon x) refl)
     (some_nothing variable_in ls (Abandon x) refl) (some_nothing stop_in ls (Abandon x) refl) (some_nothing pause_in ls (Abandon x) refl) (reads_same ls (Abandon x) refl refl)
     (list_same skips_in ls (Abandon x) refl) (some_nothing moves_in ls (Abandon x) refl) (some_more abandon_in ls (Abandon x)) (list_same holds_in ls (Abandon x) refl) (list_same returns_in ls (Abandon x) refl)
-contents-push ls (Hold x) =
-    same_parts (list_same start_in ls (Hold x) refl) (list_same profile_in ls (Hold x) refl) (some_nothing main_in ls (Hold x) refl) (list_same routine_in ls (Hold x) refl)
-    (some_nothing variable_in ls (Hold x) refl) (some_nothing stop_in ls (Hold x) refl) (some_nothing pause_in ls (Hold x) refl) (reads_same ls (Hold x) refl refl)
-    (list_same skips_in ls (Hold x) refl) (some_nothing moves_in ls (Hold x) refl) (some_nothing abandon_in ls (Hold x) refl) (list_more holds_in ls (Hold x) x refl) (list_same returns_in ls (Hold x) refl)
-contents-push ls (Return x) =
-    same_parts (list_same start_in ls (Return x) refl) (list_same profile_in ls (Return x) refl) (some_nothing main_in ls (Return x) refl) (list_same routine_in ls (Return x) refl)
-    (some_nothing variable_in ls (Return x) refl) (some_nothing stop_in ls (Return x) refl) (some_nothing pause_in ls (Return x) refl) (reads_same ls (Return x) refl refl)
-    (list_same skips_in ls (Return x) refl) (some_nothing moves_in ls (Return x) refl) (some_nothing abandon_in ls (Return x) refl) (list_same holds_in ls (Return x) refl) (list_more returns_in ls (Return x) x refl)
+contents-push ls (Holds x) =
+    same_parts (list_same start_in ls (Holds x) refl) (list_same profile_in ls (Holds x) refl) (some_nothing main_in ls (Holds x) refl) (list_same routine_in ls (Holds x) refl)
+    (some_nothing variable_in ls (Holds x) refl) (some_nothing stop_in ls (Holds x) refl) (some_nothing pause_in ls (Holds x) refl) (reads_same ls (Holds x) refl refl)
+    (list_same skips_in ls (Holds x) refl) (some_nothing moves_in ls (Holds x) refl) (some_nothing abandon_in ls (Holds x) refl) (list_more holds_in ls (Holds x) x refl) (list_same returns_in ls (Holds x) refl)
+contents-push ls (Returns x) =
+    same_parts (list_same start_in ls (Returns x) refl) (list_same profile_in ls (Returns x) refl) (some_nothing main_in ls (Returns x) refl) (list_same routine_in ls (Returns x) refl)
+    (some_nothing variable_in ls (Returns x) refl) (some_nothing stop_in ls (Returns x) refl) (some_nothing pause_in ls (Returns x) refl) (reads_same ls (Returns x) refl refl)
+    (list_same skips_in ls (Returns x) refl) (some_nothing moves_in ls (Returns x) refl) (some_nothing abandon_in ls (Returns x) refl) (list_same holds_in ls (Returns x) refl) (list_more returns_in ls (Returns x) x refl)
 
 -- nothing was said yet
-pub contents-none : {m v t u n b : Words} {r : List Subroutine} {k : List Further} {h : List Holding} {w : List Returning} → m ≡ nothing → r ≡ [] → v ≡ nothing → t ≡ nothing → u ≡ nothing → k ≡ [] → n ≡ nothing → b ≡ nothing → h ≡ [] → w ≡ []
+pub contents-none : {m v t u n b : Words} {r : List Subroutine} {k : List FurtherOffsets} {h : List PlaceAssertion} {w : List ReturnAssertion} → m ≡ nothing → r ≡ [] → v ≡ nothing → t ≡ nothing → u ≡ nothing → k ≡ [] → n ≡ nothing → b ≡ nothing → h ≡ [] → w ≡ []
     → parts [] [] m r v t u None k n b h w ≡ contents []
 contents-none em er ev et eu ek en eb eh ew =
     same_parts refl refl (em ∙ fun_ext (λ a. refl)) er (ev ∙ fun_ext (λ a. refl)) (et ∙ fun_ext (λ a. refl)) (eu ∙ fun_ext (λ a. refl)) refl ek (en ∙ fun_ext (λ a. refl)) (eb ∙ fun_ext (λ a. refl)) eh ew
@@ -184,11 +184,11 @@ one_more_start c (Stops x) f h = h
 one_more_start c (Pauses x) f h = h
 one_more_start c (Machine x) f h = h
 one_more_start c (Reads x) f h = h
-one_more_start c (Skip x) f h = h
+one_more_start c (Skips x) f h = h
 one_more_start c (Moves x) f h = h
 one_more_start c (Abandon x) f h = h
-one_more_start c (Hold x) f h = h
-one_more_start c (Return x) f h = h
+one_more_start c (Holds x) f h = h
+one_more_start c (Returns x) f h = h
 
 one_more_profile : (c : Contents) (l : Line) → MayFollow c l → length c.profiles ≤ 1 → length (with_line c l).profiles ≤ 1
 one_more_profile c Nothing f h = h
@@ -200,11 +200,11 @@ one_more_profile c (Stops x) f h = h
 one_more_profile c (Pauses x) f h = h
 one_more_profile c (Machine x) f h = rw f (omega arith)
 one_more_profile c (Reads x) f h = h
-one_more_profile c (Skip x) f h = h
+one_more_profile c (Skips x) f h = h
 one_more_profile c (Moves x) f h = h
 one_more_profile c (Abandon x) f h = h
-one_more_profile c (Hold x) f h = h
-one_more_profile c (Return x) f h = h
+one_more_profile c (Holds x) f h = h
+one_more_profile c (Returns x) f h = h
 
 one_more_routine : (c : Contents) (l : Line) → MayFollow c l → length c.routines ≤ most_routines → length (with_line c l).routines ≤ most_routines
 one_more_routine c Nothing f h = h
@@ -216,11 +216,11 @@ one_more_routine c (Stops x) f h = h
 one_more_routine c (Pauses x) f h = h
 one_more_routine c (Machine x) f h = h
 one_more_routine c (Reads x) f h = h
-one_more_routine c (Skip x) f h = h
+one_more_routine c (Skips x) f h = h
 one_more_routine c (Moves x) f h = h
 one_more_routine c (Abandon x) f h = h
-one_more_routine c (Hold x) f h = h
-one_more_routine c (Return x) f h = h
+one_more_routine c (Holds x) f h = h
+one_more_routine c (Returns x) f h = h
 
 one_more_skip : (c : Contents) (l : Line) → MayFollow c l → length c.skips ≤ most_skips → length (with_line c l).skips ≤ most_skips
 one_more_skip c Nothing f h = h
@@ -232,11 +232,11 @@ one_more_skip c (Stops x) f h = h
 one_more_skip c (Pauses x) f h = h
 one_more_skip c (Machine x) f h = h
 one_more_skip c (Reads x) f h = h
-one_more_skip c (Skip x) f h = omega (arith, length-append c.skips (x ∷ []))
+one_more_skip c (Skips x) f h = omega (arith, length-append c.skips (x ∷ []))
 one_more_skip c (Moves x) f h = h
 one_more_skip c (Abandon x) f h = h
-one_more_skip c (Hold x) f h = h
-one_more_skip c (Return x) f h = h
+one_more_skip c (Holds x) f h = h
+one_more_skip c (Returns x) f h = h
 
 one_more_assertion : (c : Contents) (l : Line) → MayFollow c l → assertions_in c ≤ most_assertions → assertions_in (with_line c l) ≤ most_assertions
 one_more_assertion c Nothing f h = h
@@ -248,11 +248,11 @@ one_more_assertion c (Stops x) f h = h
 one_more_assertion c (Pauses x) f h = h
 one_more_assertion c (Machine x) f h = h
 one_more_assertion c (Reads x) f h = h
-one_more_assertion c (Skip x) f h = h
+one_more_assertion c (Skips x) f h = h
 one_more_assertion c (Moves x) f h = h
 one_more_assertion c (Abandon x) f h = h
-one_more_assertion c (Hold x) f h = omega (arith, length-append c.holds (x ∷ []))
-one_more_assertion c (Return x) f h = omega (arith, length-append c.returns (x ∷ []))
+one_more_assertion c (Holds x) f h = omega (arith, length-append c.holds (x ∷ []))
+one_more_assertion c (Returns x) f h = omega (arith, length-append c.returns (x ∷ []))
 
 -- one good line more
 pub Gathers-push : (texts : List (List ℕ)) (c d : Contents) (text : List ℕ) (l : Line) → Gathers texts c → Some l ≡ line_of text → MayFollow c l → d ≡ with_line c l → Gathers (texts ++ text ∷ []) d

@@ -11,7 +11,7 @@ use Rattle.instruct.specs.declared.Profile.{Profile}
 use Rattle.instruct.specs.declared.Profile.TheVariants.{Pdp8I, Pdp8E}
 use Rattle.wordset.specs.Words.{Words}
 use Rattle.streams.specs.Text.{octal_word, words_of}
-use Rattle.declaration.specs.Lines.{Subroutine, Line, Nothing, Start, Main, Sub, Variables, Stops, Pauses, Machine, Reads, Skip, Moves, Abandon, Hold, Return, further, skips_line, if_offsets, holding, holds_line, returning, returns_line, offsets_named, assertion_in, further_line, is_subject, routine, start_line, sub_line, profile_line, line_by, line_of, body_read, offsets_read, ranges_of, addresses_of, is_returns, all_read, range_of, any_of}
+use Rattle.declaration.specs.Lines.{Subroutine, Line, Nothing, Start, Main, Sub, Variables, Stops, Pauses, Machine, Reads, Skips, Moves, Abandon, Holds, Returns, further, skips_line, if_offsets, holding, holds_line, returning, returns_line, offsets_named, assertion_in, further_line, is_subject, routine, start_line, sub_line, profile_line, line_by, line_of, body_read, offsets_read, ranges_of, addresses_of, is_returns, all_read, range_of, any_of}
 use Rattle.declaration.specs.Declaration.{Assertion}
 use Rattle.declaration.specs.Text.{contents, is_entry, routine_in}
 
@@ -169,11 +169,11 @@ routine_fits text (Stops x) e is has = absurd (cc)
 routine_fits text (Pauses x) e is has = absurd (cc)
 routine_fits text (Machine x) e is has = absurd (cc)
 routine_fits text (Reads x) e is has = absurd (cc)
-routine_fits text (Skip x) e is has = absurd (cc)
+routine_fits text (Skips x) e is has = absurd (cc)
 routine_fits text (Moves x) e is has = absurd (cc)
 routine_fits text (Abandon x) e is has = absurd (cc)
-routine_fits text (Hold x) e is has = absurd (cc)
-routine_fits text (Return x) e is has = absurd (cc)
+routine_fits text (Holds x) e is has = absurd (cc)
+routine_fits text (Returns x) e is has = absurd (cc)
 
 some_list : (xs ys : List Subroutine) (e : ℕ) → list_any (λ r. r.entry == e) (xs ++ ys) ≡ true → (list_any (λ r. r.entry == e) xs ≡ true) ⊎ (list_any (λ r. r.entry == e) ys ≡ true)
 some_list xs ys e has = or_cases (list_any (λ r. r.entry == e) xs) (list_any (λ r. r.entry == e) ys) (sym (list_any-append (λ r. r.entry == e) xs ys) ∙ has)

@@ -11,10 +11,10 @@ use Rattle.std.proofs.Math.Path.{fun_ext}
 use Rattle.wordset.specs.Words.{Words, nothing, SameWords, IsFirstFrom, HasNoneFrom}
 use Rattle.wordset.specs.Lanes.{words}
 use Rattle.wordset.proofs.SetLemmas.{word_small}
-use Rattle.declaration.specs.Kept.{offsets_of, subroutine_of, further_of, holding_of, returning_of}
-use Rattle.declaration.specs.declared.Skips.{Skips}
-use Rattle.declaration.specs.declared.Holding.{Holding}
-use Rattle.declaration.specs.declared.Returning.{Returning}
+use Rattle.declaration.specs.Kept.{offsets_of, subroutine_of, further_of, place_assertion_of, return_assertion_of}
+use Rattle.declaration.specs.declared.FurtherOffsets.{FurtherOffsets as KeptFurtherOffsets}
+use Rattle.declaration.specs.declared.PlaceAssertion.{PlaceAssertion}
+use Rattle.declaration.specs.declared.ReturnAssertion.{ReturnAssertion}
 use Rattle.declaration.specs.Text.{Contents, profile_of, is_entry, in_bodies, bodies_at, entries_at, overlaps, entry_in_index, halt_outside, is_named_entry, is_held, misplaced}
 use Rattle.processor.specs.Machine.{is_auto_index}
 use Rattle.declaration.specs.Drafts.{Counts, kept_bodies, kept_entries, named_entries}
@@ -67,7 +67,7 @@ any_map f p [] = refl
 any_map f p (x ∷ xs) = ap (λ b. p (f x) || b) (any_map f p xs)
 
 -- the offsets of a routine, by its own line and by others
-pub offsets_said : (routines : List KeptRoutine) (skips : List Skips) (e o : ℕ) → (list_any (λ r. r.entry == e && offsets_of r.offsets o) routines || list_any (λ s. s.entry == e && words s.offsets o) skips)
+pub offsets_said : (routines : List KeptRoutine) (skips : List KeptFurtherOffsets) (e o : ℕ) → (list_any (λ r. r.entry == e && offsets_of r.offsets o) routines || list_any (λ s. s.entry == e && words s.offsets o) skips)
     ≡ (list_any (λ r. r.entry == e && r.offsets o) (map subroutine_of routines) || list_any (λ s. s.entry == e && s.offsets o) (map further_of skips))
 offsets_said routines skips e o = rw (any_map subroutine_of (λ r. r.entry == e && r.offsets o) routines, any_map further_of (λ s. s.entry == e && s.offsets o) skips) refl
 
@@ -162,13 +162,13 @@ halt_outside_found c bodies v h b stop pause is_stop is_pause = rw (b.once v h, 
 -- ---- what is misplaced
 
 -- the cells that are named as entries, and those at which something is to hold, as they are kept
-pub named_kept : (c : Contents) (moves : List ℕ) (skips skipped : List Skips) (returns returned : List Returning) (a : ℕ) → c.moves ≡ words moves → skips ≡ skipped → c.skips ≡ map further_of skipped → returns ≡ returned → c.returns ≡ map returning_of returned
+pub named_kept : (c : Contents) (moves : List ℕ) (skips skipped : List KeptFurtherOffsets) (returns returned : List ReturnAssertion) (a : ℕ) → c.moves ≡ words moves → skips ≡ skipped → c.skips ≡ map further_of skipped → returns ≡ returned → c.returns ≡ map return_assertion_of returned
     → named_entries (words moves) skips returns a ≡ is_named_entry c a
 named_kept c moves skips skipped returns returned a is_moves same_skips is_skips same_returns is_returns =
-    rw (is_moves, same_skips, is_skips, same_returns, is_returns, any_map further_of (λ s. s.entry == a) skipped, any_map returning_of (λ r. r.entry == a) returned) refl
+    rw (is_moves, same_skips, is_skips, same_returns, is_returns, any_map further_of (λ s. s.entry == a) skipped, any_map return_assertion_of (λ r. r.entry == a) returned) refl
 
-pub held_kept : (c : Contents) (holds held : List Holding) (a : ℕ) → holds ≡ held → c.holds ≡ map holding_of held → list_any (λ h. words h.places a) holds ≡ is_held c a
-held_kept c holds held a same is = rw (same, is, any_map holding_of (λ h. h.places a) held) refl
+pub held_kept : (c : Contents) (holds held : List PlaceAssertion) (a : ℕ) → holds ≡ held → c.holds ≡ map place_assertion_of held → list_any (λ h. words h.places a) holds ≡ is_held c a
+held_kept c holds held a same is = rw (same, is, any_map place_assertion_of (λ h. h.places a) held) refl
 
 pub misplaced_found : (c : Contents) (bodies entries : Coverage) (v : ℕ) → v < 4096 → Counts bodies (bodies_at c) → Counts entries (entries_at c) → (named abandon main held : Bool) → named ≡ is_named_entry c v → abandon ≡ c.abandon v → main ≡ c.main v → held ≡ is_held c v
     → ((named && not (words entries.once v)) || (abandon && not main) || (held && not (words bodies.once v))) ≡ misplaced c v

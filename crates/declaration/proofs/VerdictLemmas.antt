@@ -8,7 +8,7 @@ use Rattle.wordset.specs.Words.{Words, first_below, IsFirstFrom, HasNoneFrom}
 use Rattle.wordset.proofs.Firsts.{first_is}
 use Rattle.streams.specs.Text.{text_lines}
 use Rattle.declaration.specs.Declaration.{Declaration}
-use Rattle.declaration.specs.Lines.{Line, Nothing, Start, Main, Sub, Variables, Stops, Pauses, Machine, Reads, Skip, Moves, Abandon, Hold, Return, line_of}
+use Rattle.declaration.specs.Lines.{Line, Nothing, Start, Main, Sub, Variables, Stops, Pauses, Machine, Reads, Skips, Moves, Abandon, Holds, Returns, line_of}
 use Rattle.declaration.specs.Text.{Contents, contents, start_in, profile_in, routine_in, skips_in, holds_in, returns_in, assertions_in, IsOneTooMany, overlaps, entry_in_index, halt_outside, misplaced, LineFails, RuleFails, AreGood, HasGoodLines, Declares, StandsAfter, FailsAtLine, FailsAtRule, Fails, most_bytes, most_routines, most_skips, most_assertions}
 use Rattle.declaration.specs.Drafts.{with_line}
 use Rattle.declaration.specs.declared.DeclarationFault.{DeclarationFault}
@@ -37,11 +37,11 @@ line_fault c n (Some (Stops x)) = None
 line_fault c n (Some (Pauses x)) = None
 line_fault c n (Some (Machine x)) = if nat_le 1 (length c.profiles) then Some (TwoProfiles n) else None
 line_fault c n (Some (Reads x)) = None
-line_fault c n (Some (Skip x)) = if nat_le most_skips (length c.skips) then Some TooMany else None
+line_fault c n (Some (Skips x)) = if nat_le most_skips (length c.skips) then Some TooMany else None
 line_fault c n (Some (Moves x)) = None
 line_fault c n (Some (Abandon x)) = None
-line_fault c n (Some (Hold x)) = if nat_le most_assertions (assertions_in c) then Some TooMany else None
-line_fault c n (Some (Return x)) = if nat_le most_assertions (assertions_in c) then Some TooMany else None
+line_fault c n (Some (Holds x)) = if nat_le most_assertions (assertions_in c) then Some TooMany else None
+line_fault c n (Some (Returns x)) = if nat_le most_assertions (assertions_in c) then Some TooMany else None
 
 abbrev said_after : Contents → Option Line → Contents
 said_after c None = c
@@ -105,11 +105,11 @@ no_fault c n (Stops x) w = refl
 no_fault c n (Pauses x) w = refl
 no_fault c n (Machine x) w = rw (not_first 1 (length c.profiles) (omega (arith, w.profiles, length-append c.profiles (x ∷ [])))) refl
 no_fault c n (Reads x) w = refl
-no_fault c n (Skip x) w = rw (not_first most_skips (length c.skips) (omega (arith, w.few_skips, length-append c.skips (x ∷ [])))) refl
+no_fault c n (Skips x) w = rw (not_first most_skips (length c.skips) (omega (arith, w.few_skips, length-append c.skips (x ∷ [])))) refl
 no_fault c n (Moves x) w = refl
 no_fault c n (Abandon x) w = refl
-no_fault c n (Hold x) w = rw (not_first most_assertions (assertions_in c) (omega (arith, w.few_assertions, length-append c.holds (x ∷ [])))) refl
-no_fault c n (Return x) w = rw (not_first most_assertions (assertions_in c) (omega (arith, w.few_assertions, length-append c.returns (x ∷ [])))) refl
+no_fault c n (Holds x) w = rw (not_first most_assertions (assertions_in c) (omega (arith, w.few_assertions, length-append c.holds (x ∷ [])))) refl
+no_fault c n (Returns x) w = rw (not_first most_assertions (assertions_in c) (omega (arith, w.few_assertions, length-append c.returns (x ∷ [])))) refl
 
 scan-good : (n : ℕ) (before rest : List (List ℕ)) (so_far lines : List Line) → map line_of before ≡ map Some lines → Within (contents (so_far ++ lines))
     → scan n (contents so_far) (before ++ rest) ≡ scan (n + length before) (contents (so_far ++ lines)) rest
@@ -152,9 +152,9 @@ verdict-all text lines g =
 -- a line that is one too many fails so
 one-too-many : (c : Contents) (number : ℕ) (l : Line) → IsOneTooMany c l → line_fault c number (Some l) ≡ Some TooMany
 one-too-many c number (Sub r) full = rw (le-leb most_routines (length c.routines) full) refl
-one-too-many c number (Skip s) full = rw (le-leb most_skips (length c.skips) full) refl
-one-too-many c number (Hold h) full = rw (le-leb most_assertions (assertions_in c) full) refl
-one-too-many c number (Return r) full = rw (le-leb most_assertions (assertions_in c) full) refl
+one-too-many c number (Skips s) full = rw (le-leb most_skips (length c.skips) full) refl
+one-too-many c number (Holds h) full = rw (le-leb most_assertions (assertions_in c) full) refl
+one-too-many c number (Returns r) full = rw (le-leb most_assertions (assertions_in c) full) refl
 one-too-many c number _ full = absurd full
 
 -- the fault of a line that fails is its fault

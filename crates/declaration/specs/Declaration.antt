@@ -15,12 +15,12 @@ pub record Assertion : Type 0 where
   pub words : Words
 
 -- What is to hold whenever control is at one of these places, before the instruction there.
-pub record Holding : Type 0 where
+pub record PlaceAssertion : Type 0 where
   pub places : Words
   pub assertion : Assertion
 
 -- What is to hold whenever the routine of the entry returns by one of these offsets.
-pub record Returning : Type 0 where
+pub record ReturnAssertion : Type 0 where
   pub entry : ℕ
   pub offsets : Words
   pub assertion : Assertion
@@ -41,8 +41,8 @@ pub record Declaration : Type 0 where
   pub reads : Option Words
   pub moves : Words
   pub abandon : Words
-  pub holds : List Holding
-  pub returns : List Returning
+  pub holds : List PlaceAssertion
+  pub returns : List ReturnAssertion
 
 -- The overlap rules. Bodies are disjoint; an entry is in no body, no variable and no auto-index cell; no cell is both a
 -- stop and a pause; the program starts in main's body and halts in bodies; each cell that

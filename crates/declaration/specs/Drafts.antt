@@ -4,16 +4,16 @@ use Rattle.std.specs.List.{list_any, count_by, before_first}
 use Rattle.std.specs.Option.{option_map, option_to_list}
 use Rattle.wordset.specs.Words.{Words, nothing, union}
 use Rattle.wordset.specs.Lanes.{words}
-use Rattle.declaration.specs.Kept.{subroutine_of, further_of, holding_of, returning_of}
-use Rattle.declaration.specs.Lines.{Line, Nothing, Start, Main, Sub, Variables, Stops, Pauses, Machine, Reads, Skip, Moves, Abandon, Hold, Return, all_read, range_of, address_of, is_returns, is_subject, line_of}
+use Rattle.declaration.specs.Kept.{subroutine_of, further_of, place_assertion_of, return_assertion_of}
+use Rattle.declaration.specs.Lines.{Line, Nothing, Start, Main, Sub, Variables, Stops, Pauses, Machine, Reads, Skips, Moves, Abandon, Holds, Returns, all_read, range_of, address_of, is_returns, is_subject, line_of}
 use Rattle.declaration.specs.Text.{Contents, contents, HasGoodLines, most_routines, most_skips, most_assertions, assertions_in}
 use Rattle.declaration.specs.declared.Routine.{Routine as KeptRoutine}
 use Rattle.declaration.specs.declared.lines.Form.{Form}
 use Rattle.declaration.specs.declared.lines.Form.TheVariants.{Range, Address}
 use Rattle.declaration.specs.declared.lines.Line.{Line as KeptLine}
-use Rattle.declaration.specs.declared.lines.Line.TheVariants.{Nothing as KeptNothing, Start as KeptStart, Main as KeptMain, Sub as KeptSub, Variables as KeptVariables, Stops as KeptStops, Pauses as KeptPauses, Machine as KeptMachine, Reads as KeptReads, Skip as KeptSkip, Moves as KeptMoves, Abandon as KeptAbandon, Hold as KeptHold, Return as KeptReturn}
-use Rattle.declaration.specs.declared.Skips.{Skips}
-use Rattle.declaration.specs.declared.Returning.{Returning as KeptReturning}
+use Rattle.declaration.specs.declared.lines.Line.TheVariants.{Nothing as KeptNothing, Start as KeptStart, Main as KeptMain, Sub as KeptSub, Variables as KeptVariables, Stops as KeptStops, Pauses as KeptPauses, Machine as KeptMachine, Reads as KeptReads, Skips as KeptSkips, Moves as KeptMoves, Abandon as KeptAbandon, Holds as KeptHolds, Returns as KeptReturns}
+use Rattle.declaration.specs.declared.FurtherOffsets.{FurtherOffsets as KeptFurtherOffsets}
+use Rattle.declaration.specs.declared.ReturnAssertion.{ReturnAssertion as KeptReturnAssertion}
 use Rattle.declaration.specs.declared.drafts.Draft.{Draft}
 use Rattle.declaration.specs.declared.coverage.Coverage.{Coverage}
 
@@ -41,11 +41,11 @@ said (KeptStops set) = Stops (words set)
 said (KeptPauses set) = Pauses (words set)
 said (KeptMachine p) = Machine p
 said (KeptReads set) = Reads (words set)
-said (KeptSkip s) = Skip (further_of s)
+said (KeptSkips s) = Skips (further_of s)
 said (KeptMoves set) = Moves (words set)
 said (KeptAbandon set) = Abandon (words set)
-said (KeptHold h) = Hold (holding_of h)
-said (KeptReturn r) = Return (returning_of r)
+said (KeptHolds h) = Holds (place_assertion_of h)
+said (KeptReturns r) = Returns (return_assertion_of r)
 
 -- What is gathered so far.
 abbrev pub gathered : {A : Type 0} → Draft A → Contents
@@ -61,8 +61,8 @@ gathered d = record {
   skips = map further_of d.skips.items;
   moves = words d.moves;
   abandon = words d.abandons;
-  holds = map holding_of d.holds.items;
-  returns = map returning_of d.returns.items;
+  holds = map place_assertion_of d.holds.items;
+  returns = map return_assertion_of d.returns.items;
 }
 
 -- What is said with one line more.
@@ -76,11 +76,11 @@ with_line c (Stops set) = record c { stop = union c.stop set }
 with_line c (Pauses set) = record c { pause = union c.pause set }
 with_line c (Machine p) = record c { profiles = c.profiles ++ p ∷ [] }
 with_line c (Reads set) = record c { reads = Some (union (unwrap_or c.reads nothing) set) }
-with_line c (Skip s) = record c { skips = c.skips ++ s ∷ [] }
+with_line c (Skips s) = record c { skips = c.skips ++ s ∷ [] }
 with_line c (Moves set) = record c { moves = union c.moves set }
 with_line c (Abandon set) = record c { abandon = union c.abandon set }
-with_line c (Hold h) = record c { holds = c.holds ++ h ∷ [] }
-with_line c (Return r) = record c { returns = c.returns ++ r ∷ [] }
+with_line c (Holds h) = record c { holds = c.holds ++ h ∷ [] }
+with_line c (Returns r) = record c { returns = c.returns ++ r ∷ [] }
 
 -- The line may follow: it is no second start and no second machine, and not a routine, a line of further offsets or an
 -- assertion too many.
@@ -94,11 +94,11 @@ MayFollow c (Stops set) = Unit {0}
 MayFollow c (Pauses set) = Unit {0}
 MayFollow c (Machine p) = c.profiles ≡ []
 MayFollow c (Reads set) = Unit {0}
-MayFollow c (Skip s) = length c.skips < most_skips
+MayFollow c (Skips s) = length c.skips < most_skips
 MayFollow c (Moves set) = Unit {0}
 MayFollow c (Abandon set) = Unit {0}
-MayFollow c (Hold h) = assertions_in c < most_assertions
-MayFollow c (Return r) = assertions_in c < most_assertions
+MayFollow c (Holds h) = assertions_in c < most_assertions
+MayFollow c (Returns r) = assertions_in c < most_assertions
 
 -- A line that may follow adds what it says to what was said before it.
 pub record Adds (c : Contents) (text : List ℕ) (after : Contents) : Type 0 where
@@ -126,6 +126,6 @@ abbrev pub kept_entries : List KeptRoutine → ℕ → ℕ
 kept_entries routines a = count_by (λ r. r.entry == a) routines
 
 -- The cells that are named as entries, of what is kept.
-abbrev pub named_entries : Words → List Skips → List KeptReturning → Words
+abbrev pub named_entries : Words → List KeptFurtherOffsets → List KeptReturnAssertion → Words
 named_entries moves skips returns a =
     (list_any (λ s. s.entry == a) skips || moves a) || list_any (λ r. r.entry == a) returns

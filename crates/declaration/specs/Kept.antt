@@ -5,12 +5,12 @@ use Rattle.std.specs.Option.{option_map}
 use Rattle.instruct.specs.declared.Profile.{Profile}
 use Rattle.wordset.specs.Words.{Words}
 use Rattle.wordset.specs.Lanes.{words}
-use Rattle.declaration.specs.Declaration.{Routine, Declaration, Assertion, Holding, Returning}
-use Rattle.declaration.specs.Lines.{Subroutine, Further}
+use Rattle.declaration.specs.Declaration.{Routine, Declaration, Assertion, PlaceAssertion, ReturnAssertion}
+use Rattle.declaration.specs.Lines.{Subroutine, FurtherOffsets}
 use Rattle.declaration.specs.declared.Assertion.{Assertion as KeptAssertion}
-use Rattle.declaration.specs.declared.Holding.{Holding as KeptHolding}
-use Rattle.declaration.specs.declared.Returning.{Returning as KeptReturning}
-use Rattle.declaration.specs.declared.Skips.{Skips}
+use Rattle.declaration.specs.declared.PlaceAssertion.{PlaceAssertion as KeptPlaceAssertion}
+use Rattle.declaration.specs.declared.ReturnAssertion.{ReturnAssertion as KeptReturnAssertion}
+use Rattle.declaration.specs.declared.FurtherOffsets.{FurtherOffsets as KeptFurtherOffsets}
 use Rattle.declaration.specs.declared.Offsets.{Offsets}
 use Rattle.declaration.specs.declared.Owner.{Owner}
 use Rattle.declaration.specs.declared.Owner.TheVariants as owner
@@ -26,11 +26,11 @@ pub record Kept : Type 0 where
   pub stops : List ℕ
   pub pauses : List ℕ
   pub reads : Option (List ℕ)
-  pub skips : List Skips
+  pub skips : List KeptFurtherOffsets
   pub moves : List ℕ
   pub abandons : List ℕ
-  pub holds : List KeptHolding
-  pub returns : List KeptReturning
+  pub holds : List KeptPlaceAssertion
+  pub returns : List KeptReturnAssertion
 
 -- The offsets of a routine, each of them below 8.
 abbrev pub offsets_of : Offsets → Words
@@ -41,7 +41,7 @@ abbrev pub subroutine_of : KeptRoutine → Subroutine
 subroutine_of r = record { entry = r.entry; body = words r.body; offsets = offsets_of r.offsets }
 
 -- The further offsets that are meant.
-abbrev pub further_of : Skips → Further
+abbrev pub further_of : KeptFurtherOffsets → FurtherOffsets
 further_of s = record { entry = s.entry; offsets = words s.offsets }
 
 -- The assertion that is meant.
@@ -49,12 +49,12 @@ abbrev pub assertion_of : KeptAssertion → Assertion
 assertion_of a = record { subject = a.subject; words = words a.words }
 
 -- What is to hold at places, as it is meant.
-abbrev pub holding_of : KeptHolding → Holding
-holding_of h = record { places = words h.places; assertion = assertion_of h.assertion }
+abbrev pub place_assertion_of : KeptPlaceAssertion → PlaceAssertion
+place_assertion_of h = record { places = words h.places; assertion = assertion_of h.assertion }
 
 -- What is to hold at returns, as it is meant.
-abbrev pub returning_of : KeptReturning → Returning
-returning_of r = record { entry = r.entry; offsets = words r.offsets; assertion = assertion_of r.assertion }
+abbrev pub return_assertion_of : KeptReturnAssertion → ReturnAssertion
+return_assertion_of r = record { entry = r.entry; offsets = words r.offsets; assertion = assertion_of r.assertion }
 
 -- The routine whose body it is: main, or the routine of an entry.
 abbrev pub routine_of : Owner → Routine
@@ -66,7 +66,7 @@ abbrev pub routines_of : Kept → List KeptRoutine
 routines_of d = d.routines
 
 -- The further offsets of a declaration, line by line.
-abbrev pub skips_of : Kept → List Skips
+abbrev pub skips_of : Kept → List KeptFurtherOffsets
 skips_of d = d.skips
 
 -- Some routine has this entry.
@@ -82,7 +82,7 @@ abbrev pub offsets : List KeptRoutine → ℕ → Words
 offsets routines e o = list_any (λ r. r.entry == e && offsets_of r.offsets o) routines
 
 -- A further line gives this offset to the routine of this entry.
-abbrev pub further_offsets : List Skips → ℕ → Words
+abbrev pub further_offsets : List KeptFurtherOffsets → ℕ → Words
 further_offsets skips e o = list_any (λ s. s.entry == e && words s.offsets o) skips
 
 -- The body of main or of a routine.
@@ -104,6 +104,6 @@ meaning d = record {
   reads = option_map words d.reads;
   moves = words d.moves;
   abandon = words d.abandons;
-  holds = map holding_of d.holds;
-  returns = map returning_of d.returns;
+  holds = map place_assertion_of d.holds;
+  returns = map return_assertion_of d.returns;
 }

@@ -7,7 +7,7 @@ use Rattle.instruct.specs.declared.Profile.{Profile}
 use Rattle.instruct.specs.declared.Profile.TheVariants.{Pdp8I, Pdp8E}
 use Rattle.wordset.specs.Words.{Words, one, between, difference, has_some}
 use Rattle.streams.specs.Text.{words_of, octal_word}
-use Rattle.declaration.specs.Declaration.{Assertion, Holding, Returning}
+use Rattle.declaration.specs.Declaration.{Assertion, PlaceAssertion, ReturnAssertion}
 use Rattle.declaration.specs.declared.Subject.{Subject}
 use Rattle.declaration.specs.declared.Subject.TheVariants.{Accumulator, Link, Mq, Cell}
 
@@ -18,7 +18,7 @@ pub record Subroutine : Type 0 where
   pub offsets : Words
 
 -- Further offsets of a routine as a line gives them: its entry, and the offsets.
-pub record Further : Type 0 where
+pub record FurtherOffsets : Type 0 where
   pub entry : ℕ
   pub offsets : Words
 
@@ -35,11 +35,11 @@ pub data Line : Type 0 where
   Pauses : Words → Line
   Machine : Profile → Line
   Reads : Words → Line
-  Skip : Further → Line
+  Skips : FurtherOffsets → Line
   Moves : Words → Line
   Abandon : Words → Line
-  Hold : Holding → Line
-  Return : Returning → Line
+  Holds : PlaceAssertion → Line
+  Returns : ReturnAssertion → Line
 
 -- The list of a first word and of others as they read; none where one of them doesn't read.
 abbrev pub read_first : {X : Type 0} → Option X → Option (List X) → Option (List X)
@@ -158,7 +158,7 @@ if_offsets (Some set) = if has_some (difference set every_offset) then None else
 abbrev pub further : Option ℕ → Option Words → Option Line
 further None offsets = None
 further (Some entry) None = None
-further (Some entry) (Some offsets) = Some (Skip (record { entry = entry; offsets = offsets }))
+further (Some entry) (Some offsets) = Some (Skips (record { entry = entry; offsets = offsets }))
 
 -- The words after `skips`: an entry, and ranges of offsets.
 abbrev pub skips_line : List (List ℕ) → Option Line
@@ -218,7 +218,7 @@ assertion_in words = assertion_by (find is_subject words) (after_first is_subjec
 abbrev pub holding : Option Words → Option Assertion → Option Line
 holding None assertion = None
 holding (Some places) None = None
-holding (Some places) (Some assertion) = Some (Hold (record { places = places; assertion = assertion }))
+holding (Some places) (Some assertion) = Some (Holds (record { places = places; assertion = assertion }))
 
 -- The words after `holds`: addresses, and an assertion.
 abbrev pub holds_line : List (List ℕ) → Option Line
@@ -235,7 +235,7 @@ returning None offsets assertion = None
 returning (Some entry) None assertion = None
 returning (Some entry) (Some offsets) None = None
 returning (Some entry) (Some offsets) (Some assertion) =
-    Some (Return (record { entry = entry; offsets = offsets; assertion = assertion }))
+    Some (Returns (record { entry = entry; offsets = offsets; assertion = assertion }))
 
 -- The words after `returns`: an entry, offsets, and an assertion.
 abbrev pub returns_line : List (List ℕ) → Option Line

@@ -7,8 +7,8 @@ use Rattle.wordset.specs.Words.{Words, nothing, IsFirstFrom, HasNoneFrom}
 use Rattle.processor.specs.Machine.{is_auto_index}
 use Rattle.streams.specs.Taking.{StandsAt}
 use Rattle.streams.specs.Text.{text_lines}
-use Rattle.declaration.specs.Declaration.{Declaration, Holding, Returning}
-use Rattle.declaration.specs.Lines.{Subroutine, Further, Line, Start, Main, Sub, Variables, Stops, Pauses, Machine, Reads, Skip, Moves, Abandon, Hold, Return, line_of}
+use Rattle.declaration.specs.Declaration.{Declaration, PlaceAssertion, ReturnAssertion}
+use Rattle.declaration.specs.Lines.{Subroutine, FurtherOffsets, Line, Start, Main, Sub, Variables, Stops, Pauses, Machine, Reads, Skips, Moves, Abandon, Holds, Returns, line_of}
 use Rattle.declaration.specs.Kept.{subroutine_of}
 use Rattle.declaration.specs.declared.Routine.{Routine as KeptRoutine}
 use Rattle.declaration.specs.declared.DeclarationFault.{DeclarationFault}
@@ -43,11 +43,11 @@ pub record Contents : Type 0 where
   pub stop : Words
   pub pause : Words
   pub reads : Option Words
-  pub skips : List Further
+  pub skips : List FurtherOffsets
   pub moves : Words
   pub abandon : Words
-  pub holds : List Holding
-  pub returns : List Returning
+  pub holds : List PlaceAssertion
+  pub returns : List ReturnAssertion
 
 -- The start that this line gives, as a list: none where it gives another thing.
 abbrev pub start_in : Line → List ℕ
@@ -95,8 +95,8 @@ lists_reads (Reads cells) = true
 lists_reads _ = false
 
 -- The further offsets that this line gives, as a list: none where it says another thing.
-abbrev pub skips_in : Line → List Further
-skips_in (Skip s) = s ∷ []
+abbrev pub skips_in : Line → List FurtherOffsets
+skips_in (Skips s) = s ∷ []
 skips_in _ = []
 
 -- The entries that this line lets be stored in, no cell where it says another thing.
@@ -110,13 +110,13 @@ abandon_in (Abandon cells) = cells
 abandon_in _ = nothing
 
 -- What is to hold at places by this line, as a list: none where it says another thing.
-abbrev pub holds_in : Line → List Holding
-holds_in (Hold h) = h ∷ []
+abbrev pub holds_in : Line → List PlaceAssertion
+holds_in (Holds h) = h ∷ []
 holds_in _ = []
 
 -- What is to hold at returns by this line, as a list: none where it says another thing.
-abbrev pub returns_in : Line → List Returning
-returns_in (Return r) = r ∷ []
+abbrev pub returns_in : Line → List ReturnAssertion
+returns_in (Returns r) = r ∷ []
 returns_in _ = []
 
 -- The cells that some line gives.
@@ -323,17 +323,17 @@ pub record StandsAfter (text : List ℕ) (lines : List Line) (number : ℕ) (lin
 -- The line says a routine, further offsets or an assertion, of which there are as many as are taken.
 abbrev pub IsOneTooMany : Contents → Line → Type 0
 IsOneTooMany c (Sub r) = most_routines ≤ length c.routines
-IsOneTooMany c (Skip s) = most_skips ≤ length c.skips
-IsOneTooMany c (Hold h) = most_assertions ≤ assertions_in c
-IsOneTooMany c (Return r) = most_assertions ≤ assertions_in c
+IsOneTooMany c (Skips s) = most_skips ≤ length c.skips
+IsOneTooMany c (Holds h) = most_assertions ≤ assertions_in c
+IsOneTooMany c (Returns r) = most_assertions ≤ assertions_in c
 IsOneTooMany c _ = ⊥
 
 -- The line says a routine, further offsets or an assertion, for which memory is asked.
 abbrev pub AsksForRoom : Contents → Line → Type 0
 AsksForRoom c (Sub r) = length c.routines < most_routines
-AsksForRoom c (Skip s) = length c.skips < most_skips
-AsksForRoom c (Hold h) = assertions_in c < most_assertions
-AsksForRoom c (Return r) = assertions_in c < most_assertions
+AsksForRoom c (Skips s) = length c.skips < most_skips
+AsksForRoom c (Holds h) = assertions_in c < most_assertions
+AsksForRoom c (Returns r) = assertions_in c < most_assertions
 AsksForRoom c _ = ⊥
 
 -- After what was said, the line with this number, which says this, fails so: it is bad; it says a second start, a second

@@ -12,7 +12,9 @@ ghost use Rattle.declaration.specs.Drafts.{gathered, said, with_line, MayFollow,
 
 use super::coverage::Coverage;
 use super::lines::{Line, read_line};
-use super::{Declaration, DeclarationFault, Holding, Returning, Routine, Skips};
+use super::{
+    Declaration, DeclarationFault, FurtherOffsets, PlaceAssertion, ReturnAssertion, Routine,
+};
 use instruct::Profile;
 use std::alloc::Allocator;
 use streams::taking::LineTaker;
@@ -39,11 +41,11 @@ pub struct Draft<A: Allocator> {
     stops: WordSet,
     pauses: WordSet,
     reads: Option<WordSet>,
-    skips: Vec<Skips, A>,
+    skips: Vec<FurtherOffsets, A>,
     moves: WordSet,
     abandons: WordSet,
-    holds: Vec<Holding, A>,
-    returns: Vec<Returning, A>,
+    holds: Vec<PlaceAssertion, A>,
+    returns: Vec<ReturnAssertion, A>,
 }
 
 impl<A: Allocator> Draft<A> {
@@ -88,11 +90,11 @@ impl<A: Allocator> Draft<A> {
             Line::Pauses(set) => self.pauses = self.pauses.union(set),
             Line::Machine(profile) => return self.add_profile(*profile, number),
             Line::Reads(set) => self.add_reads(set),
-            Line::Skip(skips) => return self.add_skips(skips, number),
+            Line::Skips(skips) => return self.add_skips(skips, number),
             Line::Moves(set) => self.moves = self.moves.union(set),
             Line::Abandon(set) => self.abandons = self.abandons.union(set),
-            Line::Hold(holding) => return self.add_holding(holding, number),
-            Line::Return(returning) => return self.add_returning(returning, number),
+            Line::Holds(holding) => return self.add_holding(holding, number),
+            Line::Returns(returning) => return self.add_returning(returning, number),
         }
         Ok(())
     }
@@ -154,13 +156,13 @@ impl<A: Allocator> Draft<A> {
         self.reads = Some(reads.union(set));
     }
 
-    fn add_skips(&mut self, skips: &Skips, number: usize) -> Result<(), DeclarationFault>
+    fn add_skips(&mut self, skips: &FurtherOffsets, number: usize) -> Result<(), DeclarationFault>
         ensures added { OnOk result
-            (gathered self.new ≡ with_line (gathered self.old) (said (Line.Skip skips.now))) }
+            (gathered self.new ≡ with_line (gathered self.old) (said (Line.Skips skips.now))) }
         ensures follows { OnOk result
-            (MayFollow (gathered self.old) (said (Line.Skip skips.now))) }
+            (MayFollow (gathered self.old) (said (Line.Skips skips.now))) }
         ensures refused { IfErr result
-            (LineFails (gathered self.old) number (Some (said (Line.Skip skips.now)))) }
+            (LineFails (gathered self.old) number (Some (said (Line.Skips skips.now)))) }
     {
         if self.skips.len() >= MOST_SKIPS {
             return Err(DeclarationFault::TooMany);
@@ -179,13 +181,17 @@ impl<A: Allocator> Draft<A> {
             || self.returns.len() >= MOST_ASSERTIONS - self.holds.len()
     }
 
-    fn add_holding(&mut self, holding: &Holding, number: usize) -> Result<(), DeclarationFault>
+    fn add_holding(
+        &mut self,
+        holding: &PlaceAssertion,
+        number: usize,
+    ) -> Result<(), DeclarationFault>
         ensures added { OnOk result
-            (gathered self.new ≡ with_line (gathered self.old) (said (Line.Hold holding.now))) }
+            (gathered self.new ≡ with_line (gathered self.old) (said (Line.Holds holding.now))) }
         ensures follows { OnOk result
-            (MayFollow (gathered self.old) (said (Line.Hold holding.now))) }
+            (MayFollow (gathered self.old) (said (Line.Holds holding.now))) }
         ensures refused { IfErr result
-            (LineFails (gathered self.old) number (Some (said (Line.Hold holding.now)))) }
+            (LineFails (gathered self.old) number (Some (said (Line.Holds holding.now)))) }
     {
         if self.has_all_assertions() {
             return Err(DeclarationFault::TooMany);
@@ -198,15 +204,15 @@ impl<A: Allocator> Draft<A> {
 
     fn add_returning(
         &mut self,
-        returning: &Returning,
+        returning: &ReturnAssertion,
         number: usize,
     ) -> Result<(), DeclarationFault>
         ensures added { OnOk result
-            (gathered self.new ≡ with_line (gathered self.old) (said (Line.Return returning.now))) }
+            (gathered self.new ≡ with_line (gathered self.old) (said (Line.Returns returning.now))) }
         ensures follows { OnOk result
-            (MayFollow (gathered self.old) (said (Line.Return returning.now))) }
+            (MayFollow (gathered self.old) (said (Line.Returns returning.now))) }
         ensures refused { IfErr result
-            (LineFails (gathered self.old) number (Some (said (Line.Return returning.now)))) }
+            (LineFails (gathered self.old) number (Some (said (Line.Returns returning.now)))) }
     {
         if self.has_all_assertions() {
             return Err(DeclarationFault::TooMany);
@@ -373,7 +379,7 @@ fn index_cells() -> WordSet
 }
 
 /// The cells that are named as entries.
-fn named_entries(moves: &WordSet, skips: &[Skips], returns: &[Returning]) -> WordSet
+fn named_entries(moves: &WordSet, skips: &[FurtherOffsets], returns: &[ReturnAssertion]) -> WordSet
     ensures { words result ≡ named_entries (words moves.now) skips.now returns.now }
 {
     skipping_entries(skips)
@@ -382,7 +388,7 @@ fn named_entries(moves: &WordSet, skips: &[Skips], returns: &[Returning]) -> Wor
 }
 
 /// The entries of further offsets.
-fn skipping_entries(skips: &[Skips]) -> WordSet
+fn skipping_entries(skips: &[FurtherOffsets]) -> WordSet
     ensures { words result ≡ (λ a. list_any (λ s. s.entry == a) skips.now) }
 {
     let mut entries = WordSet::empty();
@@ -393,7 +399,7 @@ fn skipping_entries(skips: &[Skips]) -> WordSet
 }
 
 /// The entries of what is to hold at returns.
-fn returning_entries(returns: &[Returning]) -> WordSet
+fn returning_entries(returns: &[ReturnAssertion]) -> WordSet
     ensures { words result ≡ (λ a. list_any (λ r. r.entry == a) returns.now) }
 {
     let mut entries = WordSet::empty();
@@ -404,7 +410,7 @@ fn returning_entries(returns: &[Returning]) -> WordSet
 }
 
 /// The places at which something is to hold.
-fn held_places(holds: &[Holding]) -> WordSet
+fn held_places(holds: &[PlaceAssertion]) -> WordSet
     ensures { words result ≡ (λ a. list_any (λ h. words h.places a) holds.now) }
 {
     let mut places = WordSet::empty();

@@ -10,7 +10,7 @@ ghost use Rattle.declaration.specs.Drafts.{gathered, HasLines};
 ghost use Rattle.declaration.specs.declared.DeclarationFault.{DeclarationFault};
 ghost use Rattle.declaration.specs.declared.DeclarationFault.TheVariants.{NoMemory};
 ghost use Rattle.wordset.specs.Lanes.{words};
-ghost use Rattle.declaration.specs.Kept.{offsets, offsets_of, subroutine_of, routine_of, routines_of, further_of, assertion_of, holding_of, returning_of, skips_of, further_offsets, meaning};
+ghost use Rattle.declaration.specs.Kept.{offsets, offsets_of, subroutine_of, routine_of, routines_of, further_of, assertion_of, place_assertion_of, return_assertion_of, skips_of, further_offsets, meaning};
 
 use crate::drafts::Draft;
 use instruct::Profile;
@@ -90,7 +90,7 @@ pub struct Routine {
 ///
 /// Contracts see them as `further_of` gives them.
 #[derive(Clone, Copy, PartialEq, Eq, Debug)]
-pub struct Skips {
+pub struct FurtherOffsets {
     entry: Word,
     offsets: WordSet,
 }
@@ -119,18 +119,18 @@ pub struct Assertion {
 
 /// What is to hold whenever control is at one of some places.
 ///
-/// Contracts see it as `holding_of` gives it.
+/// Contracts see it as `place_assertion_of` gives it.
 #[derive(Clone, Copy, PartialEq, Eq, Debug)]
-pub struct Holding {
+pub struct PlaceAssertion {
     places: WordSet,
     assertion: Assertion,
 }
 
 /// What is to hold whenever the routine of an entry returns by one of some offsets.
 ///
-/// Contracts see it as `returning_of` gives it.
+/// Contracts see it as `return_assertion_of` gives it.
 #[derive(Clone, Copy, PartialEq, Eq, Debug)]
-pub struct Returning {
+pub struct ReturnAssertion {
     entry: Word,
     offsets: WordSet,
     assertion: Assertion,
@@ -161,11 +161,11 @@ pub struct Declaration<A: Allocator> {
     stops: WordSet,
     pauses: WordSet,
     reads: Option<WordSet>,
-    skips: Vec<Skips, A>,
+    skips: Vec<FurtherOffsets, A>,
     moves: WordSet,
     abandons: WordSet,
-    holds: Vec<Holding, A>,
-    returns: Vec<Returning, A>,
+    holds: Vec<PlaceAssertion, A>,
+    returns: Vec<ReturnAssertion, A>,
 }
 
 impl<A: Allocator> Model for Declaration<A> {
@@ -242,7 +242,7 @@ impl Routine {
     }
 }
 
-impl Skips {
+impl FurtherOffsets {
     /// The routine's entry.
     pub fn entry(&self) -> Word
         ensures { result ≡ (further_of self.now).entry }
@@ -274,40 +274,40 @@ impl Assertion {
     }
 }
 
-impl Holding {
+impl PlaceAssertion {
     /// The places.
     pub fn places(&self) -> &WordSet
-        ensures { words result.now ≡ (holding_of self.now).places }
+        ensures { words result.now ≡ (place_assertion_of self.now).places }
     {
         &self.places
     }
 
     /// What is to hold there.
     pub fn assertion(&self) -> &Assertion
-        ensures { assertion_of result.now ≡ (holding_of self.now).assertion }
+        ensures { assertion_of result.now ≡ (place_assertion_of self.now).assertion }
     {
         &self.assertion
     }
 }
 
-impl Returning {
+impl ReturnAssertion {
     /// The routine's entry.
     pub fn entry(&self) -> Word
-        ensures { result ≡ (returning_of self.now).entry }
+        ensures { result ≡ (return_assertion_of self.now).entry }
     {
         self.entry
     }
 
     /// The offsets.
     pub fn offsets(&self) -> &WordSet
-        ensures { words result.now ≡ (returning_of self.now).offsets }
+        ensures { words result.now ≡ (return_assertion_of self.now).offsets }
     {
         &self.offsets
     }
 
     /// What is to hold when the routine returns by one of them.
     pub fn assertion(&self) -> &Assertion
-        ensures { assertion_of result.now ≡ (returning_of self.now).assertion }
+        ensures { assertion_of result.now ≡ (return_assertion_of self.now).assertion }
     {
         &self.assertion
     }
@@ -415,7 +415,7 @@ impl<A: Allocator> Declaration<A> {
     }
 
     /// The further offsets of routines, in the order of their lines.
-    pub fn skips(&self) -> &[Skips]
+    pub fn skips(&self) -> &[FurtherOffsets]
         ensures { result.now ≡ skips_of self.now }
     {
         &self.skips
@@ -436,15 +436,15 @@ impl<A: Allocator> Declaration<A> {
     }
 
     /// What is to hold at places, in the order of the lines.
-    pub fn holds(&self) -> &[Holding]
-        ensures { map holding_of result.now ≡ (meaning self.now).holds }
+    pub fn holds(&self) -> &[PlaceAssertion]
+        ensures { map place_assertion_of result.now ≡ (meaning self.now).holds }
     {
         &self.holds
     }
 
     /// What is to hold at returns, in the order of the lines.
-    pub fn returns(&self) -> &[Returning]
-        ensures { map returning_of result.now ≡ (meaning self.now).returns }
+    pub fn returns(&self) -> &[ReturnAssertion]
+        ensures { map return_assertion_of result.now ≡ (meaning self.now).returns }
     {
         &self.returns
     }

@@ -10,7 +10,9 @@ ghost use Rattle.declaration.specs.Kept.{offsets_of, assertion_of};
 ghost use Rattle.declaration.specs.Lines.{is_dash, range_of, address_of, offset_of, any_of, these, all_read, some_read, span, is_returns, body_read, offsets_read, routine, start_line, sub_line, profile_line, named_line, further_line, skips_line, every_offset, if_offsets, holds_line, returns_line, is_subject, addresses_of, offsets_named, assertion_in, named_assertion, asserted, link_of, bit_of, cell_assertion, line_of};
 ghost use Rattle.declaration.specs.Drafts.{cells_read, ranges_before, cells_before, said};
 
-use super::{Assertion, Holding, Offsets, Returning, Routine, Skips, Subject};
+use super::{
+    Assertion, FurtherOffsets, Offsets, PlaceAssertion, ReturnAssertion, Routine, Subject,
+};
 use instruct::Profile;
 use streams::text::{self, Words};
 use word12::Word;
@@ -28,11 +30,11 @@ pub enum Line {
     Pauses(WordSet),
     Machine(Profile),
     Reads(WordSet),
-    Skip(Skips),
+    Skips(FurtherOffsets),
     Moves(WordSet),
     Abandon(WordSet),
-    Hold(Holding),
-    Return(Returning),
+    Holds(PlaceAssertion),
+    Returns(ReturnAssertion),
 }
 
 /// What a word of a list of cells may be.
@@ -350,7 +352,7 @@ fn skips_line(rest: Words<'_>) -> Option<Line>
     let Some(offsets) = if_offsets(&set) else {
         return None;
     };
-    Some(Line::Skip(Skips { entry, offsets }))
+    Some(Line::Skips(FurtherOffsets { entry, offsets }))
 }
 
 /// All offsets, 0 to 77.
@@ -381,7 +383,7 @@ fn holds_line(rest: Words<'_>) -> Option<Line>
     let Some(assertion) = assertion(rest) else {
         return None;
     };
-    Some(Line::Hold(Holding { places, assertion }))
+    Some(Line::Holds(PlaceAssertion { places, assertion }))
 }
 
 /// What is to hold at returns: an entry, offsets and an assertion.
@@ -401,7 +403,7 @@ fn returns_line(rest: Words<'_>) -> Option<Line>
     let Some(assertion) = assertion(words) else {
         return None;
     };
-    Some(Line::Return(Returning {
+    Some(Line::Returns(ReturnAssertion {
         entry,
         offsets,
         assertion,

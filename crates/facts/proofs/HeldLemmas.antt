@@ -5,7 +5,7 @@ use Rattle.std.proofs.lemmas.Bool.{false≢true, true≢false}
 use Rattle.std.proofs.lemmas.Bool.Decides.{nat_tests}
 use Rattle.wordset.specs.Words.{Words, IsWithin, SameWords, IsFirstFrom, HasNoneFrom, difference, union}
 use Rattle.domain.specs.Facts.{Fact, Place}
-use Rattle.declaration.specs.Declaration.{Assertion, Holding, Returning}
+use Rattle.declaration.specs.Declaration.{Assertion, PlaceAssertion, ReturnAssertion}
 use Rattle.std.proofs.Math.ListN.{drop_of_length-le}
 use Rattle.transfer.proofs.EntailLemmas.{drop_item}
 use Rattle.facts.specs.Conditions.{link_words, may_be, IsAsserted, IsDenied, EachIsHeld, EachIsHeldBy}
@@ -83,7 +83,7 @@ dropped g xs i x lt is = ap (λ ys. map g ys) (drop_item xs i x lt is)
 past_all : {A B : Type 0} (g : A → B) (xs : List A) (i : ℕ) → length xs ≤ i → map g (drop i xs) ≡ []
 past_all g xs i past = ap (λ ys. map g ys) (drop_of_length-le xs past)
 
-module _ {A : Type 0} (g : A → Holding) (pl : Place) (f : Fact) (a : ℕ) (xs : List A) (i : ℕ) where
+module _ {A : Type 0} (g : A → PlaceAssertion) (pl : Place) (f : Fact) (a : ℕ) (xs : List A) (i : ℕ) where
   -- one that is held, or is not to hold there
   pub held_more : (x : A) → i < length xs → x ≡ get_or xs i x → ((g x).places a ≡ true → IsAsserted pl f (g x).assertion) →
       (EachIsHeld pl f a (map g (drop i xs)) ↔ EachIsHeld pl f a (map g xs)) → EachIsHeld pl f a (map g (drop (i + 1) xs)) ↔ EachIsHeld pl f a (map g xs)
@@ -104,7 +104,7 @@ module _ {A : Type 0} (g : A → Holding) (pl : Place) (f : Fact) (a : ℕ) (xs 
   pub held_all : length xs ≤ i → (EachIsHeld pl f a (map g (drop i xs)) ↔ EachIsHeld pl f a (map g xs)) → IsTrue true ↔ EachIsHeld pl f a (map g xs)
   held_all past h = (λ is. h.0 (subst (EachIsHeld pl f a) (sym (past_all g xs i past)) tt), λ all. refl)
 
-module _ {A : Type 0} (g : A → Returning) (pl : Place) (f : Fact) (e o : ℕ) (xs : List A) (i : ℕ) where
+module _ {A : Type 0} (g : A → ReturnAssertion) (pl : Place) (f : Fact) (e o : ℕ) (xs : List A) (i : ℕ) where
   pub returned_more : (x : A) → i < length xs → x ≡ get_or xs i x → ((g x).entry ≡ e → (g x).offsets o ≡ true → IsAsserted pl f (g x).assertion) →
       (EachIsHeldBy pl f e o (map g (drop i xs)) ↔ EachIsHeldBy pl f e o (map g xs)) → EachIsHeldBy pl f e o (map g (drop (i + 1) xs)) ↔ EachIsHeldBy pl f e o (map g xs)
   returned_more x lt is one h = (

@@ -2,7 +2,7 @@
 use Rattle.std.specs.Prelude.{◌≡◌, ℕ, ◌+◌, ◌<◌, ◌≤◌, ◌==◌, nat_lt, nat_le, true, false, ◌&&◌, ◌||◌, ◌⊎◌, Some, List, [], ◌∷◌}
 use Rattle.instruct.specs.Instructions.{Meaning, And, Tad, Isz, Dca, Jms, Jmp}
 use Rattle.wordset.specs.Words.{Words, only, IsWithin}
-use Rattle.declaration.specs.Declaration.{Assertion, Holding, Returning, IsListed}
+use Rattle.declaration.specs.Declaration.{Assertion, PlaceAssertion, ReturnAssertion, IsListed}
 use Rattle.declaration.specs.declared.Subject.{Subject}
 use Rattle.declaration.specs.declared.Subject.TheVariants as subject
 use Rattle.policy.specs.Rules.{pointer_of}
@@ -107,12 +107,12 @@ pub record IsDenied (pl : Place) (f : Fact) (a : Assertion) (w : ℕ) : Type 0 w
   pub excluded : a.words w ≡ false
 
 -- By the fact all is so that is to hold at an address.
-abbrev pub EachIsHeld : Place → Fact → ℕ → List Holding → Type 0
+abbrev pub EachIsHeld : Place → Fact → ℕ → List PlaceAssertion → Type 0
 EachIsHeld pl f a [] = Unit {0}
 EachIsHeld pl f a (h ∷ hs) = (h.places a ≡ true → IsAsserted pl f h.assertion) × EachIsHeld pl f a hs
 
 -- By the exit all is so that is to hold when the routine of an entry returns by an offset.
-abbrev pub EachIsHeldBy : Place → Fact → ℕ → ℕ → List Returning → Type 0
+abbrev pub EachIsHeldBy : Place → Fact → ℕ → ℕ → List ReturnAssertion → Type 0
 EachIsHeldBy pl f e o [] = Unit {0}
 EachIsHeldBy pl f e o (r ∷ rs) =
     (r.entry ≡ e → r.offsets o ≡ true → IsAsserted pl f r.assertion) × EachIsHeldBy pl f e o rs

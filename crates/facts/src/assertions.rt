@@ -4,13 +4,13 @@ ghost use Rattle.std.specs.Prelude.{◌≡◌, ◌==◌, ◌&&◌, ◌↔◌, tr
 ghost use Rattle.wordset.specs.Words.{SameWords};
 ghost use Rattle.wordset.specs.Lanes.{words};
 ghost use Rattle.wordset.specs.Links.{links_of};
-ghost use Rattle.declaration.specs.Kept.{assertion_of, holding_of, returning_of};
+ghost use Rattle.declaration.specs.Kept.{assertion_of, place_assertion_of, return_assertion_of};
 ghost use Rattle.domain.specs.FactInCode.{fact_in_code};
 ghost use Rattle.facts.specs.Conditions.{link_words, may_be, IsAsserted, IsDenied, EachIsHeld, EachIsHeldBy};
 ghost use Rattle.facts.specs.PlaceInCode.{place_in_code};
 
 use crate::place::Place;
-use declaration::{Assertion, Holding, Returning, Subject};
+use declaration::{Assertion, PlaceAssertion, ReturnAssertion, Subject};
 use domain::{Location, SumFact};
 use std::alloc::Allocator;
 use word12::{Link, Word};
@@ -91,9 +91,9 @@ impl<A: Allocator> Place<'_, A> {
         &self,
         fact: &SumFact<C, R>,
         at: Word,
-        holding: &Holding,
+        holding: &PlaceAssertion,
     ) -> bool
-        ensures { let h = holding_of holding.now in IsTrue result ↔ (h.places at ≡ true →
+        ensures { let h = place_assertion_of holding.now in IsTrue result ↔ (h.places at ≡ true →
             IsAsserted (place_in_code self.now) (fact_in_code fact.now) h.assertion) }
     {
         if !holding.places().contains(at) {
@@ -107,10 +107,10 @@ impl<A: Allocator> Place<'_, A> {
         &self,
         fact: &SumFact<C, R>,
         at: Word,
-        holds: &[Holding],
+        holds: &[PlaceAssertion],
     ) -> bool
         ensures { IsTrue result ↔ EachIsHeld (place_in_code self.now) (fact_in_code fact.now) at
-            (map holding_of holds.now) }
+            (map place_assertion_of holds.now) }
     {
         for holding in holds {
             if !self.is_held(fact, at, holding) {
@@ -138,9 +138,9 @@ impl<A: Allocator> Place<'_, A> {
         exit: &SumFact<C, R>,
         entry: Word,
         offset: Word,
-        returning: &Returning,
+        returning: &ReturnAssertion,
     ) -> bool
-        ensures { let r = returning_of returning.now in IsTrue result ↔ (r.entry ≡ entry → r.offsets offset ≡ true →
+        ensures { let r = return_assertion_of returning.now in IsTrue result ↔ (r.entry ≡ entry → r.offsets offset ≡ true →
             IsAsserted (place_in_code self.now) (fact_in_code exit.now) r.assertion) }
     {
         if returning.entry() != entry {
@@ -158,10 +158,10 @@ impl<A: Allocator> Place<'_, A> {
         exit: &SumFact<C, R>,
         entry: Word,
         offset: Word,
-        returns: &[Returning],
+        returns: &[ReturnAssertion],
     ) -> bool
         ensures { IsTrue result ↔ EachIsHeldBy (place_in_code self.now) (fact_in_code exit.now) entry offset
-            (map returning_of returns.now) }
+            (map return_assertion_of returns.now) }
     {
         for returning in returns {
             if !self.is_held_by(exit, entry, offset, returning) {

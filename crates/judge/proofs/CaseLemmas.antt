@@ -5,9 +5,9 @@ use Rattle.std.specs.Prelude.{IsTrue, ◌↔◌, if◌then◌else◌}
 use Rattle.std.proofs.lemmas.Bool.{true≢false, false≢true, cases_lt}
 use Rattle.wordset.specs.Words.{Words, HasNoneFrom, IsFirstFrom}
 use Rattle.processor.specs.Runs.{Image}
-use Rattle.declaration.specs.Declaration.{Routine, Returning}
-use Rattle.declaration.specs.Kept.{returning_of}
-use Rattle.declaration.specs.declared.Returning.{Returning as KeptReturning}
+use Rattle.declaration.specs.Declaration.{Routine, ReturnAssertion}
+use Rattle.declaration.specs.Kept.{return_assertion_of}
+use Rattle.declaration.specs.declared.ReturnAssertion.{ReturnAssertion as KeptReturnAssertion}
 use Rattle.domain.specs.Facts.{Fact, Place, Rules, OfEquations, OfSums}
 use Rattle.facts.specs.Conditions.{EachIsHeldBy}
 use Rattle.facts.specs.Landing.{fact_at}
@@ -119,8 +119,8 @@ narrowing_fits f shape = let own : length f.chains.items ≡ length (fact_in_cod
 
 -- ---- what is to hold at returns
 
-pub empty_returns : (xs : List KeptReturning) (rs : List Returning) → map returning_of xs ≡ rs → xs ≡ [] → rs ≡ []
-empty_returns xs rs are none = sym are ∙ ap (λ (ys : List KeptReturning). map returning_of ys) none
+pub empty_returns : (xs : List KeptReturnAssertion) (rs : List ReturnAssertion) → map return_assertion_of xs ≡ rs → xs ≡ [] → rs ≡ []
+empty_returns xs rs are none = sym are ∙ ap (λ (ys : List KeptReturnAssertion). map return_assertion_of ys) none
 
 pub none_counted : (fs : List Fact) (n : ℕ) → n ≡ length fs → n ≡ 0 → fs ≡ []
 none_counted [] n count none = refl

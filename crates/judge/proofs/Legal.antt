@@ -6,7 +6,7 @@ use Rattle.wordset.specs.Words.{plus, minus}
 use Rattle.processor.specs.Cells.{Cells}
 use Rattle.processor.specs.Machine.{State, Answer, place, steps_pointer, instruction}
 use Rattle.processor.specs.Runs.{IsStart}
-use Rattle.declaration.specs.Declaration.{Holding, Returning, IsDeclared}
+use Rattle.declaration.specs.Declaration.{PlaceAssertion, ReturnAssertion, IsDeclared}
 use Rattle.policy.specs.Calls.{Calls, current, calls_after}
 use Rattle.policy.specs.Rules.{WritesOwnEntry, EachHolds, EachHoldsBy, HoldsAtReturn, ReturnsHold, WritesDeclared, CallsEntries, FindsItsCall, ReturnsToItsCall, ReadsListed, IsLegal}
 use Rattle.policy.specs.Runs.{DeclaredRun, IsSafeInRuns}
@@ -89,11 +89,11 @@ module _ (j : Case) (dd : IsDeclared j.declaration) (valid : IsValid j) (start :
   legal_returns _ s ks h inv fine = tt
 
   -- what is declared to hold
-  places_hold : (s : State) (ks : Calls) (h : Here s ks) → IsState s → (hs : List Holding) → EachIsHeld (place_in j (current ks)) h.fact s.pc hs → EachHolds hs s
+  places_hold : (s : State) (ks : Calls) (h : Here s ks) → IsState s → (hs : List PlaceAssertion) → EachIsHeld (place_in j (current ks)) h.fact s.pc hs → EachHolds hs s
   places_hold s ks h ss [] held = tt
   places_hold s ks h ss (x ∷ xs) held = (λ here. asserted_so (place_in j (current ks)) dd start begun h.fact x.assertion s ks ss h.means (held.0 here), places_hold s ks h ss xs held.1)
 
-  returns_hold : (e o n : ℕ) (f : Fact) (s : State) (ks : Calls) → n ≡ o → IsState s → Means (place_in j (Some e)) start f s ks → (rs : List Returning) → EachIsHeldBy (place_in j (Some e)) f e o rs → EachHoldsBy rs e n s
+  returns_hold : (e o n : ℕ) (f : Fact) (s : State) (ks : Calls) → n ≡ o → IsState s → Means (place_in j (Some e)) start f s ks → (rs : List ReturnAssertion) → EachIsHeldBy (place_in j (Some e)) f e o rs → EachHoldsBy rs e n s
   returns_hold e o n f s ks same ss means [] held = tt
   returns_hold e o n f s ks same ss means (r ∷ rs) held = (
     λ at by. asserted_so (place_in j (Some e)) dd start begun f r.assertion s ks ss means (held.0 at (ap r.offsets (sym same) ∙ by)),
@@ -120,7 +120,7 @@ module _ (j : Case) (dd : IsDeclared j.declaration) (valid : IsValid j) (start :
       let is : s.memory k.entry ≡ k.after + o = own.3 in
       let at : minus (s.memory k.entry) k.after ≡ o = omega arith in
       let there : minus (s.memory c) k.after ≡ o = subst (λ x. minus (s.memory x) k.after ≡ o) kw at in
-      returns_hold c o (minus (s.memory c) k.after) exit.fact s (k ∷ ks) there inv.state exit.means j.declaration.returns held
+      λ same. returns_hold c o (minus (s.memory c) k.after) exit.fact s (k ∷ ks) there inv.state exit.means j.declaration.returns held
 
   legal_assertions : (m : Meaning) (s : State) (ks : Calls) (h : Here s ks) → Inv s ks → Fine j (current ks) s.pc h.fact m → ReturnsHold j.declaration m s ks
   legal_assertions (Jmp true c) s ks h inv fine = λ e en. return_holds s ks h c inv fine en

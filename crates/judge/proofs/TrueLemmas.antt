@@ -3,7 +3,7 @@ use Rattle.std.proofs.Common.{◌≡◌, ℕ, None, Some, List, [], ◌∷◌, s
 use Rattle.processor.specs.Cells.{Cells}
 use Rattle.processor.specs.Machine.{State, Answer, instruction}
 use Rattle.processor.specs.Runs.{IsStart}
-use Rattle.declaration.specs.Declaration.{Holding, Returning, IsDeclared, IsListed}
+use Rattle.declaration.specs.Declaration.{PlaceAssertion, ReturnAssertion, IsDeclared, IsListed}
 use Rattle.policy.proofs.LegalLemmas.{unasserted}
 use Rattle.facts.specs.Conditions.{EachIsHeld, EachIsHeldBy}
 use Rattle.policy.specs.Calls.{Calls, calls_after}
@@ -54,11 +54,11 @@ unlisted_reads_are_free j e = (
     unlisted a = subst (λ r. IsListed r a) (sym e) tt
 
 -- Where nothing is asserted nothing is asked of it.
-none_held : (pl : Place) (f : Fact) (a : ℕ) (hs : List Holding) → hs ≡ [] → EachIsHeld pl f a hs
+none_held : (pl : Place) (f : Fact) (a : ℕ) (hs : List PlaceAssertion) → hs ≡ [] → EachIsHeld pl f a hs
 none_held pl f a [] e = tt
 none_held pl f a (h ∷ hs) e = cc
 
-none_held_by : (pl : Place) (f : Fact) (e o : ℕ) (rs : List Returning) → rs ≡ [] → EachIsHeldBy pl f e o rs
+none_held_by : (pl : Place) (f : Fact) (e o : ℕ) (rs : List ReturnAssertion) → rs ≡ [] → EachIsHeldBy pl f e o rs
 none_held_by pl f e o [] q = tt
 none_held_by pl f e o (r ∷ rs) q = cc
 

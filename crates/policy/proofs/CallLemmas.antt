@@ -6,7 +6,7 @@ use Rattle.std.proofs.lemmas.Grind.{common_steps}
 use Rattle.wordset.specs.Words.{minus}
 use Rattle.declaration.specs.Declaration.{Declaration}
 use Rattle.processor.specs.Machine.{State}
-use Rattle.policy.specs.Decided.{each_holds_by, finds_call, holds_at_return}
+use Rattle.policy.specs.Decided.{implies, each_holds_by, finds_call, holds_at_return}
 use Rattle.policy.specs.Calls.{Calls, returned}
 use Rattle.policy.specs.OpenCalls.{call_of, put_on, open_calls}
 use Rattle.policy.specs.declared.legality.Call.{Call as KeptCall}
@@ -54,7 +54,7 @@ last_found d e word cs c is = rw (last_call cs c is).1 refl
 
 -- what is to hold at a return by the last call
 pub last_holds : (d : Declaration) (e : ℕ) (s : State) (cs : List KeptCall) (c : KeptCall) → slice_get cs (length cs - 1) ≡ Some c →
-    holds_at_return d e s (open_calls cs) ≡ each_holds_by d.returns e (minus (s.memory e) c.after) s
+    holds_at_return d e s (open_calls cs) ≡ implies (c.entry == e) (each_holds_by d.returns e (minus (s.memory e) c.after) s)
 last_holds d e s cs c is = rw (last_call cs c is).1 refl
 
 -- a call less

@@ -19,7 +19,7 @@ use Rattle.processor.specs.declared.fetch.DecodedInstruction.{DecodedInstruction
 use Rattle.processor.specs.declared.fetch.DecodedInstruction.TheVariants as fetch
 use Rattle.policy.specs.declared.rules.Rule.{Rule}
 use Rattle.policy.specs.declared.rules.Rule.TheVariants as rule
-use Rattle.declaration.specs.Declaration.{Routine, Declaration, Holding, Returning}
+use Rattle.declaration.specs.Declaration.{Routine, Declaration, PlaceAssertion, ReturnAssertion}
 use Rattle.policy.specs.Calls.{Calls, current}
 use Rattle.declaration.specs.Declaration.{IsListed}
 use Rattle.policy.specs.Rules.{IsSupported, written_by, read_by, StaysInBody, WritesDeclared, CallsEntries, FindsItsCall, ReturnsToItsCall, HaltsDeclared, ReadsListed, EachHolds, EachHoldsBy, HoldsAtReturn, ReturnsHold, AssertionsHold, UnassertedHolds, KeepsCode, IsLegal}
@@ -167,25 +167,29 @@ return_decides d i c s ks words = (
 implied : (a b : Bool) → Decides (implies a b) (a ≡ true → b ≡ true)
 implied a b = (implies_on a b, implies_made a b)
 
-places_decide : (hs : List Holding) (s : State) → Decides (each_holds hs s) (EachHolds hs s)
+places_decide : (hs : List PlaceAssertion) (s : State) → Decides (each_holds hs s) (EachHolds hs s)
 places_decide [] s = (λ h. tt, λ p. refl)
 places_decide (h ∷ hs) s =
     and_decides (implies (h.places s.pc) (is_so h.assertion s)) (each_holds hs s) (h.places s.pc ≡ true → is_so h.assertion s ≡ true) (EachHolds hs s) (implied (h.places s.pc) (is_so h.assertion s)) (places_decide hs s)
 
-by_decides : (r : Returning) (e o : ℕ) (s : State) → Decides (implies ((r.entry == e) && r.offsets o) (is_so r.assertion s)) (r.entry ≡ e → r.offsets o ≡ true → is_so r.assertion s ≡ true)
+by_decides : (r : ReturnAssertion) (e o : ℕ) (s : State) → Decides (implies ((r.entry == e) && r.offsets o) (is_so r.assertion s)) (r.entry ≡ e → r.offsets o ≡ true → is_so r.assertion s ≡ true)
 by_decides r e o s = (
   λ h same by. implies_on ((r.entry == e) && r.offsets o) (is_so r.assertion s) h (and_both (r.entry == e) (r.offsets o) (rw same (equal_number e)) by),
   λ f. implies_made ((r.entry == e) && r.offsets o) (is_so r.assertion s) (λ on. let parts = and_parts (r.entry == e) (r.offsets o) on in f (same_number r.entry e parts.0) parts.1),
 )
 
-all_by_decide : (rs : List Returning) (e o : ℕ) (s : State) → Decides (each_holds_by rs e o s) (EachHoldsBy rs e o s)
+all_by_decide : (rs : List ReturnAssertion) (e o : ℕ) (s : State) → Decides (each_holds_by rs e o s) (EachHoldsBy rs e o s)
 all_by_decide [] e o s = (λ h. tt, λ p. refl)
 all_by_decide (r ∷ rs) e o s =
     and_decides (implies ((r.entry == e) && r.offsets o) (is_so r.assertion s)) (each_holds_by rs e o s) (r.entry ≡ e → r.offsets o ≡ true → is_so r.assertion s ≡ true) (EachHoldsBy rs e o s) (by_decides r e o s) (all_by_decide rs e o s)
 
 at_return_decides : (d : Declaration) (e : ℕ) (s : State) (ks : Calls) → Decides (holds_at_return d e s ks) (HoldsAtReturn d e s ks)
 at_return_decides d e s [] = (λ h. tt, λ p. refl)
-at_return_decides d e s (k ∷ ks) = all_by_decide d.returns e (minus (s.memory e) k.after) s
+at_return_decides d e s (k ∷ ks) =
+    let by : Decides (each_holds_by d.returns e (minus (s.memory e) k.after) s) (EachHoldsBy d.returns e (minus (s.memory e) k.after) s) = all_by_decide d.returns e (minus (s.memory e) k.after) s in (
+      λ h same. by.0 (implies_on (k.entry == e) (each_holds_by d.returns e (minus (s.memory e) k.after) s) h (rw same (equal_number e))),
+      λ f. implies_made (k.entry == e) (each_holds_by d.returns e (minus (s.memory e) k.after) s) (λ on. by.1 (f (same_number k.entry e on))),
+    )
 
 returned_decides : (d : Declaration) (m : Meaning) (s : State) (ks : Calls) → Decides (returns_hold d (decoded m (s.memory s.pc) s.memory) s ks) (ReturnsHold d m s ks)
 returned_decides d (Jmp i c) s ks = (
@@ -565,17 +569,17 @@ found_in_body d p s ks i inside broken holds profile is there on says asserts =
     rw (in_it, ← same, ← says, ← asserts) refl
 
 -- where nothing is asserted
-none_by : (rs : List Returning) (e o : ℕ) (s : State) → rs ≡ [] → EachHoldsBy rs e o s
+none_by : (rs : List ReturnAssertion) (e o : ℕ) (s : State) → rs ≡ [] → EachHoldsBy rs e o s
 none_by [] e o s none = tt
 none_by (r ∷ rs) e o s none = cc
 
-none_at : (hs : List Holding) (s : State) → hs ≡ [] → EachHolds hs s
+none_at : (hs : List PlaceAssertion) (s : State) → hs ≡ [] → EachHolds hs s
 none_at [] s none = tt
 none_at (h ∷ hs) s none = cc
 
 none_returns : (d : Declaration) (e : ℕ) (s : State) (ks : Calls) → d.returns ≡ [] → HoldsAtReturn d e s ks
 none_returns d e s [] none = tt
-none_returns d e s (k ∷ ks) none = none_by d.returns e (minus (s.memory e) k.after) s none
+none_returns d e s (k ∷ ks) none = λ same. none_by d.returns e (minus (s.memory e) k.after) s none
 
 none_of : (d : Declaration) (m : Meaning) (s : State) (ks : Calls) → d.returns ≡ [] → ReturnsHold d m s ks
 none_of d (Jmp i c) s ks none = λ on entry. none_returns d c s ks none

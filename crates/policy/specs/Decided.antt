@@ -13,7 +13,7 @@ use Rattle.processor.specs.declared.fetch.DecodedInstruction.{DecodedInstruction
 use Rattle.processor.specs.declared.fetch.DecodedInstruction.TheVariants.{Refers, Operate2, Unsupported}
 use Rattle.policy.specs.declared.rules.Rule.{Rule}
 use Rattle.policy.specs.declared.rules.Rule.TheVariants as rule
-use Rattle.declaration.specs.Declaration.{Routine, Declaration, Assertion, Holding, Returning}
+use Rattle.declaration.specs.Declaration.{Routine, Declaration, Assertion, PlaceAssertion, ReturnAssertion}
 use Rattle.policy.specs.Calls.{Calls, returned}
 use Rattle.policy.specs.Rules.{word_of}
 
@@ -123,17 +123,17 @@ abbrev pub is_so : Assertion → State → Bool
 is_so a s = a.words (word_of a.subject s)
 
 -- What is to hold at the program counter is so.
-abbrev pub each_holds : List Holding → State → Bool
+abbrev pub each_holds : List PlaceAssertion → State → Bool
 each_holds holds s = list_all (λ h. implies (h.places s.pc) (is_so h.assertion s)) holds
 
 -- What is to hold when the routine of an entry returns by an offset is so.
-abbrev pub each_holds_by : List Returning → ℕ → ℕ → State → Bool
+abbrev pub each_holds_by : List ReturnAssertion → ℕ → ℕ → State → Bool
 each_holds_by returns e o s = list_all (λ r. implies ((r.entry == e) && r.offsets o) (is_so r.assertion s)) returns
 
 -- What is to hold at a return through this entry is so.
 abbrev pub holds_at_return : Declaration → ℕ → State → Calls → Bool
 holds_at_return d e s [] = true
-holds_at_return d e s (k ∷ ks) = each_holds_by d.returns e (minus (s.memory e) k.after) s
+holds_at_return d e s (k ∷ ks) = implies (k.entry == e) (each_holds_by d.returns e (minus (s.memory e) k.after) s)
 
 -- The same of an instruction, if it's a return.
 abbrev pub returns_hold : Declaration → DecodedInstruction → State → Calls → Bool

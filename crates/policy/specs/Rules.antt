@@ -6,7 +6,7 @@ use Rattle.wordset.specs.Words.{Words, minus}
 use Rattle.processor.specs.Cells.{Cells}
 use Rattle.processor.specs.Machine.{State, after, steps_pointer, place, instruction}
 use Rattle.processor.specs.Runs.{Image}
-use Rattle.declaration.specs.Declaration.{Routine, Declaration, Assertion, Holding, Returning, IsListed}
+use Rattle.declaration.specs.Declaration.{Routine, Declaration, Assertion, PlaceAssertion, ReturnAssertion, IsListed}
 use Rattle.declaration.specs.declared.Subject.{Subject}
 use Rattle.declaration.specs.declared.Subject.TheVariants.{Accumulator, Link, Mq, Cell}
 use Rattle.policy.specs.Calls.{Calls, current}
@@ -108,20 +108,20 @@ abbrev pub IsSo : Assertion → State → Type 0
 IsSo a s = a.words (word_of a.subject s) ≡ true
 
 -- What is to hold at the program counter is so.
-abbrev pub EachHolds : List Holding → State → Type 0
+abbrev pub EachHolds : List PlaceAssertion → State → Type 0
 EachHolds [] s = Unit {0}
 EachHolds (h ∷ hs) s = (h.places s.pc ≡ true → IsSo h.assertion s) × EachHolds hs s
 
 -- What is to hold when the routine of an entry returns by an offset is so.
-abbrev pub EachHoldsBy : List Returning → ℕ → ℕ → State → Type 0
+abbrev pub EachHoldsBy : List ReturnAssertion → ℕ → ℕ → State → Type 0
 EachHoldsBy [] e o s = Unit {0}
 EachHoldsBy (r ∷ rs) e o s = (r.entry ≡ e → r.offsets o ≡ true → IsSo r.assertion s) × EachHoldsBy rs e o s
 
--- What is to hold at a return through this entry is so, by the offset from the last call's return address to the word in the
--- entry.
+-- What is to hold at a return through this entry is so: where the last call is one of the entry, the return is by the offset
+-- from that call's return address to the word in the entry.
 abbrev pub HoldsAtReturn : Declaration → ℕ → State → Calls → Type 0
 HoldsAtReturn d e s [] = Unit {0}
-HoldsAtReturn d e s (k ∷ ks) = EachHoldsBy d.returns e (minus (s.memory e) k.after) s
+HoldsAtReturn d e s (k ∷ ks) = k.entry ≡ e → EachHoldsBy d.returns e (minus (s.memory e) k.after) s
 
 -- The same of an instruction, if it's a return.
 abbrev pub ReturnsHold : Declaration → Meaning → State → Calls → Type 0

@@ -8,13 +8,13 @@ ghost use Rattle.processor.specs.Runs.{Image};
 ghost use Rattle.processor.specs.Steps.{state_of};
 ghost use Rattle.policy.specs.Calls.{current};
 ghost use Rattle.policy.specs.Rules.{KeepsCode, IsLegal, word_of};
-ghost use Rattle.declaration.specs.Kept.{meaning, assertion_of, holding_of, returning_of};
+ghost use Rattle.declaration.specs.Kept.{meaning, assertion_of, place_assertion_of, return_assertion_of};
 ghost use Rattle.policy.specs.Watching.{IsLeastBroken};
 ghost use Rattle.policy.specs.OpenCalls.{open_calls};
 ghost use Rattle.policy.specs.Decided.{is_abandon, is_own, may_write_own, may_write, writes, calls_entry, finds_call, is_return, returns, may_load, reads, broken_by_reference, broken_by, is_so, each_holds, each_holds_by, holds_at_return, returns_hold, assertions_hold};
 
 use crate::rules::Rule;
-use declaration::{Assertion, Declaration, Holding, Returning, Subject};
+use declaration::{Assertion, Declaration, PlaceAssertion, ReturnAssertion, Subject};
 use instruct::{Operation, halts};
 use processor::{Cpu, DecodedInstruction, Memory, Reference};
 use std::alloc::Allocator;
@@ -310,8 +310,8 @@ fn is_so(assertion: &Assertion, cpu: &Cpu) -> bool
 }
 
 /// Whether what is to hold at the program counter is so.
-fn each_holds(holds: &[Holding], cpu: &Cpu) -> bool
-    ensures { result ≡ each_holds (map holding_of holds.now) (state_of cpu.now) }
+fn each_holds(holds: &[PlaceAssertion], cpu: &Cpu) -> bool
+    ensures { result ≡ each_holds (map place_assertion_of holds.now) (state_of cpu.now) }
 {
     for holding in holds {
         if !holds_here(holding, cpu) {
@@ -322,16 +322,16 @@ fn each_holds(holds: &[Holding], cpu: &Cpu) -> bool
 }
 
 /// The same of one assertion.
-fn holds_here(holding: &Holding, cpu: &Cpu) -> bool
-    ensures { result ≡ each_holds (holding_of holding.now ∷ []) (state_of cpu.now) }
+fn holds_here(holding: &PlaceAssertion, cpu: &Cpu) -> bool
+    ensures { result ≡ each_holds (place_assertion_of holding.now ∷ []) (state_of cpu.now) }
 {
     !holding.places().contains(cpu.pc) || is_so(holding.assertion(), cpu)
 }
 
 /// Whether what is to hold when the routine of an entry returns by an offset is so.
-fn each_holds_by(returns: &[Returning], entry: Word, offset: Word, cpu: &Cpu) -> bool
+fn each_holds_by(returns: &[ReturnAssertion], entry: Word, offset: Word, cpu: &Cpu) -> bool
     ensures { result
-        ≡ each_holds_by (map returning_of returns.now) entry offset (state_of cpu.now) }
+        ≡ each_holds_by (map return_assertion_of returns.now) entry offset (state_of cpu.now) }
 {
     for returning in returns {
         if !holds_by(returning, entry, offset, cpu) {
@@ -342,9 +342,9 @@ fn each_holds_by(returns: &[Returning], entry: Word, offset: Word, cpu: &Cpu) ->
 }
 
 /// The same of one assertion.
-fn holds_by(returning: &Returning, entry: Word, offset: Word, cpu: &Cpu) -> bool
+fn holds_by(returning: &ReturnAssertion, entry: Word, offset: Word, cpu: &Cpu) -> bool
     ensures { result
-        ≡ each_holds_by (returning_of returning.now ∷ []) entry offset (state_of cpu.now) }
+        ≡ each_holds_by (return_assertion_of returning.now ∷ []) entry offset (state_of cpu.now) }
 {
     if returning.entry() == entry && returning.offsets().contains(offset) {
         return is_so(returning.assertion(), cpu);
@@ -365,6 +365,9 @@ fn holds_at_return<A: Allocator>(
     match calls.last() {
         None => true,
         Some(call) => {
+            if call.entry != entry {
+                return true;
+            }
             let offset = distance(cpu.memory.get(entry), call.after);
             each_holds_by(declaration.returns(), entry, offset, cpu)
         }

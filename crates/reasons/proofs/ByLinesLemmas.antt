@@ -3,7 +3,7 @@ use Rattle.std.proofs.Common.{◌≡◌, ℕ, zero, suc, ◌+◌, ◌<◌, ◌�
 use Rattle.std.proofs.lemmas.Bool.{cases_lt, false≢true, true≢false}
 use Rattle.instruct.specs.Instructions.{Meaning, meaning_of}
 use Rattle.wordset.specs.Words.{Words, how_many}
-use Rattle.declaration.specs.Declaration.{Routine, Holding, IsDeclared}
+use Rattle.declaration.specs.Declaration.{Routine, PlaceAssertion, IsDeclared}
 use Rattle.declaration.specs.declared.Subject.{Subject}
 use Rattle.domain.specs.Facts.{Fact, Place, last_site}
 use Rattle.facts.specs.Conditions.{EachIsHeld, called}
@@ -101,7 +101,7 @@ outcomes_kept lines j r beyond a l (o ∷ os) keeps (inl misses) = outcome_kept 
 outcomes_kept lines j r beyond a l (o ∷ os) keeps (inr misses) = outcomes_kept lines j r beyond a l os keeps.1 misses
 
 -- Where all is so that is to hold, none of it is denied.
-none_denied : (pl : Place) (f : Fact) (a : ℕ) (s : Subject) (w : ℕ) (hs : List Holding) → EachIsHeld pl f a hs → SomeDenied pl f a s w hs → ⊥
+none_denied : (pl : Place) (f : Fact) (a : ℕ) (s : Subject) (w : ℕ) (hs : List PlaceAssertion) → EachIsHeld pl f a hs → SomeDenied pl f a s w hs → ⊥
 none_denied pl f a s w hs holds denied = some_denied_refutes pl f a s w hs denied holds
 
 -- A call keeps its condition where the word does.

@@ -5,7 +5,7 @@ use Rattle.instruct.specs.Instructions.{Meaning, Jms, Jmp, meaning_of}
 use Rattle.wordset.specs.Words.{Words, how_many, plus, some_below, has_some}
 use Rattle.wordset.proofs.Tests.{none_of_some}
 use Rattle.processor.specs.Runs.{Image}
-use Rattle.declaration.specs.Declaration.{Routine, Assertion, Holding, Returning, IsDeclared}
+use Rattle.declaration.specs.Declaration.{Routine, Assertion, PlaceAssertion, ReturnAssertion, IsDeclared}
 use Rattle.declaration.specs.declared.Subject.{Subject}
 use Rattle.domain.specs.Facts.{Fact, Place, Rules, OfEquations, OfSums, last_site}
 use Rattle.domain.specs.Adding.{is_void}
@@ -160,12 +160,12 @@ outcomes_refute j r m b l (o ∷ os) (inr h) lands = outcomes_refute j r m b l o
 denied_refutes : (pl : Place) (f : Fact) (a : Assertion) (w : ℕ) → IsDenied pl f a w → IsAsserted pl f a → ⊥
 denied_refutes pl f a w h holds = both (a.words w) (holds w h.small h.possible) h.excluded
 
-pub some_denied_refutes : (pl : Place) (f : Fact) (a : ℕ) (s : Subject) (w : ℕ) (hs : List Holding) → SomeDenied pl f a s w hs → EachIsHeld pl f a hs → ⊥
+pub some_denied_refutes : (pl : Place) (f : Fact) (a : ℕ) (s : Subject) (w : ℕ) (hs : List PlaceAssertion) → SomeDenied pl f a s w hs → EachIsHeld pl f a hs → ⊥
 some_denied_refutes pl f a s w [] h holds = absurd h
 some_denied_refutes pl f a s w (x ∷ xs) (inl h) holds = denied_refutes pl f x.assertion w h.2 (holds.0 h.0)
 some_denied_refutes pl f a s w (x ∷ xs) (inr h) holds = some_denied_refutes pl f a s w xs h holds.1
 
-return_denied_refutes : (pl : Place) (x : Fact) (e o : ℕ) (s : Subject) (w : ℕ) (rs : List Returning) → SomeReturnDenied pl x e o s w rs → EachIsHeldBy pl x e o rs → ⊥
+return_denied_refutes : (pl : Place) (x : Fact) (e o : ℕ) (s : Subject) (w : ℕ) (rs : List ReturnAssertion) → SomeReturnDenied pl x e o s w rs → EachIsHeldBy pl x e o rs → ⊥
 return_denied_refutes pl x e o s w [] h holds = absurd h
 return_denied_refutes pl x e o s w (r ∷ rs) (inl h) holds = denied_refutes pl x r.assertion w h.3 (holds.0 h.0 h.1)
 return_denied_refutes pl x e o s w (r ∷ rs) (inr h) holds = return_denied_refutes pl x e o s w rs h holds.1

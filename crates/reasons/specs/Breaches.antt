@@ -2,7 +2,7 @@
 use Rattle.std.specs.Prelude.{◌≡◌, ℕ, ◌+◌, ◌<◌, ◌≤◌, Bool, true, false, ◌⊎◌, Some, None, List, [], ◌∷◌, length}
 use Rattle.wordset.specs.Words.{Words, plus}
 use Rattle.instruct.specs.Instructions.{Meaning}
-use Rattle.declaration.specs.Declaration.{Routine, Holding, IsListed}
+use Rattle.declaration.specs.Declaration.{Routine, PlaceAssertion, IsListed}
 use Rattle.declaration.specs.declared.Subject.{Subject}
 use Rattle.policy.specs.Rules.{IsSupported, HaltsDeclared}
 use Rattle.domain.specs.Facts.{Fact, Place, last_site}
@@ -104,7 +104,7 @@ condition_of (breach.ReadsUnlisted c) = V15
 condition_of (breach.MayDiffer s w) = V16
 
 -- One of the assertions at the address is on this subject, which may have this word, and the word is not asserted.
-abbrev pub SomeDenied : Place → Fact → ℕ → Subject → ℕ → List Holding → Type 0
+abbrev pub SomeDenied : Place → Fact → ℕ → Subject → ℕ → List PlaceAssertion → Type 0
 SomeDenied pl f a s w [] = ⊥
 SomeDenied pl f a s w (h ∷ hs) =
     ((h.places a ≡ true) × (h.assertion.subject ≡ s) × IsDenied pl f h.assertion w) ⊎ SomeDenied pl f a s w hs

@@ -3,7 +3,7 @@ use Rattle.std.specs.Prelude.{◌≡◌, ℕ, ◌<◌, Bool, true, false, [], �
 use Rattle.instruct.specs.Instructions.{Meaning, meaning_of}
 use Rattle.facts.specs.declared.Condition.{Condition}
 use Rattle.certificate_lines.specs.Certificate.{Certificate}
-use Rattle.declaration.specs.Declaration.{Routine, Holding}
+use Rattle.declaration.specs.Declaration.{Routine, PlaceAssertion}
 use Rattle.domain.specs.Facts.{Fact, Place}
 use Rattle.facts.specs.Conditions.{EachIsHeld, IsDenied}
 use Rattle.judge.specs.Landing.{Case, place_in}
@@ -46,15 +46,15 @@ BreaksHere claims s v w b =
     (condition_of b ≡ v) × Breaks (case_of claims s) s.place.routine s.at (fact_asked s) (meaning_here claims s w) b
 
 -- What one line says is to hold need not hold there, if it is to hold there: it is told what the subject may be.
-abbrev pub Differs : Place → Fact → ℕ → Holding → Breach → Type 0
+abbrev pub Differs : Place → Fact → ℕ → PlaceAssertion → Breach → Type 0
 Differs pl f a h (breach.MayDiffer s w) = (h.places a ≡ true) × (h.assertion.subject ≡ s) × IsDenied pl f h.assertion w
 Differs pl f a h _ = ⊥
 
-abbrev pub DiffersHere : {A C : Type 0} → (C → Certificate) → Point A C 132 68 → Holding → Breach → Type 0
+abbrev pub DiffersHere : {A C : Type 0} → (C → Certificate) → Point A C 132 68 → PlaceAssertion → Breach → Type 0
 DiffersHere claims s h b = Differs (place_in (case_of claims s) s.place.routine) (fact_asked s) s.at h b
 
 -- What one line says is to hold holds there, if it is to hold there.
-abbrev pub HoldsOneHere : {A C : Type 0} → (C → Certificate) → Point A C 132 68 → Holding → Type 0
+abbrev pub HoldsOneHere : {A C : Type 0} → (C → Certificate) → Point A C 132 68 → PlaceAssertion → Type 0
 HoldsOneHere claims s h = EachIsHeld (place_in (case_of claims s) s.place.routine) (fact_asked s) s.at (h ∷ [])
 
 -- It does, and this is one of the reasons that are looked for.

@@ -2,7 +2,7 @@
 use Rattle.std.specs.Prelude.{◌≡◌, ℕ, ◌<◌, true, false, ◌⊎◌, None, Some, List, [], ◌∷◌, length}
 use Rattle.wordset.specs.Words.{has_some, how_many, some_below}
 use Rattle.instruct.specs.Instructions.{meaning_of}
-use Rattle.declaration.specs.Declaration.{Routine, Returning}
+use Rattle.declaration.specs.Declaration.{Routine, ReturnAssertion}
 use Rattle.declaration.specs.declared.Subject.{Subject}
 use Rattle.domain.specs.Facts.{Fact, Place, OfSums}
 use Rattle.facts.specs.Conditions.{IsDenied}
@@ -70,7 +70,7 @@ pub record HasWrongWord (j : Case) (v : Condition) (a : ℕ) (reason : Reason) :
 
 -- One of the assertions on returns of the routine by this offset is on this subject, which may have this word, and the word is not
 -- asserted.
-abbrev pub SomeReturnDenied : Place → Fact → ℕ → ℕ → Subject → ℕ → List Returning → Type 0
+abbrev pub SomeReturnDenied : Place → Fact → ℕ → ℕ → Subject → ℕ → List ReturnAssertion → Type 0
 SomeReturnDenied pl x e o s w [] = ⊥
 SomeReturnDenied pl x e o s w (r ∷ rs) =
     ((r.entry ≡ e) × (r.offsets o ≡ true) × (r.assertion.subject ≡ s) × IsDenied pl x r.assertion w) ⊎

@@ -7,7 +7,7 @@ ghost use Rattle.facts.specs.Landing.{fact_at};
 ghost use Rattle.facts.specs.declared.Condition.TheVariants.{V1, V16};
 ghost use Rattle.facts.specs.Conditions.{EachIsHeldBy};
 ghost use Rattle.facts.specs.PlaceInCode.{place_in_code};
-ghost use Rattle.declaration.specs.Kept.{returning_of};
+ghost use Rattle.declaration.specs.Kept.{return_assertion_of};
 ghost use Rattle.domain.specs.FactInCode.{fact_in_code};
 ghost use Rattle.judge.specs.Asked.{ExitIsHeld, ExitsAreHeldBy};
 ghost use Rattle.judge.specs.Landing.{exits_of};
@@ -27,7 +27,7 @@ use crate::sought::Sought;
 use crate::start::why_start;
 use crate::words::first_breach;
 use bin_tape::Image;
-use declaration::{Declaration, Owner, Returning, Subject};
+use declaration::{Declaration, Owner, ReturnAssertion, Subject};
 use facts::{Condition, Fact, NarrowedFact, Place};
 use judge::{
     Body, Case, Claims, NarrowedPoint, Point, Refusal, RoutineClaim, place_of, put_asked, put_sites,
@@ -213,12 +213,12 @@ fn differs_at_return<A: Allocator>(
     exit: &NarrowedFact,
     entry: Word,
     offset: Word,
-    returning: &Returning,
+    returning: &ReturnAssertion,
 ) -> Option<(Subject, Word)>
     ensures found { IfSome result (λ found. SomeReturnDenied (place_in_code place.now) (fact_in_code exit.now) entry offset
-        found.0 found.1 (returning_of returning.now ∷ [])) }
+        found.0 found.1 (return_assertion_of returning.now ∷ [])) }
     ensures none { IfNone result
-        (EachIsHeldBy (place_in_code place.now) (fact_in_code exit.now) entry offset (returning_of returning.now ∷ [])) }
+        (EachIsHeldBy (place_in_code place.now) (fact_in_code exit.now) entry offset (return_assertion_of returning.now ∷ [])) }
 {
     if returning.entry() != entry {
         return None;

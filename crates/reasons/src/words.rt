@@ -7,7 +7,7 @@ ghost use Rattle.facts.specs.Conditions.{may_write};
 ghost use Rattle.judge.specs.Landing.{place_in};
 ghost use Rattle.judge.specs.Points.{HoldsHere, IsPoint, case_of, fact_asked, possible_at};
 ghost use Rattle.reasons.specs.Keeping.{EachKeepsHere, KeepsHere, WordsKeepHere};
-ghost use Rattle.declaration.specs.Kept.{holding_of};
+ghost use Rattle.declaration.specs.Kept.{place_assertion_of};
 ghost use Rattle.reasons.specs.Points.{BreaksAs, BreaksHere, DiffersHere, HoldsOneHere, IsWrongAs, counts_lines, meaning_here};
 ghost use Rattle.reasons.specs.Stuck.{is_word_of_lines};
 
@@ -18,7 +18,7 @@ use crate::reason::Reason;
 use crate::returns::returns_wrongly;
 use crate::rooms::WordRooms;
 use crate::sought::Sought;
-use declaration::Holding;
+use declaration::PlaceAssertion;
 use facts::Condition;
 use judge::{Claims, NarrowedPoint};
 use std::alloc::Allocator;
@@ -304,11 +304,11 @@ fn may_differ<A: Allocator, C: Claims>(
 /// The subject of one assertion and a word that it may have here and is not declared to have.
 fn differs_from<A: Allocator, C: Claims>(
     point: &NarrowedPoint<'_, A, C>,
-    holding: &Holding,
+    holding: &PlaceAssertion,
 ) -> Option<Breach>
     requires { IsPoint C.claims point.now }
-    ensures found { IfSome result (DiffersHere C.claims point.now (holding_of holding.now)) }
-    ensures none { IfNone result (HoldsOneHere C.claims point.now (holding_of holding.now)) }
+    ensures found { IfSome result (DiffersHere C.claims point.now (place_assertion_of holding.now)) }
+    ensures none { IfNone result (HoldsOneHere C.claims point.now (place_assertion_of holding.now)) }
 {
     if !holding.places().contains(point.at) {
         return None;

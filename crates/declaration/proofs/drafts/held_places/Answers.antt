@@ -2,7 +2,7 @@ use Rattle.std.proofs.Common.{◌≡◌, List, take, subst}
 use Rattle.std.specs.List.{list_any}
 use Rattle.std.proofs.lemmas.List.{take_all}
 use Rattle.wordset.specs.Lanes.{words}
-use Rattle.declaration.specs.declared.Holding.{Holding}
+use Rattle.declaration.specs.declared.PlaceAssertion.{PlaceAssertion}
 use Rattle.declaration.proofs.RuleLemmas.{none_yet, set_more}
 use Rattle.declaration.proofs.drafts.held_places.Goals as goal
 
@@ -17,4 +17,4 @@ loop-holding-preserved c =
 pub returns : goal.returns
 returns c =
     let all : take c.loop-holding.holding-index c.args.holds.now ≡ c.args.holds.now = take_all c.loop-holding.holding-index c.args.holds.now c.loop-holding-test.false in
-    subst (λ (xs : List Holding). words c.loop-holding.places ≡ (λ a. list_any (λ h. words h.places a) xs)) all c.loop-holding.invariant
+    subst (λ (xs : List PlaceAssertion). words c.loop-holding.places ≡ (λ a. list_any (λ h. words h.places a) xs)) all c.loop-holding.invariant

@@ -2,7 +2,7 @@ use Rattle.std.proofs.Common.{◌≡◌, ◌==◌, List, take, subst}
 use Rattle.std.specs.List.{list_any}
 use Rattle.std.proofs.lemmas.List.{take_all}
 use Rattle.wordset.specs.Lanes.{words}
-use Rattle.declaration.specs.declared.Returning.{Returning}
+use Rattle.declaration.specs.declared.ReturnAssertion.{ReturnAssertion}
 use Rattle.declaration.proofs.RuleLemmas.{cell_more, none_yet}
 use Rattle.declaration.proofs.drafts.returning_entries.Goals as goal
 
@@ -17,4 +17,4 @@ loop-returning-preserved c =
 pub returns : goal.returns
 returns c =
     let all : take c.loop-returning.returning-index c.args.returns.now ≡ c.args.returns.now = take_all c.loop-returning.returning-index c.args.returns.now c.loop-returning-test.false in
-    subst (λ (xs : List Returning). words c.loop-returning.entries ≡ (λ a. list_any (λ x. x.entry == a) xs)) all c.loop-returning.invariant
+    subst (λ (xs : List ReturnAssertion). words c.loop-returning.entries ≡ (λ a. list_any (λ x. x.entry == a) xs)) all c.loop-returning.invariant

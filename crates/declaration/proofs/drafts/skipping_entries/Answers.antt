@@ -2,7 +2,7 @@ use Rattle.std.proofs.Common.{◌≡◌, ◌==◌, List, take, subst}
 use Rattle.std.specs.List.{list_any}
 use Rattle.std.proofs.lemmas.List.{take_all}
 use Rattle.wordset.specs.Lanes.{words}
-use Rattle.declaration.specs.declared.Skips.{Skips}
+use Rattle.declaration.specs.declared.FurtherOffsets.{FurtherOffsets as KeptFurtherOffsets}
 use Rattle.declaration.proofs.RuleLemmas.{cell_more, none_yet}
 use Rattle.declaration.proofs.drafts.skipping_entries.Goals as goal
 
@@ -17,4 +17,4 @@ loop-skip-preserved c =
 pub returns : goal.returns
 returns c =
     let all : take c.loop-skip.skip-index c.args.skips.now ≡ c.args.skips.now = take_all c.loop-skip.skip-index c.args.skips.now c.loop-skip-test.false in
-    subst (λ (xs : List Skips). words c.loop-skip.entries ≡ (λ a. list_any (λ x. x.entry == a) xs)) all c.loop-skip.invariant
+    subst (λ (xs : List KeptFurtherOffsets). words c.loop-skip.entries ≡ (λ a. list_any (λ x. x.entry == a) xs)) all c.loop-skip.invariant

@@ -6,8 +6,8 @@ use Rattle.wordset.proofs.IterLemmas.{none_gathered, image_gathered}
 use Rattle.wordset.specs.declared.iter.Iter.{Iter}
 use Rattle.domain.specs.FactInCode.{fact_in_code}
 use Rattle.facts.specs.PlaceInCode.{place_in_code}
-use Rattle.proposer.proofs.TouchLemmas.{touched_by}
-use Rattle.proposer.proofs.variables.touched_by.Goals as goal
+use Rattle.usage.proofs.UseLemmas.{used_by}
+use Rattle.usage.proofs.uses.used_by.Goals as goal
 
 pub loop-word-init : goal.loop-word-init
 loop-word-init g c =
@@ -20,4 +20,4 @@ loop-word-preserved g c =
 
 pub returns : goal.returns
 returns g c = λ cell lt.
-    touched_by c.args.access (place_in_code c.args.place.now) (fact_in_code c.args.fact.now) c.args.at c.put_possible.ensures c.iter-word-items.ensures c.into_iter-word-iterator.ensures.into_iter_gives c.loop-word.invariant c.in-None.ensures.steps cell
+    used_by c.args.way (place_in_code c.args.place.now) (fact_in_code c.args.fact.now) c.args.at c.put_possible.ensures c.iter-word-items.ensures c.into_iter-word-iterator.ensures.into_iter_gives c.loop-word.invariant c.in-None.ensures.steps cell

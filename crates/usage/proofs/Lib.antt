@@ -1,0 +1,3 @@
+pub mod UseLemmas
+pub mod RunLemmas
+mod WordLemmas

@@ -1,3 +1,4 @@
 pub mod UseLemmas
 pub mod RunLemmas
 mod WordLemmas
+mod UnusedLemmas

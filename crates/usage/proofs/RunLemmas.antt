@@ -11,7 +11,9 @@ use Rattle.policy.specs.Calls.{Calls, calls_after, current}
 use Rattle.policy.specs.Runs.{DeclaredRun}
 use Rattle.domain.specs.Facts.{Fact, Means, SomeMeans, Rules, OfEquations, OfSums}
 use Rattle.domain.specs.Laws.{IsBegun}
+use Rattle.domain.specs.Locations.{is_routine}
 use Rattle.facts.specs.Access.{IsStateOf}
+use Rattle.facts.specs.States.{TopIsEntry}
 use Rattle.facts.proofs.ForeseenLemmas.{read_may, write_may}
 use Rattle.facts.proofs.StartedLemmas.{start_is_begun}
 use Rattle.facts.proofs.StateLemmas.{possible_true}
@@ -26,7 +28,7 @@ use Rattle.judge.proofs.Frames.{top_is_entry}
 use Rattle.judge.proofs.Induction.{Held, Invariant, access, fine_at, held, keeps, not_entry}
 use Rattle.judge.proofs.Legal.{starts}
 use Rattle.usage.specs.Laws.{AbandonsFor, CallsCell, HaltsAt, MovesEntry, UnusedIsNeverUsed, Uses, UsesAreForeseen}
-use Rattle.usage.specs.Uses.{IsUsed, IsUsedBy, SomeFact, abandoned, but_own, halted, has_line, moved, uses}
+use Rattle.usage.specs.Uses.{IsUsed, IsUsedBy, SomeFact, abandoned, but_own, halted, has_line, is_return, moved, uses}
 use Rattle.usage.specs.declared.uses.Use.{Use}
 use Rattle.usage.specs.declared.uses.Use.TheVariants as way
 
@@ -115,8 +117,20 @@ module _ (j : Case) (dd : IsDeclared j.declaration) (valid : IsValid j) (start :
     abandons_so (Jmp i c) (k ∷ ls) a same n fine is =
         let x : Accessed (place_in j (current ks)) dd start begun h.fact s ks i c = access j dd valid start begun s ks h i c inv n (λ e. fine.v5 c n (both _ _ e (eq-eqb c c refl))) in
         let open_ : is_some (current ks) ≡ true = ap (λ l. is_some (current l)) (sym same) in
-        both _ _ (both _ _ open_ (ap not is.0)) (both _ _ (subst (λ y. uses way.Call (place_in j (current ks)) h.fact s.pc (Jms i c) y ≡ true) (sym is.1) x.target) is.2)
+        both _ _ (both _ _ open_ (ap not (no_return i c is.0))) (both _ _ (subst (λ y. uses way.Call (place_in j (current ks)) h.fact s.pc (Jms i c) y ≡ true) (sym is.1) x.target) is.2)
     abandons_so _ ls a same n fine is = absurd is
+
+    no_return : (i : Bool) (c : ℕ) → (i && j.declaration.entry c) ≡ false → is_return (place_in j (current ks)) i c ≡ false
+    no_return false c e = refl
+    no_return true c e = rw (e) (not_own ks (top_is_entry j start s.memory ks inv.frames) c e)
+      where
+        apart : (b : Bool) (c e : ℕ) → (c == e) ≡ b → j.declaration.entry e ≡ true → j.declaration.entry c ≡ false → b ≡ false
+        apart false c e q is plain = refl
+        apart true c e q is plain = absurd (true≢false (sym is ∙ (ap j.declaration.entry (sym (eqb-true c e q)) ∙ plain)))
+
+        not_own : (ls : Calls) → TopIsEntry j.declaration ls → (c : ℕ) → j.declaration.entry c ≡ false → is_routine (current ls) c ≡ false
+        not_own [] top c plain = refl
+        not_own (k ∷ ls) top c plain = apart (c == k.entry) c k.entry refl top plain
 
     own_is : (r : Routine) (c : ℕ) → r ≡ Some c → moved r (Dca false c) c ≡ true
     own_is None c is = absurd (let z : None ≡ Some c = is in cc)

@@ -1,5 +1,5 @@
 -- What one word does: where it halts, jumps and stores its return word.
-use Rattle.std.proofs.Common.{◌≡◌, ℕ, ◌==◌, Bool, true, false, ◌&&◌, Option, Some, None, refl, sym, ap, ◌∙◌, subst}
+use Rattle.std.proofs.Common.{◌≡◌, ℕ, ◌==◌, Bool, true, false, ◌&&◌, ◌||◌, Option, Some, None, refl, sym, ap, ◌∙◌, subst}
 use Rattle.std.proofs.lemmas.Bool.{false≢true, true≢false}
 use Rattle.std.proofs.Math.Path.{fun_ext}
 use Rattle.std.specs.Prelude.{not, is_some, if◌then◌else◌}
@@ -11,15 +11,17 @@ use Rattle.instruct.specs.Bits.{is_indirect, named_cell}
 use Rattle.instruct.specs.Instructions.{Meaning, Jmp, Group2, kind_of, operation_of, reference}
 use Rattle.instruct.proofs.KindLemmas.{group2_meaning}
 use Rattle.wordset.specs.Words.{Words, meet, nothing, one, shifted}
-use Rattle.processor.specs.Machine.{steps_pointer}
+use Rattle.processor.specs.Machine.{is_auto_index}
 use Rattle.domain.specs.Facts.{Fact, Place}
 use Rattle.domain.specs.Locations.{Cell, is_routine}
 use Rattle.domain.specs.Narrowing.{words_known}
+use Rattle.domain.specs.Moves.{counted}
 use Rattle.facts.specs.Instructions.{is_jump}
 use Rattle.facts.specs.PlaceInCode.{meaning_in}
-use Rattle.facts.proofs.AskedLemmas.{no_words, refers_in, unless_memory}
+use Rattle.facts.proofs.AskedLemmas.{refers_in, unless_memory}
+use Rattle.facts.proofs.OperandLemmas.{counted_here}
 use Rattle.transfer.specs.References.{targets, words_in, possible}
-use Rattle.usage.specs.Uses.{abandoned, halted, is_dca, moved}
+use Rattle.usage.specs.Uses.{abandoned, halted, is_dca, is_return, moved}
 
 -- A word that is not of group 2 halts nowhere.
 pub halts_nowhere : (at a : ℕ) (m : Meaning) → (kind_of m ≡ Operate2 → ⊥) → halted at m a ≡ false
@@ -71,10 +73,24 @@ pub moves_own : (pl : Place) (r : Option ℕ) (at w c : ℕ) (i b d : Bool) (s :
 moves_own pl r at w c i b d s k de dy e n named own has is =
     subst (λ m. s ≡ moved r m) (refers_in pl at w c false k (sym n ∙ e) named) (is ∙ fun_ext (λ a. own_cell r (operation_of w) c a (sym de ∙ dy) (sym own ∙ has)))
 
--- A cell that is no entry holds in a pointer what is possible there.
-pub pointer_words : (pl : Place) (f : Fact) (c : ℕ) → is_routine pl.routine c ≡ false → pl.declaration.entry c ≡ false → possible pl f c ≡ words_in pl f c
+-- What a pointer holds that is no entry is what is possible there.
+or_neither : (a b : Bool) → (a || b) ≡ false → (a ≡ false) × (b ≡ false)
+or_neither false false e = (refl, refl)
+or_neither false true e = absurd (true≢false e)
+or_neither true b e = absurd (true≢false e)
+
+pointer_words : (pl : Place) (f : Fact) (c : ℕ) → is_return pl true c ≡ false → possible pl f c ≡ words_in pl f c
 unfolding possible words_in
-pointer_words pl f c own entry = rw (own, entry) refl
+pointer_words pl f c plain = let no = or_neither (pl.declaration.entry c) (is_routine pl.routine c) plain in rw (no.0, no.1) refl
+
+pub pointer_targets : (pl : Place) (f : Fact) (c : ℕ) (i b : Bool) (s : Words) → i ≡ true → b ≡ is_auto_index c → b ≡ false → is_return pl i c ≡ false → s ≡ possible pl f c → s ≡ targets pl i c f
+pointer_targets pl f c true b s y index n plain put = put ∙ pointer_words pl f c plain ∙ ap (λ (t : Bool). if t then (counted pl c f).set (Cell c) else words_in pl f c) (sym (sym index ∙ n))
+pointer_targets pl f c false b s y index n plain put = absurd (false≢true y)
+
+pub stepped_targets : (pl : Place) (f : Fact) (c : ℕ) (i b : Bool) (s : Words) → i ≡ true → b ≡ is_auto_index c → b ≡ true → s ≡ shifted (words_known pl f (Cell c)) 1 → s ≡ targets pl i c f
+stepped_targets pl f c true b s y index has put =
+    put ∙ sym (counted_here pl c f) ∙ rw (sym (sym index ∙ has)) refl
+stepped_targets pl f c false b s y index has put = absurd (false≢true y)
 
 -- Where a word is a JMP, it is the one that its bits say.
 memory : (m : Meaning) → is_jump m ≡ true → kind_of m ≡ Memory
@@ -92,7 +108,7 @@ jump_meaning pl at w n i ei en h =
 
 -- In main, by a word that is no JMP, and by a return no call is abandoned.
 pub none_in_main : (pl : Place) (f : Fact) (m : Meaning) → is_some pl.routine ≡ false → (a : ℕ) → abandoned pl f m a ≡ false
-none_in_main pl f (Jmp i c) e a = ap (λ b. (b && not (i && pl.declaration.entry c)) && (targets pl i c f a && pl.declaration.abandon a)) e
+none_in_main pl f (Jmp i c) e a = ap (λ b. (b && not (is_return pl i c)) && (targets pl i c f a && pl.declaration.abandon a)) e
 none_in_main pl f _ e a = refl
 
 pub none_unless_jump : (pl : Place) (f : Fact) (m : Meaning) → is_jump m ≡ false → (a : ℕ) → abandoned pl f m a ≡ false
@@ -103,9 +119,9 @@ and_false : (a b : Bool) → b ≡ false → a && b ≡ false
 and_false true b e = e
 and_false false b e = refl
 
-pub none_by_return : (pl : Place) (f : Fact) (i : Bool) (c : ℕ) → (i && pl.declaration.entry c) ≡ true → (a : ℕ) → abandoned pl f (Jmp i c) a ≡ false
+pub none_by_return : (pl : Place) (f : Fact) (i : Bool) (c : ℕ) → is_return pl i c ≡ true → (a : ℕ) → abandoned pl f (Jmp i c) a ≡ false
 none_by_return pl f i c e a = ap (λ b. b && (targets pl i c f a && pl.declaration.abandon a)) (and_false (is_some pl.routine) _ (ap not e))
 
-pub by_jump : (pl : Place) (f : Fact) (i : Bool) (c : ℕ) (s t : Words) → is_some pl.routine ≡ true → (i && pl.declaration.entry c) ≡ false → t ≡ targets pl i c f → s ≡ meet t pl.declaration.abandon → s ≡ abandoned pl f (Jmp i c)
+pub by_jump : (pl : Place) (f : Fact) (i : Bool) (c : ℕ) (s t : Words) → is_some pl.routine ≡ true → is_return pl i c ≡ false → t ≡ targets pl i c f → s ≡ meet t pl.declaration.abandon → s ≡ abandoned pl f (Jmp i c)
 by_jump pl f i c s t some plain put is =
-    is ∙ ap (λ (x : Words). meet x pl.declaration.abandon) put ∙ fun_ext (λ a. ap (λ b. b && (targets pl i c f a && pl.declaration.abandon a)) (sym (ap (λ b. b && not (i && pl.declaration.entry c)) some ∙ ap not plain)))
+    is ∙ ap (λ (x : Words). meet x pl.declaration.abandon) put ∙ fun_ext (λ a. ap (λ b. b && (targets pl i c f a && pl.declaration.abandon a)) (sym (ap (λ b. b && not (is_return pl i c)) some ∙ ap not plain)))

@@ -1,5 +1,5 @@
 -- Which parts of a declaration the facts of a certificate use.
-use Rattle.std.specs.Prelude.{ℕ, ◌≡◌, ◌<◌, ◌==◌, Bool, true, false, not, ◌&&◌, ◌⊎◌, is_some, Some, None, List, [], ◌∷◌}
+use Rattle.std.specs.Prelude.{ℕ, ◌≡◌, ◌<◌, ◌==◌, Bool, true, false, not, ◌&&◌, ◌||◌, ◌⊎◌, is_some, Some, None, List, [], ◌∷◌}
 use Rattle.instruct.specs.declared.Operation.{Operation}
 use Rattle.instruct.specs.declared.Operation.TheVariants as operation
 use Rattle.instruct.specs.Instructions.{Meaning, Dca, Jmp, Group2}
@@ -28,10 +28,14 @@ abbrev pub halted : ℕ → Meaning → Words
 halted at (Group2 w) a = is_halt w && (a == at)
 halted at _ a = false
 
--- The cells to which a JMP in a routine may go and for which calls may be abandoned; a JMP I through an entry is a return.
+-- A JMP through this pointer is a return: the pointer is an entry.
+abbrev pub is_return : Place → Bool → ℕ → Bool
+is_return pl i c = i && (pl.declaration.entry c || is_routine pl.routine c)
+
+-- The cells to which a JMP in a routine may go that is no return, and for which calls may be abandoned.
 abbrev pub abandoned : Place → Fact → Meaning → Words
 abandoned pl f (Jmp i c) a =
-    (is_some pl.routine && not (i && pl.declaration.entry c)) && (targets pl i c f a && pl.declaration.abandon a)
+    (is_some pl.routine && not (is_return pl i c)) && (targets pl i c f a && pl.declaration.abandon a)
 abandoned pl f _ a = false
 
 -- The operation is DCA.

@@ -1,6 +1,6 @@
 //! What of a declaration is wider than a certificate needs.
 
-ghost use Rattle.std.specs.Prelude.{ℕ, ◌≡◌, ◌<◌, ◌↔◌, IsTrue, true};
+ghost use Rattle.std.specs.Prelude.{ℕ, ◌≡◌, ◌<◌, ◌==◌, ◌&&◌, ◌||◌, ◌↔◌, IsTrue, false, true};
 ghost use Rattle.wordset.specs.Lanes.{words};
 ghost use Rattle.certificate_lines.specs.Kept.{claims};
 ghost use Rattle.declaration.specs.Kept.{meaning};
@@ -78,6 +78,15 @@ fn is_unused<D: Allocator>(
     may_be_used(way, declaration, cell)
 }
 
+/// Adds a cell to a set, if it is chosen.
+fn add_if(chosen: bool, cell: Word, cells: &mut WordSet)
+    ensures { (v : ℕ) → words cells.new v ≡ (words cells.old v || (chosen && (v == cell))) }
+{
+    if chosen {
+        cells.insert(cell);
+    }
+}
+
 /// The cells that may be used so by a declaration and that are not used so by the facts of a certificate.
 fn unused<A: Allocator, D: Allocator>(
     way: Use,
@@ -92,9 +101,8 @@ fn unused<A: Allocator, D: Allocator>(
     let mut cells = WordSet::empty();
     for index in 0..4096usize {
         let cell = Word::from_index(index);
-        if is_unused(way, declaration, &used, cell) {
-            cells.insert(cell);
-        }
+        let chosen = is_unused(way, declaration, &used, cell);
+        add_if(chosen, cell, &mut cells);
     }
     cells
 }

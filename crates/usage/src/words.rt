@@ -7,7 +7,7 @@ ghost use Rattle.wordset.specs.Lanes.{words};
 ghost use Rattle.domain.specs.FactInCode.{fact_in_code};
 ghost use Rattle.facts.specs.PlaceInCode.{meaning_in, place_in_code};
 ghost use Rattle.transfer.specs.References.{targets};
-ghost use Rattle.usage.specs.Uses.{abandoned, but_own, halted, is_dca, moved};
+ghost use Rattle.usage.specs.Uses.{abandoned, but_own, halted, is_dca, is_return, moved};
 
 use facts::{Location, NarrowedFact, Place};
 use instruct::{Instruction, Operation, decode, halts, refers_indirectly, target};
@@ -88,9 +88,9 @@ pub(crate) fn moved<D: Allocator>(place: &Place<'_, D>, at: Word, word: Word) ->
 
 /// Whether a JMP is a return: through a pointer, which is an entry.
 fn returns<D: Allocator>(place: &Place<'_, D>, indirect: bool, named: Word) -> bool
-    ensures { result ≡ (indirect && (place_in_code place.now).declaration.entry named) }
+    ensures { result ≡ is_return (place_in_code place.now) indirect named }
 {
-    indirect && place.declaration.is_entry(named)
+    indirect && (place.declaration.is_entry(named) || place.is_own(named))
 }
 
 /// Puts the cells to which a JMP may go that is no return into a place for them.
@@ -101,7 +101,7 @@ fn put_jumped<D: Allocator>(
     named: Word,
     cells: &mut WordSet,
 )
-    requires { (indirect && (place_in_code place.now).declaration.entry named) ≡ false }
+    requires { is_return (place_in_code place.now) indirect named ≡ false }
     ensures { words cells.new ≡
         targets (place_in_code place.now) indirect named (fact_in_code fact.now) }
 {

@@ -201,7 +201,7 @@ fn push_unused<L: Lines>(text: &mut L, surplus: &Surplus) -> Result<(), AllocErr
     )?;
     push_cells(
         text,
-        b"Listed reads that never happen",
+        b"Listed reads that are not needed",
         &surplus.unread,
     )?;
     push_cells(
@@ -221,7 +221,7 @@ fn push_unused<L: Lines>(text: &mut L, surplus: &Surplus) -> Result<(), AllocErr
     )?;
     push_cells(
         text,
-        b"Routines of moves lines that never store their return word",
+        b"Routines of moves lines that do not store their return word",
         &surplus.unmoved,
     )
 }

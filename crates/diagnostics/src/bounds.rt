@@ -160,7 +160,7 @@ fn push_sufficient<L: Lines, D: Allocator>(
     push_test(text, image, declaration, at, pointer)
 }
 
-/// Adds the test in the same body that looks at a sum with a pointer, or that there is none.
+/// Adds the skip in the same body that tests a sum with a pointer, or that there is none.
 fn push_test<L: Lines, D: Allocator>(
     text: &mut L,
     image: &Image,
@@ -170,13 +170,13 @@ fn push_test<L: Lines, D: Allocator>(
 ) -> Result<(), AllocError> {
     match test_of_pointer(image, declaration, at, pointer) {
         Some(test) => {
-            push_text_and_address(text, b"the test at ", test)?;
+            push_text_and_address(text, b"the skip at ", test)?;
             text.push_text(b" ")?;
             push_name(text, image, declaration, test)?;
-            text.push_text(b" looks at a sum with it, and could show that\n")
+            text.push_text(b" tests a sum with it and could show that\n")
         }
         None => text.push_text(
-            b"no test in this body looks at a sum with it: one in front of the instruction could show that\n",
+            b"no skip in this body tests a sum with it; a test or a mask before the instruction could show that\n",
         ),
     }
 }

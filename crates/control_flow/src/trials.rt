@@ -92,9 +92,11 @@ impl Map {
         words.meet(&all)
     }
 
-    /// Whether what is found beside what was found before is code.
+    /// Whether what is found beside what was found before is code: it leads to no cell that can't be in the body, no routine
+    /// leaves for main there, and no cell of it is named as a datum.
     fn is_code_beside(&self, before: &Map) -> bool {
         self.round.astray.is_subset(&before.round.astray)
+            && self.round.abandons.is_subset(&before.round.abandons)
             && self
                 .round
                 .code

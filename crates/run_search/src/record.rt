@@ -4,7 +4,7 @@ use declaration::Owner;
 use instruct::Operation;
 use peripherals::NoMemory;
 use policy::Watcher;
-use processor::DecodedInstruction;
+use processor::{DecodedInstruction, Reference};
 use std::alloc::Allocator;
 use word12::Word;
 use wordset::WordSet;
@@ -39,11 +39,18 @@ pub struct Sight {
     pub stored: Option<Word>,
     /// The auto-index cell that an indirect reference steps.
     pub stepped: Option<Word>,
+    /// The address to which a JMP in a routine's body leads, but not a JMP I through the routine's own entry.
+    pub jumped: Option<Word>,
 }
 
 /// How far an address is behind another one, modulo 4096.
 fn distance(to: Word, from: Word) -> Word {
     to.add(from.complement()).increment()
+}
+
+/// Whether a memory reference goes through the entry of the running routine.
+fn goes_through(reference: &Reference, own: Option<Word>) -> bool {
+    reference.indirect && own == Some(reference.named)
 }
 
 impl Sight {
@@ -56,6 +63,7 @@ impl Sight {
             offset: Word::ZERO,
             stored: None,
             stepped: None,
+            jumped: None,
         };
         let mut own = None;
         if let Some(call) = watcher.calls().last() {
@@ -71,6 +79,9 @@ impl Sight {
             match reference.operation {
                 Operation::Dca => sight.stored = Some(place),
                 Operation::Isz if own != Some(place) => sight.stored = Some(place),
+                Operation::Jmp if own.is_some() && !goes_through(&reference, own) => {
+                    sight.jumped = Some(place);
+                }
                 _ => {}
             }
         }

@@ -33,6 +33,8 @@ pub struct Map {
     pub(crate) jumped: WordSet,
     /// The cells in which runs were seen to halt, where another word may stand there.
     pub(crate) halted: WordSet,
+    /// The cells to which routines were seen to jump, though they are main's.
+    pub(crate) left: WordSet,
     /// The cells that can't be entries, by what runs were seen to do.
     pub(crate) banned: WordSet,
     pub(crate) round: Round,
@@ -96,6 +98,7 @@ impl Map {
             called: WordSet::empty(),
             jumped: WordSet::empty(),
             halted: WordSet::empty(),
+            left: WordSet::empty(),
             banned: WordSet::empty(),
             round: Round::new(),
         };

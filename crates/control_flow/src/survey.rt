@@ -360,6 +360,10 @@ impl<A: Allocator + Copy> Survey<A> {
     ) -> Lesson
         ensures declaration { self.new.declaration ≡ self.old.declaration }
     {
+        if self.leaves_for_main(record, sight) {
+            self.map.left.insert(sight.at);
+            return Lesson::New;
+        }
         let lesson = self.lesson_of_place(image, record, sight);
         if lesson == Lesson::Never {
             return lesson;
@@ -373,6 +377,13 @@ impl<A: Allocator + Copy> Survey<A> {
             _ => Lesson::Nothing,
         };
         lesson.and(further)
+    }
+
+    /// Whether a routine has jumped to a cell of main, for which calls are not abandoned so far.
+    fn leaves_for_main(&self, record: &Record<A>, sight: &Sight) -> bool {
+        record.jumped == Some(sight.at)
+            && self.declaration.in_main(sight.at)
+            && !self.declaration.abandons().contains(sight.at)
     }
 
     /// What is learned of the place of a step: that it is in the running routine's body.

@@ -173,10 +173,12 @@ impl Map {
         push_cells(&mut text, b"start", &WordSet::one(self.start))?;
         let mut again = *self;
         again.forget();
-        push_cells(&mut text, b"main", &again.follow_main(tape))?;
+        let main = again.follow_main(tape);
+        push_cells(&mut text, b"main", &main)?;
         let entries = again.push_routines(&mut text, tape)?;
         push_cells(&mut text, b"moves", &again.round.moves.meet(&entries))?;
-        push_cells(&mut text, b"abandon", &again.round.abandons)?;
+        let abandons = self.left.meet(&main).union(&again.round.abandons);
+        push_cells(&mut text, b"abandon", &abandons)?;
         push_cells(&mut text, b"var", variables)?;
         let halts = self.round.halts.union(&self.halted);
         let stops = halts.minus(&self.pauses);

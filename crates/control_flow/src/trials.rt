@@ -60,7 +60,7 @@ impl Map {
             let mut trial = *self;
             trial.called.insert(to);
             trial.settle(tape);
-            if trial.is_code_beside(self) {
+            if trial.is_code_beside(self) && trial.stays_as(self) {
                 *self = trial;
                 return;
             }
@@ -92,11 +92,14 @@ impl Map {
         words.meet(&all)
     }
 
-    /// Whether what is found beside what was found before is code: it leads to no cell that can't be in the body, no routine
-    /// leaves for main there, and no cell of it is named as a datum.
+    /// Whether routines jump to no other cells of main than before.
+    fn stays_as(&self, before: &Map) -> bool {
+        self.round.abandons.is_subset(&before.round.abandons)
+    }
+
+    /// Whether what is found beside what was found before is code.
     fn is_code_beside(&self, before: &Map) -> bool {
         self.round.astray.is_subset(&before.round.astray)
-            && self.round.abandons.is_subset(&before.round.abandons)
             && self
                 .round
                 .code

@@ -20,6 +20,8 @@ pub struct Record<A: Allocator> {
     /// The cells that a DCA, an ISZ or an indirect reference through an auto-index cell wrote, but not
     /// the running routine's own entry under an ISZ.
     pub written: WordSet,
+    /// The address to which the last step led, if it was a JMP in a routine's body, but no JMP I through the routine's own entry.
+    pub jumped: Option<Word>,
     /// How many runs were begun.
     pub runs: u32,
     /// How many steps were made.
@@ -96,6 +98,7 @@ impl<A: Allocator + Copy> Record<A> {
             owners: Vec::from_elem(alloc, None, 4096)?,
             places: [WordSet::empty(); 8],
             written: WordSet::empty(),
+            jumped: None,
             runs: 0,
             steps: 0,
         })
@@ -104,11 +107,13 @@ impl<A: Allocator + Copy> Record<A> {
     /// A run begins.
     pub(crate) fn begins(&mut self) {
         self.runs = self.runs.saturating_add(1);
+        self.jumped = None;
     }
 
     /// A step is made.
     pub(crate) fn makes(&mut self, sight: &Sight) {
         self.steps = self.steps.saturating_add(1);
+        self.jumped = sight.jumped;
         self.sees(sight);
     }
 

@@ -496,13 +496,10 @@ impl<A: Allocator + Copy> Survey<A> {
     }
 
     /// What is learned of how far after its call a routine returns.
-    fn lesson_of_offset(&mut self, entry: Word, offset: Word) -> Lesson
-        ensures declaration { self.new.declaration ≡ self.old.declaration }
-    {
+    fn lesson_of_offset(&self, entry: Word, offset: Word) -> Lesson {
         if self.declaration.has_offset(entry, offset) {
-            return Lesson::Nothing;
-        }
-        if offset.index() < 64 {
+            Lesson::Nothing
+        } else if offset.index() < 64 {
             Lesson::New
         } else {
             Lesson::Never

@@ -2,7 +2,7 @@
 
 ghost use Rattle.std.specs.Prelude.{◌≡◌, ◌++◌, ◌∷◌, OnOk};
 ghost use Rattle.word12.specs.Words.{octal_text};
-ghost use Rattle.control_flow.specs.Texts.{StaysInFront, range_text};
+ghost use Rattle.control_flow.specs.Texts.{StaysInFront, offset_text, offsets_text, range_text};
 ghost use Rattle.wordset.specs.Lanes.{words};
 ghost use Rattle.wordset.specs.Words.{between, meet};
 
@@ -94,29 +94,30 @@ pub fn push_reads<A: Allocator>(text: &mut Vec<u8, A>, cells: &WordSet) -> Resul
     push_cells(text, b"read", cells)
 }
 
-/// Adds an offset in two octal digits.
+/// Adds an offset in two octal digits, after a space.
 fn push_offset<A: Allocator>(text: &mut Vec<u8, A>, offset: Word) -> Result<(), AllocError>
-    ensures { OnOk result (StaysInFront text.old.items text.new.items) }
+    ensures { OnOk result (text.new.items ≡ text.old.items ++ 32 ∷ offset_text offset) }
 {
+    text.extend_from_slice(b" ")?;
     let digits = offset.to_octal();
     text.extend_from_slice(&digits[2..])
 }
 
-/// Adds a range of offsets, after a space.
+/// Adds a range of offsets, after a space: its first offset, and the last where it's another one.
 fn push_offsets<A: Allocator>(
     text: &mut Vec<u8, A>,
     first: Word,
     last: Word,
 ) -> Result<(), AllocError>
-    ensures { OnOk result (StaysInFront text.old.items text.new.items) }
+    ensures { OnOk result (text.new.items ≡ text.old.items ++ 32 ∷ offsets_text first last) }
 {
-    text.extend_from_slice(b" ")?;
     push_offset(text, first)?;
     if first == last {
         return Ok(());
     }
     text.extend_from_slice(b"-")?;
-    push_offset(text, last)
+    let digits = last.to_octal();
+    text.extend_from_slice(&digits[2..])
 }
 
 /// Adds the line with the offsets above 7 by which the routine of an entry may return, without its end.

@@ -35,7 +35,7 @@ def rows_of(page, heading):
 
 def conditions(page):
     """Code, first line, what is asked and what to do, of each condition."""
-    part = page.partition('\n## The fifteen conditions\n')[2].partition('\n## ')[0]
+    part = page.partition('\n## The sixteen conditions\n')[2].partition('\n## ')[0]
     for code, name, text in re.findall(r'^### (V\d+): (.*)\n((?:(?!### ).*\n)*)', part + '\n', re.M):
         asked = re.search(rf'^{code} asks: (.*)$', text, re.M)[1]
         yield code, f'{code}: {name}', f'asked: {asked}', re.sub(r'```.*?```', '', text, flags=re.S)
@@ -43,7 +43,7 @@ def conditions(page):
 
 def rules(page, declarations):
     """The same of each rule."""
-    asked = dict(re.findall(r'^([1-7])\. (.*)$', declarations.partition('\n## The seven rules\n')[2], re.M))
+    asked = dict(re.findall(r'^([1-8])\. (.*(?:\n   .*)*)', declarations.partition('\n## The eight rules\n')[2], re.M))
     for name, example, change in rows_of(page, 'Rule'):
         number, _, name = name.partition(': ')
         wrong = f' for example: {example}' if example != '-' else ''

@@ -85,7 +85,7 @@ static CONDITIONS: [Explanation; 16] = [
     Explanation {
         code: "V14",
         subject: Subject::Asked("return words are not overwritten"),
-        meaning: "no word writes an entry, except that a JMS stores its return address\nthere and an ISZ may increment the routine's own",
+        meaning: "no word writes an entry, except that a JMS stores its return address\nthere, an ISZ may increment the routine's own, and a DCA may store in it where a\n`moves` line names it",
         advice: "A routine cannot make its caller skip on return by incrementing the\ncaller's return word. Let it make a skip return of its own, and let its caller\nthen increment its own return word. An ISZ may increment its routine's own\nentry, up to offset 7, or in version 3 up to 77, if it can store nowhere else. A\nroutine that stores a computed return word needs a `moves` line.",
     },
     Explanation {

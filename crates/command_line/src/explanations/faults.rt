@@ -116,7 +116,7 @@ static FAULTS: [Explanation; 44] = [
         code: "BadLine",
         subject: Subject::Fault("declaration: BadLine 2"),
         meaning: "the line is not a line of a declaration",
-        advice: "write line n as one of these lines (docs/DECLARATIONS.md): octal\naddresses, ascending ranges, lower-case letters, offsets 0 to 7 one by one",
+        advice: "write line n as one of these lines (docs/DECLARATIONS.md): octal\naddresses, ascending ranges, lower-case letters, offsets of `sub` 0 to 7 one by\none",
     },
     Explanation {
         code: "TwoStarts",
@@ -169,7 +169,7 @@ static FAULTS: [Explanation; 44] = [
     Explanation {
         code: "TooMany",
         subject: Subject::Fault("declaration: TooMany"),
-        meaning: "more than 64 routines, 64 `skips` lines, or 256 `holds` and `returns` lines,\nor more than 16,384 bytes",
+        meaning: "more than 64 routines, 64 `skips` lines, or 256 lines of what is to hold,\nor more than 16,384 bytes",
         advice: "use at most 64 routines, 64 `skips` lines, 256 lines of what is to hold, and\n16,384 bytes",
     },
     Explanation {

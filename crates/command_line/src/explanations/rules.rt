@@ -13,7 +13,7 @@ static RULES: [Explanation; 8] = [
     Explanation {
         code: "rule2",
         subject: Subject::Asked("writes"),
-        meaning: "Each cell that the step writes is a variable, or it is the running\nroutine's own entry and the step is an ISZ.\nfor example: a pointer in 0010 to 0017 is incremented before it is used, so it\nmust begin one lower",
+        meaning: "Each cell that the step writes is a variable, or it is the running\nroutine's own entry and the step is an ISZ, or is a DCA that names the entry and\na `moves` line names it too.\nfor example: a pointer in 0010 to 0017 is incremented before it is used, so it\nmust begin one lower",
         advice: "add a `var` line for what is meant to change, including such a\npointer; otherwise as for V5 and V14",
     },
     Explanation {
@@ -49,7 +49,7 @@ static RULES: [Explanation; 8] = [
     Explanation {
         code: "rule8",
         subject: Subject::Asked("assertions"),
-        meaning: "What `holds` declares of the step's address holds before the step, and what\n`returns` declares of a return holds at it.\nfor example: a routine that is to return with AC 0 returns with what it read",
+        meaning: "What a `holds` line declares of the step's address holds before the step.\nIf a JMP I goes through an entry, what a `returns` line declares of the offset\nfrom the last call's return address to the word in the entry holds too.\nfor example: a routine that is to return with AC 0 returns with what it read",
         advice: "correct the program, or name the words that may be there",
     },
 ];

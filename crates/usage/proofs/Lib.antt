@@ -2,3 +2,4 @@ pub mod UseLemmas
 pub mod RunLemmas
 mod WordLemmas
 mod UnusedLemmas
+mod ReturnLemmas

@@ -33,7 +33,7 @@ use Rattle.usage.specs.declared.uses.Use.{Use}
 use Rattle.usage.specs.declared.uses.Use.TheVariants as way
 
 -- A property of a fact of the list is one of some fact of it.
-some_in : (p : Fact → Type 0) (f : Fact) (fs : List Fact) → In f fs → p f → SomeFact p fs
+pub some_in : (p : Fact → Type 0) (f : Fact) (fs : List Fact) → In f fs → p f → SomeFact p fs
 some_in p f [] i h = i
 some_in p f (g ∷ gs) i h = elim i [ inl e ↦ inl (subst p (sym e) h) | inr r ↦ inr (some_in p f gs r h) ]
 

@@ -1,17 +1,20 @@
--- After a yes all that the instructions of declared runs use is used by the facts.
+-- After a yes all that the instructions of declared runs use is used by the facts, and what routines return with is by the exits.
 use Rattle.std.specs.Prelude.{◌≡◌, ℕ, ◌<◌, Bool, true, false, ◌&&◌, Some, List, [], ◌∷◌}
 use Rattle.instruct.specs.Instructions.{Meaning, Dca, Jms, Jmp, Group2}
 use Rattle.instruct.specs.Operates.{is_halt}
 use Rattle.processor.specs.Machine.{State, Answer, instruction, place}
 use Rattle.processor.specs.Runs.{IsStart}
 use Rattle.declaration.specs.Declaration.{Declaration, IsDeclared}
-use Rattle.policy.specs.Calls.{Calls, current}
+use Rattle.wordset.specs.Words.{minus}
+use Rattle.policy.specs.Calls.{Call, Calls, current}
 use Rattle.policy.specs.Rules.{read_by, written_by}
 use Rattle.policy.specs.Runs.{DeclaredRun}
 use Rattle.judge.specs.Conditions.{IsValid}
 use Rattle.judge.specs.Landing.{Case}
 use Rattle.usage.specs.Uses.{IsUsed}
+use Rattle.usage.specs.Returns.{IsReturned}
 use Rattle.usage.specs.Unused.{IsUnused}
+use Rattle.usage.specs.declared.returns.Register.TheVariants.{Accumulator, Link}
 use Rattle.usage.specs.declared.uses.Use.{Use}
 use Rattle.usage.specs.declared.uses.Use.TheVariants as way
 
@@ -61,3 +64,13 @@ UnusedIsNeverUsed =
     (kind : Use) (s t : State) (ls : Calls) (answers : List Answer) (a : ℕ) →
     IsStart j.image j.declaration.start s → DeclaredRun j.declaration answers s [] t ls →
     IsUnused kind j a → Uses kind j.declaration (instruction j.declaration.profile t) t ls a → ⊥
+
+-- Where every condition holds, what AC and the link are when a routine returns in a declared run is among what its exits for the offset
+-- say.
+abbrev pub ReturnsAreForeseen : Type 0
+ReturnsAreForeseen =
+    (j : Case) → IsDeclared j.declaration → IsValid j →
+    (s t : State) (k : Call) (ls : Calls) (answers : List Answer) (c : ℕ) →
+    IsStart j.image j.declaration.start s → DeclaredRun j.declaration answers s [] t (k ∷ ls) →
+    instruction j.declaration.profile t ≡ Jmp true c → j.declaration.entry c ≡ true →
+    IsReturned Accumulator j c (minus (t.memory c) k.after) t.ac × IsReturned Link j c (minus (t.memory c) k.after) t.link

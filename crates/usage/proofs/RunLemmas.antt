@@ -1,6 +1,6 @@
 -- What the instructions of declared runs use is used by the facts of a valid certificate.
 use Rattle.std.proofs.Common.{◌≡◌, ℕ, ◌<◌, ◌==◌, Bool, true, false, Some, None, List, [], ◌∷◌, refl, sym, ap, ◌∙◌, subst, inl, inr}
-use Rattle.std.specs.Prelude.{not, ◌&&◌, is_some}
+use Rattle.std.specs.Prelude.{not, ◌&&◌, ◌||◌, is_some}
 use Rattle.std.proofs.lemmas.Bool.{eq-eqb, eqb-true, false≢true, true≢false}
 use Rattle.instruct.specs.Instructions.{Meaning, Dca, Jms, Jmp, Group2}
 use Rattle.wordset.specs.Words.{Words, one}
@@ -122,7 +122,7 @@ module _ (j : Case) (dd : IsDeclared j.declaration) (valid : IsValid j) (start :
 
     no_return : (i : Bool) (c : ℕ) → (i && j.declaration.entry c) ≡ false → is_return (place_in j (current ks)) i c ≡ false
     no_return false c e = refl
-    no_return true c e = rw (e) (not_own ks (top_is_entry j start s.memory ks inv.frames) c e)
+    no_return true c e = ap (λ b. b || is_routine (current ks) c) e ∙ not_own ks (top_is_entry j start s.memory ks inv.frames) c e
       where
         apart : (b : Bool) (c e : ℕ) → (c == e) ≡ b → j.declaration.entry e ≡ true → j.declaration.entry c ≡ false → b ≡ false
         apart false c e q is plain = refl

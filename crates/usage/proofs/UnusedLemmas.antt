@@ -35,7 +35,7 @@ parts : (a b : Bool) → (a && b) ≡ true → (a ≡ true) × (b ≡ true)
 parts true b e = (refl, e)
 parts false b e = absurd (false≢true e)
 
-unused_if : (kind : Use) (j : Case) (used : Words) (cell : ℕ) → cell < 4096 → (used cell ≡ true ↔ IsUsed kind j cell) → MayBeUsed kind j.declaration cell → used cell ≡ false → IsUnused kind j cell
+unused_if : (kind : Use) (j : Case) (used : Words) (cell : ℕ) → cell < 4096 → ((used cell ≡ true) ↔ IsUsed kind j cell) → MayBeUsed kind j.declaration cell → used cell ≡ false → IsUnused kind j cell
 unused_if kind j used cell lt told may never = record { declared = may; never = λ is. true≢false (sym (told.1 is) ∙ never) }
 
 -- The set with one cell more, if that is unused.
@@ -56,5 +56,5 @@ one_unused kind j used before after index cell chosen at small told yes never no
   ];
 }
   where
-    unused_not : (used : Words) (a : ℕ) → (used a ≡ true ↔ IsUsed kind j a) → IsUnused kind j a → used a ≡ false
-    unused_not used a told unused = elim (cases_Bool (used a)) [ inl t ↦ absurd (unused.never (told.0 t)) | inr n ↦ n ]
+    unused_not : (a : ℕ) → ((used a ≡ true) ↔ IsUsed kind j a) → IsUnused kind j a → used a ≡ false
+    unused_not a told unused = elim (cases_Bool (used a)) [ inl t ↦ absurd (unused.never (told.0 t)) | inr n ↦ n ]

@@ -1,6 +1,6 @@
 //! What one word at the address of a fact does beside reading, writing and calling.
 
-ghost use Rattle.std.specs.Prelude.{ℕ, ◌≡◌, ◌&&◌, ◌↔◌, IsTrue, false};
+ghost use Rattle.std.specs.Prelude.{ℕ, ◌≡◌, ◌↔◌, IsTrue, false, is_some};
 ghost use Rattle.instruct.specs.declared.Instruction.TheVariants.{Memory, Operate2};
 ghost use Rattle.instruct.specs.Instructions.{kind_of, operation_of};
 ghost use Rattle.wordset.specs.Lanes.{words};
@@ -86,6 +86,13 @@ pub(crate) fn moved<D: Allocator>(place: &Place<'_, D>, at: Word, word: Word) ->
     WordSet::one(named)
 }
 
+/// Whether the place is in a routine's body, not in main's.
+fn is_in_routine<D: Allocator>(place: &Place<'_, D>) -> bool
+    ensures { result ≡ is_some place.now.routine }
+{
+    place.routine.is_some()
+}
+
 /// Whether a JMP is a return: through a pointer, which is an entry.
 fn returns<D: Allocator>(place: &Place<'_, D>, indirect: bool, named: Word) -> bool
     ensures { result ≡ is_return (place_in_code place.now) indirect named }
@@ -128,7 +135,7 @@ pub(crate) fn put_abandoned<D: Allocator>(
     ensures { words cells.new ≡ abandoned (place_in_code place.now) (fact_in_code fact.now)
         (meaning_in (place_in_code place.now) at word) }
 {
-    if place.routine.is_none() {
+    if !is_in_routine(place) {
         *cells = WordSet::empty();
         return;
     }

@@ -72,6 +72,17 @@ impl<D: Allocator, C: Allocator> Shown<'_, D, C> {
         places
     }
 
+    /// The routines of which a `returns` line speaks and that never return.
+    fn asserted_in_vain(&self) -> WordSet {
+        let mut entries = WordSet::empty();
+        for assertion in self.declaration.returns() {
+            if self.offsets_of(assertion.entry()).is_empty() {
+                entries.insert(assertion.entry());
+            }
+        }
+        entries
+    }
+
     /// The offsets that `returns` lines name for a routine, without those lines that speak of all.
     fn asserted_offsets(&self, entry: Word) -> WordSet {
         let mut offsets = WordSet::empty();
@@ -240,6 +251,9 @@ fn push_idle_offsets<L: Lines, D: Allocator, C: Allocator>(
         entry,
         &shown.declared_offsets(entry).minus(&found),
     )?;
+    if found.is_empty() {
+        return Ok(());
+    }
     push_routine_offsets(
         text,
         b"Offsets of returns lines by which the routine ",
@@ -358,6 +372,11 @@ pub fn surplus_message<A: Allocator + Copy, D: Allocator, C: Allocator>(
         &shown.asserted_places().meet(&surplus.unexecuted),
     )?;
     push_all_idle_offsets(&mut text, &shown, &surplus)?;
+    push_cells(
+        &mut text,
+        b"Routines of returns lines that never return",
+        &shown.asserted_in_vain(),
+    )?;
     if text.is_empty() {
         text.push_text(b"The certificate needs all that the declaration lists.\n")?;
     }

@@ -50,9 +50,9 @@ module _ (j : Case) (dd : IsDeclared j.declaration) (valid : IsValid j) (start :
       let at : minus (s.memory k.entry) k.after ≡ o = omega arith in
       let there : minus (s.memory c) k.after ≡ o = subst (λ x. minus (s.memory x) k.after ≡ o) kw at in (
         subst (λ x. IsReturned Accumulator j c x s.ac) (sym there)
-        (some_in (λ x. returned.held Accumulator (place_in j (Some c)) x s.ac ≡ true) exit.fact (asked j.certificate.rules j.image (exits_of j c o)) exit.among (ac_true (place_in j (Some c)) dd start begun exit.fact s (k ∷ ks) inv.state exit.means)),
+            (some_in (λ x. returned.held Accumulator (place_in j (Some c)) x s.ac ≡ true) exit.fact (asked j.certificate.rules j.image (exits_of j c o)) exit.among (ac_true (place_in j (Some c)) dd start begun exit.fact s (k ∷ ks) inv.state exit.means)),
         subst (λ x. IsReturned Link j c x s.link) (sym there)
-        (some_in (λ x. returned.held Link (place_in j (Some c)) x s.link ≡ true) exit.fact (asked j.certificate.rules j.image (exits_of j c o)) exit.among (link_true exit.fact.link s.link inv.state.link exit.means.link)),
+            (some_in (λ x. returned.held Link (place_in j (Some c)) x s.link ≡ true) exit.fact (asked j.certificate.rules j.image (exits_of j c o)) exit.among (link_true exit.fact.link s.link inv.state.link exit.means.link)),
       )
 
   -- the state at the end of a run, with its calls, keeps the invariant

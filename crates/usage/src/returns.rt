@@ -51,12 +51,7 @@ fn words_of(links: Links) -> WordSet
 
 impl Register {
     /// Puts the words that it may hold by a fact into a place for them.
-    fn put_held<D: Allocator>(
-        self,
-        place: &Place<'_, D>,
-        fact: &NarrowedFact,
-        cells: &mut WordSet,
-    )
+    fn put_held<D: Allocator>(self, place: &Place<'_, D>, fact: &NarrowedFact, cells: &mut WordSet)
         ensures { SameWords (words cells.new)
             (held self (place_in_code place.now) (fact_in_code fact.now)) }
     {
@@ -89,7 +84,8 @@ fn returned_by<A: Allocator, D: Allocator>(
         IsReturnedByOne register (case_kept claims case.now) entry offset index w }
 {
     let rules = case.claims.rules();
-    case.claims.put_exit(entry, offset, index, &mut rooms.claimed);
+    case.claims
+        .put_exit(entry, offset, index, &mut rooms.claimed);
     put_sites(&rules, &sites_of(case, entry), &mut rooms.claimed);
     if !put_asked(&rules, case.image, &rooms.claimed, &mut rooms.asked) {
         return WordSet::empty();
@@ -101,10 +97,7 @@ fn returned_by<A: Allocator, D: Allocator>(
 }
 
 /// The sites of the routine of an entry, none where it isn't listed.
-fn sites_of<A: Allocator, D: Allocator>(
-    case: &Case<'_, D, Certificate<A>>,
-    entry: Word,
-) -> WordSet
+fn sites_of<A: Allocator, D: Allocator>(case: &Case<'_, D, Certificate<A>>, entry: Word) -> WordSet
     ensures { words result ≡ (claims case.now.claims.now).sites entry }
 {
     match Claims::routine(case.claims, entry) {

@@ -87,12 +87,7 @@ struct Rooms {
 }
 
 /// The cells that some possible word uses so at the address of a fact.
-fn used_by<D: Allocator>(
-    way: Use,
-    place: &Place<'_, D>,
-    fact: &NarrowedFact,
-    at: Word,
-) -> WordSet
+fn used_by<D: Allocator>(way: Use, place: &Place<'_, D>, fact: &NarrowedFact, at: Word) -> WordSet
     ensures { (cell : ℕ) → cell < 4096 → (words result cell ≡ true) ↔
         IsUsedBy way (place_in_code place.now) at cell (fact_in_code fact.now) }
 {

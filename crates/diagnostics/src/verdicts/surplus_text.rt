@@ -44,7 +44,10 @@ impl<D: Allocator, C: Allocator> Shown<'_, D, C> {
     fn offsets_of(&self, entry: Word) -> WordSet {
         let mut offsets = WordSet::empty();
         for offset in 0..OFFSETS {
-            if !self.returned(Register::Accumulator, entry, offset).is_empty() {
+            if !self
+                .returned(Register::Accumulator, entry, offset)
+                .is_empty()
+            {
                 offsets.insert(Word::from_index(offset));
             }
         }
@@ -210,21 +213,13 @@ fn push_unused<L: Lines>(text: &mut L, surplus: &Surplus) -> Result<(), AllocErr
         b"Variables that no instruction writes",
         &surplus.unwritten,
     )?;
-    push_cells(
-        text,
-        b"Listed reads that are not needed",
-        &surplus.unread,
-    )?;
+    push_cells(text, b"Listed reads that are not needed", &surplus.unread)?;
     push_cells(
         text,
         b"Stops and pauses at which no run halts",
         &surplus.unhalted,
     )?;
-    push_cells(
-        text,
-        b"Routines that are never called",
-        &surplus.uncalled,
-    )?;
+    push_cells(text, b"Routines that are never called", &surplus.uncalled)?;
     push_cells(
         text,
         b"Places of abandon lines for which no call is abandoned",

@@ -17,6 +17,7 @@ use Rattle.facts.specs.States.{TopIsEntry}
 use Rattle.facts.proofs.ForeseenLemmas.{read_may, write_may}
 use Rattle.facts.proofs.StartedLemmas.{start_is_begun}
 use Rattle.facts.proofs.StateLemmas.{possible_true}
+use Rattle.facts.proofs.WordLemmas.{or_left}
 use Rattle.facts.proofs.StepLemmas.{Accessed, NamesWord, meaning_names}
 use Rattle.facts.specs.Conditions.{may_read}
 use Rattle.facts.specs.declared.Condition.TheVariants.{V2}
@@ -111,15 +112,6 @@ module _ (j : Case) (dd : IsDeclared j.declaration) (valid : IsValid j) (start :
     halts_so (Group2 w) a is = both _ _ is.0 (ap (λ y. y == s.pc) is.1 ∙ eq-eqb s.pc s.pc refl)
     halts_so _ a is = absurd is
 
-    abandons_so : (m : Meaning) (ls : Calls) (a : ℕ) → ls ≡ ks → NamesWord m → Fine j (current ks) s.pc h.fact m → AbandonsFor j.declaration m s ls a →
-        uses way.Abandon (place_in j (current ks)) h.fact s.pc m a ≡ true
-    abandons_so (Jmp i c) [] a same n fine is = absurd is
-    abandons_so (Jmp i c) (k ∷ ls) a same n fine is =
-        let x : Accessed (place_in j (current ks)) dd start begun h.fact s ks i c = access j dd valid start begun s ks h i c inv n (λ e. fine.v5 c n (both _ _ e (eq-eqb c c refl))) in
-        let open_ : is_some (current ks) ≡ true = ap (λ l. is_some (current l)) (sym same) in
-        both _ _ (both _ _ open_ (ap not (no_return i c is.0))) (both _ _ (subst (λ y. uses way.Call (place_in j (current ks)) h.fact s.pc (Jms i c) y ≡ true) (sym is.1) x.target) is.2)
-    abandons_so _ ls a same n fine is = absurd is
-
     no_return : (i : Bool) (c : ℕ) → (i && j.declaration.entry c) ≡ false → is_return (place_in j (current ks)) i c ≡ false
     no_return false c e = refl
     no_return true c e = ap (λ b. b || is_routine (current ks) c) e ∙ not_own ks (top_is_entry j start s.memory ks inv.frames) c e
@@ -131,6 +123,15 @@ module _ (j : Case) (dd : IsDeclared j.declaration) (valid : IsValid j) (start :
         not_own : (ls : Calls) → TopIsEntry j.declaration ls → (c : ℕ) → j.declaration.entry c ≡ false → is_routine (current ls) c ≡ false
         not_own [] top c plain = refl
         not_own (k ∷ ls) top c plain = apart (c == k.entry) c k.entry refl top plain
+
+    abandons_so : (m : Meaning) (ls : Calls) (a : ℕ) → ls ≡ ks → NamesWord m → Fine j (current ks) s.pc h.fact m → AbandonsFor j.declaration m s ls a →
+        uses way.Abandon (place_in j (current ks)) h.fact s.pc m a ≡ true
+    abandons_so (Jmp i c) [] a same n fine is = absurd is
+    abandons_so (Jmp i c) (k ∷ ls) a same n fine is =
+        let x : Accessed (place_in j (current ks)) dd start begun h.fact s ks i c = access j dd valid start begun s ks h i c inv n (λ e. fine.v5 c n (or_left (steps_pointer i c && (c == c)) false (both _ _ e (eq-eqb c c refl)))) in
+        let open_ : is_some (current ks) ≡ true = ap (λ l. is_some (current l)) (sym same) in
+        both _ _ (both _ _ open_ (ap not (no_return i c is.0))) (both _ _ (subst (λ y. uses way.Call (place_in j (current ks)) h.fact s.pc (Jms i c) y ≡ true) (sym is.1) x.target) is.2)
+    abandons_so _ ls a same n fine is = absurd is
 
     own_is : (r : Routine) (c : ℕ) → r ≡ Some c → moved r (Dca false c) c ≡ true
     own_is None c is = absurd (let z : None ≡ Some c = is in cc)

@@ -43,15 +43,15 @@ pub one_unused : (kind : Use) (j : Case) (used before after : Words) (index cell
     ((a : ℕ) → a < 4096 → (used a ≡ true) ↔ IsUsed kind j a) →
     (chosen ≡ true → MayBeUsed kind j.declaration cell) → (chosen ≡ true → used cell ≡ false) → (MayBeUsed kind j.declaration cell → used cell ≡ false → chosen ≡ true) →
     ((a : ℕ) → after a ≡ (before a || (chosen && (a == cell)))) → AreUnused kind j before index → AreUnused kind j after (index + 1)
-one_unused kind j used before after index cell chosen at small told yes never no added so = record {
+one_unused kind j used before after index cell chosen at small told may never must added so = record {
   only = λ a lt is. elim (or_cases (before a) (chosen && (a == cell)) (sym (added a) ∙ is)) [
     | inl h ↦ so.only a lt h
     | inr h ↦ (let two = parts chosen (a == cell) h in
-        subst (λ x. IsUnused kind j x) (sym (eqb-true a cell two.1)) (unused_if kind j used cell small (told cell small) (yes two.0) (never two.0)))
+        subst (λ x. IsUnused kind j x) (sym (eqb-true a cell two.1)) (unused_if kind j used cell small (told cell small) (may two.0) (never two.0)))
   ];
   all = λ a lt less unused. added a ∙ elim (cases_eq a index) [
     | inl e ↦ (let q : a ≡ cell = e ∙ sym at in
-        in_second (before a) _ (both chosen (a == cell) (no (subst (λ x. MayBeUsed kind j.declaration x) q unused.declared) (subst (λ x. used x ≡ false) q (unused_not used a (told a lt) unused))) (eq-eqb a cell q)))
+        in_second (before a) _ (both chosen (a == cell) (must (subst (λ x. MayBeUsed kind j.declaration x) q unused.declared) (subst (λ x. used x ≡ false) q (unused_not a (told a lt) unused))) (eq-eqb a cell q)))
     | inr apart ↦ in_first (before a) _ (so.all a lt (omega (arith, less, apart)) unused)
   ];
 }

@@ -11,11 +11,10 @@ use Rattle.instruct.specs.Bits.{is_indirect, named_cell}
 use Rattle.instruct.specs.Instructions.{Meaning, Jmp, Group2, kind_of, operation_of, reference}
 use Rattle.instruct.proofs.KindLemmas.{group2_meaning}
 use Rattle.wordset.specs.Words.{Words, meet, nothing, one, shifted}
-use Rattle.processor.specs.Machine.{is_auto_index}
+use Rattle.processor.specs.Machine.{is_auto_index, steps_pointer}
 use Rattle.domain.specs.Facts.{Fact, Place}
 use Rattle.domain.specs.Locations.{Cell, is_routine}
 use Rattle.domain.specs.Narrowing.{words_known}
-use Rattle.domain.specs.Moves.{counted}
 use Rattle.facts.specs.Instructions.{is_jump}
 use Rattle.facts.specs.PlaceInCode.{meaning_in}
 use Rattle.facts.proofs.AskedLemmas.{refers_in, unless_memory}
@@ -83,14 +82,14 @@ pointer_words : (pl : Place) (f : Fact) (c : ℕ) → is_return pl true c ≡ fa
 unfolding possible words_in
 pointer_words pl f c plain = let no = or_neither (pl.declaration.entry c) (is_routine pl.routine c) plain in rw (no.0, no.1) refl
 
-pub pointer_targets : (pl : Place) (f : Fact) (c : ℕ) (i b : Bool) (s : Words) → i ≡ true → b ≡ is_auto_index c → b ≡ false → is_return pl i c ≡ false → s ≡ possible pl f c → s ≡ targets pl i c f
-pointer_targets pl f c true b s y index n plain put = put ∙ pointer_words pl f c plain ∙ ap (λ (t : Bool). if t then (counted pl c f).set (Cell c) else words_in pl f c) (sym (sym index ∙ n))
-pointer_targets pl f c false b s y index n plain put = absurd (false≢true y)
+pub steps_so : (i b : Bool) (c : ℕ) → i ≡ true → b ≡ is_auto_index c → steps_pointer i c ≡ b
+steps_so i b c y index = ap (λ x. x && is_auto_index c) y ∙ sym index
 
-pub stepped_targets : (pl : Place) (f : Fact) (c : ℕ) (i b : Bool) (s : Words) → i ≡ true → b ≡ is_auto_index c → b ≡ true → s ≡ shifted (words_known pl f (Cell c)) 1 → s ≡ targets pl i c f
-stepped_targets pl f c true b s y index has put =
-    put ∙ sym (counted_here pl c f) ∙ rw (sym (sym index ∙ has)) refl
-stepped_targets pl f c false b s y index has put = absurd (false≢true y)
+pub pointer_targets : (pl : Place) (f : Fact) (c : ℕ) (i : Bool) (s : Words) → steps_pointer i c ≡ false → i ≡ true → is_return pl i c ≡ false → s ≡ possible pl f c → s ≡ targets pl i c f
+pointer_targets pl f c i s still y plain put = rw (still, y) (put ∙ pointer_words pl f c (subst (λ b. is_return pl b c ≡ false) y plain))
+
+pub stepped_targets : (pl : Place) (f : Fact) (c : ℕ) (i : Bool) (s : Words) → steps_pointer i c ≡ true → s ≡ shifted (words_known pl f (Cell c)) 1 → s ≡ targets pl i c f
+stepped_targets pl f c i s steps put = rw (steps) (put ∙ sym (counted_here pl c f))
 
 -- Where a word is a JMP, it is the one that its bits say.
 memory : (m : Meaning) → is_jump m ≡ true → kind_of m ≡ Memory

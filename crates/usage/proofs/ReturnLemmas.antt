@@ -1,13 +1,13 @@
 -- What routines return with in declared runs is by the exits of a valid certificate.
-use Rattle.std.proofs.Common.{◌≡◌, ℕ, ◌+◌, ◌<◌, true, None, Some, List, [], ◌∷◌, zero, suc, refl, sym, ap, subst, arith}
-use Rattle.instruct.specs.Instructions.{Meaning, Jmp}
+use Rattle.std.proofs.Common.{◌≡◌, ℕ, ◌+◌, ◌<◌, true, None, Some, List, [], ◌∷◌, zero, suc, refl, sym, subst, arith}
+use Rattle.instruct.specs.Instructions.{Jmp}
 use Rattle.wordset.specs.Words.{Words, minus}
 use Rattle.processor.specs.Cells.{Cells}
-use Rattle.processor.specs.Machine.{State, Answer, instruction}
+use Rattle.processor.specs.Machine.{State, Answer}
 use Rattle.declaration.specs.Declaration.{IsDeclared}
-use Rattle.policy.specs.Calls.{Call, Calls, calls_after, current}
+use Rattle.policy.specs.Calls.{Call, Calls, calls_after}
 use Rattle.policy.specs.Runs.{DeclaredRun}
-use Rattle.domain.specs.Facts.{Fact, Means, SomeMeans}
+use Rattle.domain.specs.Facts.{Means, SomeMeans}
 use Rattle.domain.specs.Laws.{IsBegun}
 use Rattle.facts.specs.Conditions.{link_words}
 use Rattle.facts.proofs.LandedLemmas.{one_landed_holds}

@@ -1,15 +1,15 @@
 -- What the instructions of declared runs use is used by the facts of a valid certificate.
-use Rattle.std.proofs.Common.{◌≡◌, ℕ, ◌<◌, ◌==◌, Bool, true, false, Some, None, List, [], ◌∷◌, refl, sym, ap, ◌∙◌, subst, inl, inr}
+use Rattle.std.proofs.Common.{◌≡◌, ℕ, ◌==◌, Bool, true, false, Some, None, List, [], ◌∷◌, refl, sym, ap, ◌∙◌, subst, inl, inr}
 use Rattle.std.specs.Prelude.{not, ◌&&◌, ◌||◌, is_some}
-use Rattle.std.proofs.lemmas.Bool.{eq-eqb, eqb-true, false≢true, true≢false}
+use Rattle.std.proofs.lemmas.Bool.{eq-eqb, eqb-true, true≢false}
 use Rattle.instruct.specs.Instructions.{Meaning, Dca, Jms, Jmp, Group2}
-use Rattle.wordset.specs.Words.{Words, one}
+use Rattle.wordset.specs.Words.{Words}
 use Rattle.processor.specs.Cells.{Cells}
-use Rattle.processor.specs.Machine.{State, Answer, instruction, place, steps_pointer}
+use Rattle.processor.specs.Machine.{State, Answer, instruction, steps_pointer}
 use Rattle.declaration.specs.Declaration.{IsDeclared, Routine}
 use Rattle.policy.specs.Calls.{Calls, calls_after, current}
 use Rattle.policy.specs.Runs.{DeclaredRun}
-use Rattle.domain.specs.Facts.{Fact, Means, SomeMeans, Rules, OfEquations, OfSums}
+use Rattle.domain.specs.Facts.{Fact, SomeMeans, Rules, OfEquations, OfSums}
 use Rattle.domain.specs.Laws.{IsBegun}
 use Rattle.domain.specs.Locations.{is_routine}
 use Rattle.facts.specs.Access.{IsStateOf}
@@ -21,15 +21,15 @@ use Rattle.facts.proofs.WordLemmas.{or_left}
 use Rattle.facts.proofs.StepLemmas.{Accessed, NamesWord, meaning_names}
 use Rattle.facts.specs.Conditions.{may_read}
 use Rattle.facts.specs.declared.Condition.TheVariants.{V2}
-use Rattle.certificate_lines.specs.Certificate.{Certificate, claimed}
+use Rattle.certificate_lines.specs.Certificate.{claimed}
 use Rattle.judge.specs.Conditions.{EachFact, IsPlaced, IsValid}
-use Rattle.judge.specs.Landing.{Case, asked_at, facts_in, place_in, sited, sites_of}
+use Rattle.judge.specs.Landing.{Case, asked_at, place_in, sited, sites_of}
 use Rattle.judge.proofs.Fine.{Fine, In, is_line}
 use Rattle.judge.proofs.Frames.{top_is_entry}
 use Rattle.judge.proofs.Induction.{Held, Invariant, access, fine_at, held, keeps, not_entry}
 use Rattle.judge.proofs.Legal.{starts}
 use Rattle.usage.specs.Laws.{AbandonsFor, CallsCell, HaltsAt, MovesEntry, UnusedIsNeverUsed, Uses, UsesAreForeseen}
-use Rattle.usage.specs.Uses.{IsUsed, IsUsedBy, SomeFact, abandoned, but_own, halted, has_line, is_return, moved, uses}
+use Rattle.usage.specs.Uses.{IsUsed, IsUsedBy, SomeFact, but_own, has_line, is_return, moved, uses}
 use Rattle.usage.specs.declared.uses.Use.{Use}
 use Rattle.usage.specs.declared.uses.Use.TheVariants as way
 

@@ -1,8 +1,8 @@
 -- What one word does: where it halts, jumps and stores its return word.
-use Rattle.std.proofs.Common.{◌≡◌, ℕ, ◌==◌, Bool, true, false, ◌&&◌, ◌||◌, Option, Some, None, refl, sym, ap, ◌∙◌, subst}
+use Rattle.std.proofs.Common.{◌≡◌, ℕ, ◌==◌, Bool, true, false, ◌&&◌, ◌||◌, Option, refl, sym, ap, ◌∙◌, subst}
 use Rattle.std.proofs.lemmas.Bool.{false≢true, true≢false}
 use Rattle.std.proofs.Math.Path.{fun_ext}
-use Rattle.std.specs.Prelude.{not, is_some, if◌then◌else◌}
+use Rattle.std.specs.Prelude.{not, is_some}
 use Rattle.instruct.specs.declared.Instruction.TheVariants.{Memory, Operate2}
 use Rattle.instruct.specs.declared.Operation.{Operation}
 use Rattle.instruct.specs.declared.Operation.TheVariants as operation
@@ -10,7 +10,7 @@ use Rattle.instruct.specs.Operates.{is_halt}
 use Rattle.instruct.specs.Bits.{is_indirect, named_cell}
 use Rattle.instruct.specs.Instructions.{Meaning, Jmp, Group2, kind_of, operation_of, reference}
 use Rattle.instruct.proofs.KindLemmas.{group2_meaning}
-use Rattle.wordset.specs.Words.{Words, meet, nothing, one, shifted}
+use Rattle.wordset.specs.Words.{Words, meet, one, shifted}
 use Rattle.processor.specs.Machine.{is_auto_index, steps_pointer}
 use Rattle.domain.specs.Facts.{Fact, Place}
 use Rattle.domain.specs.Locations.{Cell, is_routine}

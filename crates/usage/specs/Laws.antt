@@ -1,5 +1,5 @@
 -- After a yes all that the instructions of declared runs use is used by the facts, and what routines return with is by the exits.
-use Rattle.std.specs.Prelude.{◌≡◌, ℕ, ◌<◌, Bool, true, false, ◌&&◌, Some, List, [], ◌∷◌}
+use Rattle.std.specs.Prelude.{◌≡◌, ℕ, true, false, ◌&&◌, Some, List, [], ◌∷◌}
 use Rattle.instruct.specs.Instructions.{Meaning, Dca, Jms, Jmp, Group2}
 use Rattle.instruct.specs.Operates.{is_halt}
 use Rattle.processor.specs.Machine.{State, Answer, instruction, place}

@@ -1,5 +1,3 @@
-use Rattle.std.proofs.Common.{◌≡◌, ◌&&◌, ◌==◌, ap, subst, ◌∙◌}
-use Rattle.wordset.specs.Words.{Words}
 use Rattle.wordset.specs.Lanes.{words}
 use Rattle.wordset.specs.Links.{links_of}
 use Rattle.facts.proofs.HeldLemmas.{link_set}

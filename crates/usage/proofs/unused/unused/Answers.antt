@@ -1,4 +1,4 @@
-use Rattle.std.proofs.Common.{arith, ◌∙◌}
+use Rattle.std.proofs.Common.{arith}
 use Rattle.wordset.specs.Lanes.{words}
 use Rattle.certificate_lines.specs.Kept.{claims}
 use Rattle.judge.specs.Judged.{judged}

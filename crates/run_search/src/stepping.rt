@@ -215,7 +215,10 @@ impl<A: Allocator + Copy> RunSearch<A> {
             self.note(&trial.watcher, &mut trial.run, &trial.plan, glance)?;
             if self.asserted.contains(trial.watcher.world().cpu().pc) {
                 let Trial {
-                    watcher, run, plan, ..
+                    watcher,
+                    run,
+                    plan,
+                    ..
                 } = trial;
                 self.note_assertions(program.declaration, watcher, run, plan)?;
             }

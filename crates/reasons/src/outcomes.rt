@@ -12,7 +12,7 @@ ghost use Rattle.judge.specs.Points.{IsPoint, case_of};
 ghost use Rattle.reasons.specs.Breaches.{MissesBeyond, OutcomeMisses, SomeOutcome};
 ghost use Rattle.reasons.specs.Keeping.{Arrives, ArrivesBeyond, KeepsHere, OutcomeArrives};
 ghost use Rattle.reasons.specs.Landing.{Misses};
-ghost use Rattle.reasons.specs.Points.{BreaksAs, IsSought, MissesAs, counts_lines, meaning_here};
+ghost use Rattle.reasons.specs.Points.{BreaksAs, IsSought, JumpsToMain, MissesAs, counts_lines, meaning_here};
 ghost use Rattle.reasons.specs.Stuck.{is_landing_of_lines};
 ghost use Rattle.reasons.specs.declared.breach.Landing.TheVariants.{OtherBody};
 
@@ -308,6 +308,29 @@ fn abandoned_by<A: Allocator, C: Claims>(point: &NarrowedPoint<'_, A, C>, word: 
     *point.place.declaration.abandons()
 }
 
+/// Whether a word is a JMP, and no return, to an address of main's body that is told as outside the running routine's.
+fn jumps_to_main<A: Allocator, C: Claims>(
+    point: &NarrowedPoint<'_, A, C>,
+    word: Word,
+    at: Word,
+    landing: &Landing,
+) -> bool
+    requires { IsPoint C.claims point.now }
+    ensures { result ≡ true → JumpsToMain (case_of C.claims point.now)
+        (meaning_here C.claims point.now word) at landing.now }
+{
+    if !matches!(landing, Landing::OtherBody) {
+        return false;
+    }
+    if !point.place.is_jump(word) {
+        return false;
+    }
+    if point.place.returned_entry(point.at, word).is_some() {
+        return false;
+    }
+    point.is_inside(&None, at)
+}
+
 /// Where a word goes on and does not land.
 pub(crate) fn goes_on<A: Allocator, C: Claims, M: Allocator>(
     point: &NarrowedPoint<'_, A, C>,
@@ -325,6 +348,11 @@ pub(crate) fn goes_on<A: Allocator, C: Claims, M: Allocator>(
         .put_outcomes(point.fact, point.at, word, outcomes);
     match some_miss(point, sought, &abandoned_by(point, word), outcomes, left) {
         None => None,
-        Some(found) => Some(Breach::GoesOn(found.0, found.1)),
+        Some(found) => {
+            if jumps_to_main(point, word, found.0, &found.1) {
+                return Some(Breach::JumpsToMain(found.0));
+            }
+            Some(Breach::GoesOn(found.0, found.1))
+        }
     }
 }

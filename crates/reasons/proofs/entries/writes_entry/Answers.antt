@@ -7,7 +7,7 @@ use Rattle.facts.specs.PlaceInCode.{meaning_in}
 use Rattle.transfer.proofs.EntailLemmas.{not_both}
 use Rattle.judge.specs.Points.{fact_asked}
 use Rattle.judge.proofs.PointLemmas.{meant}
-use Rattle.reasons.proofs.words.writes_entry.Goals as goal
+use Rattle.reasons.proofs.entries.writes_entry.Goals as goal
 
 pub returns-then-entries_are_kept-clause-none : goal.returns-then-entries_are_kept-clause-none
 returns-then-entries_are_kept-clause-none g c =

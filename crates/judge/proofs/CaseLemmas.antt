@@ -23,7 +23,7 @@ use Rattle.transfer.specs.Shaped.{HaveFewTerms}
 use Rattle.domain.specs.Narrowing.{narrowed}
 use Rattle.domain.specs.declared.sum_fact.SumFact.{SumFact}
 use Rattle.facts.proofs.KeepingLemmas.{narrowed_few, narrowed_short, narrowed_chains}
-use Rattle.judge.specs.Landing.{Case, place_in, sites_of, asked}
+use Rattle.judge.specs.Landing.{Case, place_in, sites_of, sited, asked}
 use Rattle.judge.specs.Conditions.{EachFact, ExitsAreHeld}
 use Rattle.judge.specs.Shapes.{HasShape, IsRoomy}
 use Rattle.judge.specs.Sources.{sited_one}
@@ -157,6 +157,10 @@ module _ (j : Case) (e o : ℕ) where
       none_asked : (rules : Rules) (image : Image) → EachFact one_held (asked rules image [])
       none_asked OfSums image = tt
       none_asked OfEquations image = tt
+
+  -- the exits have the sites that were read
+  pub by_sites : (s : Words) (t : Bool) → s ≡ j.certificate.sites e → IsTrue t ↔ EachFact one_held (asked j.certificate.rules j.image (sited j.certificate.rules s (j.certificate.exits e o))) → IsTrue t ↔ ExitsAreHeldBy j e o
+  by_sites s t same told = subst (λ (x : Words). IsTrue t ↔ EachFact one_held (asked j.certificate.rules j.image (sited j.certificate.rules x (j.certificate.exits e o)))) same told
 
 -- offset after offset
 abbrev pub HeldBefore : Case → ℕ → ℕ → Type 0

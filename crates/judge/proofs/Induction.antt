@@ -1,5 +1,5 @@
 -- What holds at every moment of a declared run of a program with a valid certificate, and that each step keeps it.
-use Rattle.std.proofs.Common.{◌≡◌, ℕ, ◌+◌, ◌-◌, ◌<◌, ◌≤◌, ◌==◌, Bool, true, false, ◌&&◌, ◌⊎◌, Some, None, List, [], ◌∷◌, refl, sym, ap, ◌∙◌, subst, inl, inr, arith, lit≤, lit<}
+use Rattle.std.proofs.Common.{◌≡◌, ℕ, ◌+◌, ◌-◌, ◌<◌, ◌≤◌, ◌==◌, Bool, true, false, not, ◌&&◌, ◌⊎◌, Some, None, List, [], ◌∷◌, refl, sym, ap, ◌∙◌, subst, inl, inr, arith, lit≤, lit<}
 use Rattle.std.proofs.Math.Path.{fun_ext}
 use Rattle.std.specs.Prelude.{if◌then◌else◌}
 use Rattle.std.proofs.lemmas.Bool.{and_parts, true≢false, false≢true, eq-eqb}
@@ -312,16 +312,19 @@ module _ (j : Case) (dd : IsDeclared j.declaration) (valid : IsValid j) (start :
       emptied false = refl
 
       -- a JMP that is no return: in main the list is empty already
-      jumps : (ls : Calls) (g : Held s ls) → Invariant s ls → Fine j (current ls) s.pc g.fact (Jmp i c) → IsOrdinary j.declaration (Jmp i c) → Invariant t (if j.declaration.abandon (place i c s.memory) then [] else ls)
-      jumps [] g iv f ordinary = subst (λ x. Invariant t x) (emptied (j.declaration.abandon (place i c s.memory))) (keep_ordinary (Jmp i c) s t q [] g refl iv n f on ordinary does)
-      jumps (l ∷ ls) g iv f ordinary = by_place (j.declaration.abandon (place i c s.memory)) refl
+      jumps : (i && j.declaration.entry c) ≡ false → (ls : Calls) (g : Held s ls) → Invariant s ls → Fine j (current ls) s.pc g.fact (Jmp i c) → Invariant t (if j.declaration.abandon (place i c s.memory) then [] else ls)
+      jumps e [] g iv f = subst (λ x. Invariant t x) (emptied (j.declaration.abandon (place i c s.memory))) (keep_ordinary (Jmp i c) s t q [] g refl iv n f on (plain i e) does)
+      jumps e (l ∷ ls) g iv f = by_place (j.declaration.abandon (place i c s.memory)) refl
         where
+          leaves : (b : Bool) → j.declaration.abandon (place i c s.memory) ≡ b → abandons j.declaration (Some l.entry) (Jmp i c) t.pc ≡ b
+          leaves b is = ap (λ (x : Bool). not x && j.declaration.abandon t.pc) e ∙ (ap j.declaration.abandon there ∙ is)
+
           by_place : (b : Bool) → j.declaration.abandon (place i c s.memory) ≡ b → Invariant t (if b then [] else l ∷ ls)
-          by_place true is = keep_abandoned (Jmp i c) s t q (l ∷ ls) g (ap j.declaration.abandon there ∙ is) iv n f on ordinary does
-          by_place false is = keep_ordinary (Jmp i c) s t q (l ∷ ls) g (ap j.declaration.abandon there ∙ is) iv n f on ordinary does
+          by_place true is = keep_abandoned (Jmp i c) s t q (l ∷ ls) g (leaves true is) iv n f on (plain i e) does
+          by_place false is = keep_ordinary (Jmp i c) s t q (l ∷ ls) g (leaves false is) iv n f on (plain i e) does
 
       go : (b : Bool) → (i && j.declaration.entry c) ≡ b → Invariant t (if b then returned ks else (if j.declaration.abandon (place i c s.memory) then [] else ks))
-      go false e = jumps ks h inv fine (plain i e)
+      go false e = jumps e ks h inv fine
       go true e = by_indirect i (and_parts i (j.declaration.entry c) e).0 fine does.1
         where
           en : j.declaration.entry c ≡ true

@@ -159,6 +159,7 @@ fn misses_at<A: Allocator, C: Claims>(
         MissesAs sought (case_of C.claims point.now) point.now.place.routine found.0 (fact_in_code known.old) found.1) }
     ensures none { IfNone result ((a : ℕ) → a < 4096 → words addresses.now a ≡ true →
         Arrives (counts_lines sought) (case_of C.claims point.now) point.now.place.routine a (fact_in_code known.old)) }
+    ensures kept { fact_in_code known.new ≡ fact_in_code known.old }
 {
     for at in addresses.iter() {
         if let Some(landing) = misses_here(point, sought, at, known, rooms) {

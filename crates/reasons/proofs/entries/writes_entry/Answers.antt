@@ -13,6 +13,14 @@ pub returns-then-entries_are_kept-clause-none : goal.returns-then-entries_are_ke
 returns-then-entries_are_kept-clause-none g c =
     (meant g.C.Claims.claims c.args.point.now (λ pl. IsTrue c.entries_are_kept.result ↔ EntriesAreKept pl (fact_asked c.args.point.now) (meaning_in pl c.args.point.now.at c.args.word)) c.requires c.entries_are_kept.ensures).0 c.if-entries_are_kept.true
 
+pub changes_return-requires : goal.changes_return-requires
+changes_return-requires g c = record {
+  point = c.requires;
+  fails =
+      not_both _ c.if-entries_are_kept.false
+      (meant g.C.Claims.claims c.args.point.now (λ pl. IsTrue c.entries_are_kept.result ↔ EntriesAreKept pl (fact_asked c.args.point.now) (meaning_in pl c.args.point.now.at c.args.word)) c.requires c.entries_are_kept.ensures).1;
+}
+
 pub returns-in-None-clause-none : goal.returns-in-None-clause-none
 returns-in-None-clause-none g c = λ a lt is entry. absurd (true≢false (sym entry ∙ c.in-None.ensures.none a lt (ap (λ (s : Words). s a) c.written.ensures ∙ is)))
 

@@ -1,3 +1,4 @@
+use Rattle.std.proofs.Common.{refl}
 use Rattle.declaration.specs.Kept.{place_assertion_of}
 use Rattle.facts.proofs.HeldLemmas.{held_all, held_more}
 use Rattle.judge.specs.Landing.{place_in}

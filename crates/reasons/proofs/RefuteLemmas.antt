@@ -211,8 +211,8 @@ pub counting_kept : (j : Case) (r : Routine) (f : Fact) (m : Meaning) (e : ℕ) 
 counting_kept j r f m e names may =
     subst (λ x. EntriesAreKept (place_in j r) f x) (sym names.means)
     (λ a lt is entry. (let same : a ≡ e = eqb-true a e is in
-        subst (λ x. CountsItsReturn (place_in j r) f (Isz false e) x ⊎ MovesItsReturn (place_in j r) f (Isz false e) x) (sym same)
-        (inl (names.own, only_of_one e names.small, may))))
+    subst (λ x. CountsItsReturn (place_in j r) f (Isz false e) x ⊎ MovesItsReturn (place_in j r) f (Isz false e) x) (sym same)
+    (inl (names.own, only_of_one e names.small, may))))
 
 -- ---- words
 

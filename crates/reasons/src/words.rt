@@ -154,7 +154,10 @@ fn halts_undeclared<A: Allocator, C: Claims>(
 }
 
 /// The cells that a word may write.
-pub(crate) fn written<A: Allocator, C: Claims>(point: &NarrowedPoint<'_, A, C>, word: Word) -> WordSet
+pub(crate) fn written<A: Allocator, C: Claims>(
+    point: &NarrowedPoint<'_, A, C>,
+    word: Word,
+) -> WordSet
     requires { IsPoint C.claims point.now }
     ensures { words result ≡ may_write (place_in (case_of C.claims point.now) point.now.place.routine)
         (fact_asked point.now) (meaning_here C.claims point.now word) }

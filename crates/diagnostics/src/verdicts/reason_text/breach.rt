@@ -5,7 +5,9 @@ ghost use Rattle.diagnostics.specs.WhyText.{advised_text, around, around_number,
 
 use crate::verdicts::reason_text::landing::{push_before_landing, push_exit, push_landing};
 use crate::verdicts::reason_text::pieces::{push_around, push_around_number, push_around_offset};
-use command_parts::message::{Lines, push_text_and_address, push_text_and_advised, push_text_and_word};
+use command_parts::message::{
+    Lines, push_text_and_address, push_text_and_advised, push_text_and_word,
+};
 use declaration::Subject;
 use domain::Rules;
 use itoa::Buffer;
@@ -115,11 +117,7 @@ fn push_undeclared<L: Lines>(text: &mut L, entry: Word, offset: usize) -> Result
 }
 
 /// Adds what a return through an entry violates.
-fn push_return<L: Lines>(
-    text: &mut L,
-    entry: Word,
-    breach: &ReturnBreach,
-) -> Result<(), AllocError>
+fn push_return<L: Lines>(text: &mut L, entry: Word, breach: &ReturnBreach) -> Result<(), AllocError>
     ensures { OnOk result (L.text text.new ≡ L.text text.old ++ return_text entry breach.now) }
 {
     match breach {

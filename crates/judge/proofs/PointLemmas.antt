@@ -1,9 +1,9 @@
 -- What is asked of a fact at an address, by its own place.
 use Rattle.std.proofs.Common.{◌≡◌, ℕ, ◌<◌, Bool, true, false, not, ◌&&◌, Some, None, List, [], ◌∷◌, ◌++◌, refl, sym, ap, ◌∙◌, subst, inl, inr}
-use Rattle.std.specs.Prelude.{IsTrue, ◌↔◌}
+use Rattle.std.specs.Prelude.{IsTrue, ◌↔◌, if◌then◌else◌, is_some}
 use Rattle.std.proofs.lemmas.Bool.{and_parts, and_from, false≢true, true≢false}
 use Rattle.peripherals.specs.Loading.{image_of}
-use Rattle.declaration.specs.Declaration.{Routine}
+use Rattle.declaration.specs.Declaration.{Routine, Declaration}
 use Rattle.declaration.specs.Kept.{meaning}
 use Rattle.domain.specs.Facts.{Fact, Place, Rules}
 use Rattle.facts.specs.Entailment.{Entails, Lands, IsIdle, LandsBy}
@@ -124,42 +124,53 @@ pub told_of : {P Q : Type 0} (t : Bool) → IsTrue t ↔ P → P ↔ Q → IsTru
 told_of t told same = (λ q. same.0 (told.0 q), λ h. told.1 (same.1 h))
 
 -- whether a word may abandon calls
-pub in_main : (j : Case) (r : Routine) (m : Meaning) → r ≡ None → AbandonsIf false j r m
-in_main j r m main = subst (λ x. AbandonsIf false j x m) (sym main) (λ a lt. refl)
+module _ (d : Declaration) (r : Routine) (m : Meaning) where
+  pub main_abandons_none : is_some r ≡ false → (a : ℕ) → abandons d r m a ≡ false
+  main_abandons_none main a = by_routine r main
+    where
+      by_routine : (q : Routine) → is_some q ≡ false → abandons d q m a ≡ false
+      by_routine None none = refl
+      by_routine (Some e) none = absurd (true≢false none)
 
-pub no_jump : (j : Case) (r : Routine) (m : Meaning) → is_jump m ≡ false → AbandonsIf false j r m
-no_jump j None m no a lt = refl
-no_jump j (Some e) (Jmp i c) no a lt = absurd (true≢false no)
-no_jump j (Some e) _ no a lt = refl
+  pub only_jumps_abandon : is_jump m ≡ false → (a : ℕ) → abandons d r m a ≡ false
+  only_jumps_abandon no a = by_routine r m no
+    where
+      by_routine : (q : Routine) (n : Meaning) → is_jump n ≡ false → abandons d q n a ≡ false
+      by_routine None n none = refl
+      by_routine (Some e) (Jmp i c) none = absurd (true≢false none)
+      by_routine (Some e) _ none = refl
 
-pub a_return : (j : Case) (r : Routine) (m : Meaning) (x : ℕ) → returned_through j.declaration m ≡ Some x → AbandonsIf false j r m
-a_return j None m x returns a lt = refl
-a_return j (Some e) (Jmp i c) x returns a lt = by_entry (i && j.declaration.entry c) returns
-  where
-    by_entry : (b : Bool) → (if b then Some c else None) ≡ Some x → (not b && j.declaration.abandon a) ≡ false
-    by_entry true q = refl
-    by_entry false q = absurd (let z : None ≡ Some x = q in cc)
-a_return j (Some e) _ x returns a lt = refl
+  pub returns_abandon_none : is_some (returned_through d m) ≡ true → (a : ℕ) → abandons d r m a ≡ false
+  returns_abandon_none returns a = by_routine r m returns
+    where
+      by_test : (c : ℕ) (b : Bool) → is_some (if b then Some c else None) ≡ true → (not b && d.abandon a) ≡ false
+      by_test c true q = refl
+      by_test c false q = absurd (false≢true q)
 
-pub not_true : (b : Bool) → not b ≡ true → b ≡ false
+      by_routine : (q : Routine) (n : Meaning) → is_some (returned_through d n) ≡ true → abandons d q n a ≡ false
+      by_routine None n some = refl
+      by_routine (Some e) (Jmp i c) some = by_test c (i && d.entry c) some
+      by_routine (Some e) _ some = refl
+
+  pub jumps_abandon : is_some r ≡ true → is_jump m ≡ true → is_some (returned_through d m) ≡ false → (a : ℕ) → abandons d r m a ≡ d.abandon a
+  jumps_abandon routine jump returns a = by_routine r m routine jump returns
+    where
+      by_test : (c : ℕ) (b : Bool) → is_some (if b then Some c else None) ≡ false → (not b && d.abandon a) ≡ d.abandon a
+      by_test c true q = absurd (true≢false q)
+      by_test c false q = refl
+
+      by_routine : (q : Routine) (n : Meaning) → is_some q ≡ true → is_jump n ≡ true → is_some (returned_through d n) ≡ false → abandons d q n a ≡ d.abandon a
+      by_routine None n some leap none = absurd (false≢true some)
+      by_routine (Some e) (Jmp i c) some leap none = by_test c (i && d.entry c) none
+      by_routine (Some e) _ some leap none = absurd (false≢true leap)
+
+not_true : (b : Bool) → not b ≡ true → b ≡ false
 not_true true q = absurd (false≢true q)
 not_true false q = refl
 
-pub a_jump : (j : Case) (r : Routine) (m : Meaning) (b : Bool) → (r ≡ None → ⊥) → is_jump m ≡ true → returned_through j.declaration m ≡ None → b ≡ not (has_some j.declaration.abandon) → AbandonsIf (not b) j r m
-a_jump j None m b routine jump returns none = absurd (routine refl)
-a_jump j (Some e) (Jmp i c) b routine jump returns none = by_test b none
-  where
-    no_return : (x : Bool) → (if x then Some c else None) ≡ None → x ≡ false
-    no_return true q = absurd (let z : Some c ≡ None = q in cc)
-    no_return false q = refl
-
-    as_declared : (a : ℕ) → (not (i && j.declaration.entry c) && j.declaration.abandon a) ≡ j.declaration.abandon a
-    as_declared a = ap (λ x. not x && j.declaration.abandon a) (no_return (i && j.declaration.entry c) returns)
-
-    by_test : (t : Bool) → t ≡ not (has_some j.declaration.abandon) → AbandonsIf (not t) j (Some e) (Jmp i c)
-    by_test true q = λ a lt. as_declared a ∙ none_of_some 4096 j.declaration.abandon (not_true (has_some j.declaration.abandon) (sym q)) a lt
-    by_test false q = λ a lt. as_declared a
-a_jump j (Some e) _ b routine jump returns none = absurd (false≢true jump)
+pub abandons_if : (j : Case) (r : Routine) (m : Meaning) (b : Bool) → ((a : ℕ) → abandons j.declaration r m a ≡ j.declaration.abandon a) → b ≡ not (has_some j.declaration.abandon) → AbandonsIf (not b) j r m
+abandons_if j r m true as_declared none = λ a lt. as_declared a ∙ none_of_some 4096 j.declaration.abandon (not_true (has_some j.declaration.abandon) (sym none)) a lt
+abandons_if j r m false as_declared none = λ a lt. as_declared a
 
 -- the addresses for which calls may be abandoned, and the others
 pub lands_split : (j : Case) (r : Routine) (f : Fact) (set others beyond : Words) (t : Bool) → others ≡ difference set j.declaration.abandon → beyond ≡ meet set j.declaration.abandon →

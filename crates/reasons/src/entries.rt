@@ -77,6 +77,7 @@ fn own_entry_named<A: Allocator, C: Claims>(
         return None;
     }
     let named = target(word, point.at);
+    let _index = named.index();
     if !point.is_own(named) {
         return None;
     }
@@ -139,6 +140,14 @@ fn first_out_of_reach<A: Allocator, C: Claims>(
 {
     let mut sites = WordSet::empty();
     point.fact.sites().put(&mut sites);
+    first_beyond_some(known, &sites)
+}
+
+/// The first of some words and of some sites where the word is not 0 to 77 behind the return address of a call from there.
+fn first_beyond_some(known: &WordSet, sites: &WordSet) -> Option<(Word, Word)>
+    ensures { IfSome result (λ found. ((found.1 < 4096) × (words sites.now found.1 ≡ true)) ×
+        ((found.0 < 4096) × (words known.now found.0 ≡ true)) × (reach found.1 found.0 ≡ false)) }
+{
     for site in sites.iter() {
         if let Some(word) = first_beyond(known, site) {
             return Some((word, site));

@@ -312,6 +312,20 @@ fn abandoned_by<A: Allocator, C: Claims>(point: &NarrowedPoint<'_, A, C>, word: 
     *point.place.declaration.abandons()
 }
 
+/// Whether it is told that an address is not in the body.
+fn is_other_body(landing: &Landing) -> bool
+    ensures { result ≡ true → landing.now ≡ OtherBody }
+{
+    match landing {
+        Landing::OtherBody => true,
+        Landing::NoFact => false,
+        Landing::Excluded(_) => false,
+        Landing::ExcludedUnder(_, _) => false,
+        Landing::NotTaken(_, _, _) => false,
+        Landing::NotEntailed => false,
+    }
+}
+
 /// Whether a word is a JMP, and no return, to an address of main's body that is told as outside the running routine's.
 fn jumps_to_main<A: Allocator, C: Claims>(
     point: &NarrowedPoint<'_, A, C>,
@@ -323,7 +337,7 @@ fn jumps_to_main<A: Allocator, C: Claims>(
     ensures { result ≡ true → JumpsToMain (case_of C.claims point.now)
         (meaning_here C.claims point.now word) at landing.now }
 {
-    if !matches!(landing, Landing::OtherBody) {
+    if !is_other_body(landing) {
         return false;
     }
     if !point.place.is_jump(word) {

@@ -291,8 +291,9 @@ fn denied_here<A: Allocator, C: Claims>(
     if !holding.places().contains(point.at) {
         return None;
     }
-    match point.place.denied_word(point.fact, holding.assertion()) {
+    let assertion = holding.assertion();
+    match point.place.denied_word(point.fact, assertion) {
         None => None,
-        Some(denied) => Some(Breach::DeniesAssertion(*holding.assertion().subject(), denied)),
+        Some(denied) => Some(Breach::DeniesAssertion(*assertion.subject(), denied)),
     }
 }

@@ -24,13 +24,13 @@ changes_return-requires g c = record {
 pub returns-in-None-clause-none : goal.returns-in-None-clause-none
 returns-in-None-clause-none g c = λ a lt is entry. absurd (true≢false (sym entry ∙ c.in-None.ensures.none a lt (ap (λ (s : Words). s a) c.written.ensures ∙ is)))
 
-pub returns-in-Some-clause-found : goal.returns-in-Some-clause-found
-returns-in-Some-clause-found g c =
-    let found = c.in-Some.ensures.found in (
+pub returns-in-Some-first_entry-clause-found : goal.returns-in-Some-first_entry-clause-found
+returns-in-Some-first_entry-clause-found g c =
+    let found = c.in-Some-first_entry.ensures.found in (
       refl,
       (
         found.0,
-        sym (ap (λ (s : Words). s c.in-Some.cell) c.written.ensures) ∙ found.1,
+        sym (ap (λ (s : Words). s c.in-Some-first_entry.cell) c.written.ensures) ∙ found.1,
         found.2,
         not_both _ c.if-entries_are_kept.false
             (meant g.C.Claims.claims c.args.point.now (λ pl. IsTrue c.entries_are_kept.result ↔ EntriesAreKept pl (fact_asked c.args.point.now) (meaning_in pl c.args.point.now.at c.args.word)) c.requires c.entries_are_kept.ensures).1,

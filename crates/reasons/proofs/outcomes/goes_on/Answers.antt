@@ -1,4 +1,4 @@
-use Rattle.std.proofs.Common.{List, refl, subst}
+use Rattle.std.proofs.Common.{false, List, refl, subst}
 use Rattle.transfer.specs.Operations.{outcomes_of}
 use Rattle.transfer.specs.Outcomes.{Successor}
 use Rattle.facts.specs.PlaceInCode.{meaning_in}
@@ -15,8 +15,8 @@ use Rattle.reasons.proofs.AbandonLemmas.{missed_as}
 use Rattle.reasons.proofs.LandingLemmas.{not_of_lines_sought}
 use Rattle.reasons.proofs.outcomes.goes_on.Goals as goal
 
-pub returns-in-Some-then-jumps_to_main-clause-found : goal.returns-in-Some-then-jumps_to_main-clause-found
-returns-in-Some-then-jumps_to_main-clause-found g c =
+pub returns-then-jumps_to_main-clause-found : goal.returns-then-jumps_to_main-clause-found
+returns-then-jumps_to_main-clause-found g c =
     let s = c.args.point.now in
     let p : Words → Successor → Type 0 = λ beyond. OutcomeMisses (case_of g.C.Claims.claims s) s.place.routine beyond c.in-Some.found.0 c.in-Some.found.1 in
     let away = abandons (case_of g.C.Claims.claims s).declaration s.place.routine (meaning_here g.C.Claims.claims s c.args.word) in
@@ -36,8 +36,8 @@ returns-in-Some-then-jumps_to_main-clause-found g c =
       not_of_lines_sought c.args.sought false refl,
     )
 
-pub returns-in-Some-clause-found : goal.returns-in-Some-clause-found
-returns-in-Some-clause-found g c =
+pub returns-else-jumps_to_main-clause-found : goal.returns-else-jumps_to_main-clause-found
+returns-else-jumps_to_main-clause-found g c =
     let s = c.args.point.now in
     let p : Words → Successor → Type 0 = λ beyond. OutcomeMisses (case_of g.C.Claims.claims s) s.place.routine beyond c.in-Some.found.0 c.in-Some.found.1 in
     let away = abandons (case_of g.C.Claims.claims s).declaration s.place.routine (meaning_here g.C.Claims.claims s c.args.word) in (

@@ -16,23 +16,20 @@ use Rattle.reasons.proofs.outcomes.misses_beyond.Goals as goal
 pub returns-in-Some-clause-found : goal.returns-in-Some-clause-found
 returns-in-Some-clause-found g c =
     let found = c.in-Some.found in
-    let h = c.in-Some.ensures.found in (
-      h.0,
-      misses_others c.args.sought (case_of g.C.Claims.claims c.args.point.now) c.args.point.now.place.routine (fact_in_code c.args.known.now) (brief_words c.args.targets.now) (words c.args.beyond.now) (words c.minus.result) found.0 found.1
-          (c.minus.ensures ∙ ap (λ (w : Words). difference w (words c.args.beyond.now)) c.put.ensures) h.1 h.2,
-    )
+    let h = c.in-Some.ensures.found in
+    let m = misses_others c.args.sought (case_of g.C.Claims.claims c.args.point.now) c.args.point.now.place.routine (fact_in_code c.args.known.now) (brief_words c.args.targets.now) (words c.args.beyond.now) (words c.minus.result) found.0 found.1
+    (c.minus.ensures ∙ ap (λ (w : Words). difference w (words c.args.beyond.now)) c.put.ensures) h.1 h.2 in
+    (h.0, m.0, m.1, m.2)
 
 pub returns-clause-found : goal.returns-clause-found
 returns-clause-found g c =
     let f = fact_in_code c.args.known.now in
     let main = is_as_main f _ _ _ _ _ c.misses_at.ensures.kept c.set_sites.ensures.fact c.empty.ensures c.set_offsets.ensures.fact c.none.ensures in
     some_weaker c.misses_in_main.result _ _
-    (λ found h. (
-      h.0,
-      misses_away c.args.sought (case_of g.C.Claims.claims c.args.point.now) c.args.point.now.place.routine f (brief_words c.args.targets.now) (words c.args.beyond.now) (words c.meet.result) found.0 found.1
+    (λ found h. (let m = misses_away c.args.sought (case_of g.C.Claims.claims c.args.point.now) c.args.point.now.place.routine f (brief_words c.args.targets.now) (words c.args.beyond.now) (words c.meet.result) found.0 found.1
           (c.meet.ensures ∙ ap (λ (w : Words). meet w (words c.args.beyond.now)) c.put.ensures) h.1
-          (subst (λ (x : Fact). MissesAs c.args.sought (case_of g.C.Claims.claims c.args.point.now) None found.0 x found.1) main h.2),
-    )) c.misses_in_main.ensures.found
+          (subst (λ (x : Fact). MissesAs c.args.sought (case_of g.C.Claims.claims c.args.point.now) None found.0 x found.1) main h.2) in
+    (h.0, m.0, m.1, m.2))) c.misses_in_main.ensures.found
 
 pub returns-clause-none : goal.returns-clause-none
 returns-clause-none g c =

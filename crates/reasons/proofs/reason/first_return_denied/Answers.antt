@@ -11,10 +11,10 @@ loop-returning-preserved g c =
     returned_more return_assertion_of (place_in_code c.args.place.now) (fact_in_code c.args.exit.now) c.args.entry c.args.offset c.args.returns.now c.loop-returning.returning-index c.returning-item.result c.loop-returning-test.true c.returning-item.is
     c.in_default.ensures.none.0 c.loop-returning.invariant
 
-pub returns-in-Some-denied_at_return-clause-found : goal.returns-in-Some-denied_at_return-clause-found
-returns-in-Some-denied_at_return-clause-found g c =
+pub returns-in-Some-clause-found : goal.returns-in-Some-clause-found
+returns-in-Some-clause-found g c =
     return_denied_in return_assertion_of (place_in_code c.args.place.now) (fact_in_code c.args.exit.now) c.args.entry c.args.offset _ _ c.args.returns.now c.loop-returning.returning-index c.returning-item.result c.loop-returning-test.true c.returning-item.is
-    c.in-Some-denied_at_return.ensures.found
+    c.in-Some.ensures.found
 
 pub returns-clause-none : goal.returns-clause-none
 returns-clause-none g c =

@@ -3,14 +3,12 @@ use Rattle.facts.specs.declared.Condition.TheVariants.{V16}
 use Rattle.judge.specs.Judged.{case_kept}
 use Rattle.reasons.proofs.ByLinesLemmas.{fails_by_lines, not_of_lines}
 use Rattle.reasons.proofs.FoundLemmas.{none_weaker}
-use Rattle.reasons.proofs.ReasonLemmas.{some_weaker}
+use Rattle.reasons.proofs.ReasonLemmas.{not_held_explains, some_weaker}
 use Rattle.reasons.proofs.stuck.why_by_words.Goals as goal
 
 pub returns-in-V16-clause-explained : goal.returns-in-V16-clause-explained
-returns-in-V16-clause-explained g c = some_weaker _ _ _ (λ x h. elim h [
-  | inl word ↦ inr (inr (inl (rw c.in-V16.is word)))
-  | inr exit ↦ inr (inr (inr (c.in-V16.is, exit)))
-]) c.why_not_held.ensures.found
+returns-in-V16-clause-explained g c = some_weaker c.why_not_held.result _ _
+    (λ x h. not_held_explains (case_kept g.C.Claims.claims c.args.case.now) c.args.condition c.args.at x c.in-V16.is h) c.why_not_held.ensures.found
 
 pub returns-in-V16-clause-none : goal.returns-in-V16-clause-none
 returns-in-V16-clause-none g c =

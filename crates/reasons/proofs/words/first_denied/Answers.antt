@@ -12,11 +12,11 @@ loop-holding-preserved g c =
     held_more place_assertion_of (place_in (case_of g.C.Claims.claims s) s.place.routine) (fact_asked s) s.at c.args.holds.now c.loop-holding.holding-index c.holding-item.result c.loop-holding-test.true c.holding-item.is
     c.in_default.ensures.none.0 c.loop-holding.invariant
 
-pub returns-in-Some-denied_here-clause-found : goal.returns-in-Some-denied_here-clause-found
-returns-in-Some-denied_here-clause-found g c =
+pub returns-in-Some-clause-found : goal.returns-in-Some-clause-found
+returns-in-Some-clause-found g c =
     let s = c.args.point.now in
     denies_in place_assertion_of (place_in (case_of g.C.Claims.claims s) s.place.routine) (fact_asked s) s.at c.args.holds.now c.loop-holding.holding-index c.holding-item.result _ c.loop-holding-test.true c.holding-item.is
-    c.in-Some-denied_here.ensures.found
+    c.in-Some.ensures.found
 
 pub returns-clause-none : goal.returns-clause-none
 returns-clause-none g c =

@@ -1,8 +1,9 @@
 //! How a word changes an entry that it may not change.
 
-ghost use Rattle.std.specs.Prelude.{ℕ, ◌≡◌, ◌<◌, true, false, IfNone, IfSome};
+ghost use Rattle.std.specs.Prelude.{ℕ, ◌≡◌, ◌<◌, ◌↔◌, true, false, IfNone, IfSome, IsTrue};
 ghost use Rattle.wordset.specs.Lanes.{words};
-ghost use Rattle.instruct.specs.Instructions.{operation_of};
+ghost use Rattle.instruct.specs.Instructions.{kind_of, operation_of};
+ghost use Rattle.instruct.specs.declared.Instruction.TheVariants.{Memory};
 ghost use Rattle.instruct.specs.declared.Operation.TheVariants.{Dca};
 ghost use Rattle.facts.specs.declared.Condition.TheVariants.{V14};
 ghost use Rattle.facts.specs.Conditions.{EntriesAreKept, reach};
@@ -61,6 +62,16 @@ fn first_entry<A: Allocator, C: Claims>(
     None
 }
 
+/// Whether a word is a memory reference.
+fn is_reference<A: Allocator, C: Claims>(point: &NarrowedPoint<'_, A, C>, word: Word) -> bool
+    ensures { IsTrue result ↔ (kind_of (meaning_here C.claims point.now word) ≡ Memory) }
+{
+    matches!(
+        decode(word, point.place.declaration.profile()),
+        Instruction::Memory
+    )
+}
+
 /// The running routine's own entry, if a word is a memory reference that names it, not through a pointer.
 fn own_entry_named<A: Allocator, C: Claims>(
     point: &NarrowedPoint<'_, A, C>,
@@ -70,7 +81,7 @@ fn own_entry_named<A: Allocator, C: Claims>(
     ensures { IfSome result (NamesOwn (case_of C.claims point.now) point.now.place.routine
         (operation_of word) (meaning_here C.claims point.now word)) }
 {
-    if decode(word, point.place.declaration.profile()) != Instruction::Memory {
+    if !is_reference(point, word) {
         return None;
     }
     if refers_indirectly(word) {

@@ -27,8 +27,8 @@ returns-clause-found g c =
     let main = is_as_main f _ _ _ _ _ c.misses_at.ensures.kept c.set_sites.ensures.fact c.empty.ensures c.set_offsets.ensures.fact c.none.ensures in
     some_weaker c.misses_in_main.result _ _
     (λ found h. (let m = misses_away c.args.sought (case_of g.C.Claims.claims c.args.point.now) c.args.point.now.place.routine f (brief_words c.args.targets.now) (words c.args.beyond.now) (words c.meet.result) found.0 found.1
-          (c.meet.ensures ∙ ap (λ (w : Words). meet w (words c.args.beyond.now)) c.put.ensures) h.1
-          (subst (λ (x : Fact). MissesAs c.args.sought (case_of g.C.Claims.claims c.args.point.now) None found.0 x found.1) main h.2) in
+    (c.meet.ensures ∙ ap (λ (w : Words). meet w (words c.args.beyond.now)) c.put.ensures) h.1
+    (subst (λ (x : Fact). MissesAs c.args.sought (case_of g.C.Claims.claims c.args.point.now) None found.0 x found.1) main h.2) in
     (h.0, m.0, m.1, m.2))) c.misses_in_main.ensures.found
 
 pub returns-clause-none : goal.returns-clause-none

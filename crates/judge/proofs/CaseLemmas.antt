@@ -1,8 +1,8 @@
 -- What was found of one claimed fact, from what the code read, put and asked.
-use Rattle.std.proofs.Common.{◌≡◌, ℕ, ◌+◌, ◌*◌, ◌<◌, ◌≤◌, Bool, true, false, not, Some, List, [], ◌∷◌, length, drop, map, suc, refl, sym, ap, ◌∙◌, subst, inl, inr, arith}
+use Rattle.std.proofs.Common.{◌≡◌, ℕ, ◌+◌, ◌*◌, ◌<◌, ◌≤◌, ◌==◌, Bool, true, false, not, Some, List, [], ◌∷◌, length, drop, map, suc, refl, sym, ap, ◌∙◌, subst, inl, inr, arith}
 use Rattle.std.proofs.Math.ListN.{drop_of_length-le}
 use Rattle.std.specs.Prelude.{IsTrue, ◌↔◌, if◌then◌else◌}
-use Rattle.std.proofs.lemmas.Bool.{true≢false, false≢true, cases_lt}
+use Rattle.std.proofs.lemmas.Bool.{true≢false, false≢true, cases_lt, eqb-true}
 use Rattle.wordset.specs.Words.{Words, HasNoneFrom, IsFirstFrom}
 use Rattle.processor.specs.Runs.{Image}
 use Rattle.declaration.specs.Declaration.{Routine, ReturnAssertion}
@@ -119,8 +119,9 @@ narrowing_fits f shape = let own : length f.chains.items ≡ length (fact_in_cod
 
 -- ---- what is to hold at returns
 
-pub empty_returns : (xs : List KeptReturnAssertion) (rs : List ReturnAssertion) → map return_assertion_of xs ≡ rs → xs ≡ [] → rs ≡ []
-empty_returns xs rs are none = sym are ∙ ap (λ (ys : List KeptReturnAssertion). map return_assertion_of ys) none
+pub empty_returns : (xs : List KeptReturnAssertion) (rs : List ReturnAssertion) → map return_assertion_of xs ≡ rs → (length xs == 0) ≡ true → rs ≡ []
+empty_returns [] rs are none = sym are
+empty_returns (x ∷ xs) rs are none = absurd (omega (arith, eqb-true (length (x ∷ xs)) 0 none))
 
 pub none_counted : (fs : List Fact) (n : ℕ) → n ≡ length fs → n ≡ 0 → fs ≡ []
 none_counted [] n count none = refl
@@ -167,7 +168,7 @@ abbrev pub HeldBefore : Case → ℕ → ℕ → Type 0
 HeldBefore j e n = (o : ℕ) → o < n → o < 64 → ExitsAreHeldBy j e o
 
 no_exit_for : (j : Case) (e o : ℕ) → has_any (j.certificate.exits e o) ≡ false → ExitsAreHeldBy j e o
-no_exit_for j e o no = exits_held j e o (none (j.certificate.exits e o) no)
+no_exit_for j e o empty = exits_held j e o (none (j.certificate.exits e o) empty)
   where
     none : (xs : List Fact) → has_any xs ≡ false → xs ≡ []
     none [] h = refl

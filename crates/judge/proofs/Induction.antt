@@ -153,12 +153,12 @@ module _ (j : Case) (dd : IsDeclared j.declaration) (valid : IsValid j) (start :
 
   -- no instruction but a JMP abandons calls
   stays : (r : Routine) (m : Meaning) (a : ℕ) → is_jump m ≡ false → abandons j.declaration r m a ≡ false
-  stays None m a no = refl
-  stays (Some e) (Jmp i c) a no = absurd (true≢false no)
-  stays (Some e) _ a no = refl
+  stays None m a plainly = refl
+  stays (Some e) (Jmp i c) a plainly = absurd (true≢false plainly)
+  stays (Some e) _ a plainly = refl
 
   keep_plain : (m : Meaning) (s t : State) (q : Answer) (ks : Calls) (h : Held s ks) → is_jump m ≡ false → Invariant s ks → NamesWord m → Fine j (current ks) s.pc h.fact m → GoesOn j.declaration m s.pc → IsOrdinary j.declaration m → Does m s q t → Invariant t ks
-  keep_plain m s t q ks h no inv n fine on plain does = keep_ordinary m s t q ks h (stays (current ks) m t.pc no) inv n fine on plain does
+  keep_plain m s t q ks h plainly inv n fine on plain does = keep_ordinary m s t q ks h (stays (current ks) m t.pc plainly) inv n fine on plain does
 
   -- the fourth law: a JMP by which all open calls are abandoned
   keep_abandoned : (m : Meaning) (s t : State) (q : Answer) (ks : Calls) (h : Held s ks) → abandons j.declaration (current ks) m t.pc ≡ true → Invariant s ks → NamesWord m → Fine j (current ks) s.pc h.fact m → GoesOn j.declaration m s.pc →

@@ -133,7 +133,7 @@ module _ (d : Declaration) (r : Routine) (m : Meaning) where
       by_routine (Some e) none = absurd (true≢false none)
 
   pub only_jumps_abandon : is_jump m ≡ false → (a : ℕ) → abandons d r m a ≡ false
-  only_jumps_abandon no a = by_routine r m no
+  only_jumps_abandon other a = by_routine r m other
     where
       by_routine : (q : Routine) (n : Meaning) → is_jump n ≡ false → abandons d q n a ≡ false
       by_routine None n none = refl

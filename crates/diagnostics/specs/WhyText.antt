@@ -58,7 +58,7 @@ asked_text condition.V10 = codes "the fact at the callee's first address allows 
 asked_text condition.V11 = codes "the fact at each return address allows what is possible"
 asked_text condition.V12 = codes "a return is through the routine's own entry, by declared offsets, and the exit lines allow what is possible"
 asked_text condition.V13 = codes "a HLT is at a declared halt"
-asked_text condition.V14 = codes "no word writes an entry, except that a JMS stores its return address there and an ISZ may increment the routine's own"
+asked_text condition.V14 = codes "no word writes an entry, except that a JMS stores its return address there, an ISZ may increment the routine's own, and a DCA may store in it where a `moves` line names it"
 asked_text condition.V15 = codes "each cell that a word may read is on the list of reads or is the routine's entry"
 asked_text condition.V16 = codes "what is declared to hold here, or when the routine of this entry returns, holds"
 

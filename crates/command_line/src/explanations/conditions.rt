@@ -85,7 +85,7 @@ static CONDITIONS: [Explanation; 16] = [
     Explanation {
         code: "V14",
         subject: Subject::Asked("return words are not overwritten"),
-        meaning: "no word writes an entry, except that a JMS stores its return address\nthere and an ISZ may increment the routine's own",
+        meaning: "no word writes an entry, except that a JMS stores its return address\nthere, an ISZ may increment the routine's own, and a DCA may store in it where\na `moves` line names it",
         advice: "A routine cannot make its caller skip on return by incrementing the\ncaller's return word. Let it make a skip return of its own, and let its caller\nthen increment its own return word. An ISZ may increment its routine's own\nentry, up to offset 7, or in version 3 up to 77, if it can store nowhere else.\nA routine that stores a computed return word with DCA needs a `moves` line; the\nDCA must name the entry itself, and each word that AC may hold there must be 0\nto 77 past the return address of each call. A routine that returns through a\ncopy of its return word, in another cell, gets no certificate: rule 1 is\nviolated.",
     },
     Explanation {

@@ -125,7 +125,10 @@ fn asserted_at<D: Allocator>(program: &AnalysedProgram<'_, D>, at: Word) -> Word
 }
 
 /// The cells of which something is declared to hold when the routine of an entry returns.
-pub(crate) fn returned_cells<D: Allocator>(program: &AnalysedProgram<'_, D>, entry: Word) -> WordSet {
+pub(crate) fn returned_cells<D: Allocator>(
+    program: &AnalysedProgram<'_, D>,
+    entry: Word,
+) -> WordSet {
     let mut cells = WordSet::empty();
     for returning in program.declaration.returns() {
         if returning.entry() == entry {

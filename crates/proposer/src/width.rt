@@ -105,7 +105,10 @@ fn keeps_sets<A: Allocator, B: Allocator>(given: &Declaration<A>, more: &Declara
 
 /// Whether each routine that may store in its entry still may, and calls may still be abandoned for each place for which they
 /// might.
-fn keeps_permissions<A: Allocator, B: Allocator>(given: &Declaration<A>, more: &Declaration<B>) -> bool
+fn keeps_permissions<A: Allocator, B: Allocator>(
+    given: &Declaration<A>,
+    more: &Declaration<B>,
+) -> bool
     ensures moves { result ≡ true → IsWithin (meaning given.now).moves (meaning more.now).moves }
     ensures abandon { result ≡ true →
         IsWithin (meaning given.now).abandon (meaning more.now).abandon }

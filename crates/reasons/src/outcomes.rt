@@ -293,7 +293,7 @@ fn some_miss<A: Allocator, C: Claims>(
 }
 
 /// The addresses for which the running routine abandons all open calls by a word: where it is not main and the word is a JMP
-/// they are the declared ones, and else there are none.
+/// and no return, they are the declared ones, and else there are none.
 fn abandoned_by<A: Allocator, C: Claims>(point: &NarrowedPoint<'_, A, C>, word: Word) -> WordSet
     requires { IsPoint C.claims point.now }
     ensures { words result ≡ abandons (case_of C.claims point.now).declaration point.now.place.routine
@@ -303,6 +303,9 @@ fn abandoned_by<A: Allocator, C: Claims>(point: &NarrowedPoint<'_, A, C>, word: 
         return WordSet::empty();
     }
     if !point.place.is_jump(word) {
+        return WordSet::empty();
+    }
+    if point.place.returned_entry(point.at, word).is_some() {
         return WordSet::empty();
     }
     *point.place.declaration.abandons()

@@ -515,7 +515,7 @@ is_valid V12 a asked = λ r b. each_by (IsFine r a) (HoldsForWords example V12 r
 is_valid V13 a asked = λ r b. each_by (IsFine r a) (HoldsForWords example V13 r a) (asked_at example r a) (λ f h w lw p. (h.each_word w p).v13) (all_fine a r b)
 is_valid V14 a asked = λ r b. each_by (IsFine r a) (HoldsForWords example V14 r a) (asked_at example r a) (λ f h w lw p. (h.each_word w p).v14) (all_fine a r b)
 is_valid V15 a asked = λ r b. each_by (IsFine r a) (HoldsForWords example V15 r a) (asked_at example r a) (λ f h w lw p. (h.each_word w p).v15) (all_fine a r b)
-is_valid V16 a asked = (
+is_valid V16 a here = (
   λ r b. each_by (IsFine r a) (HoldsForWords example V16 r a) (asked_at example r a) (λ f h w lw p. (h.each_word w p).v16) (all_fine a r b),
   λ o lt. all_held a o (asked OfEquations image (exits_of example a o)),
 )

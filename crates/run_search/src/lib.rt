@@ -7,7 +7,6 @@
 mod aiming;
 mod alphabet;
 mod asking;
-mod assertions;
 mod bits;
 mod hints;
 mod looks;

@@ -319,8 +319,8 @@ impl<A: Allocator + Copy> SumSearch<A> {
     }
 }
 
-/// The addresses for which the running routine abandons all open calls by a word that is no return: where it is not main and
-/// the word is a JMP, they are the declared ones, and else there are none.
+/// The addresses for which the running routine abandons all open calls by a word: where it is not main and the word is a JMP
+/// they are the declared ones, and else there are none.
 fn abandoned_by<D: Allocator>(place: &Place<'_, D>, word: Word) -> WordSet {
     if place.routine.is_none() || !place.is_jump(word) {
         return WordSet::empty();

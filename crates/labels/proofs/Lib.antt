@@ -4,4 +4,5 @@ pub mod MeantLemmas
 pub mod Numbers
 pub mod OneNumber
 pub mod Places
+pub mod Spaces
 pub mod Withins

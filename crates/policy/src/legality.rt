@@ -365,11 +365,11 @@ fn holds_at_return<A: Allocator>(
     match calls.last() {
         None => true,
         Some(call) => {
-            if call.entry != entry {
-                return true;
+            if call.entry == entry {
+                let offset = distance(cpu.memory.get(entry), call.after);
+                return each_holds_by(declaration.returns(), entry, offset, cpu);
             }
-            let offset = distance(cpu.memory.get(entry), call.after);
-            each_holds_by(declaration.returns(), entry, offset, cpu)
+            true
         }
     }
 }

@@ -76,7 +76,7 @@ fn is_subject(word: &[u8]) -> bool
 
 /// Whether the word behind the name of a line, or the end, stands where an address is to be.
 fn lacks_by(name: &[u8], next: Option<&[u8]>) -> bool
-    ensures { result ≡ lacks_by name.now (option_map (λ word. word.now) next) }
+    ensures { result ≡ lacks_by name.now (option_map (λ word. word.now) next.entry) }
 {
     match next {
         None => text::is(name, "moves") || text::is(name, "abandon"),
@@ -179,5 +179,8 @@ fn is_at(place: SourcePlace, word: &PlacedWord) -> bool
 pub(crate) fn address_on(words: &[PlacedWord], place: SourcePlace) -> Option<Word>
     ensures { result ≡ address_on words.now place }
 {
-    words.iter().find(|word| is_at(place, word)).map(|word| word.at)
+    words
+        .iter()
+        .find(|word| is_at(place, word))
+        .map(|word| word.at)
 }

@@ -7,7 +7,8 @@ use command_line::Task;
 use command_parts::status::Fault;
 use command_parts::visible::visible_bytes;
 use labels::{
-    Numbered, NumberingFault, PlaceFault, declared_lines, machine_of, name_declaration, number, place,
+    Numbered, NumberingFault, PlaceFault, declared_lines, machine_of, name_declaration, number,
+    place,
 };
 use pal_acts::{PlacedWord, SourcePlace};
 use pal_asm::{SourceMap, map_source};

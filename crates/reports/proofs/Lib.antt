@@ -1,2 +1,1 @@
-pub mod ReachedLemmas
 pub mod ShownLemmas

@@ -1,6 +1,5 @@
 pub mod Head
 pub mod Kinds
-pub mod Laws
 pub mod DraftText
 pub mod ReportText
 pub mod Shown

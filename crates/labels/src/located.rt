@@ -1,14 +1,13 @@
 //! Lines of a declaration beside a statement of a source, which may leave out its address.
 
-ghost use Rattle.std.specs.Prelude.{◌≡◌, ◌++◌, OnOk, Some};
+ghost use Rattle.std.specs.Prelude.{◌≡◌, ◌++◌, ◌∷◌, OnOk, Some, None};
 ghost use Rattle.std.specs.List.{list_all, list_any};
-ghost use Rattle.std.specs.Option.{option_map};
 ghost use Rattle.declaration.specs.Lines.{is_dash, is_subject};
 ghost use Rattle.streams.specs.Text.{words_of};
 ghost use Rattle.streams.specs.TextLeft.{words_left};
-ghost use Rattle.pal_asm.specs.Listings.{is_at};
+ghost use Rattle.word12.specs.Words.{octal_text};
 ghost use Rattle.labels.specs.Addresses.{is_digit};
-ghost use Rattle.labels.specs.Lines.{comment, said};
+ghost use Rattle.labels.specs.Lines.{comment, said, spaced};
 ghost use Rattle.labels.specs.Located.{address_on, are_offsets, is_of_range, is_offset, lacks_address, lacks_by, lacks_some, located, spaced_words, with_address};
 
 use crate::address::is_digit;
@@ -74,14 +73,11 @@ fn is_subject(word: &[u8]) -> bool
     text::is(word, "ac") || text::is(word, "mq") || text::is(word, "link") || text::is(word, "cell")
 }
 
-/// Whether the word behind the name of a line, or the end, stands where an address is to be.
-fn lacks_by(name: &[u8], next: Option<&[u8]>) -> bool
-    ensures { result ≡ lacks_by name.now (option_map (λ word. word.now) next.entry) }
+/// Whether a line that is its name alone leaves out its address.
+fn lacks_behind(name: &[u8]) -> bool
+    ensures { result ≡ lacks_by name.now None }
 {
-    match next {
-        None => text::is(name, "moves") || text::is(name, "abandon"),
-        Some(word) => lacks_before(name, word),
-    }
+    text::is(name, "moves") || text::is(name, "abandon")
 }
 
 /// Whether a word behind the name of a line stands where an address is to be.
@@ -102,9 +98,12 @@ fn lacks_address(line: &[u8]) -> bool
     ensures { result ≡ lacks_address (words_of line.now) }
 {
     let mut words = Words::of(line);
+    let Some(name) = words.next() else {
+        return false;
+    };
     match words.next() {
-        Some(name) => lacks_by(name, words.next()),
-        None => false,
+        Some(word) => lacks_before(name, word),
+        None => lacks_behind(name),
     }
 }
 
@@ -134,6 +133,25 @@ fn push_words<A: Allocator>(words: Words<'_>, text: &mut Vec<u8, A>) -> Result<(
     Ok(())
 }
 
+/// Adds the name of a line, an address, words and a comment, each behind a space but the first.
+fn push_addressed<A: Allocator>(
+    name: &[u8],
+    at: Word,
+    words: Words<'_>,
+    comment: &[u8],
+    text: &mut Vec<u8, A>,
+) -> Result<(), AllocError>
+    ensures { OnOk result (text.new.items ≡ text.old.items ++
+        (name.now ++ 32 ∷ octal_text at ++ spaced_words (words_left words.entry) ++
+        spaced comment.now)) }
+{
+    text.extend_from_slice(name)?;
+    text.push(b' ')?;
+    text.extend_from_slice(&at.to_octal())?;
+    push_words(words, text)?;
+    push_comment(comment, text)
+}
+
 /// Adds a line with an address behind its name.
 fn push_with_address<A: Allocator>(
     at: Word,
@@ -144,13 +162,10 @@ fn push_with_address<A: Allocator>(
         with_address at (words_of (said line.now)) (comment line.now)) }
 {
     let mut words = Words::of(said_of(line));
-    if let Some(name) = words.next() {
-        text.extend_from_slice(name)?;
-        text.push(b' ')?;
-        text.extend_from_slice(&at.to_octal())?;
-        push_words(words, text)?;
+    match words.next() {
+        Some(name) => push_addressed(name, at, words, comment_of(line), text),
+        None => push_comment(comment_of(line), text),
     }
-    push_comment(comment_of(line), text)
 }
 
 /// Adds a line beside a statement with this address, if there is a statement: with the address, where the line leaves it
@@ -162,17 +177,14 @@ pub(crate) fn push_located<A: Allocator>(
 ) -> Result<(), AllocError>
     ensures { OnOk result (text.new.items ≡ text.old.items ++ located at line.now) }
 {
-    match at {
-        Some(at) if lacks_address(said_of(line)) => push_with_address(at, line, text),
-        _ => text.extend_from_slice(line),
+    let Some(at) = at else {
+        return text.extend_from_slice(line);
+    };
+    if lacks_address(said_of(line)) {
+        push_with_address(at, line, text)
+    } else {
+        text.extend_from_slice(line)
     }
-}
-
-/// Whether a word stands at a place.
-fn is_at(place: SourcePlace, word: &PlacedWord) -> bool
-    ensures { result ≡ is_at place word.now }
-{
-    word.place.part == place.part && word.place.line == place.line
 }
 
 /// The address of the first of these words that stands at a place, if there is one.
@@ -181,6 +193,6 @@ pub(crate) fn address_on(words: &[PlacedWord], place: SourcePlace) -> Option<Wor
 {
     words
         .iter()
-        .find(|word| is_at(place, word))
+        .find(|word| word.place.part == place.part && word.place.line == place.line)
         .map(|word| word.at)
 }

@@ -130,8 +130,12 @@ fn push_lines<A: Allocator + Copy>(
             part: part.number,
             line: at + 1,
         };
-        let address = address_on(words, place);
-        push_declared(alloc, text, &part.source[line.start..line.end], address)?;
+        push_declared(
+            alloc,
+            text,
+            &part.source[line.start..line.end],
+            address_on(words, place),
+        )?;
     }
     Ok(())
 }

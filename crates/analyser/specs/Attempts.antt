@@ -1,5 +1,5 @@
 -- What a search came to.
-use Rattle.std.specs.Prelude.{◌≡◌, ◌<◌, ℕ, ⊤, Bool, true, false, List, Option}
+use Rattle.std.specs.Prelude.{◌≡◌, ◌<◌, ◌||◌, ℕ, ⊤, Bool, true, false, List, Option}
 use Rattle.declaration.specs.Declaration.{Declaration, Routine}
 use Rattle.declaration.specs.Kept as declared
 use Rattle.certificate_lines.specs.Certificate.{Certificate, has_any, has_exits}
@@ -31,10 +31,10 @@ pub record StandsRight (d : Declaration) (c : Certificate) (a : ℕ) : Type 0 wh
   pub routine : c.listed a ≡ true → d.entry a ≡ true
   pub exits : has_exits c a ≡ true → d.entry a ≡ true
 
--- A draft's lines are where they may be, and where it is stuck it has a fact.
+-- A draft's lines are where they may be. Where it is stuck it has a fact; or an exit, where what is declared of a return is not shown.
 pub record IsDraft (d : Declaration) (at : ℕ) (c : Certificate) : Type 0 where
   pub stands : (a : ℕ) → a < 4096 → StandsRight d c a
-  pub there : has_any (c.facts at) ≡ true
+  pub there : (has_any (c.facts at) || has_exits c at) ≡ true
 
 -- This is promised of a draft; nothing is said here of what was found.
 abbrev pub IsDraftIfStuck : {A : Type 0} → Declaration → Attempt A → Type 0

@@ -1,8 +1,8 @@
 //! Whether what a draft says is where it may be.
 
-ghost use Rattle.std.specs.Prelude.{◌≡◌, true};
+ghost use Rattle.std.specs.Prelude.{◌≡◌, ◌||◌, true};
 ghost use Rattle.declaration.specs.Kept.{meaning as declared};
-ghost use Rattle.certificate_lines.specs.Certificate.{has_any};
+ghost use Rattle.certificate_lines.specs.Certificate.{has_any, has_exits};
 ghost use Rattle.certificate_lines.specs.Kept.{claims};
 ghost use Rattle.analyser.specs.Attempts.{IsDraft, IsInSomeBody, StandsRight};
 
@@ -53,7 +53,30 @@ fn stands_right<A: Allocator, D: Allocator>(
     !draft.names(at)
 }
 
-/// Whether all lines are where they may be, and there is a fact where the draft is stuck.
+/// Whether there is an exit of the routine of an entry.
+#[tactic(auto, using(crate::proofs::DraftLemmas::has_exit))]
+fn has_exit<A: Allocator>(draft: &Certificate<A>, entry: Word) -> bool
+    ensures { result ≡ true → has_exits (claims draft.now) entry ≡ true }
+{
+    match draft.next_offset(entry, 0) {
+        Some(_) => true,
+        None => false,
+    }
+}
+
+/// Whether there is a fact at an address, or an exit of the routine whose entry it is.
+#[tactic(auto, using(crate::proofs::DraftLemmas::there_is_fact, crate::proofs::DraftLemmas::there_is_exit))]
+fn has_any_at<A: Allocator>(draft: &Certificate<A>, at: Word) -> bool
+    ensures { result ≡ true →
+        (has_any ((claims draft.now).facts at) || has_exits (claims draft.now) at) ≡ true }
+{
+    if has_fact(draft, at) {
+        return true;
+    }
+    has_exit(draft, at)
+}
+
+/// Whether all lines are where they may be, and there is a fact where the draft is stuck, or an exit.
 pub(crate) fn is_draft<A: Allocator, D: Allocator>(
     declaration: &Declaration<D>,
     draft: &Certificate<A>,
@@ -66,5 +89,5 @@ pub(crate) fn is_draft<A: Allocator, D: Allocator>(
             return false;
         }
     }
-    has_fact(draft, stuck)
+    has_any_at(draft, stuck)
 }

@@ -25,7 +25,7 @@ use bin_tape::Image;
 use certificate::Certificate;
 use certificate_lines::Version;
 use declaration::Declaration;
-use fixpoint::{AnalysedProgram, Halt, MANY_RUNS, ONE_RUN, Search};
+use fixpoint::{AnalysedProgram, Halt, MANY_RUNS, ONE_RUN, Patience, Search};
 use instruct::Profile;
 use judge::{Rooms, judge};
 use std::alloc::Allocator;
@@ -86,7 +86,33 @@ fn accepted<A: Allocator + Copy, D: Allocator>(
     }
 }
 
-/// Searches, and gives the certificate of what was found.
+/// Searches in one way, and gives the certificate of what was found.
+fn found_with<A: Allocator + Copy, D: Allocator>(
+    alloc: A,
+    search: &mut Search<A>,
+    program: &AnalysedProgram<'_, D>,
+    version: Version,
+    patience: Patience,
+    turns: &mut Turns,
+) -> Result<Certificate<A>, GuessFault>
+    ensures lines { IfOk result (λ c. AreLines (meaning c)) }
+    ensures version { IfOk result (λ c. (meaning c).version ≡ version) }
+    ensures accepted { IfOk result
+        (IsAccepted program.now.image.now program.now.declaration.now) }
+    ensures limit { turns.new.limit ≡ turns.old.limit }
+    ensures rises { turns.old.spent ≤ turns.new.spent }
+    ensures within { turns.new.spent ≤ turns.new.limit }
+    ensures spent { IfErr result (IsSpentUp turns.new) }
+{
+    search.run_with(program, patience, turns)?;
+    match search.finish(program, version) {
+        Ok(certificate) => accepted(alloc, program.image, program.declaration, certificate),
+        Err(halt) => Err(halt.fault()),
+    }
+}
+
+/// Searches, first quickly, and more and more patiently where no certificate is found that the judge accepts; gives the certificate
+/// of what was found.
 fn found_by<A: Allocator + Copy, D: Allocator>(
     alloc: A,
     search: &mut Search<A>,
@@ -103,11 +129,20 @@ fn found_by<A: Allocator + Copy, D: Allocator>(
     ensures within { turns.new.spent ≤ turns.new.limit }
     ensures spent { IfErr result (IsSpentUp turns.new) }
 {
-    search.run_all(program, turns)?;
-    match search.finish(program, version) {
-        Ok(certificate) => accepted(alloc, program.image, program.declaration, certificate),
-        Err(halt) => Err(halt.fault()),
-    }
+    turns.are_within();
+    let found = found_with(alloc, search, program, version, Patience::Soon, turns);
+    let Err(GuessFault::Stuck(_)) = &found else {
+        return found;
+    };
+    let found = found_with(alloc, search, program, version, Patience::QuickBack, turns);
+    let Err(GuessFault::Stuck(_)) = &found else {
+        return found;
+    };
+    let found = found_with(alloc, search, program, version, Patience::Patient, turns);
+    let Err(GuessFault::Stuck(_)) = &found else {
+        return found;
+    };
+    found_with(alloc, search, program, version, Patience::OfAllCells, turns)
 }
 
 /// Searches, and gives the certificate of what was found. Where its text is too long to be read again,
@@ -291,7 +326,7 @@ pub fn guess_or_draft_within<A: Allocator + Copy, D: Allocator>(
     // The judge accepts what is found.
     ensures accepted { IfOk result (IsAcceptedIfFound image.now declaration.now) }
     // A draft's facts stand in bodies and its routine and exit lines at entries, and it has a fact
-    // where it is stuck.
+    // where it is stuck, or an exit of the routine of this entry.
     ensures draft { IfOk result (IsDraftIfStuck (declared declaration.now)) }
     ensures lines { IfOk result (λ a. AreLines (meaning (claimed_by a))) }
     ensures version { IfOk result (HasVersionFor
@@ -325,7 +360,7 @@ pub fn guess_or_draft_counted<A: Allocator + Copy, D: Allocator>(
     // The judge accepts what is found.
     ensures accepted { IfOk result.0 (IsAcceptedIfFound image.now declaration.now) }
     // A draft's facts stand in bodies and its routine and exit lines at entries, and it has a fact
-    // where it is stuck.
+    // where it is stuck, or an exit of the routine of this entry.
     ensures draft { IfOk result.0 (IsDraftIfStuck (declared declaration.now)) }
     ensures lines { IfOk result.0 (λ a. AreLines (meaning (claimed_by a))) }
     ensures version { IfOk result.0 (HasVersionFor
@@ -353,7 +388,7 @@ pub fn guess_or_draft<A: Allocator + Copy, D: Allocator>(
     // The judge accepts what is found.
     ensures accepted { IfOk result (IsAcceptedIfFound image.now declaration.now) }
     // A draft's facts stand in bodies and its routine and exit lines at entries, and it has a fact
-    // where it is stuck.
+    // where it is stuck, or an exit of the routine of this entry.
     ensures draft { IfOk result (IsDraftIfStuck (declared declaration.now)) }
     ensures lines { IfOk result (λ a. AreLines (meaning (claimed_by a))) }
     ensures version { IfOk result (HasVersionFor
@@ -449,7 +484,7 @@ pub fn guess_version_or_draft<A: Allocator + Copy, D: Allocator>(
     // The judge accepts what is found.
     ensures accepted { IfOk result (IsAcceptedIfFound image.now declaration.now) }
     // A draft's facts stand in bodies and its routine and exit lines at entries, and it has a fact
-    // where it is stuck.
+    // where it is stuck, or an exit of the routine of this entry.
     ensures draft { IfOk result (IsDraftIfStuck (declared declaration.now)) }
     ensures lines { IfOk result (λ a. AreLines (meaning (claimed_by a))) }
     ensures version { IfOk result (HasVersion (declared declaration.now).profile version) }

@@ -170,21 +170,34 @@ code = record {
     others ReadsListed n = λ a h. inl tt
     others AssertionsHold n = unasserted _ _ _ _ refl refl
 
--- a NOP where AC is to have a word of an empty set
+-- a NOP where AC is 1
+abbrev begun_with_one : State
+begun_with_one = record { ac = 1; link = 0; mq = 0; pc = 0o200; memory = (begun 0o7000).memory }
+
+is_start_with_one : IsStart (image_with 0o7000) 0o200 begun_with_one
+is_start_with_one = record {
+  pc = refl;
+  ac = omega arith;
+  link = omega arith;
+  mq = omega arith;
+  words = (is_start 0o7000 (omega arith)).words;
+  loaded = (is_start 0o7000 (omega arith)).loaded;
+}
+
 pub assertions : BreaksAlone AssertionsHold (image_with 0o7000) asserting
 unfolding meaning_of
 assertions = record {
-  first = begun 0o7000;
-  start = is_start 0o7000 (omega arith);
+  first = begun_with_one;
+  start = is_start_with_one;
   answers = [];
-  before = begun 0o7000;
+  before = begun_with_one;
   calls = [];
   run = (refl, refl);
   broken = λ k. false≢true (k.places.0 refl);
   others = others;
 }
   where
-    others : (other : Rule) → (other ≡ AssertionsHold → ⊥) → Keeps other (image_with 0o7000) asserting (begun 0o7000) []
+    others : (other : Rule) → (other ≡ AssertionsHold → ⊥) → Keeps other (image_with 0o7000) asserting begun_with_one []
     others StaysInBody n = record { in_body = refl; supported = tt }
     others WritesDeclared n = λ a h. absurd (false≢true h)
     others CallsEntries n = tt

@@ -38,6 +38,8 @@ is_declared = record {
   entry_not_index = λ e h. (let q : e ≡ 0o210 = eqb-true e 0o210 h in rw q refl);
   stop_not_pause = λ a h. refl;
   halt_in_body = halts;
+  moves_entry = λ e h. absurd (false≢true h);
+  abandon_in_main = λ a h. absurd (false≢true h);
 }
   where
     not_in_body : (e : ℕ) (r : Routine) → (e == 0o210) ≡ true → body r e ≡ false

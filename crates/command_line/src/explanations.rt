@@ -1,5 +1,5 @@
 //! What is said about each condition, rule and fault, which are named by codes: what it asks or means, and what to do.
-//! The pages say the same. This is tested and not proved.
+//! `tests/explanations.py` makes the texts from the pages. Nothing is proved of them.
 
 mod conditions;
 mod faults;

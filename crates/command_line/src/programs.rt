@@ -139,7 +139,7 @@ impl<'a> ProgramNames<'a> {
 
 impl<'a> ProgramRequest<'a> {
     /// The names of the files, apart from the parts of a source.
-    pub(crate) fn names(&self) -> FileNames<'a> {
+    pub fn names(&self) -> FileNames<'a> {
         FileNames {
             tape: self.program.tape(),
             declaration: self.declaration,

@@ -39,7 +39,7 @@ pub enum MachineTask<'a> {
 
 impl<'a> MachineTask<'a> {
     /// The name of the command.
-    pub(crate) fn command(&self) -> &'static str {
+    pub fn command(&self) -> &'static str {
         match self {
             MachineTask::Run(_) | MachineTask::Session(_) => "run",
             MachineTask::Teletype(_) => "teletype",
@@ -48,7 +48,7 @@ impl<'a> MachineTask<'a> {
     }
 
     /// The names of its files.
-    pub(crate) fn names(&self) -> FileNames<'a> {
+    pub fn names(&self) -> FileNames<'a> {
         match self {
             MachineTask::Run(run) => run.names(),
             MachineTask::Session(session) => session.names(),

@@ -1,6 +1,8 @@
 //! The values of options and operands that several commands have.
 
-ghost use Rattle.std.specs.Prelude.{◌≡◌, ◌≤◌, IfOk, Ok, Some, codes, is_some};
+ghost use Rattle.std.specs.Prelude.{◌≡◌, ◌≤◌, IfOk, IfErr, Ok, Some, codes, is_some};
+ghost use Rattle.std.specs.List.{count_by};
+ghost use Rattle.command_line.specs.Outputs.{is_standard_input};
 ghost use Rattle.command_line.specs.Options.{AreDeclareOptions, AreRefuteOptions, AreRunOptions, AreVerifyOptions, IsFlagGiven, IsNumberNamed, machine_given, machine_named, number_or, operand, start_given, value, value_or};
 
 use crate::refused::{Misuse, Refused};
@@ -219,9 +221,22 @@ pub(crate) fn verify_options(found: &ArgMatches<'_>) -> Result<VerifyOptions, Re
     })
 }
 
-/// Ensures that at most one of these is standard input.
-pub(crate) fn read_standard_input_once(names: &[&str]) -> Result<(), Refused> {
-    if names.iter().filter(|name| **name == "-").count() > 1 {
+/// Whether an input of this name is standard input.
+fn is_standard_input(name: &str) -> bool
+    ensures { result ≡ is_standard_input name.now }
+{
+    name == "-" || name == "/dev/stdin"
+}
+
+/// Ensures that at most one of these inputs is standard input.
+pub(crate) fn read_standard_input_once(names: &[&str]) -> Result<(), Refused>
+    ensures once { IfOk result (λ done.
+        count_by (λ name. is_standard_input name.now) names.now ≤ 1) }
+    ensures refused { IfErr result (λ fault.
+        2 ≤ count_by (λ name. is_standard_input name.now) names.now) }
+{
+    let count = names.iter().filter(|name| is_standard_input(name)).count();
+    if count > 1 {
         return Err(Refused::Misuse(Misuse::BothStandardInput));
     }
     Ok(())

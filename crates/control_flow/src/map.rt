@@ -24,7 +24,7 @@ pub struct Map {
     pub(crate) pauses: WordSet,
     /// The cells that JMS goes to.
     pub(crate) entries: WordSet,
-    /// By offset the entries whose routines may return so.
+    /// By offset the entries whose routines may return so by their words.
     pub(crate) returns: [WordSet; 8],
     /// The cells that ISZ or DCA name, and pointers that are stepped.
     pub(crate) stored: WordSet,
@@ -33,6 +33,8 @@ pub struct Map {
     pub(crate) jumped: WordSet,
     /// The cells in which runs were seen to halt, where another word may stand there.
     pub(crate) halted: WordSet,
+    /// The cells to which routines were seen to jump, though they are main's.
+    pub(crate) left: WordSet,
     /// The cells that can't be entries, by what runs were seen to do.
     pub(crate) banned: WordSet,
     pub(crate) round: Round,
@@ -43,6 +45,12 @@ pub struct Map {
 pub(crate) struct Round {
     /// The cells of the bodies.
     pub(crate) code: WordSet,
+    /// The cells of main's body.
+    pub(crate) main: WordSet,
+    /// The entries in which a DCA of their own routine stores, which names them.
+    pub(crate) moves: WordSet,
+    /// The cells of main to which routines jump.
+    pub(crate) abandons: WordSet,
     /// The cells that some instruction names as its operand or its pointer.
     pub(crate) named: WordSet,
     /// The cells that hold a HLT.
@@ -61,6 +69,9 @@ impl Round {
     fn new() -> Round {
         Round {
             code: WordSet::empty(),
+            main: WordSet::empty(),
+            moves: WordSet::empty(),
+            abandons: WordSet::empty(),
             named: WordSet::empty(),
             halts: WordSet::empty(),
             stores_anywhere: false,
@@ -87,6 +98,7 @@ impl Map {
             called: WordSet::empty(),
             jumped: WordSet::empty(),
             halted: WordSet::empty(),
+            left: WordSet::empty(),
             banned: WordSet::empty(),
             round: Round::new(),
         };
@@ -122,12 +134,15 @@ impl Map {
         !self.round.code.meet(&self.stored).is_empty()
     }
 
-    /// Whether the routine of an entry may return at an offset.
-    pub(crate) fn may_return(&self, entry: Word, offset: usize) -> bool {
-        match self.returns.get(offset) {
-            None => false,
-            Some(entries) => entries.contains(entry),
+    /// The offsets by which the routine of an entry may return: those that its words tell, and those by which runs were seen to.
+    pub(crate) fn offsets(&self, tape: &Tape<'_>, entry: Word) -> WordSet {
+        let mut offsets = tape.offsets(entry);
+        for index in 0..8usize {
+            if self.returns[index].contains(entry) {
+                offsets.insert(Word::from_index(index));
+            }
         }
+        offsets
     }
 
     /// Goes through all bodies until nothing new is found.
@@ -165,7 +180,9 @@ impl Map {
             offset: 0,
         });
         self.meet_visits(tape, &mut walk);
-        self.follow(tape, &mut walk)
+        let cells = self.follow(tape, &mut walk);
+        self.round.main = cells;
+        cells
     }
 
     /// Follows the body of an entry, and gives its cells. Those of bodies that were followed before
@@ -178,7 +195,18 @@ impl Map {
         };
         self.go(tape, &mut walk, &here, entry.increment());
         self.meet_visits(tape, &mut walk);
-        self.follow(tape, &mut walk)
+        let cells = self.follow(tape, &mut walk);
+        if walk.is_open {
+            self.forget_returns(entry);
+        }
+        cells
+    }
+
+    /// Forgets by which offsets a routine may return by its words.
+    fn forget_returns(&mut self, entry: Word) {
+        for entries in self.returns.iter_mut() {
+            entries.remove(entry);
+        }
     }
 
     /// Meets the cells of a body from which runs were seen to make steps.

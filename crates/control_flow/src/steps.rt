@@ -94,7 +94,7 @@ impl Map {
                 self.go_on(tape, walk, here);
             }
             Operation::Dca => {
-                self.store(address);
+                self.deposit(walk, word, address);
                 self.go_on(tape, walk, here);
             }
             Operation::Isz => self.count(tape, walk, here, address),
@@ -139,6 +139,17 @@ impl Map {
         }
     }
 
+    /// A DCA stores. One that names the routine's own entry stores its return word, and no word tells which that is.
+    fn deposit(&mut self, walk: &mut Walk, word: Word, address: &Option<Word>) {
+        match address {
+            Some(cell) if walk.is_own(*cell) && !refers_indirectly(word) => {
+                self.round.moves.insert(*cell);
+                walk.is_open = true;
+            }
+            _ => self.store(address),
+        }
+    }
+
     /// Goes on from ISZ. That of the routine's own entry counts the return word up, and doesn't skip.
     fn count(&mut self, tape: &Tape<'_>, walk: &mut Walk, here: &Spot, address: &Option<Word>) {
         if let Some(cell) = address {
@@ -176,11 +187,9 @@ impl Map {
             return;
         }
         self.entries.insert(entry);
-        for offset in 0..8usize {
-            if self.may_return(entry, offset) {
-                let to = here.at.increment().add(Word::from_index(offset));
-                self.go(tape, walk, here, to);
-            }
+        let offsets = self.offsets(tape, entry);
+        for offset in offsets.iter() {
+            self.go(tape, walk, here, here.at.increment().add(offset));
         }
     }
 
@@ -202,7 +211,16 @@ impl Map {
         }
         match address {
             None => self.jump_by_table(tape, walk, here),
-            Some(to) => self.go(tape, walk, here, *to),
+            Some(to) => self.jump_to(tape, walk, here, *to),
+        }
+    }
+
+    /// Goes on at the target of a JMP. From a routine's body a JMP to a cell of main's abandons all open calls.
+    fn jump_to(&mut self, tape: &Tape<'_>, walk: &mut Walk, here: &Spot, to: Word) {
+        if walk.entry.is_some() && self.round.main.contains(to) {
+            self.round.abandons.insert(to);
+        } else {
+            self.go(tape, walk, here, to);
         }
     }
 

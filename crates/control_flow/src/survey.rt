@@ -7,7 +7,7 @@ ghost use Rattle.peripherals.specs.World.{profile_of};
 
 use crate::ObservedRuns;
 use crate::map::Map;
-use crate::tape::{Tape, Visit, Visits};
+use crate::tape::{SeenReturn, Tape, Visit, Visits};
 use crate::variables::Breadth;
 use crate::walk::Spot;
 use bin_tape::Image;
@@ -45,6 +45,7 @@ pub struct Findings<A: Allocator> {
     /// From where steps were made.
     pub(crate) places: Vec<Visit, A>,
     pub(crate) owners: Vec<Option<Owner>, A>,
+    pub(crate) returns: Vec<SeenReturn, A>,
     /// The cells that were written, and those in which an instruction of a body stores by name.
     pub variables: WordSet,
     pub(crate) seen: ObservedRuns,
@@ -60,6 +61,7 @@ impl<A: Allocator> Findings<A> {
             visits: Some(Visits {
                 places: &self.places,
                 owners: &self.owners,
+                returns: &self.returns,
                 seen: self.seen,
             }),
         }
@@ -94,6 +96,8 @@ struct Survey<A: Allocator> {
     alloc: A,
     map: Map,
     places: Vec<Visit, A>,
+    /// The returns by offsets of which the words don't tell.
+    returns: Vec<SeenReturn, A>,
     /// The entries to which a JMS was seen to go.
     called: WordSet,
     /// The declaration by which runs are watched. All cells that are no code may change.
@@ -123,6 +127,7 @@ pub fn surveyed<A: Allocator + Copy>(
         alloc,
         map: *map,
         places: Vec::new(alloc),
+        returns: Vec::new(alloc),
         called: WordSet::empty(),
         declaration,
         lessons: 0,
@@ -247,10 +252,29 @@ impl<A: Allocator + Copy> Survey<A> {
         if self.lesson(image, search.record(), watcher, &sight) != Lesson::New {
             return Ok(false);
         }
+        self.take_return(watcher, &sight)?;
         self.lessons = self.lessons.saturating_add(1);
         search.sees(&sight);
         self.collect(search.record())?;
         self.widen(image, search.record())
+    }
+
+    /// Keeps the next step, if it is a return by an offset that is not declared.
+    fn take_return(&mut self, watcher: &Watcher<A>, sight: &Sight) -> Result<(), NoMemory>
+        ensures declaration { self.new.declaration ≡ self.old.declaration }
+    {
+        let word = watcher.world().cpu().memory.get(sight.at);
+        if Operation::of(word) != Operation::Jmp || !refers_indirectly(word) {
+            return Ok(());
+        }
+        let entry = target(word, sight.at);
+        let offset = sight.offset;
+        if sight.owner != Owner::Routine(entry) || self.declaration.has_offset(entry, offset) {
+            return Ok(());
+        }
+        self.returns
+            .push(SeenReturn { entry, offset })
+            .map_err(|_| NoMemory)
     }
 
     /// Collects from where steps were made, and which routines ran.
@@ -308,6 +332,7 @@ impl<A: Allocator + Copy> Survey<A> {
             visits: Some(Visits {
                 places: &self.places,
                 owners: &record.owners,
+                returns: &self.returns,
                 seen: seen_in(record),
             }),
         };
@@ -335,6 +360,10 @@ impl<A: Allocator + Copy> Survey<A> {
     ) -> Lesson
         ensures declaration { self.new.declaration ≡ self.old.declaration }
     {
+        if self.leaves_for_main(record, sight) {
+            self.map.left.insert(sight.at);
+            return Lesson::New;
+        }
         let lesson = self.lesson_of_place(image, record, sight);
         if lesson == Lesson::Never {
             return lesson;
@@ -348,6 +377,13 @@ impl<A: Allocator + Copy> Survey<A> {
             _ => Lesson::Nothing,
         };
         lesson.and(further)
+    }
+
+    /// Whether a routine has jumped to a cell of main, for which calls are not abandoned so far.
+    fn leaves_for_main(&self, record: &Record<A>, sight: &Sight) -> bool {
+        record.jumped == Some(sight.at)
+            && self.declaration.in_main(sight.at)
+            && !self.declaration.abandons().contains(sight.at)
     }
 
     /// What is learned of the place of a step: that it is in the running routine's body.
@@ -460,18 +496,13 @@ impl<A: Allocator + Copy> Survey<A> {
     }
 
     /// What is learned of how far after its call a routine returns.
-    fn lesson_of_offset(&mut self, entry: Word, offset: Word) -> Lesson
-        ensures declaration { self.new.declaration ≡ self.old.declaration }
-    {
+    fn lesson_of_offset(&self, entry: Word, offset: Word) -> Lesson {
         if self.declaration.has_offset(entry, offset) {
-            return Lesson::Nothing;
-        }
-        match self.map.returns.get_mut(offset.index()) {
-            Some(entries) => {
-                entries.insert(entry);
-                Lesson::New
-            }
-            None => Lesson::Never,
+            Lesson::Nothing
+        } else if offset.index() < 64 {
+            Lesson::New
+        } else {
+            Lesson::Never
         }
     }
 
@@ -487,11 +518,17 @@ impl<A: Allocator + Copy> Survey<A> {
             return Ok(None);
         }
         let owners = Vec::from_slice(self.alloc, &record.owners)?;
-        let Survey { map, places, .. } = self;
+        let Survey {
+            map,
+            places,
+            returns,
+            ..
+        } = self;
         Ok(Some(Findings {
             map,
             places,
             owners,
+            returns,
             variables: map.stored.union(&record.written).minus(&map.entries),
             seen: seen_in(record),
         }))

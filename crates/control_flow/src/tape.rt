@@ -7,12 +7,20 @@ use crate::walk::Spot;
 use bin_tape::Image;
 use declaration::Owner;
 use word12::Word;
+use wordset::WordSet;
 
 /// Where a step was made, and the running routine's entry, if it wasn't main.
 #[derive(Clone, Copy)]
 pub(crate) struct Visit {
     pub(crate) entry: Option<Word>,
     pub(crate) spot: Spot,
+}
+
+/// A return: the routine's entry, and by how much its return word was past the return address.
+#[derive(Clone, Copy)]
+pub(crate) struct SeenReturn {
+    pub(crate) entry: Word,
+    pub(crate) offset: Word,
 }
 
 /// From where steps were made.
@@ -22,6 +30,8 @@ pub(crate) struct Visits<'a> {
     pub(crate) places: &'a [Visit],
     /// By address the routine that ran when one was first made.
     pub(crate) owners: &'a [Option<Owner>],
+    /// The returns by offsets of which the words didn't tell.
+    pub(crate) returns: &'a [SeenReturn],
     pub(crate) seen: ObservedRuns,
 }
 
@@ -30,6 +40,17 @@ pub(crate) struct Visits<'a> {
 pub struct Tape<'a> {
     pub image: &'a Image,
     pub(crate) visits: Option<Visits<'a>>,
+}
+
+/// The offsets of those of some returns that are of the routine of an entry.
+fn offsets_of(returns: &[SeenReturn], entry: Word) -> WordSet {
+    let mut offsets = WordSet::empty();
+    for seen in returns {
+        if seen.entry == entry {
+            offsets.insert(seen.offset);
+        }
+    }
+    offsets
 }
 
 impl<'a> Tape<'a> {
@@ -51,6 +72,14 @@ impl<'a> Tape<'a> {
     /// In which runs it was seen what the program does, if there were runs.
     pub fn seen(&self) -> Option<ObservedRuns> {
         self.visits.map(|visits| visits.seen)
+    }
+
+    /// The offsets by which the routine of an entry was seen to return, though its words don't tell them.
+    pub(crate) fn offsets(&self, entry: Word) -> WordSet {
+        match self.visits {
+            None => WordSet::empty(),
+            Some(visits) => offsets_of(visits.returns, entry),
+        }
     }
 
     /// The routine that ran when a step was made from an address, if one was.

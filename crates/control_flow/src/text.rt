@@ -2,7 +2,9 @@
 
 ghost use Rattle.std.specs.Prelude.{◌≡◌, ◌++◌, ◌∷◌, OnOk};
 ghost use Rattle.word12.specs.Words.{octal_text};
-ghost use Rattle.control_flow.specs.Texts.{StaysInFront, range_text};
+ghost use Rattle.control_flow.specs.Texts.{StaysInFront, offset_text, offsets_text, range_text};
+ghost use Rattle.wordset.specs.Lanes.{words};
+ghost use Rattle.wordset.specs.Words.{between, meet};
 
 use crate::map::Map;
 use crate::tape::Tape;
@@ -92,6 +94,71 @@ pub fn push_reads<A: Allocator>(text: &mut Vec<u8, A>, cells: &WordSet) -> Resul
     push_cells(text, b"read", cells)
 }
 
+/// Adds an offset in two octal digits, after a space.
+fn push_offset<A: Allocator>(text: &mut Vec<u8, A>, offset: Word) -> Result<(), AllocError>
+    ensures { OnOk result (text.new.items ≡ text.old.items ++ 32 ∷ offset_text offset) }
+{
+    text.extend_from_slice(b" ")?;
+    let digits = offset.to_octal();
+    text.extend_from_slice(&digits[2..])
+}
+
+/// Adds a range of offsets, after a space: its first offset, and the last where it's another one.
+fn push_offsets<A: Allocator>(
+    text: &mut Vec<u8, A>,
+    first: Word,
+    last: Word,
+) -> Result<(), AllocError>
+    ensures { OnOk result (text.new.items ≡ text.old.items ++ 32 ∷ offsets_text first last) }
+{
+    push_offset(text, first)?;
+    if first == last {
+        return Ok(());
+    }
+    text.extend_from_slice(b"-")?;
+    let digits = last.to_octal();
+    text.extend_from_slice(&digits[2..])
+}
+
+/// Adds the line with the offsets above 7 by which the routine of an entry may return, without its end.
+pub fn push_skips<A: Allocator>(
+    text: &mut Vec<u8, A>,
+    entry: Word,
+    offsets: &WordSet,
+) -> Result<(), AllocError>
+    ensures { OnOk result (StaysInFront text.old.items text.new.items) }
+{
+    text.extend_from_slice(b"skips")?;
+    push_range(text, entry, entry)?;
+    for (first, last) in offsets.ranges() {
+        push_offsets(text, first, last)?;
+    }
+    Ok(())
+}
+
+/// The offsets of some that are above 7.
+pub fn above_seven(offsets: &WordSet) -> WordSet
+    ensures { words result ≡ meet (words offsets.now) (between 8 63) }
+{
+    offsets.meet(&WordSet::range(Word::from_index(8), Word::from_index(63)))
+}
+
+/// Adds a line with those offsets of a routine that are above 7, if there are any.
+pub fn push_further<A: Allocator>(
+    text: &mut Vec<u8, A>,
+    entry: Word,
+    offsets: &WordSet,
+) -> Result<(), AllocError>
+    ensures { OnOk result (StaysInFront text.old.items text.new.items) }
+{
+    let further = above_seven(offsets);
+    if further.is_empty() {
+        return Ok(());
+    }
+    push_skips(text, entry, &further)?;
+    text.extend_from_slice(b"\n")
+}
+
 impl Map {
     /// The text of the declaration with these variables.
     pub fn text<A: Allocator>(
@@ -107,8 +174,12 @@ impl Map {
         push_cells(&mut text, b"start", &WordSet::one(self.start))?;
         let mut again = *self;
         again.forget();
-        push_cells(&mut text, b"main", &again.follow_main(tape))?;
-        again.push_routines(&mut text, tape)?;
+        let main = again.follow_main(tape);
+        push_cells(&mut text, b"main", &main)?;
+        let entries = again.push_routines(&mut text, tape)?;
+        push_cells(&mut text, b"moves", &again.round.moves.meet(&entries))?;
+        let abandons = self.left.meet(&main).union(&again.round.abandons);
+        push_cells(&mut text, b"abandon", &abandons)?;
         push_cells(&mut text, b"var", variables)?;
         let halts = self.round.halts.union(&self.halted);
         let stops = halts.minus(&self.pauses);
@@ -149,21 +220,24 @@ impl Map {
         text.extend_from_slice(b"\n")
     }
 
-    /// Adds a line for each routine, whose bodies are followed again.
+    /// Adds the lines of each routine, whose bodies are followed again, and gives their entries.
     fn push_routines<A: Allocator>(
         &mut self,
         text: &mut Vec<u8, A>,
         tape: &Tape<'_>,
-    ) -> Result<(), AllocError> {
+    ) -> Result<WordSet, AllocError> {
+        let mut entries = WordSet::empty();
         let mut next = 0usize;
         while let Some(entry) = self.entries.first_from(next) {
             let body = self.follow_routine(tape, entry);
             if !body.is_empty() {
                 self.push_routine(text, tape, entry, &body)?;
+                push_further(text, entry, &self.offsets(tape, entry))?;
+                entries.insert(entry);
             }
             next = entry.index() + 1;
         }
-        Ok(())
+        Ok(entries)
     }
 
     /// Adds the line of a routine, with the name of its first word.
@@ -174,13 +248,14 @@ impl Map {
         entry: Word,
         body: &WordSet,
     ) -> Result<(), AllocError> {
+        let offsets = self.offsets(tape, entry);
         text.extend_from_slice(b"sub")?;
         push_word(text, entry)?;
         text.extend_from_slice(b" body")?;
         push_ranges(text, body)?;
         text.extend_from_slice(b" returns")?;
         for offset in 0..8usize {
-            if self.may_return(entry, offset) {
+            if offsets.contains(Word::from_index(offset)) {
                 text.extend_from_slice(b" ")?;
                 text.push(b'0' + offset as u8)?;
             }

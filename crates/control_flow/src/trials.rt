@@ -60,7 +60,7 @@ impl Map {
             let mut trial = *self;
             trial.called.insert(to);
             trial.settle(tape);
-            if trial.is_code_beside(self) {
+            if trial.is_code_beside(self) && trial.stays_as(self) {
                 *self = trial;
                 return;
             }
@@ -90,6 +90,11 @@ impl Map {
             }
         }
         words.meet(&all)
+    }
+
+    /// Whether routines jump to no other cells of main than before.
+    fn stays_as(&self, before: &Map) -> bool {
+        self.round.abandons.is_subset(&before.round.abandons)
     }
 
     /// Whether what is found beside what was found before is code.

@@ -21,11 +21,12 @@ impl Spot {
     }
 }
 
-/// A body while it is followed: the routine's entry, if it isn't main's; and by offset the cells that
-/// were met and those from which to go on.
+/// A body while it is followed: the routine's entry, if it isn't main's; whether its words don't tell by which offsets it returns;
+/// and by offset the cells that were met and those from which to go on.
 #[derive(Drop)]
 pub(crate) struct Walk {
     pub(crate) entry: Option<Word>,
+    pub(crate) is_open: bool,
     met: [WordSet; 8],
     waiting: [WordSet; 8],
 }
@@ -35,6 +36,7 @@ impl Walk {
     pub(crate) fn new(entry: Option<Word>) -> Walk {
         Walk {
             entry,
+            is_open: false,
             met: [WordSet::empty(); 8],
             waiting: [WordSet::empty(); 8],
         }
@@ -56,9 +58,11 @@ impl Walk {
         }
     }
 
-    /// Meets a cell, from which to go on if it wasn't met.
+    /// Meets a cell, from which to go on if it wasn't met. Where the return word was counted up by more than 7, this is most likely
+    /// done in a loop.
     pub(crate) fn meet(&mut self, spot: Spot) {
         let Some(met) = self.met.get_mut(spot.offset) else {
+            self.is_open = true;
             return;
         };
         if met.contains(spot.at) {

@@ -1,15 +1,17 @@
-//! What is said about a pointer where a search for a certificate is stuck: the words that it may hold there, and the
-//! last place where fewer were known. It is tested, not proved.
+//! What is said about a pointer where a search for a certificate is stuck: the words that it may hold there, those that would be
+//! enough, and the last place where fewer were known. It is tested, not proved.
 
 mod known;
 mod losses;
 mod relations;
 mod sets;
+mod sufficient;
 
 use crate::bounds::known::Known;
 use crate::bounds::losses::{Loss, loss_at, may_go_on, refers_to_memory};
 use crate::bounds::relations::{Relation, lost_relation};
 use crate::bounds::sets::push_set;
+use crate::bounds::sufficient::{sufficient_words, test_of_pointer};
 use bin_tape::Image;
 use certificate::Certificate;
 use command_parts::message::{Lines, push_text_and_address};
@@ -18,6 +20,7 @@ use domain::Location;
 use instruct::{name, refers_indirectly, target};
 use std::alloc::{AllocError, Allocator};
 use word12::Word;
+use wordset::WordSet;
 
 /// How many addresses there are.
 const ADDRESSES: usize = 4096;
@@ -124,12 +127,58 @@ pub fn push_bound<A: Allocator + Copy, L: Lines, D: Allocator, C: Allocator>(
     }
     push_text_and_address(text, b"the pointer ", pointer)?;
     text.push_text(b" may hold ")?;
-    push_set(text, &known.words_at(at, &Location::Cell(pointer)))?;
+    let words = known.words_at(at, &Location::Cell(pointer));
+    push_set(text, &words)?;
     text.push_text(b" there\n")?;
+    push_sufficient(text, image, declaration, at, pointer, &words)?;
     let Some(lost) = lost_before(alloc, image, declaration, &mut known, pointer, at)? else {
         return Ok(());
     };
     push_lost(alloc, text, image, declaration, draft, pointer, &lost)
+}
+
+/// Adds which of the words that a pointer may hold would be enough for the instruction at an address, if they are fewer, and which test
+/// in the same body could show it.
+fn push_sufficient<L: Lines, D: Allocator>(
+    text: &mut L,
+    image: &Image,
+    declaration: &Declaration<D>,
+    at: Word,
+    pointer: Word,
+    words: &WordSet,
+) -> Result<(), AllocError> {
+    let Some(word) = image.get(at) else {
+        return Ok(());
+    };
+    let sufficient = sufficient_words(declaration, at, word).meet(words);
+    if sufficient.is_empty() || words.is_subset(&sufficient) {
+        return Ok(());
+    }
+    text.push_text(b"for this instruction it would be enough if it held only ")?;
+    push_set(text, &sufficient)?;
+    text.push_text(b"\n")?;
+    push_test(text, image, declaration, at, pointer)
+}
+
+/// Adds the skip in the same body that tests a sum with a pointer, or that there is none.
+fn push_test<L: Lines, D: Allocator>(
+    text: &mut L,
+    image: &Image,
+    declaration: &Declaration<D>,
+    at: Word,
+    pointer: Word,
+) -> Result<(), AllocError> {
+    match test_of_pointer(image, declaration, at, pointer) {
+        Some(test) => {
+            push_text_and_address(text, b"the skip at ", test)?;
+            text.push_text(b" ")?;
+            push_name(text, image, declaration, test)?;
+            text.push_text(b" tests a sum with it and could show that\n")
+        }
+        None => text.push_text(
+            b"no skip in this body tests a sum with it; a test or a mask before the instruction could show that\n",
+        ),
+    }
 }
 
 /// Adds the relation that a loop loses, if the bound was lost where paths meet and there is one; otherwise where the

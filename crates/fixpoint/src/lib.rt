@@ -22,5 +22,5 @@ mod widening;
 pub use halt::Halt;
 pub use of_sums::{Split, SumProgram, SumSearch};
 pub use program::AnalysedProgram;
-pub use search::Search;
+pub use search::{Patience, Search};
 pub use widening::{MANY_RUNS, ONE_RUN};

@@ -124,6 +124,20 @@ fn asserted_at<D: Allocator>(program: &AnalysedProgram<'_, D>, at: Word) -> Word
     cells
 }
 
+/// The cells of which something is declared to hold when the routine of an entry returns.
+pub(crate) fn returned_cells<D: Allocator>(
+    program: &AnalysedProgram<'_, D>,
+    entry: Word,
+) -> WordSet {
+    let mut cells = WordSet::empty();
+    for returning in program.declaration.returns() {
+        if returning.entry() == entry {
+            cells = cells.union(&subject_cell(returning.assertion()));
+        }
+    }
+    cells
+}
+
 impl<A: Allocator + Copy> Needs<A> {
     /// What the words of a program need, where some cells are partners.
     pub(crate) fn of<D: Allocator>(

@@ -147,7 +147,7 @@ fn add_subject<D: Allocator>(cells: &mut WordSet, declaration: &Declaration<D>, 
 }
 
 /// Adds the variables of which something is declared to hold.
-fn add_asserted<D: Allocator>(cells: &mut WordSet, declaration: &Declaration<D>) {
+pub(crate) fn add_asserted<D: Allocator>(cells: &mut WordSet, declaration: &Declaration<D>) {
     for holding in declaration.holds() {
         add_subject(cells, declaration, holding.assertion().subject());
     }
@@ -225,15 +225,27 @@ fn counted(image: &Image, bodies: &WordSet) -> WordSet {
     cells
 }
 
-/// Words at which sets may end: the ends of what may be written, and the words that the tape puts into cells outside of
-/// bodies to which an instruction refers, each with what makes it 0. What a program compares, counts and points to
-/// is among these; a word of the tape to which no instruction refers is not, so it changes nothing.
+/// The ends of the words that are declared to hold somewhere.
+fn asserted_ends<D: Allocator>(declaration: &Declaration<D>) -> WordSet {
+    let mut words = WordSet::empty();
+    for holding in declaration.holds() {
+        words = words.union(&ends(holding.assertion().words()));
+    }
+    for returning in declaration.returns() {
+        words = words.union(&ends(returning.assertion().words()));
+    }
+    words
+}
+
+/// Words at which sets may end: the ends of what may be written and of what is declared to hold, and the words that the tape puts
+/// into cells outside of bodies to which an instruction refers, each with what makes it 0. What a program compares, counts and
+/// points to is among these; a word of the tape to which no instruction refers is not, so it changes nothing.
 fn landmarks<D: Allocator>(
     image: &Image,
     declaration: &Declaration<D>,
     bodies: &WordSet,
 ) -> WordSet {
-    let mut words = ends(declaration.variables());
+    let mut words = ends(declaration.variables()).union(&asserted_ends(declaration));
     for cell in referred(image, declaration, bodies).minus(bodies).iter() {
         if let Some(word) = image.get(cell) {
             words.insert(word);

@@ -265,11 +265,11 @@ to_few j _ a le h asks = absurd (false≢true asks)
 
 -- no exits are claimed at an address of a body
 no_exits : (j : Case) (a : ℕ) → RoutinesArePlaced j a → j.declaration.entry a ≡ false → has_exits j.certificate a ≡ false
-no_exits j a placed no = go (has_exits j.certificate a) refl
+no_exits j a placed outside = go (has_exits j.certificate a) refl
   where
     go : (b : Bool) → has_exits j.certificate a ≡ b → has_exits j.certificate a ≡ false
     go false is = is
-    go true is = absurd (true≢false (sym (placed (or_right (j.certificate.listed a) (has_exits j.certificate a) is)) ∙ no))
+    go true is = absurd (true≢false (sym (placed (or_right (j.certificate.listed a) (has_exits j.certificate a) is)) ∙ outside))
 
 pub exits_held : (j : Case) (e o : ℕ) → j.certificate.exits e o ≡ [] → ExitsAreHeldBy j e o
 exits_held j e o none =
@@ -277,7 +277,7 @@ exits_held j e o none =
     (sym (ap (λ (xs : List Fact). asked j.certificate.rules j.image (sited j.certificate.rules (j.certificate.sites e) xs)) none ∙ nothing_asked j.certificate.rules j.image (j.certificate.sites e))) tt
 
 pub no_exits_held : (j : Case) (e : ℕ) → has_exits j.certificate e ≡ false → ExitsAreHeld j e
-no_exits_held j e no o lt = exits_held j e o (none (j.certificate.exits e o) (none_of_some 64 (λ i. has_any (j.certificate.exits e i)) no o lt))
+no_exits_held j e empty o lt = exits_held j e o (none (j.certificate.exits e o) (none_of_some 64 (λ i. has_any (j.certificate.exits e i)) empty o lt))
   where
     none : (xs : List Fact) → has_any xs ≡ false → xs ≡ []
     none [] h = refl

@@ -1,8 +1,8 @@
 -- What was found of one claimed fact, from what the code read, put and asked.
-use Rattle.std.proofs.Common.{◌≡◌, ℕ, ◌+◌, ◌*◌, ◌<◌, ◌≤◌, Bool, true, false, not, Some, List, [], ◌∷◌, length, drop, map, suc, refl, sym, ap, ◌∙◌, subst, inl, inr, arith}
+use Rattle.std.proofs.Common.{◌≡◌, ℕ, ◌+◌, ◌*◌, ◌<◌, ◌≤◌, ◌==◌, Bool, true, false, not, Some, List, [], ◌∷◌, length, drop, map, suc, refl, sym, ap, ◌∙◌, subst, inl, inr, arith}
 use Rattle.std.proofs.Math.ListN.{drop_of_length-le}
 use Rattle.std.specs.Prelude.{IsTrue, ◌↔◌, if◌then◌else◌}
-use Rattle.std.proofs.lemmas.Bool.{true≢false, false≢true, cases_lt}
+use Rattle.std.proofs.lemmas.Bool.{true≢false, false≢true, cases_lt, eqb-true}
 use Rattle.wordset.specs.Words.{Words, HasNoneFrom, IsFirstFrom}
 use Rattle.processor.specs.Runs.{Image}
 use Rattle.declaration.specs.Declaration.{Routine, ReturnAssertion}
@@ -23,7 +23,7 @@ use Rattle.transfer.specs.Shaped.{HaveFewTerms}
 use Rattle.domain.specs.Narrowing.{narrowed}
 use Rattle.domain.specs.declared.sum_fact.SumFact.{SumFact}
 use Rattle.facts.proofs.KeepingLemmas.{narrowed_few, narrowed_short, narrowed_chains}
-use Rattle.judge.specs.Landing.{Case, place_in, sites_of, asked}
+use Rattle.judge.specs.Landing.{Case, place_in, sites_of, sited, asked}
 use Rattle.judge.specs.Conditions.{EachFact, ExitsAreHeld}
 use Rattle.judge.specs.Shapes.{HasShape, IsRoomy}
 use Rattle.judge.specs.Sources.{sited_one}
@@ -119,8 +119,9 @@ narrowing_fits f shape = let own : length f.chains.items ≡ length (fact_in_cod
 
 -- ---- what is to hold at returns
 
-pub empty_returns : (xs : List KeptReturnAssertion) (rs : List ReturnAssertion) → map return_assertion_of xs ≡ rs → xs ≡ [] → rs ≡ []
-empty_returns xs rs are none = sym are ∙ ap (λ (ys : List KeptReturnAssertion). map return_assertion_of ys) none
+pub empty_returns : (xs : List KeptReturnAssertion) (rs : List ReturnAssertion) → map return_assertion_of xs ≡ rs → (length xs == 0) ≡ true → rs ≡ []
+empty_returns [] rs are none = sym are
+empty_returns (x ∷ xs) rs are none = absurd (omega (arith, eqb-true (length (x ∷ xs)) 0 none))
 
 pub none_counted : (fs : List Fact) (n : ℕ) → n ≡ length fs → n ≡ 0 → fs ≡ []
 none_counted [] n count none = refl
@@ -158,12 +159,16 @@ module _ (j : Case) (e o : ℕ) where
       none_asked OfSums image = tt
       none_asked OfEquations image = tt
 
+  -- the exits have the sites that were read
+  pub by_sites : (s : Words) (t : Bool) → s ≡ j.certificate.sites e → IsTrue t ↔ EachFact one_held (asked j.certificate.rules j.image (sited j.certificate.rules s (j.certificate.exits e o))) → IsTrue t ↔ ExitsAreHeldBy j e o
+  by_sites s t same told = subst (λ (x : Words). IsTrue t ↔ EachFact one_held (asked j.certificate.rules j.image (sited j.certificate.rules x (j.certificate.exits e o)))) same told
+
 -- offset after offset
 abbrev pub HeldBefore : Case → ℕ → ℕ → Type 0
 HeldBefore j e n = (o : ℕ) → o < n → o < 64 → ExitsAreHeldBy j e o
 
 no_exit_for : (j : Case) (e o : ℕ) → has_any (j.certificate.exits e o) ≡ false → ExitsAreHeldBy j e o
-no_exit_for j e o no = exits_held j e o (none (j.certificate.exits e o) no)
+no_exit_for j e o empty = exits_held j e o (none (j.certificate.exits e o) empty)
   where
     none : (xs : List Fact) → has_any xs ≡ false → xs ≡ []
     none [] h = refl

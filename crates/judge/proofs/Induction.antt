@@ -1,5 +1,5 @@
 -- What holds at every moment of a declared run of a program with a valid certificate, and that each step keeps it.
-use Rattle.std.proofs.Common.{◌≡◌, ℕ, ◌+◌, ◌-◌, ◌<◌, ◌≤◌, ◌==◌, Bool, true, false, ◌&&◌, ◌⊎◌, Some, None, List, [], ◌∷◌, refl, sym, ap, ◌∙◌, subst, inl, inr, arith, lit≤, lit<}
+use Rattle.std.proofs.Common.{◌≡◌, ℕ, ◌+◌, ◌-◌, ◌<◌, ◌≤◌, ◌==◌, Bool, true, false, not, ◌&&◌, ◌⊎◌, Some, None, List, [], ◌∷◌, refl, sym, ap, ◌∙◌, subst, inl, inr, arith, lit≤, lit<}
 use Rattle.std.proofs.Math.Path.{fun_ext}
 use Rattle.std.specs.Prelude.{if◌then◌else◌}
 use Rattle.std.proofs.lemmas.Bool.{and_parts, true≢false, false≢true, eq-eqb}
@@ -153,12 +153,12 @@ module _ (j : Case) (dd : IsDeclared j.declaration) (valid : IsValid j) (start :
 
   -- no instruction but a JMP abandons calls
   stays : (r : Routine) (m : Meaning) (a : ℕ) → is_jump m ≡ false → abandons j.declaration r m a ≡ false
-  stays None m a no = refl
-  stays (Some e) (Jmp i c) a no = absurd (true≢false no)
-  stays (Some e) _ a no = refl
+  stays None m a plainly = refl
+  stays (Some e) (Jmp i c) a plainly = absurd (true≢false plainly)
+  stays (Some e) _ a plainly = refl
 
   keep_plain : (m : Meaning) (s t : State) (q : Answer) (ks : Calls) (h : Held s ks) → is_jump m ≡ false → Invariant s ks → NamesWord m → Fine j (current ks) s.pc h.fact m → GoesOn j.declaration m s.pc → IsOrdinary j.declaration m → Does m s q t → Invariant t ks
-  keep_plain m s t q ks h no inv n fine on plain does = keep_ordinary m s t q ks h (stays (current ks) m t.pc no) inv n fine on plain does
+  keep_plain m s t q ks h plainly inv n fine on plain does = keep_ordinary m s t q ks h (stays (current ks) m t.pc plainly) inv n fine on plain does
 
   -- the fourth law: a JMP by which all open calls are abandoned
   keep_abandoned : (m : Meaning) (s t : State) (q : Answer) (ks : Calls) (h : Held s ks) → abandons j.declaration (current ks) m t.pc ≡ true → Invariant s ks → NamesWord m → Fine j (current ks) s.pc h.fact m → GoesOn j.declaration m s.pc →
@@ -312,16 +312,19 @@ module _ (j : Case) (dd : IsDeclared j.declaration) (valid : IsValid j) (start :
       emptied false = refl
 
       -- a JMP that is no return: in main the list is empty already
-      jumps : (ls : Calls) (g : Held s ls) → Invariant s ls → Fine j (current ls) s.pc g.fact (Jmp i c) → IsOrdinary j.declaration (Jmp i c) → Invariant t (if j.declaration.abandon (place i c s.memory) then [] else ls)
-      jumps [] g iv f ordinary = subst (λ x. Invariant t x) (emptied (j.declaration.abandon (place i c s.memory))) (keep_ordinary (Jmp i c) s t q [] g refl iv n f on ordinary does)
-      jumps (l ∷ ls) g iv f ordinary = by_place (j.declaration.abandon (place i c s.memory)) refl
+      jumps : (i && j.declaration.entry c) ≡ false → (ls : Calls) (g : Held s ls) → Invariant s ls → Fine j (current ls) s.pc g.fact (Jmp i c) → Invariant t (if j.declaration.abandon (place i c s.memory) then [] else ls)
+      jumps e [] g iv f = subst (λ x. Invariant t x) (emptied (j.declaration.abandon (place i c s.memory))) (keep_ordinary (Jmp i c) s t q [] g refl iv n f on (plain i e) does)
+      jumps e (l ∷ ls) g iv f = by_place (j.declaration.abandon (place i c s.memory)) refl
         where
+          leaves : (b : Bool) → j.declaration.abandon (place i c s.memory) ≡ b → abandons j.declaration (Some l.entry) (Jmp i c) t.pc ≡ b
+          leaves b is = ap (λ (x : Bool). not x && j.declaration.abandon t.pc) e ∙ (ap j.declaration.abandon there ∙ is)
+
           by_place : (b : Bool) → j.declaration.abandon (place i c s.memory) ≡ b → Invariant t (if b then [] else l ∷ ls)
-          by_place true is = keep_abandoned (Jmp i c) s t q (l ∷ ls) g (ap j.declaration.abandon there ∙ is) iv n f on ordinary does
-          by_place false is = keep_ordinary (Jmp i c) s t q (l ∷ ls) g (ap j.declaration.abandon there ∙ is) iv n f on ordinary does
+          by_place true is = keep_abandoned (Jmp i c) s t q (l ∷ ls) g (leaves true is) iv n f on (plain i e) does
+          by_place false is = keep_ordinary (Jmp i c) s t q (l ∷ ls) g (leaves false is) iv n f on (plain i e) does
 
       go : (b : Bool) → (i && j.declaration.entry c) ≡ b → Invariant t (if b then returned ks else (if j.declaration.abandon (place i c s.memory) then [] else ks))
-      go false e = jumps ks h inv fine (plain i e)
+      go false e = jumps e ks h inv fine
       go true e = by_indirect i (and_parts i (j.declaration.entry c) e).0 fine does.1
         where
           en : j.declaration.entry c ≡ true

@@ -226,9 +226,13 @@ some_site f s x sites empty = (
 pub inside_body : (j : Case) (a : ℕ) (b : Body) (r : Routine) → b.routine ≡ r → j.declaration.body r a ≡ true → j.declaration.body b.routine a ≡ true
 inside_body j a b r is here = ap (λ (k : Routine). j.declaration.body k a) is ∙ here
 
+pub place_made : {A C : Type 0} (claims : C → Certificate) (k : KeptCase A C) (p : KeptPlace A) (r : Routine) (rules : KeptRules) →
+    p.image.now ≡ k.image.now → p.declaration.now ≡ k.declaration.now → p.routine ≡ r → p.rules ≡ rules → rules_of rules ≡ (claims k.claims.now).rules → place_in_code p ≡ place_in (case_kept claims k) r
+place_made claims k p r rules image declaration routine own same = rw (image, declaration, routine, own, same) refl
+
 pub start_place : {A C : Type 0} (claims : C → Certificate) (k : KeptCase A C) (p : KeptPlace A) (rules : KeptRules) →
     p.image.now ≡ k.image.now → p.declaration.now ≡ k.declaration.now → p.routine ≡ None → p.rules ≡ rules → rules_of rules ≡ (claims k.claims.now).rules → place_in_code p ≡ place_in (case_kept claims k) None
-start_place claims k p rules image declaration routine own same = rw (image, declaration, routine, own, same) refl
+start_place claims k p rules image declaration routine own same = place_made claims k p None rules image declaration routine own same
 
 -- by the rules of equations no site is asked for
 pub sites_free : (rules : Rules) (f : Fact) → rules ≡ OfEquations → IsTrue true ↔ HasSites rules f

@@ -1,9 +1,9 @@
 -- What is asked of a fact at an address, by its own place.
-use Rattle.std.proofs.Common.{◌≡◌, ℕ, ◌<◌, Bool, true, false, not, Some, None, List, [], ◌∷◌, ◌++◌, refl, sym, ap, ◌∙◌, subst, inl, inr}
-use Rattle.std.specs.Prelude.{IsTrue, ◌↔◌}
+use Rattle.std.proofs.Common.{◌≡◌, ℕ, ◌<◌, Bool, true, false, not, ◌&&◌, Some, None, List, [], ◌∷◌, ◌++◌, refl, sym, ap, ◌∙◌, subst, inl, inr}
+use Rattle.std.specs.Prelude.{IsTrue, ◌↔◌, if◌then◌else◌, is_some}
 use Rattle.std.proofs.lemmas.Bool.{and_parts, and_from, false≢true, true≢false}
 use Rattle.peripherals.specs.Loading.{image_of}
-use Rattle.declaration.specs.Declaration.{Routine}
+use Rattle.declaration.specs.Declaration.{Routine, Declaration}
 use Rattle.declaration.specs.Kept.{meaning}
 use Rattle.domain.specs.Facts.{Fact, Place, Rules}
 use Rattle.facts.specs.Entailment.{Entails, Lands, IsIdle, LandsBy}
@@ -12,7 +12,7 @@ use Rattle.wordset.specs.Words.{Words, all_words, nothing, only, has_some, meet,
 use Rattle.wordset.proofs.Tests.{none_of_some}
 use Rattle.wordset.proofs.Firsts.{IsOnly, only_word}
 use Rattle.instruct.specs.Instructions.{Meaning, Jms, Jmp}
-use Rattle.facts.specs.Instructions.{is_call, is_jump}
+use Rattle.facts.specs.Instructions.{is_call, is_jump, returned_through}
 use Rattle.transfer.specs.References.{stepped, targets}
 use Rattle.transfer.specs.Outcomes.{Successor, Goes, CallsTo, Returns, alive, given}
 use Rattle.transfer.specs.Operations.{outcomes_of}
@@ -21,7 +21,7 @@ use Rattle.facts.specs.declared.place.Place.{Place as KeptPlace}
 use Rattle.certificate_lines.specs.Certificate.{Certificate}
 use Rattle.judge.specs.declared.point.Point.{Point}
 use Rattle.judge.specs.Landing.{Case, place_in, facts_in, sited, sites_of, LandsAt, LandsBeyond, EachSuccessor, SuccessorLands, as_main, abandons}
-use Rattle.judge.specs.Jumps.{SuccessorStays, SuccessorJumps, MayAbandon}
+use Rattle.judge.specs.Jumps.{SuccessorLandsHere, SuccessorLandsBeyond, AbandonsIf}
 use Rattle.judge.specs.Points.{IsPoint, case_of}
 
 -- the place at hand is the one that is meant
@@ -103,8 +103,8 @@ pub each_same : (p q : Successor → Type 0) (os : List Successor) → ((o : Suc
 each_same p q [] same = (λ e. tt, λ e. tt)
 each_same p q (o ∷ os) same = let rest = each_same p q os same in (λ e. ((same o).0 e.0, rest.0 e.1), λ e. ((same o).1 e.0, rest.1 e.1))
 
--- the outcomes of an instruction that abandons calls for no address, and of a JMP in a routine
-pub stays_lands : (j : Case) (r : Routine) (m : Meaning) → MayAbandon false j r m → (o : Successor) → SuccessorStays j r o ↔ SuccessorLands j r m o
+-- the outcomes of an instruction that abandons calls for no address, and of a JMP in a routine that is no return
+pub stays_lands : (j : Case) (r : Routine) (m : Meaning) → AbandonsIf false j r m → (o : Successor) → SuccessorLandsHere j r o ↔ SuccessorLands j r m o
 stays_lands j r m none (Goes next f) = (
   λ h a lt has. subst (λ b. LandsBeyond b j r a f) (sym (none a lt)) (h a lt has),
   λ h a lt has. subst (λ b. LandsBeyond b j r a f) (none a lt) (h a lt has),
@@ -112,7 +112,7 @@ stays_lands j r m none (Goes next f) = (
 stays_lands j r m none (CallsTo next f) = (λ h. h, λ h. h)
 stays_lands j r m none (Returns f) = (λ h. h, λ h. h)
 
-pub jumps_land : (j : Case) (r : Routine) (m : Meaning) → MayAbandon true j r m → (o : Successor) → SuccessorJumps j r o ↔ SuccessorLands j r m o
+pub jumps_land : (j : Case) (r : Routine) (m : Meaning) → AbandonsIf true j r m → (o : Successor) → SuccessorLandsBeyond j r o ↔ SuccessorLands j r m o
 jumps_land j r m some (Goes next f) = (
   λ h a lt has. subst (λ b. LandsBeyond b j r a f) (sym (some a lt)) (h a lt has),
   λ h a lt has. subst (λ b. LandsBeyond b j r a f) (some a lt) (h a lt has),
@@ -124,23 +124,53 @@ pub told_of : {P Q : Type 0} (t : Bool) → IsTrue t ↔ P → P ↔ Q → IsTru
 told_of t told same = (λ q. same.0 (told.0 q), λ h. told.1 (same.1 h))
 
 -- whether a word may abandon calls
-pub in_main : (j : Case) (r : Routine) (m : Meaning) → r ≡ None → MayAbandon false j r m
-in_main j r m main = subst (λ x. MayAbandon false j x m) (sym main) (λ a lt. refl)
+module _ (d : Declaration) (r : Routine) (m : Meaning) where
+  pub main_abandons_none : is_some r ≡ false → (a : ℕ) → abandons d r m a ≡ false
+  main_abandons_none main a = by_routine r main
+    where
+      by_routine : (q : Routine) → is_some q ≡ false → abandons d q m a ≡ false
+      by_routine None none = refl
+      by_routine (Some e) none = absurd (true≢false none)
 
-pub no_jump : (j : Case) (r : Routine) (m : Meaning) → is_jump m ≡ false → MayAbandon false j r m
-no_jump j None m no a lt = refl
-no_jump j (Some e) (Jmp i c) no a lt = absurd (true≢false no)
-no_jump j (Some e) _ no a lt = refl
+  pub only_jumps_abandon : is_jump m ≡ false → (a : ℕ) → abandons d r m a ≡ false
+  only_jumps_abandon other a = by_routine r m other
+    where
+      by_routine : (q : Routine) (n : Meaning) → is_jump n ≡ false → abandons d q n a ≡ false
+      by_routine None n none = refl
+      by_routine (Some e) (Jmp i c) none = absurd (true≢false none)
+      by_routine (Some e) _ none = refl
 
-pub a_jump : (j : Case) (r : Routine) (m : Meaning) (b : Bool) → (r ≡ None → ⊥) → is_jump m ≡ true → b ≡ not (has_some j.declaration.abandon) → MayAbandon (not b) j r m
-a_jump j None m b routine jump none = absurd (routine refl)
-a_jump j (Some e) (Jmp i c) true routine jump none = λ a lt. none_of_some 4096 j.declaration.abandon (not_true (has_some j.declaration.abandon) (sym none)) a lt
-  where
-    not_true : (x : Bool) → not x ≡ true → x ≡ false
-    not_true false q = refl
-    not_true true q = absurd (true≢false (sym q))
-a_jump j (Some e) (Jmp i c) false routine jump none = λ a lt. refl
-a_jump j (Some e) _ b routine jump none = absurd (false≢true jump)
+  pub returns_abandon_none : is_some (returned_through d m) ≡ true → (a : ℕ) → abandons d r m a ≡ false
+  returns_abandon_none returns a = by_routine r m returns
+    where
+      by_test : (c : ℕ) (b : Bool) → is_some (if b then Some c else None) ≡ true → (not b && d.abandon a) ≡ false
+      by_test c true q = refl
+      by_test c false q = absurd (false≢true q)
+
+      by_routine : (q : Routine) (n : Meaning) → is_some (returned_through d n) ≡ true → abandons d q n a ≡ false
+      by_routine None n some = refl
+      by_routine (Some e) (Jmp i c) some = by_test c (i && d.entry c) some
+      by_routine (Some e) _ some = refl
+
+  pub jumps_abandon : is_some r ≡ true → is_jump m ≡ true → is_some (returned_through d m) ≡ false → (a : ℕ) → abandons d r m a ≡ d.abandon a
+  jumps_abandon routine jump returns a = by_routine r m routine jump returns
+    where
+      by_test : (c : ℕ) (b : Bool) → is_some (if b then Some c else None) ≡ false → (not b && d.abandon a) ≡ d.abandon a
+      by_test c true q = absurd (true≢false q)
+      by_test c false q = refl
+
+      by_routine : (q : Routine) (n : Meaning) → is_some q ≡ true → is_jump n ≡ true → is_some (returned_through d n) ≡ false → abandons d q n a ≡ d.abandon a
+      by_routine None n some leap none = absurd (false≢true some)
+      by_routine (Some e) (Jmp i c) some leap none = by_test c (i && d.entry c) none
+      by_routine (Some e) _ some leap none = absurd (false≢true leap)
+
+not_true : (b : Bool) → not b ≡ true → b ≡ false
+not_true true q = absurd (false≢true q)
+not_true false q = refl
+
+pub abandons_if : (j : Case) (r : Routine) (m : Meaning) (b : Bool) → ((a : ℕ) → abandons j.declaration r m a ≡ j.declaration.abandon a) → b ≡ not (has_some j.declaration.abandon) → AbandonsIf (not b) j r m
+abandons_if j r m true as_declared none = λ a lt. as_declared a ∙ none_of_some 4096 j.declaration.abandon (not_true (has_some j.declaration.abandon) (sym none)) a lt
+abandons_if j r m false as_declared none = λ a lt. as_declared a
 
 -- the addresses for which calls may be abandoned, and the others
 pub lands_split : (j : Case) (r : Routine) (f : Fact) (set others beyond : Words) (t : Bool) → others ≡ difference set j.declaration.abandon → beyond ≡ meet set j.declaration.abandon →
@@ -161,11 +191,7 @@ pub lands_not_here : (j : Case) (r : Routine) (f : Fact) (set others : Words) �
     (((a : ℕ) → a < 4096 → others a ≡ true → LandsAt j r a f) → ⊥) → IsTrue false ↔ ((a : ℕ) → a < 4096 → set a ≡ true → LandsBeyond (j.declaration.abandon a) j r a f)
 lands_not_here j r f set others are_others none = false_if (λ all. none (λ a lt has.
     let both = and_parts (set a) (not (j.declaration.abandon a)) (sym (ap (λ (w : Words). w a) are_others) ∙ has) in
-    subst (λ b. LandsBeyond b j r a f) (not_not (j.declaration.abandon a) both.1) (all a lt both.0)))
-  where
-    not_not : (b : Bool) → not b ≡ true → b ≡ false
-    not_not true q = absurd (false≢true q)
-    not_not false q = refl
+    subst (λ b. LandsBeyond b j r a f) (not_true (j.declaration.abandon a) both.1) (all a lt both.0)))
 
 pub is_as_main : (f g h k : Fact) (sites offsets : Words) → g ≡ f → h ≡ record g { sites = sites } → sites ≡ nothing → k ≡ record h { offsets = offsets } → offsets ≡ nothing → k ≡ as_main f
 is_as_main f g h k sites offsets same sited no_sites counted no_offsets = rw (counted, no_offsets, sited, no_sites, same) refl

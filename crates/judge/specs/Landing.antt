@@ -1,5 +1,5 @@
 -- What is judged, and where facts land in it.
-use Rattle.std.specs.Prelude.{◌≡◌, ℕ, ◌+◌, ◌<◌, Bool, true, false, ◌⊎◌, if◌then◌else◌, Some, None, List, [], ◌∷◌, map}
+use Rattle.std.specs.Prelude.{◌≡◌, ℕ, ◌+◌, ◌<◌, Bool, true, false, not, ◌&&◌, ◌⊎◌, if◌then◌else◌, Some, None, List, [], ◌∷◌, map}
 use Rattle.wordset.specs.Words.{plus, Words, nothing, one}
 use Rattle.instruct.specs.Instructions.{Meaning, Jmp}
 use Rattle.processor.specs.Runs.{Image}
@@ -72,10 +72,10 @@ LandsAtExit j e o f = Lands (place_in j (Some e)) f (exits_of j e o)
 abbrev pub as_main : Fact → Fact
 as_main f = record f { sites = nothing; offsets = nothing }
 
--- A JMP in a routine's body to a declared place abandons all open calls; no other instruction does, and none in main's body. Of a
--- return this is asked too, but its outcome goes on at no address.
+-- A JMP in a routine's body to a declared place abandons all open calls, unless it goes indirectly through an entry, which is a
+-- return. No other instruction does, and none in main's body.
 abbrev pub abandons : Declaration → Routine → Meaning → ℕ → Bool
-abandons d (Some e) (Jmp i c) a = d.abandon a
+abandons d (Some e) (Jmp i c) a = not (i && d.entry c) && d.abandon a
 abandons d _ _ a = false
 
 -- The fact lands at the address: in main's body as one of main's, where calls are abandoned for it; else in the same body.

@@ -548,7 +548,7 @@ impl<A: Allocator, C: Claims> Case<'_, A, C> {
         requires cells { K ≤ 132 }
         requires relations { S ≤ 68 }
         requires low { 2 ≤ limit }
-        requires high { limit ≤ 15 }
+        requires high { limit ≤ 16 }
         requires stands { (case_kept C.claims self.now).declaration.body body.now.routine at ≡ true }
         requires body { Tells (C.claims self.now.claims.now) body.now }
         requires ahead { IfSome following (λ f.

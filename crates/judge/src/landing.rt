@@ -8,7 +8,7 @@ ghost use Rattle.domain.specs.FactInCode.{fact_in_code};
 ghost use Rattle.transfer.specs.OutcomesInCode.{outcome_in, outcomes_in};
 ghost use Rattle.facts.specs.declared.Condition.TheVariants.{V4};
 ghost use Rattle.judge.specs.Landing.{LandsAt, LandsBeyond, EachSuccessor, sites_of};
-ghost use Rattle.judge.specs.Jumps.{SuccessorStays, SuccessorJumps, MayAbandon};
+ghost use Rattle.judge.specs.Jumps.{SuccessorLandsHere, SuccessorLandsBeyond, AbandonsIf};
 ghost use Rattle.judge.specs.Caches.{StandsAhead};
 ghost use Rattle.judge.specs.Points.{IsPoint, case_of, HoldsHere};
 
@@ -158,11 +158,11 @@ impl<A: Allocator, C: Claims, const K: usize, const S: usize> Point<'_, A, C, K,
         self.lands_at_each(&addresses, known, rooms)
     }
 
-    /// Whether an outcome of a word that is no JMP lands wherever it goes, if it is there and goes on.
+    /// Whether an outcome of a word that abandons no calls lands wherever it goes, if it is there and goes on.
     fn outcome_lands(&self, outcome: &mut Outcome, rooms: &mut LandingRooms) -> bool
         requires { IsPoint C.claims self.now }
         ensures { IsTrue result ↔
-            EachSuccessor (SuccessorStays (case_of C.claims self.now) self.now.place.routine)
+            EachSuccessor (SuccessorLandsHere (case_of C.claims self.now) self.now.place.routine)
             (outcome_in outcome.old) }
     {
         match &outcome.kind {
@@ -171,10 +171,10 @@ impl<A: Allocator, C: Claims, const K: usize, const S: usize> Point<'_, A, C, K,
         }
     }
 
-    /// Whether the running routine may abandon all open calls by a word: it isn't main, the word is a JMP, and there are places
-    /// for which calls may be abandoned.
+    /// Whether the running routine may abandon all open calls by a word: it isn't main, the word is a JMP and no return, and there
+    /// are places for which calls may be abandoned.
     fn may_abandon(&self, word: Word) -> bool
-        ensures { MayAbandon result (case_of C.claims self.now) self.now.place.routine
+        ensures { AbandonsIf result (case_of C.claims self.now) self.now.place.routine
             (meaning_of (case_of C.claims self.now).declaration.profile self.now.at word) }
     {
         if self.place.routine.is_none() {
@@ -183,16 +183,19 @@ impl<A: Allocator, C: Claims, const K: usize, const S: usize> Point<'_, A, C, K,
         if !self.place.is_jump(word) {
             return false;
         }
+        if self.place.returned_entry(self.at, word).is_some() {
+            return false;
+        }
         !self.place.declaration.abandons().is_empty()
     }
 
-    /// Whether an outcome of a JMP in a routine lands wherever it goes, if it is there and goes on: in main's body as one of
-    /// main's facts, where calls may be abandoned for the address; else in the routine's.
+    /// Whether an outcome of a JMP in a routine that is no return lands wherever it goes, if it is there and goes on: in main's
+    /// body as one of main's facts, where calls may be abandoned for the address; else in the routine's.
     #[inline(never)]
     fn jump_lands(&self, outcome: &mut Outcome, rooms: &mut LandingRooms) -> bool
         requires { IsPoint C.claims self.now }
         ensures { IsTrue result ↔ EachSuccessor
-            (SuccessorJumps (case_of C.claims self.now) self.now.place.routine)
+            (SuccessorLandsBeyond (case_of C.claims self.now) self.now.place.routine)
             (outcome_in outcome.old) }
     {
         match &outcome.kind {
@@ -244,11 +247,11 @@ impl<A: Allocator, C: Claims, const K: usize, const S: usize> Point<'_, A, C, K,
         true
     }
 
-    /// Whether each of some outcomes of a word that is no JMP and goes on lands wherever it goes.
+    /// Whether each of some outcomes of a word that abandons no calls lands wherever it goes.
     fn each_lands(&self, outcomes: &mut Outcomes, rooms: &mut LandingRooms) -> bool
         requires { IsPoint C.claims self.now }
         ensures { IsTrue result ↔
-            EachSuccessor (SuccessorStays (case_of C.claims self.now) self.now.place.routine)
+            EachSuccessor (SuccessorLandsHere (case_of C.claims self.now) self.now.place.routine)
             (outcomes_in outcomes.old) }
     {
         if !self.outcome_lands(&mut outcomes.first, rooms) {
@@ -263,11 +266,11 @@ impl<A: Allocator, C: Claims, const K: usize, const S: usize> Point<'_, A, C, K,
         self.outcome_lands(&mut outcomes.fourth, rooms)
     }
 
-    /// Whether each of some outcomes of a JMP in a routine that goes on lands wherever it goes.
+    /// Whether each of some outcomes of a JMP in a routine that is no return lands wherever it goes.
     fn each_jumps(&self, outcomes: &mut Outcomes, rooms: &mut LandingRooms) -> bool
         requires { IsPoint C.claims self.now }
         ensures { IsTrue result ↔ EachSuccessor
-            (SuccessorJumps (case_of C.claims self.now) self.now.place.routine)
+            (SuccessorLandsBeyond (case_of C.claims self.now) self.now.place.routine)
             (outcomes_in outcomes.old) }
     {
         if !self.jump_lands(&mut outcomes.first, rooms) {

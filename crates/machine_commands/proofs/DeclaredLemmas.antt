@@ -16,7 +16,7 @@ use Rattle.peripherals.specs.Seen.{seen_of}
 use Rattle.policy.specs.Runs.{HappensDeclared, resumed}
 use Rattle.policy.specs.WatchedSteps.{waits}
 use Rattle.policy.proofs.WatchLemmas.{goes_on}
-use Rattle.machine_commands.specs.DeclaredRun.{Ended, Goes, GoesOn, Here, Later, NeverDeclared, Over, StopsDeclared, Went, is_continue}
+use Rattle.machine_commands.specs.DeclaredRun.{Ended, Traces, Continues, Here, Later, NeverDeclared, Over, StopsDeclared, Went, is_continue}
 use Rattle.machine_commands.specs.Follows.{counted}
 use Rattle.machine_commands.specs.SessionParts.{steps_in}
 use Rattle.machine_commands.specs.StoppedParts.{Passes}
@@ -94,7 +94,7 @@ front_of es i e within is = drop_more es i e within ∙ ap (λ (x : Event). x �
 
 -- So many of the events led to x, with these lines and so many instructions: whatever the others bring comes behind them.
 pub record Gone (d : Declaration) (es : List Event) (w : WorldState) (i : ℕ) (lines : List ℕ) (n : ℕ) (x : WorldState) : Type 0 where
-  pub more : (ls : List ℕ) (m : ℕ) (y : WorldState) → Goes d (drop i es) x ls m y → Goes d es w (lines ++ ls) (n + m) y
+  pub more : (ls : List ℕ) (m : ℕ) (y : WorldState) → Traces d (drop i es) x ls m y → Traces d es w (lines ++ ls) (n + m) y
 
 pub gone_none : (d : Declaration) (es : List Event) (w : WorldState) → Gone d es w 0 [] 0 w
 gone_none d es w = record { more = λ ls m y goes. rw (zero-add m) goes }
@@ -104,14 +104,14 @@ pub gone_more : (d : Declaration) (es : List Event) (w : WorldState) (i : ℕ) (
     Gone d es w (i + 1) new (n + k) y
 gone_more d es w i lines new n k e x y gone within is happens line_is count_is = record {
   more = λ ls m z goes.
-      let step : Goes d (drop i es) x (trace_of d.profile x e y ++ ls) (counted (seen_of d.profile x e) + m) z = rw (front_of es i e within is) (Went e (drop (i + 1) es) x y z ls m happens goes) in
+      let step : Traces d (drop i es) x (trace_of d.profile x e y ++ ls) (counted (seen_of d.profile x e) + m) z = rw (front_of es i e within is) (Went e (drop (i + 1) es) x y z ls m happens goes) in
       rw (line_is, count_is, append_assoc lines (trace_of d.profile x e y) ls, add_assoc n (counted (seen_of d.profile x e)) m)
       (gone.more (trace_of d.profile x e y ++ ls) (counted (seen_of d.profile x e) + m) z step);
 }
 
-pub gone_all : (d : Declaration) (es : List Event) (w : WorldState) (i : ℕ) (lines : List ℕ) (n : ℕ) (x : WorldState) → Gone d es w i lines n x → length es ≤ i → Goes d es w lines n x
+pub gone_all : (d : Declaration) (es : List Event) (w : WorldState) (i : ℕ) (lines : List ℕ) (n : ℕ) (x : WorldState) → Gone d es w i lines n x → length es ≤ i → Traces d es w lines n x
 gone_all d es w i lines n x gone past =
-    let none : Goes d (drop i es) x [] 0 x = rw (drop_all i es past) (Ended x) in
+    let none : Traces d (drop i es) x [] 0 x = rw (drop_all i es past) (Ended x) in
     rw (append-nil lines, add-zero n) at (gone.more [] 0 x none)
 
 -- So many of the events have passed: where the others stop, or never do, all of them do.
@@ -136,7 +136,7 @@ declared_more stops d es w i visits more e x y passed within is passes happens =
       rw same at (passed.stop_later (suc count) later);
   never_later = λ never.
       let here : NeverDeclared stops d (visits_with stops visits x e) (drop (i + 1) es) y = rw passes.1 at never in
-      passed.never_later (rw (front_of es i e within is) (GoesOn visits e (drop (i + 1) es) x y passes.0 happens here));
+      passed.never_later (rw (front_of es i e within is) (Continues visits e (drop (i + 1) es) x y passes.0 happens here));
 }
 
 pub declared_here : (stops : Stops) (d : Declaration) (es : List Event) (w : WorldState) (i visits : ℕ) (e : Event) (x : WorldState) →

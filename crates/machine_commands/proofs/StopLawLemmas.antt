@@ -12,7 +12,7 @@ use Rattle.peripherals.proofs.OneLemmas.{one_world}
 use Rattle.machine_commands.specs.declared.follow.End.{End}
 use Rattle.machine_commands.specs.Follows.{Follows, Ended, Stuck, Stopped, Went, counted, goes_on}
 use Rattle.machine_commands.specs.StopLaws.{GoesOnTo, StoppedIsNotNever, StoppedRunsAreFronts, StopsAreOne}
-use Rattle.machine_commands.specs.Stops.{Ends, GoesOn, Here, Later, NeverStops, Over, StopsAfter, stops_before, visits_with}
+use Rattle.machine_commands.specs.Stops.{Ends, Continues, Here, Later, NeverStops, Over, StopsAfter, stops_before, visits_with}
 use Rattle.machine_commands.specs.Trace.{trace_of}
 use Rattle.std.proofs.lemmas.Bool.{true≢false, false≢true}
 
@@ -94,9 +94,9 @@ stops_are_one stops p h es w count other = one_stop stops p h 0 es w count other
 not_never : (stops : Stops) (p : Profile) (h : Bool) (visits : ℕ) (es : List Event) (w : WorldState) (count : ℕ) →
     StopsAfter stops p h visits es w count → NeverStops stops p h visits es w → ⊥
 not_never stops p h visits es w count (Here _ e fs _ on) (Ends _ _ _ _ off over) = absurd (true≢false (sym on ∙ off))
-not_never stops p h visits es w count (Here _ e fs _ on) (GoesOn _ _ _ _ m off goes happens never) = absurd (true≢false (sym on ∙ off))
+not_never stops p h visits es w count (Here _ e fs _ on) (Continues _ _ _ _ m off goes happens never) = absurd (true≢false (sym on ∙ off))
 not_never stops p h visits es w count (Later _ k e fs _ m off goes happens later) (Ends _ _ _ _ off' over) = absurd (true≢false (sym goes ∙ over))
-not_never stops p h visits es w count (Later _ k e fs _ m off goes happens later) (GoesOn _ _ _ _ n off' goes' happens' never) =
+not_never stops p h visits es w count (Later _ k e fs _ m off goes happens later) (Continues _ _ _ _ n off' goes' happens' never) =
     let same : n ≡ m = one_world p w e n m happens' happens in
     not_never stops p h (visits_with stops visits w e) fs m k later (subst (λ (y : WorldState). NeverStops stops p h (visits_with stops visits w e) fs y) same never)
 

@@ -11,7 +11,7 @@ use Rattle.peripherals.specs.Events.{Happens}
 use Rattle.peripherals.specs.Seen.{seen_of}
 use Rattle.machine_commands.specs.Follows.{goes_on}
 use Rattle.processor.specs.Machine.{State}
-use Rattle.machine_commands.specs.Stops.{StopsAfter, Here, Later, NeverStops, Over, Ends, GoesOn, is_asked_for, stops_before, visits_with}
+use Rattle.machine_commands.specs.Stops.{StopsAfter, Here, Later, NeverStops, Over, Ends, Continues, is_asked_for, stops_before, visits_with}
 
 -- so many of the events have passed: where the others stop, or never do, all of them do
 pub record Passed (stops : Stops) (p : Profile) (ends : Bool) (es : List Event) (w : WorldState) (index visits : ℕ) (x : WorldState) : Type 0 where
@@ -36,7 +36,7 @@ passed_more stops p ends es w i visits e x y passed within is off goes happens =
       let same : i + suc count ≡ i + 1 + count = omega arith in
       rw same at (passed.stop_later (suc count) later);
   never_later = λ never.
-      passed.never_later (rw (front_of es i e within is) (GoesOn visits e (drop (i + 1) es) x y off goes happens never));
+      passed.never_later (rw (front_of es i e within is) (Continues visits e (drop (i + 1) es) x y off goes happens never));
 }
 
 -- this event stops the run

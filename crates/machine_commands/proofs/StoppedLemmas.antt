@@ -30,7 +30,7 @@ use Rattle.machine_commands.specs.Session.{AppendsSome, BrokeOff, FrontsOf, Oper
 use Rattle.machine_commands.specs.SessionParts.{IsNext, IsPartOf, Played, PlayedFront, is_step, steps_in}
 use Rattle.machine_commands.specs.StoppedParts.{IsPartToStop, OperatedToStop, Passes, unstopped}
 use Rattle.machine_commands.specs.StoppedSession.{IsHeldToStop, StoppedSo, extent_to_stop, leaving, to_stop}
-use Rattle.machine_commands.specs.Stops.{Ends, GoesOn, Here, Later, NeverStops, Over, StopsAfter, stops_before, visits_with}
+use Rattle.machine_commands.specs.Stops.{Ends, Continues, Here, Later, NeverStops, Over, StopsAfter, stops_before, visits_with}
 use Rattle.machine_commands.specs.Trace.{traced}
 use Rattle.machine_commands.proofs.FollowLemmas.{front_after}
 use Rattle.machine_commands.proofs.SessionLemmas.{Sat, broke_front, device_goes, front_of_more, fronts_by, or_left, or_right, printer_done, sat_all, sat_completed, sat_more, sat_none, sat_to_fault, sat_to_halt, sat_to_stuck, sat_to_unread, some_of, whole_front}
@@ -92,7 +92,7 @@ unmet_more stops p es w visits e x y unmet off goes happens = record {
   later = λ rest count stop.
       rw (append_assoc es (e ∷ []) rest, one_longer es e count) (unmet.later (e ∷ rest) (suc count) (Later visits count e rest x y off goes happens stop));
   never = λ rest never.
-      rw (append_assoc es (e ∷ []) rest) (unmet.never (e ∷ rest) (GoesOn visits e rest x y off goes happens never));
+      rw (append_assoc es (e ∷ []) rest) (unmet.never (e ∷ rest) (Continues visits e rest x y off goes happens never));
 }
 
 stopped_so : (stops : Stops) (p : Profile) (es : List Event) (w : WorldState) (visits : ℕ) (x : WorldState) → Unmet stops p es w visits x → stops_before stops p visits x Step ≡ true → StoppedSo stops p true es w
@@ -222,7 +222,7 @@ UnstoppedFrom brings stops p t q w extent es = brings t.0 q w extent es × (q �
 
 never_on : (stops : Stops) (p q : Profile) (visits : ℕ) (e : Event) (es : List Event) (x m : WorldState) → stops_before stops p visits x e ≡ false → q ≡ p → goes_on true (seen_of q x e) ≡ true → Happens q x e m →
     NeverStops stops p true (visits_with stops visits x e) es m → NeverStops stops p true visits (e ∷ es) x
-never_on stops p q visits e es x m off same goes happens never = GoesOn visits e es x m off (rw same at goes) (rw same at happens) never
+never_on stops p q visits e es x m off same goes happens never = Continues visits e es x m off (rw same at goes) (rw same at happens) never
 
 never_last : (stops : Stops) (p q : Profile) (visits : ℕ) (e : Event) (x : WorldState) → stops_before stops p visits x e ≡ false → q ≡ p → goes_on true (seen_of q x e) ≡ false → NeverStops stops p true visits (e ∷ []) x
 never_last stops p q visits e x off same over = Ends visits e [] x off (rw same at over)

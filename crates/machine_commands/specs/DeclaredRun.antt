@@ -25,13 +25,13 @@ is_continue Continue = true
 is_continue _ = false
 
 -- From w these events of a declared run lead to x, with this trace, in so many instructions.
-pub data Goes (d : Declaration) : List Event → WorldState → List ℕ → ℕ → WorldState → Type 0 where
+pub data Traces (d : Declaration) : List Event → WorldState → List ℕ → ℕ → WorldState → Type 0 where
   -- there is no event left
-  Ended : (w : WorldState) → Goes d [] w [] 0 w
+  Ended : (w : WorldState) → Traces d [] w [] 0 w
   -- the first event happens, and the others follow
   Went : (e : Event) (es : List Event) (w m x : WorldState) (lines : List ℕ) (n : ℕ) →
-      HappensDeclared d w e m → Goes d es m lines n x →
-      Goes d (e ∷ es) w (trace_of d.profile w e m ++ lines) (counted (seen_of d.profile w e) + n) x
+      HappensDeclared d w e m → Traces d es m lines n x →
+      Traces d (e ∷ es) w (trace_of d.profile w e m ++ lines) (counted (seen_of d.profile w e) + n) x
 
 -- From w, where so many steps before came to the address, the declared run of these events is stopped before one of them, the first that
 -- stops it. So many events come before that one.
@@ -49,7 +49,7 @@ pub data NeverDeclared (stops : Stops) (d : Declaration) : ℕ → List Event �
   -- there is no event left
   Over : (visits : ℕ) (w : WorldState) → NeverDeclared stops d visits [] w
   -- the first event does not stop it, and happens
-  GoesOn : (visits : ℕ) (e : Event) (es : List Event) (w m : WorldState) → stops_before stops d.profile visits w e ≡ false →
+  Continues : (visits : ℕ) (e : Event) (es : List Event) (w m : WorldState) → stops_before stops d.profile visits w e ≡ false →
       HappensDeclared d w e m → NeverDeclared stops d (visits_with stops visits w e) es m →
       NeverDeclared stops d visits (e ∷ es) w
 
@@ -63,7 +63,8 @@ abbrev pub up_to : Option ℕ → List Event → List Event
 up_to None events = events
 up_to (Some count) events = take count events
 
--- The declared run of these events from an image is stopped behind the first ones, or it is not stopped and these are all.
+-- The declared run of these events from an image is stopped behind the first ones, or it is not stopped and these are all. The stop is
+-- looked for in all the events, also behind a step that breaks a rule: what is told then is that rule, as `stopped_line` says.
 pub record IsDeclaredCut (stops : Stops) (d : Declaration) (image : List (Option ℕ)) (events cut : List Event) (stopped : Bool) : Type 0 where
   pub stop : Option ℕ
   pub is_stop : IsDeclaredStop stops d events (fresh image d.start) stop
@@ -89,5 +90,5 @@ pub record IsLinesBefore (image : List (Option ℕ)) (d : Declaration) (events :
   pub lines : List ℕ
   pub steps : ℕ
   pub final : WorldState
-  pub goes : Goes d (happening watched events) (fresh image d.start) lines steps final
+  pub goes : Traces d (happening watched events) (fresh image d.start) lines steps final
   pub text_is : text ≡ last_of last lines ++ stopped_line stopped watched final steps

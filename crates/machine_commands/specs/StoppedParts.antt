@@ -23,7 +23,8 @@ abbrev pub Passes : Stops → Profile → ℕ → WorldState → Event → Optio
 Passes stops profile visits w e None = stops_before stops profile visits w e ≡ true
 Passes stops profile visits w e (Some more) = (stops_before stops profile visits w e ≡ false) × (more ≡ visits_with stops visits w e)
 
--- A run came to its end in x, or it was stopped there, or a key interrupted it: the trace, if one was asked for, and the characters that were printed were appended.
+-- A run came to its end in x, or it was stopped there, or a key interrupted it: the trace, if one was asked for, and the characters that
+-- were printed were appended.
 pub record OperatedToStop (comes : Extent → List Event → Type 0) (left : Bool) (stops : Stops) (profile : Profile) (trace : Bool) (w : WorldState) (outcome : RunOutcome) (x : WorldState) (old new told_old told_new : Option (List ℕ)) : Type 0 where
   pub events : List Event
   pub stopped : Bool

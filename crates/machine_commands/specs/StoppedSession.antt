@@ -38,14 +38,15 @@ abbrev pub to_stop : Bool → List Event → List Event
 to_stop true events = events ++ Step ∷ []
 to_stop false events = events
 
--- How a run is said to have ended: where the program counter is, if a key interrupted it, and else as it ended.
+-- How a run is said to have ended: where the program counter is, if a key interrupted it, and else as it ended. A run that a key interrupts
+-- ends because a key is asked for and none is left, so it does not halt and is not stopped; this is tested, not proved.
 abbrev pub leaving : Bool → End → WorldState → End
 leaving true last x = end.Interrupted x.state.pc
 leaving false last x = last
 
--- From an image the events that come, up to the step before which the run is stopped if it is, and which is due then, lead to an end. The text is the trace, if
--- one is asked for, the summary, and the cells to be shown, each with its word in the world in which the run ended; and these are the
--- characters printed and the bytes punched. Where the run isn't told whole, this is what its first events leave.
+-- From an image the events that come, up to the step before which the run is stopped if it is, and which is due then, lead to an end.
+-- The text is the trace, if one is asked for, the summary, and the cells to be shown, each with its word in the world in which the run
+-- ended; and these are the characters printed and the bytes punched. Where the run is not told whole, this is what its first events leave.
 pub record IsHeldToStop (comes : Profile → WorldState → Extent → List Event → Type 0) (options : RunOptions) (stops : Stops) (form : SummaryForm) (extent : Extent) (left : Bool) (image : List (Option ℕ)) (text printed punched : List ℕ) (status : Status) : Type 0 where
   pub events : List Event
   pub stopped : Bool

@@ -87,7 +87,7 @@ pub data NeverStops (stops : Stops) (profile : Profile) (ends_at_halt : Bool) : 
   Ends : (visits : ℕ) (e : Event) (es : List Event) (w : WorldState) → stops_before stops profile visits w e ≡ false →
       goes_on ends_at_halt (seen_of profile w e) ≡ false → NeverStops stops profile ends_at_halt visits (e ∷ es) w
   -- the first event does not stop it, happens, and does not end the run
-  GoesOn : (visits : ℕ) (e : Event) (es : List Event) (w m : WorldState) → stops_before stops profile visits w e ≡ false →
+  Continues : (visits : ℕ) (e : Event) (es : List Event) (w m : WorldState) → stops_before stops profile visits w e ≡ false →
       goes_on ends_at_halt (seen_of profile w e) ≡ true → Happens profile w e m →
       NeverStops stops profile ends_at_halt (visits_with stops visits w e) es m →
       NeverStops stops profile ends_at_halt visits (e ∷ es) w

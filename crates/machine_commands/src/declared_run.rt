@@ -6,7 +6,7 @@ ghost use Rattle.peripherals.specs.Seen.{seen_of};
 ghost use Rattle.peripherals.specs.World.{view, profile_of};
 ghost use Rattle.declaration.specs.Kept.{meaning};
 ghost use Rattle.policy.specs.Runs.{HappensDeclared};
-ghost use Rattle.machine_commands.specs.DeclaredRun.{Goes, IsDeclaredCut, IsDeclaredStop, IsLinesBefore, is_continue, last_of, stopped_line, up_to};
+ghost use Rattle.machine_commands.specs.DeclaredRun.{Traces, IsDeclaredCut, IsDeclaredStop, IsLinesBefore, is_continue, last_of, stopped_line, up_to};
 ghost use Rattle.policy.specs.WatchedSteps.{waits};
 ghost use Rattle.machine_commands.specs.Follows.{counted};
 ghost use Rattle.machine_commands.specs.Running.{fresh};
@@ -98,7 +98,7 @@ fn go_through<A: Allocator, B: Allocator, D: Allocator>(
     events: &[Event],
 ) -> Result<DeclaredTrace<A>, NoMemory>
     requires { profile_of world.old ≡ (meaning declaration.now).profile }
-    ensures goes { IfOk result (λ run. Goes (meaning declaration.now) events.now (view world.old)
+    ensures goes { IfOk result (λ run. Traces (meaning declaration.now) events.now (view world.old)
         run.lines.items run.steps (view world.new)) }
 {
     let mut trace = KeptTrace::new(alloc);

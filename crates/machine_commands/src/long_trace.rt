@@ -116,7 +116,7 @@ fn operand_access(cpu: &Cpu, reference: &Reference) -> Option<Access> {
 
 /// An instruction that is about to be carried out: where it stands, its word, and the cells that it uses.
 #[derive(Clone, Copy)]
-struct Coming {
+struct NextInstruction {
     at: Word,
     word: Word,
     pointer: Option<Access>,
@@ -124,16 +124,16 @@ struct Coming {
 }
 
 /// The instruction that is about to be carried out.
-fn instruction_at(cpu: &Cpu) -> Coming {
+fn instruction_at(cpu: &Cpu) -> NextInstruction {
     let (at, word) = (cpu.pc, cpu.memory.get(cpu.pc));
     match cpu.fetch() {
-        DecodedInstruction::Refers(reference) => Coming {
+        DecodedInstruction::Refers(reference) => NextInstruction {
             at,
             word,
             pointer: pointer_access(cpu, &reference),
             operand: operand_access(cpu, &reference),
         },
-        _ => Coming {
+        _ => NextInstruction {
             at,
             word,
             pointer: None,
@@ -160,7 +160,7 @@ fn push_access<A: Allocator>(
 /// Adds the words of the cells that an instruction used.
 fn push_accesses<A: Allocator>(
     line: &mut Vec<u8, A>,
-    came: &Coming,
+    came: &NextInstruction,
     cpu: &Cpu,
 ) -> Result<(), AllocError> {
     if let Some(used) = came.pointer {
@@ -190,7 +190,7 @@ fn push_registers<A: Allocator>(line: &mut Vec<u8, A>, cpu: &Cpu) -> Result<(), 
 /// The line of an instruction that was carried out.
 fn line_of<A: Allocator, N: Statements>(
     alloc: A,
-    came: &Coming,
+    came: &NextInstruction,
     cpu: &Cpu,
     statements: &N,
 ) -> Result<Vec<u8, A>, AllocError> {
@@ -208,7 +208,7 @@ fn line_of<A: Allocator, N: Statements>(
 fn put_line<A: Allocator, N: Statements, W: ByteSink>(
     alloc: A,
     seen: &Seen,
-    came: &Coming,
+    came: &NextInstruction,
     cpu: &Cpu,
     statements: &N,
     out: &mut W,

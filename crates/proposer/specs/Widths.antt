@@ -12,7 +12,8 @@ pub record KeepsCell (given more : Declaration) (a : ℕ) : Type 0 where
 
 -- The second declaration is as wide as the first: start and machine are the same; each cell is still in the body that it was
 -- in, each entry is an entry with all its offsets, and each variable a variable; each halt is a halt, though a pause may have
--- become a stop; and every cell may be read.
+-- become a stop; each routine that may store in its entry still may, and calls may still be abandoned for each place for which
+-- they might; and every cell may be read.
 pub record IsAsWide (given more : Declaration) : Type 0 where
   pub start_is : more.start ≡ given.start
   pub profile_is : more.profile ≡ given.profile
@@ -20,4 +21,6 @@ pub record IsAsWide (given more : Declaration) : Type 0 where
   pub variables : IsWithin given.variable more.variable
   pub stops : IsWithin given.stop (union more.stop more.pause)
   pub pauses : IsWithin given.pause (union more.stop more.pause)
+  pub moves : IsWithin given.moves more.moves
+  pub abandon : IsWithin given.abandon more.abandon
   pub reads : more.reads ≡ None

@@ -24,6 +24,8 @@ pub struct Evidence<A: Allocator> {
     pub(crate) continued: WordSet,
     /// The halts after which it leads to what no declaration allows, if the operator goes on.
     pub(crate) stopped: WordSet,
+    /// The address to which the last step led, if it was a JMP in a routine's body and no return.
+    pub(crate) jumped: Option<Word>,
 }
 
 impl<A: Allocator + Copy> Evidence<A> {
@@ -40,6 +42,7 @@ impl<A: Allocator + Copy> Evidence<A> {
             written: WordSet::empty(),
             continued: WordSet::empty(),
             stopped: WordSet::empty(),
+            jumped: None,
         })
     }
 
@@ -78,6 +81,7 @@ impl<A: Allocator + Copy> Evidence<A> {
         self.called = WordSet::empty();
         self.written = WordSet::empty();
         self.continued = WordSet::empty();
+        self.jumped = None;
     }
 
     /// A step is about to be made.
@@ -97,6 +101,7 @@ impl<A: Allocator + Copy> Evidence<A> {
         if let Some(cell) = sight.stepped {
             self.written.insert(cell);
         }
+        self.jumped = sight.jumped;
     }
 
     /// The routine that runs was called.

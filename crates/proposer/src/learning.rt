@@ -23,7 +23,7 @@ pub enum Obstacle {
     Unset(Word),
     /// Control comes to a cell in which a JMS keeps a return address: an entry is in no body.
     RunsEntry(Word),
-    /// Two routines, or main and a routine, execute the cell: it can be in one body alone.
+    /// A JMS goes to the cell in front of this one, which another routine executes, or main: it can be in one body alone.
     Shared(Word),
     /// A JMS goes to a cell that is executed: an entry is in no body.
     CallsBody(Word),
@@ -35,7 +35,7 @@ pub enum Obstacle {
     StoresInEntry(Word),
     /// A return goes by the return address of another call than the last one.
     ReturnsForAnother(Word),
-    /// A routine returns to none of the eight cells after its call.
+    /// A routine returns to none of the 64 cells after its call.
     ReturnsFar(Word),
 }
 
@@ -152,6 +152,8 @@ fn add_code<A: Allocator + Copy>(
     for routine in found.routines() {
         add_routine(sketch, evidence, routine)?;
     }
+    let moves = found.moves().meet(&sketch.entries());
+    sketch.moves = sketch.moves.union(&moves);
     let variables = found.variables().minus(&sketch.entries());
     sketch.variables = sketch.variables.union(&variables);
     add_halts(sketch, evidence, found.stops(), found.pauses());
@@ -227,7 +229,19 @@ fn buffer_of<A: Allocator + Copy>(
     }
 }
 
-/// What is learned of the place of a step: that it is in the running routine's body.
+/// Whether a routine has jumped to a cell of main, for which calls are not abandoned so far.
+fn leaves_for_main<A: Allocator + Copy, D: Allocator>(
+    declaration: &Declaration<D>,
+    evidence: &Evidence<A>,
+    sight: &Sight,
+) -> bool {
+    evidence.jumped == Some(sight.at)
+        && declaration.in_main(sight.at)
+        && !declaration.abandons().contains(sight.at)
+}
+
+/// What is learned of the place of a step: that it is in the running routine's body. If the cell was executed before while another
+/// routine ran, or main, nothing is learned, since calls may have been abandoned in between.
 fn lesson_of_place<A: Allocator + Copy, D: Allocator>(
     image: &Image,
     declaration: &Declaration<D>,
@@ -246,9 +260,7 @@ fn lesson_of_place<A: Allocator + Copy, D: Allocator>(
         return Lesson::Never(Obstacle::Unsupported(at));
     }
     match evidence.owner(at) {
-        // A routine may leave for a cell of main, all calls being abandoned then: that is no obstacle, but is not proposed.
-        Some(Owner::Main) if sight.owner != Owner::Main => return Lesson::Unclear,
-        Some(owner) if owner != sight.owner => return Lesson::Never(Obstacle::Shared(at)),
+        Some(owner) if owner != sight.owner => return Lesson::Unclear,
         _ => {}
     }
     match declaration.owner_of(at) {
@@ -259,23 +271,24 @@ fn lesson_of_place<A: Allocator + Copy, D: Allocator>(
     }
 }
 
-/// What is learned of a cell that is written: that it may change. A routine may store its own return word, where that is
-/// declared; it is not proposed.
+/// Whether a word stores in the entry of the running routine, which it names: that may be declared.
+fn moves_entry(sight: &Sight, word: Word, cell: Word) -> bool {
+    sight.owner == Owner::Routine(cell)
+        && Operation::of(word) == Operation::Dca
+        && !refers_indirectly(word)
+}
+
+/// What is learned of a cell that is written: that it may change.
 fn lesson_of_store<A: Allocator + Copy, D: Allocator>(
     declaration: &Declaration<D>,
     evidence: &Evidence<A>,
-    owner: Owner,
     cell: Word,
 ) -> Lesson {
     if declaration.is_variable(cell) {
         return Lesson::Nothing;
     }
     if evidence.called.contains(cell) {
-        return if owner == Owner::Routine(cell) {
-            Lesson::Unclear
-        } else {
-            Lesson::Never(Obstacle::StoresInEntry(cell))
-        };
+        return Lesson::Never(Obstacle::StoresInEntry(cell));
     }
     if declaration.is_entry(cell) {
         return Lesson::Unclear;
@@ -330,10 +343,8 @@ fn lesson_of_return<A: Allocator + Copy, D: Allocator>(
         if declaration.has_offset(named, sight.offset) {
             return Lesson::Nothing;
         }
-        // The offsets 10 to 77 can be declared, and are not proposed.
         return match sight.offset.index() {
-            0..=7 => Lesson::New,
-            8..=63 => Lesson::Unclear,
+            0..=63 => Lesson::New,
             _ => Lesson::Never(Obstacle::ReturnsFar(sight.at)),
         };
     }
@@ -342,6 +353,35 @@ fn lesson_of_return<A: Allocator + Copy, D: Allocator>(
     } else {
         Lesson::Unclear
     }
+}
+
+/// Learns of the cell in which an instruction stores.
+fn learn_store<A: Allocator + Copy, D: Allocator>(
+    image: &Image,
+    declaration: &Declaration<D>,
+    evidence: &Evidence<A>,
+    sketch: &mut Sketch<A>,
+    sight: &Sight,
+    word: Word,
+    cell: Word,
+) -> Lesson {
+    if moves_entry(sight, word, cell) {
+        if declaration.may_move(cell) {
+            return Lesson::Nothing;
+        }
+        sketch.moves.insert(cell);
+        return Lesson::New;
+    }
+    let lesson = lesson_of_store(declaration, evidence, cell);
+    if lesson == Lesson::New {
+        let cells = if refers_indirectly(word) {
+            buffer_of(image, sketch, cell, declaration.profile())
+        } else {
+            WordSet::one(cell)
+        };
+        sketch.variables = sketch.variables.union(&cells);
+    }
+    lesson
 }
 
 /// Learns of the cells that a step writes.
@@ -355,22 +395,14 @@ fn learn_stores<A: Allocator + Copy, D: Allocator>(
 ) -> Lesson {
     let mut lesson = Lesson::Nothing;
     if let Some(cell) = sight.stepped {
-        let further = lesson_of_store(declaration, evidence, sight.owner, cell);
+        let further = lesson_of_store(declaration, evidence, cell);
         if further == Lesson::New {
             sketch.variables.insert(cell);
         }
         lesson = lesson.and(further);
     }
     if let Some(cell) = sight.stored {
-        let further = lesson_of_store(declaration, evidence, sight.owner, cell);
-        if further == Lesson::New {
-            let cells = if refers_indirectly(word) {
-                buffer_of(image, sketch, cell, declaration.profile())
-            } else {
-                WordSet::one(cell)
-            };
-            sketch.variables = sketch.variables.union(&cells);
-        }
+        let further = learn_store(image, declaration, evidence, sketch, sight, word, cell);
         lesson = lesson.and(further);
     }
     lesson
@@ -468,6 +500,10 @@ pub(crate) fn learn<A: Allocator + Copy, D: Allocator>(
 ) -> Result<Lesson, NoMemory> {
     let sight = Sight::of(watcher);
     let word = watcher.world().cpu().memory.get(sight.at);
+    if leaves_for_main(declaration, evidence, &sight) {
+        sketch.abandons.insert(sight.at);
+        return Ok(Lesson::New);
+    }
     let profile = declaration.profile();
     let lesson = lesson_of_place(image, declaration, evidence, &sight, word);
     match lesson {

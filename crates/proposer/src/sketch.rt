@@ -1,20 +1,20 @@
 //! The parts of a declaration while it is widened, and their text.
 
 use bin_tape::Image;
-use control_flow::{push_cells, push_range};
-use declaration::{Declaration, Offsets, Owner};
+use control_flow::{push_cells, push_further, push_range};
+use declaration::{Declaration, Owner};
 use instruct::{Profile, name};
 use peripherals::NoMemory;
 use std::alloc::{AllocError, Allocator};
 use word12::Word;
 use wordset::WordSet;
 
-/// A routine: its entry, its body, and the offsets at which it may return.
+/// A routine: its entry, its body, and the offsets by which it may return.
 #[derive(Clone, Copy)]
 struct SketchedRoutine {
     entry: Word,
     body: WordSet,
-    returns: [bool; 8],
+    returns: WordSet,
 }
 
 /// The parts of a declaration, to which more is added.
@@ -27,15 +27,22 @@ pub(crate) struct Sketch<A: Allocator> {
     pub(crate) variables: WordSet,
     pub(crate) stops: WordSet,
     pub(crate) pauses: WordSet,
+    /// The entries of the routines that may store in them.
+    pub(crate) moves: WordSet,
+    /// The places for which all open calls may be abandoned.
+    pub(crate) abandons: WordSet,
 }
 
-/// The offsets, each by itself.
-fn each_of(offsets: &Offsets) -> [bool; 8] {
-    let mut each = [false; 8];
-    for index in 0..8usize {
-        each[index] = offsets.contains(Word::from_index(index));
+/// The offsets by which the routine of an entry may return.
+fn offsets_of<D: Allocator>(declaration: &Declaration<D>, entry: Word) -> WordSet {
+    let mut offsets = WordSet::empty();
+    for index in 0..64usize {
+        let offset = Word::from_index(index);
+        if declaration.has_offset(entry, offset) {
+            offsets.insert(offset);
+        }
     }
-    each
+    offsets
 }
 
 impl<A: Allocator + Copy> Sketch<A> {
@@ -52,12 +59,14 @@ impl<A: Allocator + Copy> Sketch<A> {
             variables: *declaration.variables(),
             stops: *declaration.stops(),
             pauses: *declaration.pauses(),
+            moves: *declaration.moves(),
+            abandons: *declaration.abandons(),
         };
         for routine in declaration.routines() {
             let kept = SketchedRoutine {
                 entry: routine.entry(),
                 body: *routine.body(),
-                returns: each_of(&routine.offsets()),
+                returns: offsets_of(declaration, routine.entry()),
             };
             sketch.routines.push(kept).map_err(|_| NoMemory)?;
         }
@@ -101,13 +110,11 @@ impl<A: Allocator + Copy> Sketch<A> {
         }
     }
 
-    /// Adds an offset at which a routine may return.
+    /// Adds an offset by which a routine may return.
     pub(crate) fn add_return(&mut self, entry: Word, offset: Word) {
         for routine in self.routines.iter_mut() {
             if routine.entry == entry {
-                if let Some(declared) = routine.returns.get_mut(offset.index()) {
-                    *declared = true;
-                }
+                routine.returns.insert(offset);
             }
         }
     }
@@ -117,7 +124,7 @@ impl<A: Allocator + Copy> Sketch<A> {
         let routine = SketchedRoutine {
             entry,
             body,
-            returns: [false; 8],
+            returns: WordSet::empty(),
         };
         self.routines.push(routine).map_err(|_| NoMemory)
     }
@@ -132,7 +139,10 @@ impl<A: Allocator + Copy> Sketch<A> {
         push_cells(&mut text, b"main", &self.main)?;
         for routine in &self.routines {
             self.push_routine(&mut text, image, routine)?;
+            push_further(&mut text, routine.entry, &routine.returns)?;
         }
+        push_cells(&mut text, b"moves", &self.moves)?;
+        push_cells(&mut text, b"abandon", &self.abandons)?;
         push_cells(&mut text, b"var", &self.variables)?;
         self.push_halts(&mut text, image, b"stop", &self.stops)?;
         self.push_halts(&mut text, image, b"pause", &self.pauses)?;
@@ -154,7 +164,7 @@ impl<A: Allocator + Copy> Sketch<A> {
         }
         text.extend_from_slice(b" returns")?;
         for offset in 0..8usize {
-            if routine.returns[offset] {
+            if routine.returns.contains(Word::from_index(offset)) {
                 text.extend_from_slice(b" ")?;
                 text.push(b'0' + offset as u8)?;
             }

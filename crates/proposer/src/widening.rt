@@ -248,8 +248,8 @@ fn stopped<A: Allocator + Copy>(
     draft_of(alloc, image, &sketch)
 }
 
-/// What a run teaches that leaves a declaration by its last event; where no declaration allows it, and runs went on after
-/// pauses, these are stops.
+/// What a run teaches that leaves a declaration by its last event; where no declaration is found that allows it, and runs went on
+/// after pauses, these are stops.
 fn taught_at_last<A: Allocator + Copy>(
     alloc: A,
     image: &Image,
@@ -260,12 +260,12 @@ fn taught_at_last<A: Allocator + Copy>(
     ensures drafted { IfOk result IsTaught }
 {
     let taught = taught_by_run(alloc, image, declaration, evidence, events)?;
-    let Taught::Never(obstacle) = taught else {
+    if let Taught::More(_) = &taught {
         return Ok(taught);
-    };
+    }
     match stopped(alloc, image, declaration, evidence)? {
         Some(draft) => Ok(Taught::More(draft)),
-        None => Ok(Taught::Never(obstacle)),
+        None => Ok(taught),
     }
 }
 
@@ -393,8 +393,8 @@ fn with_data<A: Allocator + Copy>(
 
 /// Widens a proposal that a run leaves by its last event, as far as what the run and those before it did teaches: a body
 /// by what is executed, and by where that leads by its words; the variables by what is written, by a pointer the whole
-/// buffer; routines, returns and halts. A pause behind which it leads to what no declaration allows becomes a stop. A
-/// certificate is looked for at once.
+/// buffer; routines, returns and halts; a routine that stores in its entry by a DCA, and a cell of main to which a routine jumps. A
+/// pause behind which it leads to what no declaration is found for becomes a stop. A certificate is looked for at once.
 ///
 /// # Errors
 ///

@@ -103,6 +103,19 @@ fn keeps_sets<A: Allocator, B: Allocator>(given: &Declaration<A>, more: &Declara
         && given.pauses().is_subset(&halts)
 }
 
+/// Whether each routine that may store in its entry still may, and calls may still be abandoned for each place for which they
+/// might.
+fn keeps_permissions<A: Allocator, B: Allocator>(
+    given: &Declaration<A>,
+    more: &Declaration<B>,
+) -> bool
+    ensures moves { result ≡ true → IsWithin (meaning given.now).moves (meaning more.now).moves }
+    ensures abandon { result ≡ true →
+        IsWithin (meaning given.now).abandon (meaning more.now).abandon }
+{
+    given.moves().is_subset(more.moves()) && given.abandons().is_subset(more.abandons())
+}
+
 /// Whether the second declaration is as wide as the first.
 pub(crate) fn is_as_wide<A: Allocator, B: Allocator>(
     given: &Declaration<A>,
@@ -114,6 +127,9 @@ pub(crate) fn is_as_wide<A: Allocator, B: Allocator>(
         return false;
     }
     if !keeps_sets(given, more) {
+        return false;
+    }
+    if !keeps_permissions(given, more) {
         return false;
     }
     if more.reads_listed() {

@@ -16,7 +16,7 @@ use streams::read_at_most;
 use turns::{GuessFault, ProposeFault};
 
 /// What is said about a run that ends at a word that the machine does not have.
-const UNSUPPORTED: &str =
+pub(crate) const UNSUPPORTED: &str =
     "the machine does not implement the word there\nwhat to do: look at it with `pdp8 dump`; a word of the PDP-8/E needs --profile 8e; otherwise execution ran into data\n";
 
 /// What is said about an output after its name.
@@ -211,10 +211,10 @@ pub fn fault_lines<R: Files + Input>(
 }
 
 /// What is said below the answer of a command that is refused without a fault, where the command itself does not say
-/// why: of a run that ends at a word that the machine does not have.
+/// why: of a run of a tape that ends at a word that the machine does not have.
 pub fn refusal_lines(request: &Request<'_>) -> &'static str {
-    match request.command() {
-        "run" | "teletype" => UNSUPPORTED,
+    match request {
+        Request::Run(_) | Request::Session(_) | Request::Teletype(_) => UNSUPPORTED,
         _ => "",
     }
 }

@@ -4,6 +4,7 @@
 pub(crate) mod places;
 mod words;
 
+use crate::faults::UNSUPPORTED;
 use crate::of_files::joined::{hold_session_on, hold_teletype_session_on};
 use crate::of_files::tapes::run_on;
 use crate::of_machine::places::{Named, named_in};
@@ -11,12 +12,14 @@ use crate::of_machine::words::{SourceStatements, words_of};
 use crate::of_sources::assembled::{AssembledSource, described};
 use crate::of_sources::numbering::{Given, Promise, lend, machine_line, read_parts};
 use crate::of_sources::told::tell_unread;
+use crate::recognised::source_hint;
 use crate::source_faults::{tell_of, tell_source, unopened};
-use crate::telling::tell_misuse;
+use crate::telling::{tell_lines, tell_misuse};
 use command_line::{MachineTask, RunRequest, Session, SourcedRequest, TeletypeSession};
 use command_parts::options::{RunOptions, SessionOptions, TeletypeOptions};
 use command_parts::status::{Fault, Status};
 use labels::{Numbered, NumberingFault, number};
+use pal_asm::PalFault;
 use std::alloc::Global;
 use std::io;
 use std::rt::Files;
@@ -116,6 +119,23 @@ fn carry_out<R: Files + Input + Print + Eprint>(
     }
 }
 
+/// Tells that a source is refused, and below it why, if that is asked for, and if another file was given in its place.
+fn tell_refused<R: Eprint>(
+    rt: &R,
+    alloc: Global,
+    fault: PalFault,
+    parts: &[&[u8]],
+    asked: &SourcedRequest<'_>,
+) -> Status {
+    let names = &asked.parts;
+    let profile = asked.task.profile();
+    let status = tell_source(rt, alloc, fault, names, parts, profile, asked.explained);
+    let command = asked.task.command();
+    let hint = source_hint(alloc, command, asked.task.names(), names, fault, parts);
+    tell_lines(rt, &hint);
+    status
+}
+
 /// Does what is asked for with the program of a source that was read, or tells why it is refused, and says which of its
 /// parts are ignored.
 fn answer_given<R: Files + Input + Print + Eprint>(
@@ -129,22 +149,16 @@ fn answer_given<R: Files + Input + Print + Eprint>(
         Ok(numbered) => numbered,
         Err(NumberingFault::Source(fault)) => {
             let parts = lend(alloc, &given.parts)?;
-            let profile = asked.task.profile();
-            return Ok(tell_source(
-                rt,
-                alloc,
-                fault,
-                &asked.parts,
-                &parts,
-                profile,
-                asked.explained,
-            ));
+            return Ok(tell_refused(rt, alloc, fault, &parts, asked));
         }
         Err(NumberingFault::EmptyImage) => return Err(Fault::EmptyImage),
         Err(_) => return Err(Fault::NoMemory),
     };
     let source = described(alloc, given, numbered, &asked.parts)?;
     let status = carry_out(rt, alloc, &source, asked, at_terminal)?;
+    if asked.explained && status == Status::Refused {
+        tell_lines(rt, UNSUPPORTED);
+    }
     tell_unread(rt, alloc, &asked.parts, &lend(alloc, &source.given.parts)?)?;
     Ok(status)
 }

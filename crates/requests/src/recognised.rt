@@ -7,6 +7,7 @@ use command_line::{FileNames, Request};
 use command_parts::inputs::tape_from;
 use command_parts::status::Fault;
 use command_parts::visible::visible_text;
+use pal_asm::PalFault;
 use std::alloc::Global;
 use std::fmt::Write;
 use std::rt::Files;
@@ -24,8 +25,9 @@ enum Kind {
 }
 
 /// The words that begin the lines of a declaration.
-const DECLARING: [&[u8]; 8] = [
-    b"start", b"main", b"sub", b"var", b"stop", b"pause", b"profile", b"read",
+const DECLARING: [&[u8]; 13] = [
+    b"start", b"main", b"sub", b"var", b"stop", b"pause", b"profile", b"read", b"skips", b"moves",
+    b"abandon", b"holds", b"returns",
 ];
 
 /// Whether these are the characters of a text, as a source has them and a tape hasn't.
@@ -98,8 +100,27 @@ struct Asked<'a> {
     takes_source: bool,
     /// Whether it is given a source in place of a tape.
     is_sourced: bool,
+    /// Whether its source has several parts.
+    has_several_parts: bool,
     /// Its files.
     names: FileNames<'a>,
+}
+
+/// Whether a command takes `--source`, in place of a tape.
+fn takes_source(command: &str) -> bool {
+    [
+        "verify", "check", "report", "declare", "guess", "refute", "watch", "run", "teletype",
+        "dump",
+    ]
+    .iter()
+    .any(|name| *name == command)
+}
+
+/// Whether a command takes a declaration behind a tape or a source.
+fn takes_declaration(command: &str) -> bool {
+    ["verify", "check", "report", "guess", "refute", "watch"]
+        .iter()
+        .any(|name| *name == command)
 }
 
 impl Asked<'_> {
@@ -209,6 +230,46 @@ impl Asked<'_> {
         }
     }
 
+    /// Adds what to do with a tape that was given as a source.
+    fn push_tape_as_source(&self, text: &mut String, name: &str) {
+        let command = self.command;
+        let _ = write!(text, "{name} is a tape, not a source");
+        if self.has_several_parts {
+            return;
+        }
+        if self.takes_source {
+            let _ = write!(text, ": use pdp8 {command} {name}");
+            self.push_operands(text);
+        } else {
+            let _ = write!(text, ": pdp8 source {name} -o new.pal makes a source of it");
+        }
+    }
+
+    /// Adds what to do with a declaration that was given as a source.
+    fn push_declaration_as_source(&self, text: &mut String, name: &str) {
+        let command = self.command;
+        let _ = write!(text, "{name} is a declaration, not a source");
+        if takes_declaration(command) {
+            let source = self.names.declaration.unwrap_or("SOURCE");
+            let _ = write!(
+                text,
+                ": it comes after the source, as in pdp8 {command} --source {source} {name}"
+            );
+        }
+    }
+
+    /// Adds what to do with a file that was given as a part of a source, if it is none.
+    fn push_as_source(&self, text: &mut String, name: &str, kind: Kind) {
+        match kind {
+            Kind::Source | Kind::OtherText | Kind::OtherBytes => {}
+            Kind::Tape => self.push_tape_as_source(text, name),
+            Kind::Declaration => self.push_declaration_as_source(text, name),
+            Kind::Certificate => {
+                let _ = write!(text, "{name} is a certificate, not a source");
+            }
+        }
+    }
+
     /// Adds what to do with a file that was given as a certificate, if it is none.
     fn push_as_certificate(&self, text: &mut String, name: &str, kind: Kind) {
         let _ = match kind {
@@ -240,13 +301,9 @@ fn asked_of<'a>(request: &Request<'a>) -> Asked<'a> {
     let command = request.command();
     Asked {
         command,
-        takes_source: [
-            "verify", "check", "report", "declare", "guess", "refute", "watch", "run", "teletype",
-            "dump",
-        ]
-        .iter()
-        .any(|name| *name == command),
+        takes_source: takes_source(command),
         is_sourced: is_sourced(request),
+        has_several_parts: request.parts().len() > 1,
         names: request.names(),
     }
 }
@@ -273,6 +330,7 @@ pub(crate) fn declaration_hint(
         command,
         takes_source: true,
         is_sourced: true,
+        has_several_parts: false,
         names: FileNames::NONE,
     };
     let mut told = String::new(alloc);
@@ -282,8 +340,80 @@ pub(crate) fn declaration_hint(
     shown_line(alloc, &told)
 }
 
-/// The line on an input that was given in the place of another one, if it can be told; else nothing. Standard input
-/// and pipes cannot be read twice.
+/// The line on a file that was given as a part of a source, if it is none; else nothing. These are the names and the
+/// texts of the parts.
+pub(crate) fn source_hint(
+    alloc: Global,
+    command: &'static str,
+    names: FileNames<'_>,
+    parts: &[&str],
+    fault: PalFault,
+    texts: &[&[u8]],
+) -> String {
+    let asked = Asked {
+        command,
+        takes_source: takes_source(command),
+        is_sourced: true,
+        has_several_parts: parts.len() > 1,
+        names,
+    };
+    let index = fault.part.wrapping_sub(1);
+    let mut told = String::new(alloc);
+    if let Some(name) = parts.get(index) {
+        if let Some(text) = texts.get(index) {
+            asked.push_as_source(&mut told, name, kind_of(text));
+        }
+    }
+    shown_line(alloc, &told)
+}
+
+/// What is in a file that can be read twice and isn't empty. Standard input and pipes cannot be read twice.
+fn kind_in<R: Files + Input>(rt: &R, alloc: Global, name: &str) -> Option<Kind> {
+    if is_read_once(rt, name) {
+        return None;
+    }
+    match bytes_of(rt, alloc, name) {
+        Ok(bytes) if !bytes.is_empty() => Some(kind_of(&bytes)),
+        _ => None,
+    }
+}
+
+/// The name of the part of a source that has a fault, if it has that part.
+fn faulty_part<'a>(parts: &[&'a str], fault: PalFault) -> Option<&'a str> {
+    parts.get(fault.part.wrapping_sub(1)).copied()
+}
+
+/// The line on a file that was given as a part of a source that is assembled or listed, if it is none and can be
+/// read twice; else nothing.
+pub(crate) fn part_hint<R: Files + Input>(
+    rt: &R,
+    alloc: Global,
+    command: &'static str,
+    parts: &[&str],
+    fault: &Fault,
+) -> String {
+    let mut text = String::new(alloc);
+    let asked = Asked {
+        command,
+        takes_source: false,
+        is_sourced: true,
+        has_several_parts: parts.len() > 1,
+        names: FileNames::NONE,
+    };
+    let name = match fault {
+        Fault::Source(fault) => faulty_part(parts, *fault),
+        _ => None,
+    };
+    if let Some(name) = name {
+        if let Some(kind) = kind_in(rt, alloc, name) {
+            asked.push_as_source(&mut text, name, kind);
+        }
+    }
+    shown_line(alloc, &text)
+}
+
+/// The line on an input that was given in the place of another one, if it can be told; else nothing.
+#[inline(never)]
 pub fn hint_line<R: Files + Input>(
     rt: &R,
     alloc: Global,
@@ -296,24 +426,19 @@ pub fn hint_line<R: Files + Input>(
         Fault::Tape(_) => asked.names.tape,
         Fault::Declared(_) => asked.names.declaration,
         Fault::Certificate(_) => asked.names.certificate,
+        Fault::Source(fault) => faulty_part(request.parts(), *fault),
         _ => None,
     };
     let Some(name) = name else {
         return text;
     };
-    if is_read_once(rt, name) {
-        return text;
-    }
-    let Ok(bytes) = bytes_of(rt, alloc, name) else {
+    let Some(kind) = kind_in(rt, alloc, name) else {
         return text;
     };
-    if bytes.is_empty() {
-        return text;
-    }
-    let kind = kind_of(&bytes);
     match fault {
         Fault::Tape(_) => asked.push_as_tape(&mut text, name, kind),
         Fault::Declared(_) => asked.push_as_declaration(&mut text, name, kind),
+        Fault::Source(_) => asked.push_as_source(&mut text, name, kind),
         _ => asked.push_as_certificate(&mut text, name, kind),
     }
     shown_line(alloc, &text)

@@ -4,7 +4,7 @@ use declaration::Owner;
 use instruct::Operation;
 use peripherals::NoMemory;
 use policy::Watcher;
-use processor::DecodedInstruction;
+use processor::{DecodedInstruction, Reference};
 use std::alloc::Allocator;
 use word12::Word;
 use wordset::WordSet;
@@ -20,6 +20,8 @@ pub struct Record<A: Allocator> {
     /// The cells that a DCA, an ISZ or an indirect reference through an auto-index cell wrote, but not
     /// the running routine's own entry under an ISZ.
     pub written: WordSet,
+    /// The address to which the last step led, if it was a JMP in a routine's body, but no JMP I through the routine's own entry.
+    pub jumped: Option<Word>,
     /// How many runs were begun.
     pub runs: u32,
     /// How many steps were made.
@@ -39,11 +41,18 @@ pub struct Sight {
     pub stored: Option<Word>,
     /// The auto-index cell that an indirect reference steps.
     pub stepped: Option<Word>,
+    /// The address to which a JMP in a routine's body leads, but not a JMP I through the routine's own entry.
+    pub jumped: Option<Word>,
 }
 
 /// How far an address is behind another one, modulo 4096.
 fn distance(to: Word, from: Word) -> Word {
     to.add(from.complement()).increment()
+}
+
+/// Whether a memory reference goes through the entry of the running routine.
+fn goes_through(reference: &Reference, own: Option<Word>) -> bool {
+    reference.indirect && own == Some(reference.named)
 }
 
 impl Sight {
@@ -56,6 +65,7 @@ impl Sight {
             offset: Word::ZERO,
             stored: None,
             stepped: None,
+            jumped: None,
         };
         let mut own = None;
         if let Some(call) = watcher.calls().last() {
@@ -71,6 +81,9 @@ impl Sight {
             match reference.operation {
                 Operation::Dca => sight.stored = Some(place),
                 Operation::Isz if own != Some(place) => sight.stored = Some(place),
+                Operation::Jmp if own.is_some() && !goes_through(&reference, own) => {
+                    sight.jumped = Some(place);
+                }
                 _ => {}
             }
         }
@@ -85,6 +98,7 @@ impl<A: Allocator + Copy> Record<A> {
             owners: Vec::from_elem(alloc, None, 4096)?,
             places: [WordSet::empty(); 8],
             written: WordSet::empty(),
+            jumped: None,
             runs: 0,
             steps: 0,
         })
@@ -93,11 +107,13 @@ impl<A: Allocator + Copy> Record<A> {
     /// A run begins.
     pub(crate) fn begins(&mut self) {
         self.runs = self.runs.saturating_add(1);
+        self.jumped = None;
     }
 
     /// A step is made.
     pub(crate) fn makes(&mut self, sight: &Sight) {
         self.steps = self.steps.saturating_add(1);
+        self.jumped = sight.jumped;
         self.sees(sight);
     }
 

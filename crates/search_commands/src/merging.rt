@@ -1,6 +1,6 @@
 //! The text of a declaration with what another declaration has and it lacks.
 
-use control_flow::push_range;
+use control_flow::{above_seven, push_range, push_skips};
 use declaration::{Declaration, Offsets, Routine};
 use std::alloc::{AllocError, Allocator};
 use streams::text::{self, Words};
@@ -362,6 +362,62 @@ fn push_all_halts<A: Allocator, B: Allocator>(
     push_halts(text, b"pause", &proposed.pauses().meet(&open))
 }
 
+/// The offsets above 7 by which the routine of an entry may return.
+fn further_offsets<A: Allocator>(declaration: &Declaration<A>, entry: Word) -> WordSet {
+    let mut offsets = WordSet::empty();
+    for skips in declaration.skips() {
+        if skips.entry() == entry {
+            offsets = offsets.union(skips.offsets());
+        }
+    }
+    above_seven(&offsets)
+}
+
+/// Adds the lines with offsets above 7 by which routines may return.
+fn push_all_skips<A: Allocator, B: Allocator>(
+    text: &mut Vec<u8, A>,
+    given: &Declaration<B>,
+    proposed: &Declaration<B>,
+    entries: &WordSet,
+) -> Result<(), AllocError> {
+    for entry in entries.iter() {
+        let offsets = further_offsets(proposed, entry).minus(&further_offsets(given, entry));
+        if !offsets.is_empty() {
+            push_skips(text, entry, &offsets)?;
+            end_line(text)?;
+        }
+    }
+    Ok(())
+}
+
+/// The entries of the routines that are there when all are added that may be.
+fn all_entries<A: Allocator>(held: &Held, proposed: &Declaration<A>) -> WordSet {
+    let mut entries = held.entries;
+    for routine in proposed.routines() {
+        if held.admits(routine) {
+            entries.insert(routine.entry());
+        }
+    }
+    entries
+}
+
+/// Adds the lines that say by which other offsets routines return, which of them store in their entries, and for which places of
+/// main all calls may be abandoned.
+fn push_permissions<A: Allocator, B: Allocator>(
+    text: &mut Vec<u8, A>,
+    given: &Declaration<B>,
+    proposed: &Declaration<B>,
+    held: &Held,
+) -> Result<(), AllocError> {
+    let entries = all_entries(held, proposed);
+    push_all_skips(text, given, proposed, &entries)?;
+    let moves = proposed.moves().minus(given.moves()).meet(&entries);
+    push_cells(text, b"moves", &moves)?;
+    let main = held.free(proposed.main()).union(given.main());
+    let abandons = proposed.abandons().minus(given.abandons()).meet(&main);
+    push_cells(text, b"abandon", &abandons)
+}
+
 /// Adds the lines of the cells that may be read and are not listed yet, if reads are listed.
 fn push_reads<A: Allocator, B: Allocator>(
     text: &mut Vec<u8, A>,
@@ -391,6 +447,7 @@ pub(crate) fn merged<A: Allocator + Copy, B: Allocator>(
     push_given(&mut text, &mut line, bytes, given, proposed, &held)?;
     push_cells(&mut text, b"main", &held.free(proposed.main()))?;
     push_routines(&mut text, &held, proposed.routines())?;
+    push_permissions(&mut text, given, proposed, &held)?;
     push_cells(&mut text, b"var", &held.added_variables(proposed))?;
     push_all_halts(&mut text, given, proposed, &held)?;
     push_reads(&mut text, given, proposed)?;

@@ -1,4 +1,4 @@
-//! The conditions on a certificate.
+//! The conditions on a certificate. `tests/explanations.py` makes this file from the pages.
 
 use crate::explanations::{Explanation, Subject};
 
@@ -26,7 +26,7 @@ static CONDITIONS: [Explanation; 16] = [
         code: "V4",
         subject: Subject::Asked("there is a fact wherever the run goes on, and it is entailed"),
         meaning: "wherever the run may go on there is a fact in the same body that allows\nwhat is possible",
-        advice: "If the address is outside the body, the program runs on past its\nlast instruction, or jumps into data or into a routine. End it with HLT or JMP,\nor declare more of it as the body. Otherwise the fact there claims more than is\ntrue: run `guess` again, or write there what holds in every iteration of a\nloop. In version 3 several facts may be at an address. What is possible must\nthen be allowed by one of the facts there, or it is split among them by one\nname, which is AC or a cell: for each word that it may hold, one of the facts\nthere has this word and allows everything that is possible with the words that\nit has.",
+        advice: "If the address is outside the body, the program runs on past its\nlast instruction, or jumps into data or into a routine. End it with HLT or JMP,\nor declare more of it as the body. If a routine leaves by a JMP for the main\nprogram, and its calls are then over, an `abandon` line is needed. Otherwise\nthe fact there claims more than is true: run `guess` again, or write there what\nholds in every iteration of a loop. In version 3 several facts may be at an\naddress. What is possible must then be allowed by one of the facts there, or it\nis split among them by one name, which is AC or a cell: for each word that it\nmay hold, one of the facts there has this word and allows everything that is\npossible with the words that it has.",
     },
     Explanation {
         code: "V5",
@@ -74,7 +74,7 @@ static CONDITIONS: [Explanation; 16] = [
         code: "V12",
         subject: Subject::Asked("a return uses the routine's own entry and a declared offset"),
         meaning: "a return is through the routine's own entry, by declared offsets, and\nthe exit lines allow what is possible",
-        advice: "Declare the offset, as in `returns 0 1`, or increment the return\nword (ISZ of the entry) as declared. Return only through the routine's own\nentry. In a certificate each offset needs its exit line, and the fact at the\nreturn must entail it. In version 3 an offset may have several exit lines,\nwhich must allow what is possible as V4 says it of facts. Offsets of a `sub`\nline are 0 to 7, and a `skips` line declares others up to 77. So a routine that\nreads the text after its JMS in a loop up to a zero, and then returns beyond the\nzero, gets a certificate in version 3, which has a fact for each offset, if no\ntext has more than 77 words. A longer text gets none: put its address after the\nJMS (`returns 1`), or into AC. Neither does a routine that returns through a\ncopy of its return word (rule 1).",
+        advice: "Declare the offset, as in `returns 0 1`, or increment the return\nword (ISZ of the entry) as declared. Return only through the routine's own\nentry. In a certificate each offset needs its exit line, and the fact at the\nreturn must entail it. In version 3 an offset may have several exit lines,\nwhich must allow what is possible as V4 says it of facts. Offsets of a `sub`\nline are 0 to 7, and a `skips` line declares others up to 77. So a routine that\nreads the text after its JMS in a loop up to a zero, and then returns beyond\nthe zero, gets a certificate in version 3, which has a fact for each offset, if\nno text has more than 77 words, the zero among them. A longer text gets none:\nput its address after the JMS (`returns 1`), or into AC.",
     },
     Explanation {
         code: "V13",
@@ -85,8 +85,8 @@ static CONDITIONS: [Explanation; 16] = [
     Explanation {
         code: "V14",
         subject: Subject::Asked("return words are not overwritten"),
-        meaning: "no word writes an entry, except that a JMS stores its return address\nthere and an ISZ may increment the routine's own",
-        advice: "A routine cannot make its caller skip on return by incrementing the\ncaller's return word. Let it make a skip return of its own, and let its caller\nthen increment its own return word. An ISZ may increment its routine's own\nentry, up to offset 7, or in version 3 up to 77, if it can store nowhere else. A\nroutine that stores a computed return word needs a `moves` line.",
+        meaning: "no word writes an entry, except that a JMS stores its return address\nthere, an ISZ may increment the routine's own, and a DCA may store in it where\na `moves` line names it",
+        advice: "A routine cannot make its caller skip on return by incrementing the\ncaller's return word. Let it make a skip return of its own, and let its caller\nthen increment its own return word. An ISZ may increment its routine's own\nentry, up to offset 7, or in version 3 up to 77, if it can store nowhere else.\nA routine that stores a computed return word with DCA needs a `moves` line; the\nDCA must name the entry itself, and each word that AC may hold there must be 0\nto 77 past the return address of each call. A routine that returns through a\ncopy of its return word, in another cell, gets no certificate: rule 1 is\nviolated.",
     },
     Explanation {
         code: "V15",
@@ -97,8 +97,8 @@ static CONDITIONS: [Explanation; 16] = [
     Explanation {
         code: "V16",
         subject: Subject::Asked("what is declared to hold holds"),
-        meaning: "what is declared to hold here, or when the routine of this entry returns,\nholds",
-        advice: "Each word that the fact leaves to AC, the link, MQ or the cell must\nbe one that the `holds` line names. If it is so in each run, say it in the\ncertificate too, by a relation or by a fact for each case; else name more words.\nFor a `returns` line the same is asked of the exit lines of the routine.",
+        meaning: "what is declared to hold here, or when the routine of this entry\nreturns, holds",
+        advice: "Each word that the fact leaves to AC, the link, MQ or the cell must\nbe one that the `holds` line names. If it is so in each run, say it in the\ncertificate too, by a relation or by a fact for each case; otherwise name more\nwords, or correct the program. For a `returns` line the same is asked of the\nexit lines of the routine for the offsets that it names.",
     },
 ];
 

@@ -1,4 +1,4 @@
-//! The faults of inputs, searches, files and memory.
+//! The faults of inputs, searches, files and memory. `tests/explanations.py` makes this file from the pages.
 
 use crate::explanations::{Explanation, Subject};
 
@@ -116,7 +116,7 @@ static FAULTS: [Explanation; 44] = [
         code: "BadLine",
         subject: Subject::Fault("declaration: BadLine 2"),
         meaning: "the line is not a line of a declaration",
-        advice: "write line n as one of these lines (docs/DECLARATIONS.md): octal\naddresses, ascending ranges, lower-case letters, offsets 0 to 7 one by one",
+        advice: "write line n as one of these lines (docs/DECLARATIONS.md): octal\naddresses, ascending ranges, lower-case letters; offsets of `sub` 0 to 7 and of\n`returns` 0 to 77, one by one; `link` with 0 or 1",
     },
     Explanation {
         code: "TwoStarts",
@@ -163,14 +163,14 @@ static FAULTS: [Explanation; 44] = [
     Explanation {
         code: "Misplaced",
         subject: Subject::Fault("declaration: Misplaced 0204"),
-        meaning: "a line names the address and may not: `skips`, `moves` and `returns` name\nentries, `abandon` names cells of main, and `holds` names cells of bodies",
+        meaning: "a line names the address and may not: `skips`, `moves` and `returns` name entries, `abandon` names cells of main's body, and `holds` names cells of bodies",
         advice: "correct the address, or declare the routine or the body that has it",
     },
     Explanation {
         code: "TooMany",
         subject: Subject::Fault("declaration: TooMany"),
-        meaning: "more than 64 routines, 64 `skips` lines, or 256 `holds` and `returns` lines,\nor more than 16,384 bytes",
-        advice: "use at most 64 routines, 64 `skips` lines, 256 lines of what is to hold, and\n16,384 bytes",
+        meaning: "more than 64 `sub` lines, 64 `skips` lines or 256 `holds` and `returns` lines together, or more than 16,384 bytes",
+        advice: "use at most 64 `sub` lines, 64 `skips` lines, 256 `holds` and\n`returns` lines together, and 16,384 bytes",
     },
     Explanation {
         code: "NoSymbol",
@@ -206,7 +206,7 @@ static FAULTS: [Explanation; 44] = [
         code: "Version",
         subject: Subject::Fault("certificate: Version"),
         meaning: "the first line has an unknown version",
-        advice: "the first line must be `PDP8-CERTIFICATE 1`, `2` or `3`; if the file is\nempty, `guess` without `-o` found nothing",
+        advice: "the first line must be `PDP8-CERTIFICATE 1`, `2` or `3`; if the\nfile is empty, `guess` without `-o` found nothing",
     },
     Explanation {
         code: "BadLine",
@@ -224,7 +224,7 @@ static FAULTS: [Explanation; 44] = [
         code: "TooMany",
         subject: Subject::Fault("certificate: TooMany"),
         meaning: "more than 64 routines, 1,048,576 bytes, or 64 cells, 32 equations or `sum` lines, or 4 `func` lines in a fact or an exit",
-        advice: "use at most 64 routines, 1,048,576 bytes, and under a line 64 cells,\n32 equations or `sum` lines and 4 `func` lines; let the certificate say less",
+        advice: "use at most 64 routines, 1,048,576 bytes, and under a line 64\ncells, 32 equations or `sum` lines and 4 `func` lines; let the certificate say\nless",
     },
     Explanation {
         code: "Stuck",

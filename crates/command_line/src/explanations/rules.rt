@@ -1,4 +1,4 @@
-//! The rules for the steps of a run.
+//! The rules for the steps of a run. `tests/explanations.py` makes this file from the pages.
 
 use crate::explanations::{Explanation, Subject};
 
@@ -8,12 +8,12 @@ static RULES: [Explanation; 8] = [
         code: "rule1",
         subject: Subject::Asked("the body"),
         meaning: "The program counter is in the body of the running routine, and the\ndeclared machine implements the word there.\nfor example: HLT is missing, and execution runs on into data",
-        advice: "end with HLT or JMP; return with `JMP I`; declare all code; use\n`profile 8e` for a word of the PDP-8/E",
+        advice: "end with HLT or JMP; return with `JMP I`; declare all code; use\n`profile 8e` for a word of the PDP-8/E; add an `abandon` line for a JMP that\nleaves a routine for the main program",
     },
     Explanation {
         code: "rule2",
         subject: Subject::Asked("writes"),
-        meaning: "Each cell that the step writes is a variable, or it is the running\nroutine's own entry and the step is an ISZ.\nfor example: a pointer in 0010 to 0017 is incremented before it is used, so it\nmust begin one lower",
+        meaning: "Each cell that the step writes is a variable, or it is the running\nroutine's own entry and the step is an ISZ, or a DCA that names the entry where\na `moves` line names it too.\nfor example: a pointer in 0010 to 0017 is incremented before it is used, so it\nmust begin one lower",
         advice: "add a `var` line for what is meant to change, including such a\npointer; otherwise as for V5 and V14",
     },
     Explanation {
@@ -26,7 +26,7 @@ static RULES: [Explanation; 8] = [
         code: "rule4",
         subject: Subject::Asked("returns"),
         meaning: "If a JMP I goes through an entry, the last call was to this entry, and\nthe JMP I goes to that call's return address plus a declared offset.\nfor example: `JMP I TYPE` in a routine other than TYPE",
-        advice: "return through the routine's own entry; declare each offset; do not\ncall a routine again before it has returned",
+        advice: "return through the routine's own entry; declare each offset, above\n7 in a `skips` line; do not call a routine again before it has returned",
     },
     Explanation {
         code: "rule5",
@@ -49,7 +49,7 @@ static RULES: [Explanation; 8] = [
     Explanation {
         code: "rule8",
         subject: Subject::Asked("assertions"),
-        meaning: "What `holds` declares of the step's address holds before the step, and what\n`returns` declares of a return holds at it.\nfor example: a routine that is to return with AC 0 returns with what it read",
+        meaning: "What a `holds` line declares of the step's address holds before the\nstep. If the step is a JMP I through the entry of the last call, what a\n`returns` line declares of this entry, and of the offset from the call's return\naddress to the word in the entry, holds too.\nfor example: a routine that is to return with AC 0 returns with what it read",
         advice: "correct the program, or name the words that may be there",
     },
 ];

@@ -51,8 +51,13 @@ fn is_group2(word: Word) -> bool {
     word.value() & 0o7401 == 0o7400
 }
 
+/// Whether a word is an operate instruction that clears the accumulator.
+pub(crate) fn clears(word: Word) -> bool {
+    word.value() & 0o7200 == 0o7200
+}
+
 /// Whether a word is of group 2, with a test.
-fn is_test(word: Word) -> bool {
+pub(crate) fn is_test(word: Word) -> bool {
     is_group2(word) && word.value() & 0o170 != 0
 }
 
@@ -68,7 +73,7 @@ fn may_return<D: Allocator>(
     after: Word,
     to: Word,
 ) -> bool {
-    for index in 0..8usize {
+    for index in 0..64usize {
         let offset = Word::from_index(index);
         if declaration.has_offset(entry, offset) && after.add(offset) == to {
             return true;
@@ -90,7 +95,7 @@ pub(crate) fn successors_of_call<D: Allocator>(
 ) -> WordSet {
     let after = at.increment();
     let mut places = WordSet::empty();
-    for index in 0..8usize {
+    for index in 0..64usize {
         let offset = Word::from_index(index);
         if declaration.has_offset(entry, offset) {
             places.insert(after.add(offset));

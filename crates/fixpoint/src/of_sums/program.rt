@@ -5,7 +5,7 @@ ghost use Rattle.wordset.specs.Words.{difference};
 ghost use Rattle.wordset.specs.Lanes.{words};
 ghost use Rattle.declaration.specs.Kept.{meaning};
 
-use crate::program::{AnalysedProgram, is_reference};
+use crate::program::{AnalysedProgram, add_asserted, is_reference};
 use crate::widening::{Limits, MANY_RUNS};
 use bin_tape::Image;
 use declaration::{Declaration, Owner};
@@ -19,13 +19,14 @@ use wordset::WordSet;
 /// The most cells that are told of everywhere since pointers that never change lead to them.
 const MOST_REACHED: usize = 16;
 
-/// A program, the variables that it uses as pointers, those that it tests, those to which pointers lead that never change, the
-/// routines that look at their return word, and words at which sets may end.
+/// A program, the variables that it uses as pointers, those that it tests, those of which something is declared to hold, those to
+/// which pointers lead that never change, the routines that look at their return word, and words at which sets may end.
 #[derive(Drop)]
 pub struct SumProgram<'a, D: Allocator> {
     pub base: AnalysedProgram<'a, D>,
     pub(crate) pointers: WordSet,
     pub(crate) tested: WordSet,
+    pub(crate) asserted: WordSet,
     pub(crate) reached: WordSet,
     pub(crate) readers: WordSet,
     pub(crate) thresholds: WordSet,
@@ -137,6 +138,8 @@ impl<'a, D: Allocator> SumProgram<'a, D> {
     {
         let base = AnalysedProgram::of(image, declaration, MANY_RUNS);
         let thresholds = thresholds(&base.limits);
+        let mut asserted = WordSet::empty();
+        add_asserted(&mut asserted, declaration);
         let Uses {
             pointers,
             tested,
@@ -147,6 +150,7 @@ impl<'a, D: Allocator> SumProgram<'a, D> {
             base,
             pointers,
             tested,
+            asserted,
             reached,
             readers,
             thresholds,

@@ -175,11 +175,12 @@ impl Split {
 }
 
 impl<A: Allocator + Copy> SumSearch<A> {
-    /// The variables by whose words facts may be told apart: those that the program tests and of which some fact says that they
-    /// hold one of few words, but more than one.
+    /// The variables by whose words facts may be told apart: those that the program tests, or of which something is declared to hold,
+    /// and of which some fact says that they hold one of few words, but more than one.
     pub fn tellers<D: Allocator>(&self, program: &SumProgram<'_, D>) -> WordSet {
         let mut found = WordSet::empty();
-        for cell in program.tested().iter() {
+        let cells = program.tested().union(&program.asserted);
+        for cell in cells.iter() {
             if self.has_few_words(cell) {
                 found.insert(cell);
             }

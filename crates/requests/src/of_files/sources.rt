@@ -4,10 +4,11 @@ ghost use Rattle.std.specs.Prelude.{◌≡◌, false};
 ghost use Rattle.std.specs.List.{AllByRecursion};
 
 use crate::files::{Outlet, finish, open_inputs, open_output, open_parts};
+use crate::recognised::part_hint;
 use crate::source_faults::{
     NO_WORD, input_name, lend_names, output_name, tell_of, tell_size, unopened, visible_names,
 };
-use crate::telling::{tell, tell_with};
+use crate::telling::{tell, tell_lines, tell_with};
 use command_line::{AssembleRequest, ListRequest};
 use command_parts::status::{DeviceFault, Fault, Status};
 use source_commands::assembling::{assemble, list};
@@ -104,7 +105,11 @@ fn list_or_tell<R: Files + Input + Print + Eprint>(
     let mut told = String::new(alloc);
     match list_as_asked(alloc, &mut parts, asked, Some(shown), &mut told, &mut out) {
         Ok(status) => status,
-        Err(fault) => tell_all(rt, alloc, fault, shown, &parts, "-", &told),
+        Err(fault) => {
+            let status = tell_all(rt, alloc, fault, shown, &parts, "-", &told);
+            tell_lines(rt, &part_hint(rt, alloc, "list", &asked.sources, &fault));
+            status
+        }
     }
 }
 
@@ -150,7 +155,11 @@ fn assemble_or_tell<R: Files + Input + Print + Eprint>(
     );
     match finish_tape(&mut file, assembled) {
         Ok(status) => status,
-        Err(fault) => tell_all(rt, alloc, fault, shown, &parts, out, &told),
+        Err(fault) => {
+            let status = tell_all(rt, alloc, fault, shown, &parts, out, &told);
+            tell_lines(rt, &part_hint(rt, alloc, "assemble", names, &fault));
+            status
+        }
     }
 }
 

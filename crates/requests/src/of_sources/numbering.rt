@@ -2,7 +2,7 @@
 
 use crate::files::open_input;
 use crate::of_sources::part_lines::{PartLine, behind_lines, line_counts, part_line_of};
-use crate::recognised::declaration_hint;
+use crate::recognised::{declaration_hint, source_hint};
 use crate::source_faults::{tell_of, tell_source, unopened};
 use crate::telling::{tell_lines, tell_misuse};
 use command_line::{Misuse, ProgramRequest, Task};
@@ -255,15 +255,15 @@ pub fn tell_refused<R: Eprint>(
     let text = given.text.as_slice();
     let explained = asked.explained;
     match fault {
-        NumberingFault::Source(fault) => Ok(tell_source(
-            rt,
-            alloc,
-            fault,
-            asked.program.parts(),
-            &parts,
-            labels::machine_of(text),
-            explained,
-        )),
+        NumberingFault::Source(fault) => {
+            let names = asked.program.parts();
+            let profile = labels::machine_of(text);
+            let status = tell_source(rt, alloc, fault, names, &parts, profile, explained);
+            let command = asked.task.command();
+            let hint = source_hint(alloc, command, asked.names(), names, fault, &parts);
+            tell_lines(rt, &hint);
+            Ok(status)
+        }
         NumberingFault::EmptyImage => Err(Fault::EmptyImage),
         NumberingFault::Placing(fault) => {
             let part_line = placing_spot(alloc, fault, asked, &parts)?;

@@ -1,4 +1,4 @@
-use Rattle.std.proofs.Common.{sym, ◌∙◌, arith}
+use Rattle.std.proofs.Common.{arith}
 use Rattle.declaration.specs.Kept.{meaning as declared}
 use Rattle.certificate_lines.specs.Kept.{claims}
 use Rattle.analyser.specs.Attempts.{StandsRight}
@@ -13,5 +13,5 @@ loop-index-preserved g c =
 pub returns : goal.returns
 returns g c = λ yes. record {
   stands = λ a lt. c.loop-index.invariant a (omega (arith, c.loop-index-test.false));
-  there = sym c.has_fact.ensures ∙ yes;
+  there = c.has_any_at.ensures yes;
 }

@@ -32,7 +32,7 @@ fn asked(condition: Condition) -> &'static [u8]
             b"a return is through the routine's own entry, by declared offsets, and the exit lines allow what is possible",
         Condition::V13 => b"a HLT is at a declared halt",
         Condition::V14 =>
-            b"no word writes an entry, except that a JMS stores its return address there and an ISZ may increment the routine's own",
+            b"no word writes an entry, except that a JMS stores its return address there, an ISZ may increment the routine's own, and a DCA may store in it where a `moves` line names it",
         Condition::V15 =>
             b"each cell that a word may read is on the list of reads or is the routine's entry",
         Condition::V16 =>

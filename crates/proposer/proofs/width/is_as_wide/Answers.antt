@@ -13,5 +13,7 @@ returns g c =
       variables = c.keeps_sets.ensures.variables c.if-not-keeps_sets.false;
       stops = c.keeps_sets.ensures.stops c.if-not-keeps_sets.false;
       pauses = c.keeps_sets.ensures.pauses c.if-not-keeps_sets.false;
+      moves = c.keeps_permissions.ensures.moves c.if-not-keeps_permissions.false;
+      abandon = c.keeps_permissions.ensures.abandon c.if-not-keeps_permissions.false;
       reads = unlisted;
     }

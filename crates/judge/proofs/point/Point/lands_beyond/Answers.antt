@@ -1,4 +1,4 @@
-use Rattle.std.proofs.Common.{◌∙◌, ap, subst}
+use Rattle.std.proofs.Common.{◌∙◌, None, ap, subst}
 use Rattle.std.specs.Prelude.{IsTrue, ◌↔◌, ◌≡◌, ℕ, ◌<◌, true}
 use Rattle.wordset.specs.Words.{Words, difference, meet}
 use Rattle.wordset.specs.Lanes.{words}

@@ -1,4 +1,4 @@
-use Rattle.std.proofs.Common.{refl, sym, ◌∙◌, subst, None}
+use Rattle.std.proofs.Common.{refl, sym, ◌∙◌, subst, arith, None}
 use Rattle.domain.specs.Facts.{Fact}
 use Rattle.wordset.proofs.IterLemmas.{none_yet, one_more, one_fails, all_pass}
 use Rattle.judge.specs.Landing.{LandsAt}
@@ -8,8 +8,8 @@ use Rattle.judge.proofs.point.Point.lands_in_main.Goals as goal
 pub loop-at-init : goal.loop-at-init
 loop-at-init g c = (none_yet c.iter-at-items.ensures c.into_iter-at-iterator.ensures.into_iter_gives, refl)
 
-pub lands-requires-clause-sites : goal.lands-requires-clause-sites
-lands-requires-clause-sites g c = c.empty.ensures
+pub lands-requires : goal.lands-requires
+lands-requires g c = (omega arith, (c.requires, c.empty.ensures))
 
 pub loop-at-preserved : goal.loop-at-preserved
 loop-at-preserved g c = (

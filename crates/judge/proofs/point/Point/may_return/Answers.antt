@@ -1,3 +1,4 @@
+use Rattle.std.proofs.Common.{arith}
 use Rattle.wordset.specs.Lanes.{words}
 use Rattle.judge.specs.Points.{case_of, fact_asked}
 use Rattle.judge.proofs.PointLemmas.{same_place}

@@ -6,7 +6,7 @@ use Rattle.judge.specs.Landing.{EachSuccessor, SuccessorLands}
 use Rattle.std.proofs.Common.{sym, ◌∙◌, subst, arith}
 use Rattle.instruct.specs.Instructions.{meaning_of}
 use Rattle.judge.specs.Points.{case_of, fact_asked}
-use Rattle.judge.specs.Jumps.{MayAbandon}
+use Rattle.judge.specs.Jumps.{AbandonsIf}
 use Rattle.judge.proofs.PointLemmas.{meant, calls_land, told_of, each_same, stays_lands, jumps_land}
 use Rattle.judge.proofs.point.Point.outcomes_land.Goals as goal
 
@@ -23,10 +23,10 @@ pub returns-then-may_abandon : goal.returns-then-may_abandon
 returns-then-may_abandon g c =
     meant g.C.Claims.claims c.args.self.now (λ p. IsTrue c.each_jumps.result ↔ EachSuccessor (SuccessorLands (case_of g.C.Claims.claims c.args.self.now) c.args.self.now.place.routine (meaning_in p c.args.self.now.at c.args.word)) (outcomes_of p (fact_asked c.args.self.now) c.args.self.now.at (meaning_in p c.args.self.now.at c.args.word))) c.requires
     (subst (λ (os : List Successor). IsTrue c.each_jumps.result ↔ EachSuccessor (SuccessorLands (case_of g.C.Claims.claims c.args.self.now) c.args.self.now.place.routine (meaning_in (place_in_code c.args.self.now.place) c.args.self.now.at c.args.word)) os) c.put_outcomes.ensures
-    (told_of c.each_jumps.result c.each_jumps.ensures (each_same _ _ _ (jumps_land (case_of g.C.Claims.claims c.args.self.now) c.args.self.now.place.routine _ (subst (λ b. MayAbandon b (case_of g.C.Claims.claims c.args.self.now) c.args.self.now.place.routine (meaning_in (place_in_code c.args.self.now.place) c.args.self.now.at c.args.word)) c.if-may_abandon.true c.may_abandon.ensures)))))
+    (told_of c.each_jumps.result c.each_jumps.ensures (each_same _ _ _ (jumps_land (case_of g.C.Claims.claims c.args.self.now) c.args.self.now.place.routine _ (subst (λ b. AbandonsIf b (case_of g.C.Claims.claims c.args.self.now) c.args.self.now.place.routine (meaning_in (place_in_code c.args.self.now.place) c.args.self.now.at c.args.word)) c.if-may_abandon.true c.may_abandon.ensures)))))
 
 pub returns : goal.returns
 returns g c =
     meant g.C.Claims.claims c.args.self.now (λ p. IsTrue c.each_lands.result ↔ EachSuccessor (SuccessorLands (case_of g.C.Claims.claims c.args.self.now) c.args.self.now.place.routine (meaning_in p c.args.self.now.at c.args.word)) (outcomes_of p (fact_asked c.args.self.now) c.args.self.now.at (meaning_in p c.args.self.now.at c.args.word))) c.requires
     (subst (λ (os : List Successor). IsTrue c.each_lands.result ↔ EachSuccessor (SuccessorLands (case_of g.C.Claims.claims c.args.self.now) c.args.self.now.place.routine (meaning_in (place_in_code c.args.self.now.place) c.args.self.now.at c.args.word)) os) c.put_outcomes.ensures
-    (told_of c.each_lands.result c.each_lands.ensures (each_same _ _ _ (stays_lands (case_of g.C.Claims.claims c.args.self.now) c.args.self.now.place.routine _ (subst (λ b. MayAbandon b (case_of g.C.Claims.claims c.args.self.now) c.args.self.now.place.routine (meaning_in (place_in_code c.args.self.now.place) c.args.self.now.at c.args.word)) c.if-may_abandon.false c.may_abandon.ensures)))))
+    (told_of c.each_lands.result c.each_lands.ensures (each_same _ _ _ (stays_lands (case_of g.C.Claims.claims c.args.self.now) c.args.self.now.place.routine _ (subst (λ b. AbandonsIf b (case_of g.C.Claims.claims c.args.self.now) c.args.self.now.place.routine (meaning_in (place_in_code c.args.self.now.place) c.args.self.now.at c.args.word)) c.if-may_abandon.false c.may_abandon.ensures)))))

@@ -2,7 +2,7 @@ use Rattle.std.proofs.Common.{◌≡◌, subst, sym}
 use Rattle.std.proofs.lemmas.Result.{IfOk-weaker}
 use Rattle.certificate_lines.specs.Kept.{meaning}
 use Rattle.certificate.specs.Exact.{AreLines}
-use Rattle.analyser.proofs.found_by.Goals as goal
+use Rattle.analyser.proofs.found_with.Goals as goal
 
 pub returns-in-Ok-clause-lines : goal.returns-in-Ok-clause-lines
 returns-in-Ok-clause-lines g c =

@@ -1,0 +1,122 @@
+//! What would be enough at an instruction that refers to memory through a pointer, and which test in the program could show it.
+
+use crate::bounds::losses::{clears, is_test, refers_to_memory};
+use bin_tape::Image;
+use declaration::{Declaration, Owner};
+use instruct::{Operation, refers_indirectly, target};
+use processor::is_auto_index;
+use std::alloc::Allocator;
+use word12::Word;
+use wordset::WordSet;
+
+/// How many addresses there are.
+const ADDRESSES: usize = 4096;
+
+/// The most instructions between the one that adds a pointer to the accumulator and the test of the sum.
+const MOST_BETWEEN: usize = 6;
+
+/// Whether the cell belongs to the routine that executes the instruction at an address: it is in the same body.
+fn is_in_same_body<D: Allocator>(declaration: &Declaration<D>, at: Word, cell: Word) -> bool {
+    match declaration.owner_of(at) {
+        None => false,
+        Some(Owner::Main) => declaration.in_main(cell),
+        Some(Owner::Routine(entry)) => declaration.in_body(entry, cell),
+    }
+}
+
+/// Whether a jump from an address to a cell stays within the rules, as far as the declaration tells.
+fn may_jump<D: Allocator>(declaration: &Declaration<D>, at: Word, cell: Word) -> bool {
+    is_in_same_body(declaration, at, cell) || declaration.is_abandon(cell)
+}
+
+/// Whether an operation at an address may refer to a cell through a pointer, as far as the declaration tells.
+fn may_refer_to<D: Allocator>(
+    declaration: &Declaration<D>,
+    operation: Operation,
+    at: Word,
+    cell: Word,
+) -> bool {
+    match operation {
+        Operation::And | Operation::Tad => declaration.may_read(cell),
+        Operation::Isz => declaration.is_variable(cell) && declaration.may_read(cell),
+        Operation::Dca => declaration.is_variable(cell),
+        Operation::Jms => declaration.is_entry(cell),
+        Operation::Jmp => may_jump(declaration, at, cell),
+    }
+}
+
+/// The words of a pointer with which the instruction at an address, of this word, refers to a cell to which it may refer.
+pub(crate) fn sufficient_words<D: Allocator>(
+    declaration: &Declaration<D>,
+    at: Word,
+    word: Word,
+) -> WordSet {
+    let operation = Operation::of(word);
+    let steps = is_auto_index(target(word, at));
+    let mut words = WordSet::empty();
+    for index in 0..ADDRESSES {
+        let pointer = Word::from_index(index);
+        let cell = if steps { pointer.increment() } else { pointer };
+        if may_refer_to(declaration, operation, at, cell) {
+            words.insert(pointer);
+        }
+    }
+    words
+}
+
+/// Whether the word adds a cell to the accumulator, directly.
+fn adds(word: Word, at: Word, cell: Word) -> bool {
+    refers_to_memory(word)
+        && Operation::of(word) == Operation::Tad
+        && !refers_indirectly(word)
+        && target(word, at) == cell
+}
+
+/// Whether a word that is no test ends a computation in the accumulator: it stores, goes elsewhere or clears.
+fn ends_computation(word: Word) -> bool {
+    if refers_to_memory(word) {
+        return matches!(
+            Operation::of(word),
+            Operation::Jmp | Operation::Jms | Operation::Dca
+        );
+    }
+    clears(word)
+}
+
+/// The first test that follows an address, before the accumulator is stored or cleared and before control goes elsewhere.
+fn next_test(image: &Image, at: Word) -> Option<Word> {
+    let mut here = at;
+    for _ in 0..MOST_BETWEEN {
+        here = here.increment();
+        let word = image.get(here)?;
+        if is_test(word) {
+            return Some(here);
+        }
+        if ends_computation(word) {
+            return None;
+        }
+    }
+    None
+}
+
+/// The first test, in the body that has an address, of a sum to which a pointer was added.
+pub(crate) fn test_of_pointer<D: Allocator>(
+    image: &Image,
+    declaration: &Declaration<D>,
+    at: Word,
+    pointer: Word,
+) -> Option<Word> {
+    for index in 0..ADDRESSES {
+        let here = Word::from_index(index);
+        let Some(word) = image.get(here) else {
+            continue;
+        };
+        if adds(word, here, pointer) && is_in_same_body(declaration, at, here) {
+            let test = next_test(image, here);
+            if test.is_some() {
+                return test;
+            }
+        }
+    }
+    None
+}

@@ -1,3 +1,4 @@
+pub mod Completes
 pub mod Joins
 pub mod Machines
 pub mod MeantLemmas

@@ -98,7 +98,7 @@ fn push_declared<A: Allocator + Copy>(
     at: Option<Word>,
 ) -> Result<(), AllocError>
     ensures { OnOk result (text.new.items ≡ text.old.items ++
-        located at (after_colon (characters (after_first is_slash_code line.now))) ++ 10 ∷ []) }
+        (located at (after_colon (characters (after_first is_slash_code line.now))) ++ 10 ∷ [])) }
 {
     let mut comment = Vec::new(alloc);
     push_characters(&mut comment, comment_of(line))?;

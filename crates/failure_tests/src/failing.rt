@@ -317,8 +317,8 @@ const LISTING: &[u8] = b"            *200\n0200  7402  HLT\n            $\n\n";
 
 const SOURCE: &[u8] = b"/From a tape, for the PDP-8/I. Start: 0200\n\n*0200\n\tHLT\t\t/start\n$\n";
 
-const DECLARED_SOURCE: &[u8] = b"/From a tape, for the PDP-8/I. Start: 0200\n\n\
-    /Main program\n*0200\n\tHLT\t\t/start, stop\n$\n";
+const DECLARED_SOURCE: &[u8] = b"/From a tape, for the PDP-8/I. Start: 0200\n\
+    /: start 0200\n/: main 0200\n/: stop 0200\n\n/Main program\n*0200\n\tHLT\t\t/start, stop\n$\n";
 
 const SUMMARY: &[u8] = b"HALT 0200 AC=0000 L=0 PC=0201 STEPS=1\n";
 

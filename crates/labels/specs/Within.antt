@@ -1,5 +1,5 @@
 -- The lines of a declaration that stand within a source, and the machine that a declaration names.
-use Rattle.std.specs.Prelude.{ℕ, ◌≡◌, ◌<◌, ◌%◌, ◌==◌, Bool, true, false, ◌&&◌, if◌then◌else◌, List, [], ◌∷◌, ◌++◌, length, slice_range, codes, Result, Ok, Err, alloc_error, ◌⊎◌}
+use Rattle.std.specs.Prelude.{ℕ, ◌≡◌, ◌<◌, ◌+◌, ◌%◌, ◌==◌, Bool, true, false, ◌&&◌, if◌then◌else◌, List, [], ◌∷◌, ◌++◌, length, slice_range, codes, Option, Result, Ok, Err, alloc_error, ◌⊎◌}
 use Rattle.std.specs.declared.alloc.AllocError.{AllocError}
 use Rattle.instruct.specs.declared.Profile.{Profile}
 use Rattle.instruct.specs.declared.Profile.TheVariants.{Pdp8I, Pdp8E}
@@ -15,6 +15,14 @@ use Rattle.pal_text.specs.declared.fault.TextFault.TheVariants.{Illegal, TooLong
 use Rattle.pal_text.specs.declared.lines.Line.{Line}
 use Rattle.pal_text.specs.Characters.{characters}
 use Rattle.pal_text.specs.Parts.{IsPart, IsIllegal}
+use Rattle.pal_text.specs.declared.names.Name.{Name}
+use Rattle.pal_acts.specs.declared.act.PlacedWord.{PlacedWord}
+use Rattle.pal_acts.specs.declared.act.SourcePlace.{SourcePlace}
+use Rattle.pal_acts.specs.Acts.{place}
+use Rattle.pal_acts.specs.Permanent.{permanent_symbols}
+use Rattle.pal_asm.specs.declared.fault.PalFault.{PalFault}
+use Rattle.pal_asm.specs.Sources.{Means, HasWords, IsFault}
+use Rattle.labels.specs.Located.{address_on, lacks_some, located}
 
 -- The words are `profile 8e`.
 abbrev pub is_8e : List (List ℕ) → Bool
@@ -38,15 +46,17 @@ abbrev pub after_colon : List ℕ → List ℕ
 after_colon [] = []
 after_colon (first ∷ more) = if first == 58 then more else []
 
--- The line of a declaration that a line of a source holds, and a line feed: the characters behind the `/:` with which its
--- comment begins, and none where it doesn't begin so. What is no character is passed over, also between `/` and `:`.
-abbrev pub declared_line : List ℕ → List ℕ
-declared_line line = after_colon (characters (after_first is_slash_code line)) ++ 10 ∷ []
+-- The line of a declaration that the line of a source at a place holds, and a line feed: the characters behind the `/:` with which
+-- its comment begins, and none where it doesn't begin so. What is no character is passed over, also between `/` and `:`. An address
+-- that is left out is that of the first of these words that stands there.
+abbrev pub declared_line : List PlacedWord → SourcePlace → List ℕ → List ℕ
+declared_line words place line = located (address_on words place) (after_colon (characters (after_first is_slash_code line))) ++ 10 ∷ []
 
--- What these lines of a part declare, a line for each.
-abbrev pub declared_part : List ℕ → List Line → List ℕ
-declared_part source [] = []
-declared_part source (line ∷ lines) = declared_line (slice_range source line.start line.end) ++ declared_part source lines
+-- What these lines of a part with this number declare, a line for each, of which the first has the number n.
+abbrev pub declared_part : List PlacedWord → ℕ → ℕ → List ℕ → List Line → List ℕ
+declared_part words part n source [] = []
+declared_part words part n source (line ∷ lines) =
+    declared_line words (place part n) (slice_range source line.start line.end) ++ declared_part words part (n + 1) source lines
 
 -- Behind a part that ends so the next one is read: behind any but one that a dollar sign ends.
 abbrev pub reads_on : Ending → Bool
@@ -60,20 +70,35 @@ reads_on_after (Illegal n) = Ok false
 reads_on_after TooLong = Ok false
 reads_on_after NoMemory = Err alloc_error
 
--- What a part declares, and whether the next one is read behind it. A part that is too long or has a statement without a
--- form declares nothing, and ends the source. Another declares by its lines, up to where it ends.
-pub data PartDeclares (source : List ℕ) : Bool → List ℕ → Type 0 where
-  unread : ((65536 < length source) ⊎ ((line : ℕ) × IsIllegal source line)) → PartDeclares source false []
-  read : (tokens : List Token) (told : List Statement) (lines : List Line) (ending : Ending) → IsPart source tokens told lines ending → PartDeclares source (reads_on ending) (declared_part source lines)
+-- What a part with this number declares, and whether the next one is read behind it. A part that is too long or has a statement without
+-- a form declares nothing, and ends the source. Another declares by its lines, up to where it ends.
+pub data PartDeclares (words : List PlacedWord) (part : ℕ) (source : List ℕ) : Bool → List ℕ → Type 0 where
+  unread : ((65536 < length source) ⊎ ((line : ℕ) × IsIllegal source line)) → PartDeclares words part source false []
+  read : (tokens : List Token) (told : List Statement) (lines : List Line) (ending : Ending) → IsPart source tokens told lines ending → PartDeclares words part source (reads_on ending) (declared_part words part 1 source lines)
 
--- This text stands as a declaration within these parts.
-pub data Declared : List (List ℕ) → List ℕ → Type 0 where
-  no_part : Declared [] []
-  last_part : (part : List ℕ) (parts : List (List ℕ)) (text : List ℕ) → PartDeclares part false text → Declared (part ∷ parts) text
-  next_part : (part : List ℕ) (parts : List (List ℕ)) (text more : List ℕ) → PartDeclares part true text → Declared parts more → Declared (part ∷ parts) (text ++ more)
+-- This text stands as a declaration within these parts, the first of which has this number, where lines that leave out their address
+-- have that of one of these words.
+pub data Declared (words : List PlacedWord) : ℕ → List (List ℕ) → List ℕ → Type 0 where
+  no_part : (n : ℕ) → Declared words n [] []
+  last_part : (n : ℕ) (part : List ℕ) (parts : List (List ℕ)) (text : List ℕ) → PartDeclares words n part false text → Declared words n (part ∷ parts) text
+  next_part : (n : ℕ) (part : List ℕ) (parts : List (List ℕ)) (text more : List ℕ) → PartDeclares words n part true text → Declared words (n + 1) parts more → Declared words n (part ∷ parts) (text ++ more)
 
--- What a part declares was put behind a text.
-pub record Adds (source : List ℕ) (on : Bool) (old new : List ℕ) : Type 0 where
+-- What a part with this number declares was put behind a text.
+pub record Adds (words : List PlacedWord) (part : ℕ) (source : List ℕ) (on : Bool) (old new : List ℕ) : Type 0 where
   pub text : List ℕ
-  pub says : PartDeclares source on text
+  pub says : PartDeclares words part source on text
   pub added : new ≡ old ++ text
+
+-- The parts mean something on the machine that this text names, and these are their words, each with its place and its address.
+pub record HasWordsFor (parts : List (List ℕ)) (text : List ℕ) (words : List PlacedWord) : Type 0 where
+  pub symbols : List (Name × ℕ)
+  pub image : List (Option ℕ)
+  pub means : Means (permanent_symbols (machine text)) parts symbols image
+  pub has : HasWords (permanent_symbols (machine text)) parts symbols words
+
+-- The declaration within parts: what stands there, where each line has its address; or else that with the addresses of the words
+-- of the parts, or, where the parts have a fault, without them.
+pub data DeclaredWithin (parts : List (List ℕ)) : List ℕ → Type 0 where
+  whole : (text : List ℕ) → Declared [] 1 parts text → lacks_some text ≡ false → DeclaredWithin parts text
+  completed : (text all : List ℕ) (words : List PlacedWord) → Declared [] 1 parts text → HasWordsFor parts text words → Declared words 1 parts all → DeclaredWithin parts all
+  faulty : (text : List ℕ) (fault : PalFault) → Declared [] 1 parts text → IsFault (permanent_symbols (machine text)) parts fault → DeclaredWithin parts text

@@ -35,7 +35,7 @@ pub(crate) fn is_capital(byte: u8) -> bool
 }
 
 /// Whether a byte is a digit.
-fn is_digit(byte: u8) -> bool
+pub(crate) fn is_digit(byte: u8) -> bool
     ensures { result ≡ is_digit byte }
 {
     matches!(byte, b'0'..=b'9')

@@ -5,6 +5,7 @@
 pub mod address;
 pub mod fault;
 pub mod laws;
+mod located;
 pub mod naming;
 pub mod placing;
 pub mod program;
@@ -16,4 +17,4 @@ pub use naming::name_declaration;
 pub use placing::place;
 pub use program::{Numbered, NumberingFault, number};
 pub use tags::Tags;
-pub use within::{declared_lines, machine_of};
+pub use within::{declaration_within, declared_lines, machine_of};

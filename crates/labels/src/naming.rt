@@ -238,23 +238,63 @@ fn name_word<A: Allocator, S: Allocator + Copy>(
     }
 }
 
-/// Adds the words of a line behind its first one. Those behind `returns` are no addresses.
+/// Which of the words that follow in a line are addresses.
+#[derive(Clone, Copy, PartialEq, Eq, Debug)]
+enum Addresses {
+    /// All.
+    All,
+    /// The next one alone.
+    Next,
+    /// None.
+    None,
+}
+
+/// Which words are addresses behind the name of a line. Offsets follow the entry of `skips` and of `returns`.
+fn addresses_behind_name(name: &[u8]) -> Addresses {
+    if text::is(name, "skips") || text::is(name, "returns") {
+        Addresses::Next
+    } else {
+        Addresses::All
+    }
+}
+
+/// Whether words or offsets follow a word, and no addresses.
+fn ends_addresses(word: &[u8]) -> bool {
+    text::is(word, "returns")
+        || text::is(word, "ac")
+        || text::is(word, "mq")
+        || text::is(word, "link")
+}
+
+/// Which words are addresses behind a word of a line. The word behind `cell` is one, and what that cell holds is none.
+fn addresses_behind(word: &[u8], before: Addresses) -> Addresses {
+    if text::is(word, "cell") {
+        Addresses::Next
+    } else if ends_addresses(word) || before == Addresses::Next {
+        Addresses::None
+    } else {
+        before
+    }
+}
+
+/// Adds the words of a line behind its first one, of which these are addresses.
 fn name_words<A: Allocator, S: Allocator + Copy>(
     own: &SymbolTable<S>,
     tags: &[Tag],
     words: Words<'_>,
+    addresses: Addresses,
     text: &mut Vec<u8, A>,
 ) -> Result<(), AllocError> {
     let mut rest = words;
-    let mut are_offsets = false;
+    let mut addresses = addresses;
     while let Some(word) = rest.next() {
         text.push(b' ')?;
-        if are_offsets {
+        if addresses == Addresses::None {
             text.extend_from_slice(word)?;
         } else {
             name_word(own, tags, word, text)?;
         }
-        are_offsets = are_offsets || text::is(word, "returns");
+        addresses = addresses_behind(word, addresses);
     }
     Ok(())
 }
@@ -270,7 +310,7 @@ fn name_line<A: Allocator, S: Allocator + Copy>(
     let mut rest = Words::of(said_of(body));
     if let Some(name) = rest.next() {
         text.extend_from_slice(name)?;
-        name_words(own, tags, rest, text)?;
+        name_words(own, tags, rest, addresses_behind_name(name), text)?;
     }
     push_comment(comment_of(body), text)?;
     text.extend_from_slice(return_of(line))
@@ -402,7 +442,7 @@ fn named_by<A: Allocator + Copy, S: Allocator + Copy>(
 /// Writes a declaration in numbers with the symbols of a source: an address with a tag as that tag, the
 /// first of several; an address at most 77 cells behind a tag as the last tag before it, `+` and a number;
 /// another one that an assignment gives a symbol as that symbol. Ranges are written by their two addresses.
-/// Comments stay, and what isn't four digits or a range of them, and what follows `returns`. A line that
+/// Comments stay, and what isn't four digits or a range of them, offsets, and the words that a subject is to have. A line that
 /// wouldn't be read back byte by byte stays in numbers, and so does the whole where it wouldn't, as where
 /// it has more than 16,384 bytes with symbols. A line of `written`, the text that somebody wrote and of which
 /// each line has its line in the numbers, stays as it is where it means that line. Which names are taken, and

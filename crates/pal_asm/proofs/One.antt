@@ -29,7 +29,7 @@ use Rattle.pal_acts.specs.declared.act.SourcePlace.{SourcePlace}
 use Rattle.pal_acts.specs.Acts.{PlacedAct, placed, place}
 use Rattle.pal_asm.specs.Numbers.{base, radix_after}
 use Rattle.pal_asm.specs.Acts.{statement_acts, Does, ends, goes_on}
-use Rattle.pal_asm.specs.Sources.{size_fault, TextLine, part_lines, Reads, no_part, broken, last_part, next_part, Means, IsFault, Refuses}
+use Rattle.pal_asm.specs.Sources.{size_fault, TextLine, part_lines, Reads, no_part, broken, last_part, next_part, Means, HasWords, IsFault, Refuses}
 use Rattle.pal_asm.specs.Listings.{symbols_text, Lists}
 use Rattle.pal_asm.specs.Kept.{fault_of, IsFaultOf, RefusesActs, turns_text}
 use Rattle.pal_asm.proofs.Ordered.{lists_by}
@@ -199,6 +199,12 @@ module _ {X : Type 0} (r : Result X AssembleFault) where
       ∙ ap (λ l. turns_text lines l ++ codes "\n" ++ symbols_text own) (words ∙ ap (λ s. all_words (known s own) acts) same)
       ∙ ap (λ s. turns_text lines (all_words (known perm s) acts) ++ codes "\n" ++ symbols_text s) (sym own_is))
 
+  -- the words that were found are those of the acts over these symbols
+  pub words_if : (symbols : X → List (Name × ℕ)) (words_in : X → List PlacedWord) (perm permanent own : List (Name × ℕ)) (acts : List PlacedAct) (ws : List PlacedWord)
+      → permanent ≡ perm → ws ≡ all_words (known permanent own) acts → IfOk r (λ x. symbols x ≡ own) → IfOk r (λ x. words_in x ≡ ws) → IfOk r (λ x. words_in x ≡ all_words (known perm (symbols x)) acts)
+  words_if symbols words_in perm permanent own acts ws same words e f =
+      both r e f (λ x own_is words_are. words_are ∙ words ∙ ap (λ s. all_words (known s own) acts) same ∙ ap (λ s. all_words (known perm s) acts) (sym own_is))
+
   -- a refusal for want of memory is one of all acts
   pub silent_refuses : (perm : List (Name × ℕ)) (acts : List PlacedAct) → IfErr r (λ e. e ≡ NoMemory) → IfErr r (RefusesActs perm acts)
   silent_refuses perm acts h = told r h (λ e is. subst (RefusesActs perm acts) (sym is) tt)
@@ -210,6 +216,9 @@ module _ {X : Type 0} (r : Result X AssembleFault) where
 
     pub lists_if : (symbols : X → List (Name × ℕ)) (text : X → List ℕ) → IfOk r (λ x. text x ≡ turns_text lines (all_words (known perm (symbols x)) acts) ++ codes "\n" ++ symbols_text (symbols x)) → IfOk r (λ x. Lists perm parts (symbols x) (text x))
     lists_if symbols text h = one r h (λ x is. lists_by perm (symbols x) parts acts lines (text x) sizes reads is)
+
+    pub places_if : (symbols : X → List (Name × ℕ)) (words_in : X → List PlacedWord) → IfOk r (λ x. words_in x ≡ all_words (known perm (symbols x)) acts) → IfOk r (λ x. HasWords perm parts (symbols x) (words_in x))
+    places_if symbols words_in h = one r h (λ x is. record { acts = acts; lines = lines; sizes = sizes; reads = reads; so = is })
 
     refuses : (e : AssembleFault) → RefusesActs perm acts e → Refuses perm parts e
     refuses (Source fault) h = inr (record { acts = acts; lines = lines; sizes = sizes; reads = reads; so = h })

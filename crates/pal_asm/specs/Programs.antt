@@ -1,6 +1,7 @@
 -- What a program, a translation and a map are, as their calls show it.
 use Rattle.std.specs.Prelude.{ℕ, List, Option}
 use Rattle.pal_text.specs.declared.names.Name.{Name}
+use Rattle.pal_acts.specs.declared.act.PlacedWord.{PlacedWord}
 use Rattle.pal_asm.specs.declared.map.SourceMap.{SourceMap}
 use Rattle.pal_asm.specs.declared.program.Program.{Program}
 use Rattle.pal_asm.specs.declared.translation.Translation.{Translation}
@@ -32,3 +33,7 @@ mapped_symbols m = m.own.entries
 -- The image of a source that is mapped.
 abbrev pub mapped_image : {A : Type 0} → SourceMap A → List (Option ℕ)
 mapped_image m = m.image
+
+-- The words of a source that is mapped, each with its place and its address.
+abbrev pub mapped_words : {A : Type 0} → SourceMap A → List PlacedWord
+mapped_words m = m.words.items

@@ -11,10 +11,12 @@ use Rattle.pal_text.specs.Statements.{pieces}
 use Rattle.pal_text.specs.Parts.{IsIllegal}
 use Rattle.pal_acts.specs.declared.act.Act.TheVariants as act
 use Rattle.pal_acts.specs.declared.act.SourcePlace.{SourcePlace}
+use Rattle.pal_acts.specs.declared.act.PlacedWord.{PlacedWord}
 use Rattle.pal_acts.specs.declared.code.Code.{Code}
 use Rattle.pal_acts.specs.declared.code.Code.TheVariants.{IllegalCharacter, TooLong}
 use Rattle.pal_acts.specs.Acts.{PlacedAct, placed, place}
-use Rattle.pal_acts.specs.Sources.{IsSource}
+use Rattle.pal_acts.specs.Sources.{IsSource, all_words}
+use Rattle.pal_acts.specs.Values.{known}
 use Rattle.pal_acts.specs.Faults.{IsRefused}
 use Rattle.pal_asm.specs.declared.number.Radix.{Radix}
 use Rattle.pal_asm.specs.declared.number.Radix.TheVariants.{Octal}
@@ -76,6 +78,11 @@ pub record IsReadSo (parts : List (List ℕ)) (So : List PlacedAct → List Text
 -- The meaning of a source of parts, over these permanent symbols: the symbols and the image of their acts.
 abbrev pub Means : List (Name × ℕ) → List (List ℕ) → List (Name × ℕ) → List (Option ℕ) → Type 0
 Means permanent parts symbols image = IsReadSo parts (λ acts lines. IsSource permanent 1024 acts symbols image)
+
+-- The words of a source of parts, whose own symbols these are, each with its place in the source and its address, in the order of the
+-- source.
+abbrev pub HasWords : List (Name × ℕ) → List (List ℕ) → List (Name × ℕ) → List PlacedWord → Type 0
+HasWords permanent parts own words = IsReadSo parts (λ acts lines. words ≡ all_words (known permanent own) acts)
 
 -- The fault of a source: that of its sizes, or else the first one of the acts of its parts, told at the part and the line of its act.
 abbrev pub IsFault : List (Name × ℕ) → List (List ℕ) → PalFault → Type 0

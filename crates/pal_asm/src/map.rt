@@ -1,11 +1,12 @@
-//! What a source means, which is proved, with what it says of each word: the line and its text, which are tested.
+//! What a source means, and its words with their places, which is proved, and the texts of its lines, which are tested.
 
 ghost use Rattle.std.specs.Prelude.{◌≡◌, None, IfOk, IfErr};
 ghost use Rattle.pal_acts.specs.Permanent.{permanent_symbols};
-ghost use Rattle.pal_acts.specs.Sources.{IsSource};
+ghost use Rattle.pal_acts.specs.Sources.{IsSource, all_words};
+ghost use Rattle.pal_acts.specs.Values.{known};
 ghost use Rattle.pal_asm.specs.Kept.{RefusesActs};
-ghost use Rattle.pal_asm.specs.Programs.{mapped_image, mapped_symbols};
-ghost use Rattle.pal_asm.specs.Sources.{Means, Refuses, texts, size_fault};
+ghost use Rattle.pal_asm.specs.Programs.{mapped_image, mapped_symbols, mapped_words};
+ghost use Rattle.pal_asm.specs.Sources.{HasWords, Means, Refuses, texts, size_fault};
 
 use crate::fault::AssembleFault;
 use crate::front::Front;
@@ -54,7 +55,9 @@ impl<A: Allocator + Copy> SourceMap<A> {
     }
 
     /// The words with their places, in the order of the source; of several for one address the last one counts.
-    pub fn words(&self) -> &[PlacedWord] {
+    pub fn words(&self) -> &[PlacedWord]
+        ensures { result.now ≡ mapped_words self.now }
+    {
         &self.words
     }
 
@@ -133,6 +136,7 @@ fn map_of<A: Allocator + Copy>(
 ) -> Result<SourceMap<A>, AssembleFault>
     ensures image { IfOk result (λ map. mapped_image map ≡ found.entry.image) }
     ensures symbols { IfOk result (λ map. mapped_symbols map ≡ found.entry.symbols.own.entries) }
+    ensures words { IfOk result (λ map. mapped_words map ≡ found.entry.words.items) }
     ensures memory { IfErr result (λ fault. fault ≡ AssembleFault.NoMemory) }
 {
     let AssembledWords {
@@ -162,6 +166,8 @@ fn map_reading<A: Allocator + Copy>(
 ) -> Result<SourceMap<A>, AssembleFault>
     ensures found { IfOk result (λ map. IsSource (permanent_symbols profile) 1024
         reading.now.acts (mapped_symbols map) (mapped_image map)) }
+    ensures words { IfOk result (λ map. mapped_words map ≡
+        all_words (known (permanent_symbols profile) (mapped_symbols map)) reading.now.acts) }
     ensures refused { IfErr result (RefusesActs (permanent_symbols profile) reading.now.acts) }
 {
     let Ok(permanent) = permanent_table(alloc, profile) else {
@@ -182,6 +188,8 @@ fn map_parts<A: Allocator + Copy>(
     requires { size_fault (texts parts.now) ≡ None }
     ensures meaning { IfOk result (λ map. Means (permanent_symbols profile) (texts parts.now)
         (mapped_symbols map) (mapped_image map)) }
+    ensures words { IfOk result (λ map. HasWords (permanent_symbols profile) (texts parts.now)
+        (mapped_symbols map) (mapped_words map)) }
     ensures refused { IfErr result (Refuses (permanent_symbols profile) (texts parts.now)) }
 {
     let Ok(reading) = read_source(alloc, parts) else {
@@ -203,6 +211,8 @@ pub fn map_source<A: Allocator + Copy>(
 ) -> Result<SourceMap<A>, AssembleFault>
     ensures meaning { IfOk result (λ map. Means (permanent_symbols profile) (texts parts.now)
         (mapped_symbols map) (mapped_image map)) }
+    ensures words { IfOk result (λ map. HasWords (permanent_symbols profile) (texts parts.now)
+        (mapped_symbols map) (mapped_words map)) }
     ensures refused { IfErr result (Refuses (permanent_symbols profile) (texts parts.now)) }
 {
     match fault_of_sizes(parts) {

@@ -1,9 +1,13 @@
 -- Lines that are kept, line by line.
-use Rattle.std.proofs.Common.{ℕ, ◌≡◌, ◌∷◌, ◌++◌, ◌==◌, List, [], true, false, inl, inr, length, refl, sym, subst, arith}
+use Rattle.std.proofs.Common.{ℕ, ◌≡◌, ◌∷◌, ◌++◌, ◌==◌, ◌∙◌, List, [], true, false, inl, inr, length, refl, sym, ap, subst, arith}
+use Rattle.std.specs.Prelude.{codes}
+use Rattle.std.specs.List.{list_all}
+use Rattle.std.proofs.lemmas.List.{append-nil}
 use Rattle.std.specs.Str.{bytes_eq}
 use Rattle.std.proofs.lemmas.Slice.Eq.{bytes_eq-Decides}
-use Rattle.search_commands.specs.Keeping.{AreAdded, Grows, HasLine, IsAdded, IsCommentOrEnd, IsMark, KeepsLine, KeepsLines, first_line, other_lines}
-use Rattle.search_commands.specs.Keeping.Grows.{same, commented, marked}
+use Rattle.search_commands.specs.Keeping.{AreAdded, Grows, HasLine, IsAdded, IsCommentOrEnd, IsMark, KeepsLine, KeepsLines, ends_word, first_line, is_spaced, is_spelling, mark, other_lines}
+use Rattle.search_commands.specs.Keeping.Grows.{same, put, commented, marked}
+use Rattle.search_commands.specs.Keeping.IsMark.{ranges, offsets}
 use Rattle.search_commands.specs.Keeping.AreAdded.{none, more}
 use Rattle.search_commands.specs.Keeping.KeepsLines.{unchanged, line, last, added}
 
@@ -52,10 +56,28 @@ same_text old new e = let P : List ℕ → Type 0 = λ t. KeepsLines old t in su
 pub same_line : (old new : List ℕ) → bytes_eq old new ≡ true → KeepsLine old new
 same_line old new e = inl ((bytes_eq-Decides old new).0 e)
 
--- a byte more of what a line has grown to
-pub grown : (old new left rest after : List ℕ) (byte : ℕ) (others : List ℕ) → rest ≡ byte ∷ others → (Grows left rest → Grows old new)
-    → (Grows after others → Grows left (byte ∷ others)) → Grows after others → Grows old new
-grown old new left rest after byte others e so step h = let P : List ℕ → Type 0 = λ t. Grows left t in so (subst P (sym e) (step h))
+-- a word is put in
+pub put_in : (old new others front rest : List ℕ) → new ≡ 32 ∷ others → others ≡ front ++ rest → list_all is_spelling front ≡ true → ends_word old ≡ true → Grows old rest → Grows old new
+put_in old new others front rest e f spelled ends h =
+    let P : List ℕ → Type 0 = λ t. Grows old t in
+    subst P (sym (e ∙ ap (λ t. 32 ∷ t) f)) (put front old rest spelled ends h)
+
+-- ranges are named
+pub named_ranges : (text front rest : List ℕ) → text ≡ front ++ rest → length rest ≡ 0 → list_all is_spaced front ≡ true → IsMark (mark ++ text)
+named_ranges text front [] e none spaced =
+    let P : List ℕ → Type 0 = λ t. IsMark (mark ++ t) in
+    subst P (sym (e ∙ append-nil front)) (ranges front spaced)
+named_ranges text front (x ∷ xs) e none spaced = absurd (omega (arith, none))
+
+-- ranges and offsets are named
+pub named_offsets : (text front rest behind : List ℕ) → text ≡ front ++ rest → rest ≡ codes "returns" ++ behind → list_all is_spaced front ≡ true → list_all is_spaced behind ≡ true → IsMark (mark ++ text)
+named_offsets text front rest behind e f spaced others =
+    let P : List ℕ → Type 0 = λ t. IsMark (mark ++ t) in
+    subst P (sym (e ∙ ap (λ t. front ++ t) f)) (offsets front behind spaced others)
+
+-- what marks a text that is this one
+pub mark_of : (text named : List ℕ) → text ≡ mark ++ named → IsMark (mark ++ named) → IsMark text
+mark_of text named e h = let P : List ℕ → Type 0 = λ t. IsMark t in subst P (sym e) h
 
 -- a line more that is added
 pub one_more_added : (text first rest : List ℕ) → HasLine text → first ≡ first_line text → rest ≡ other_lines text → IsAdded first → AreAdded rest → AreAdded text

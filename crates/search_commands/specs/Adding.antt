@@ -11,9 +11,10 @@ abbrev pub lists : Option Words → ℕ → Bool
 lists None a = false
 lists (Some cells) a = cells a
 
--- Whatever the last declaration says of a cell, the given one or the proposed one says: it is in a body of theirs, an entry, a
--- variable, a stop or a pause of theirs, or on their list of reads, and its routine may return at each offset, all of which are
--- below 8, at which it may in one of them.
+-- Whatever the last declaration allows of a cell, the given one or the proposed one allows: the cell is in a body of theirs, an
+-- entry, a variable, a stop or a pause of theirs, an entry in which its routine may store, or a place for which calls may be
+-- abandoned, or it is on their list of reads; and its routine may return at each of the offsets 0 to 77 at which it may in one
+-- of them. What is to hold allows nothing, and is left to `Extends`.
 pub record AddsToCell (given proposed more : Declaration) (a : ℕ) : Type 0 where
   pub body : (r : Routine) → more.body r a ≡ true → given.body r a || proposed.body r a ≡ true
   pub offset : (o : ℕ) → o < 64 → more.offset a o ≡ true → given.offset a o || proposed.offset a o ≡ true
@@ -22,8 +23,10 @@ pub record AddsToCell (given proposed more : Declaration) (a : ℕ) : Type 0 whe
   pub stop : more.stop a ≡ true → given.stop a || proposed.stop a ≡ true
   pub pause : more.pause a ≡ true → given.pause a || proposed.pause a ≡ true
   pub read : lists more.reads a ≡ true → lists given.reads a || lists proposed.reads a ≡ true
+  pub moves : more.moves a ≡ true → given.moves a || proposed.moves a ≡ true
+  pub abandon : more.abandon a ≡ true → given.abandon a || proposed.abandon a ≡ true
 
--- Nothing is added to the given declaration but what is proposed.
+-- Nothing is allowed beyond the given declaration but what is proposed.
 abbrev pub AddsOnly : Declaration → Declaration → Declaration → Type 0
 AddsOnly given proposed more = (a : ℕ) → a < 4096 → AddsToCell given proposed more a
 

@@ -19,29 +19,38 @@ first_line text = before_first is_feed text
 abbrev pub other_lines : List ℕ → List ℕ
 other_lines text = after_first is_feed text
 
--- A digit, a hyphen or a space: ranges and offsets are spelled by these.
-abbrev pub is_put : ℕ → Bool
-is_put c = nat_le 48 c && nat_le c 57 || (c == 45 || c == 32)
+-- A digit or a hyphen: ranges and offsets are spelled by these.
+abbrev pub is_spelling : ℕ → Bool
+is_spelling c = nat_le 48 c && nat_le c 57 || c == 45
+
+-- One of these or a space: ranges and offsets in a row are spelled so.
+abbrev pub is_spaced : ℕ → Bool
+is_spaced c = is_spelling c || c == 32
+
+-- A space, a tab or the slash of a comment: these end a word.
+abbrev pub is_end : ℕ → Bool
+is_end c = c == 32 || (c == 9 || c == 47)
+
+-- A word that stands before this text has ended.
+abbrev pub ends_word : List ℕ → Bool
+ends_word [] = true
+ends_word (c ∷ rest) = is_end c
 
 -- The comment that marks what is added begins so.
 abbrev pub mark : List ℕ
 mark = codes " / added"
 
--- What is spelled by is_put, or a small letter: the comment names ranges and offsets, these behind the word `returns`.
-abbrev pub is_named : ℕ → Bool
-is_named c = is_put c || (nat_le 97 c && nat_le c 122)
+-- The comment that marks what is added, and names it: ranges, and behind the word `returns` offsets.
+pub data IsMark : List ℕ → Type 0 where
+  ranges : (named : List ℕ) → list_all is_spaced named ≡ true → IsMark (mark ++ named)
+  offsets : (named behind : List ℕ) → list_all is_spaced named ≡ true → list_all is_spaced behind ≡ true → IsMark (mark ++ (named ++ (codes "returns" ++ behind)))
 
--- The comment that marks what is added, and names it.
-pub record IsMark (text : List ℕ) : Type 0 where
-  pub named : List ℕ
-  pub spelled : list_all is_named named ≡ true
-  pub is : text ≡ mark ++ named
-
--- The second line is the first one with ranges and offsets put in before its comment, and behind all of it the comment that marks and
--- names them. Whatever the first line has stands in the second in the same order, and its comment stays as it is.
+-- The second line is the first one with ranges and offsets put in before its comment, each behind a space and where a word has ended,
+-- and behind all of it the comment that marks and names them. So each word of the first line stands in the second one too, as it was
+-- and in the same order, and its comment stays as it is.
 pub data Grows : List ℕ → List ℕ → Type 0 where
   same : (c : ℕ) (old new : List ℕ) → (c == 47) ≡ false → Grows old new → Grows (c ∷ old) (c ∷ new)
-  put : (c : ℕ) (old new : List ℕ) → is_put c ≡ true → Grows old new → Grows old (c ∷ new)
+  put : (word old new : List ℕ) → list_all is_spelling word ≡ true → ends_word old ≡ true → Grows old new → Grows old (32 ∷ (word ++ new))
   commented : (comment rest : List ℕ) → IsMark rest → Grows (47 ∷ comment) ((47 ∷ comment) ++ rest)
   marked : (rest : List ℕ) → IsMark rest → Grows [] rest
 

@@ -1,4 +1,4 @@
-//! Whether nothing is added to a declaration but what is proposed.
+//! Whether nothing is allowed beyond a declaration but what is proposed.
 
 ghost use Rattle.std.specs.Prelude.{ℕ, ◌≡◌, ◌<◌, ◌||◌, true};
 ghost use Rattle.declaration.specs.Declaration.{Routine};
@@ -109,7 +109,30 @@ fn roles_are_known<A: Allocator, B: Allocator, C: Allocator>(
     )
 }
 
-/// Whether nothing is said of a cell but what one of two other declarations says.
+/// Whether a routine may store in its entry, and calls may be abandoned for a cell, only where they may in one of two other
+/// declarations.
+fn leave_is_known<A: Allocator, B: Allocator, C: Allocator>(
+    given: &Declaration<A>,
+    proposed: &Declaration<B>,
+    more: &Declaration<C>,
+    at: Word,
+) -> bool
+    ensures moves { result ≡ true → (meaning more.now).moves at ≡ true →
+        (meaning given.now).moves at || (meaning proposed.now).moves at ≡ true }
+    ensures abandon { result ≡ true → (meaning more.now).abandon at ≡ true →
+        (meaning given.now).abandon at || (meaning proposed.now).abandon at ≡ true }
+{
+    if !is_known(more.may_move(at), given.may_move(at), proposed.may_move(at)) {
+        return false;
+    }
+    is_known(
+        more.is_abandon(at),
+        given.is_abandon(at),
+        proposed.is_abandon(at),
+    )
+}
+
+/// Whether nothing is allowed of a cell but what one of two other declarations allows.
 fn adds_to_cell<A: Allocator, B: Allocator, C: Allocator>(
     given: &Declaration<A>,
     proposed: &Declaration<B>,
@@ -125,10 +148,13 @@ fn adds_to_cell<A: Allocator, B: Allocator, C: Allocator>(
     if !offsets_are_known(given, proposed, more, at) {
         return false;
     }
+    if !leave_is_known(given, proposed, more, at) {
+        return false;
+    }
     roles_are_known(given, proposed, more, at)
 }
 
-/// Whether the last declaration says nothing but what one of the other two says.
+/// Whether the last declaration allows nothing but what one of the other two allows.
 pub(crate) fn adds_only<A: Allocator, B: Allocator, C: Allocator>(
     given: &Declaration<A>,
     proposed: &Declaration<B>,

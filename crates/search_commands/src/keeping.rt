@@ -4,10 +4,13 @@ ghost use Rattle.std.specs.Prelude.{◌≡◌, ◌<◌, ◌+◌, ℕ, List, ◌�
 ghost use Rattle.std.specs.List.{list_all, position};
 ghost use Rattle.std.specs.Str.{bytes_eq};
 ghost use Rattle.std.specs.Str.Lines.{strip_carriage_return};
-ghost use Rattle.search_commands.specs.Keeping.{AreAdded, Grows, HasLine, IsAdded, IsCommentOrEnd, IsMark, KeepsLine, KeepsLines, first_line, is_feed, is_named, is_put, mark, other_lines};
+ghost use Rattle.search_commands.specs.Keeping.{AreAdded, Grows, HasLine, IsAdded, IsCommentOrEnd, IsMark, KeepsLine, KeepsLines, ends_word, first_line, is_end, is_feed, is_spaced, is_spelling, mark, other_lines};
 
 /// The comment that marks what is added.
 const MARK: &[u8] = b" / added";
+
+/// The word that stands in it before offsets.
+const RETURNS: &[u8] = b"returns";
 
 /// The first line of a text, and what follows it.
 #[derive(Clone, Copy)]
@@ -48,24 +51,114 @@ fn without_return(line: &[u8]) -> &[u8]
 }
 
 /// Whether ranges and offsets are spelled by a byte.
-fn is_put(byte: u8) -> bool
-    ensures { result ≡ is_put byte }
+fn is_spelling(byte: u8) -> bool
+    ensures { result ≡ is_spelling byte }
 {
-    byte.is_ascii_digit() || byte == b'-' || byte == b' '
+    byte.is_ascii_digit() || byte == b'-'
 }
 
-/// Whether the comment that marks what is added may have a byte behind its first words.
-fn is_named(byte: u8) -> bool
-    ensures { result ≡ is_named byte }
+/// Whether a word is spelled as a range or an offset.
+fn are_spelling(word: &[u8]) -> bool
+    ensures { result ≡ list_all is_spelling word.now }
 {
-    is_put(byte) || byte.is_ascii_lowercase()
+    word.iter().all(|byte| is_spelling(*byte))
 }
 
-/// Whether a text is spelled by bytes that may stand in the comment that marks what is added.
+/// Whether ranges and offsets in a row are spelled by a byte.
+fn is_spaced(byte: u8) -> bool
+    ensures { result ≡ is_spaced byte }
+{
+    is_spelling(byte) || byte == b' '
+}
+
+/// Whether a text is ranges and offsets in a row.
+fn are_spaced(text: &[u8]) -> bool
+    ensures { result ≡ list_all is_spaced text.now }
+{
+    text.iter().all(|byte| is_spaced(*byte))
+}
+
+/// Whether a byte ends a word.
+fn is_end(byte: u8) -> bool
+    ensures { result ≡ is_end byte }
+{
+    byte == b' ' || byte == b'\t' || byte == b'/'
+}
+
+/// Whether a word that stands before a text has ended.
+fn ends_word(text: &[u8]) -> bool
+    ensures { result ≡ ends_word text.now }
+{
+    match text {
+        [first, ..] => is_end(*first),
+        [] => true,
+    }
+}
+
+/// A front of a text, and what follows it.
+#[derive(Clone, Copy)]
+struct Parted<'a> {
+    front: &'a [u8],
+    rest: &'a [u8],
+}
+
+/// The place at which the first word of a text ends, if something follows.
+fn place_of_end(text: &[u8]) -> Option<usize>
+    ensures { result ≡ position is_end text.now }
+{
+    text.iter().position(|byte| is_end(*byte))
+}
+
+/// The first word of a text, and what follows it.
+fn first_word(text: &[u8]) -> Parted<'_>
+    ensures parts { text.now ≡ result.front.now ++ result.rest.now }
+{
+    match place_of_end(text) {
+        Some(end) => Parted {
+            front: &text[..end],
+            rest: &text[end..],
+        },
+        None => Parted {
+            front: text,
+            rest: &[],
+        },
+    }
+}
+
+/// The place of the first byte by which ranges and offsets in a row aren't spelled.
+fn place_of_other(text: &[u8]) -> Option<usize> {
+    text.iter().position(|byte| !is_spaced(*byte))
+}
+
+/// The ranges and offsets at the front of a text, and what follows them.
+fn first_ranges(text: &[u8]) -> Parted<'_>
+    ensures { text.now ≡ result.front.now ++ result.rest.now }
+{
+    match place_of_other(text) {
+        Some(end) if end < text.len() => Parted {
+            front: &text[..end],
+            rest: &text[end..],
+        },
+        _ => Parted {
+            front: text,
+            rest: &[],
+        },
+    }
+}
+
+/// Whether ranges and the word `returns` with offsets are named by a text, or ranges alone, behind the words that mark what is
+/// added.
 fn are_named(text: &[u8]) -> bool
-    ensures { result ≡ list_all is_named text.now }
+    ensures { result ≡ true → IsMark (mark ++ text.now) }
 {
-    text.iter().all(|byte| is_named(*byte))
+    let Parted { front, rest } = first_ranges(text);
+    if !are_spaced(front) {
+        return false;
+    }
+    match rest.strip_prefix(RETURNS) {
+        Some(offsets) => are_spaced(offsets),
+        None => rest.is_empty(),
+    }
 }
 
 /// Whether a text is the comment that marks what is added, and names it.
@@ -109,20 +202,61 @@ fn ends_here(left: &[u8], rest: &[u8]) -> bool
     }
 }
 
-/// What is left of a line after a byte of what it has grown to: the byte stands at its front, or it is put in.
-fn left_after(left: &[u8], byte: u8) -> Option<&[u8]>
-    ensures { (new : List ℕ) → IfSome result (λ after.
-        Grows after.now new → Grows left.now (byte ∷ new)) }
+/// What is left of a line, and of the one to which it has grown.
+#[derive(Clone, Copy)]
+struct Growth<'a> {
+    old: &'a [u8],
+    new: &'a [u8],
+}
+
+/// Whether the next word of a line, behind a space, is this one.
+fn has_next(line: &[u8], word: &[u8]) -> bool {
+    match line {
+        [b' ', others @ ..] => first_word(others).front == word,
+        _ => false,
+    }
+}
+
+/// What is left where a range or an offset is put in behind a space, and isn't the next word of the line anyhow.
+fn behind_put<'a>(old: &'a [u8], new: &'a [u8]) -> Option<Growth<'a>>
+    ensures grows { IfSome result (λ left.
+        Grows left.old.now left.new.now → Grows old.now new.now) }
+    ensures shorter { IfSome result (λ left. length left.new.now < length new.now) }
 {
-    if byte == b'/' {
+    let [b' ', others @ ..] = new else {
+        return None;
+    };
+    let Parted { front, rest } = first_word(others);
+    if !are_spelling(front) || !ends_word(old) || has_next(old, front) {
         return None;
     }
-    if let Some((first, others)) = left.split_first() {
-        if *first == byte {
-            return Some(others);
-        }
+    Some(Growth { old, new: rest })
+}
+
+/// What is left where a byte stands in both lines.
+fn behind_same<'a>(old: &'a [u8], new: &'a [u8]) -> Option<Growth<'a>>
+    ensures grows { IfSome result (λ left.
+        Grows left.old.now left.new.now → Grows old.now new.now) }
+    ensures shorter { IfSome result (λ left. length left.new.now < length new.now) }
+{
+    let (first, old) = old.split_first()?;
+    let (byte, new) = new.split_first()?;
+    if *first != *byte || *byte == b'/' {
+        return None;
     }
-    if is_put(byte) { Some(left) } else { None }
+    Some(Growth { old, new })
+}
+
+/// What is left behind the next piece of a line that has grown.
+fn behind_piece<'a>(old: &'a [u8], new: &'a [u8]) -> Option<Growth<'a>>
+    ensures grows { IfSome result (λ left.
+        Grows left.old.now left.new.now → Grows old.now new.now) }
+    ensures shorter { IfSome result (λ left. length left.new.now < length new.now) }
+{
+    match behind_put(old, new) {
+        Some(left) => Some(left),
+        None => behind_same(old, new),
+    }
 }
 
 /// Whether the second line is the first one with ranges and offsets put in and a mark behind them.
@@ -131,17 +265,14 @@ fn grows(old: &[u8], new: &[u8]) -> bool
 {
     let mut left = old;
     let mut rest = new;
-    while let Some((byte, more)) = rest.split_first() {
-        if ends_here(left, rest) {
-            return true;
-        }
-        let Some(after) = left_after(left, *byte) else {
+    while !ends_here(left, rest) {
+        let Some(behind) = behind_piece(left, rest) else {
             return false;
         };
-        left = after;
-        rest = more;
+        left = behind.old;
+        rest = behind.new;
     }
-    false
+    true
 }
 
 /// Whether a line is kept: it is as it was, or has grown.

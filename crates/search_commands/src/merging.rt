@@ -71,6 +71,18 @@ fn set_of(offsets: &Offsets) -> WordSet {
     set
 }
 
+/// The offsets at which a declared routine may return, of whatever lines.
+fn offsets_of<A: Allocator>(declaration: &Declaration<A>, entry: Word) -> WordSet {
+    let mut set = WordSet::empty();
+    for index in 0..64usize {
+        let offset = Word::from_index(index);
+        if declaration.has_offset(entry, offset) {
+            set.insert(offset);
+        }
+    }
+    set
+}
+
 impl Held {
     /// What a declaration says.
     fn by<A: Allocator>(declaration: &Declaration<A>) -> Held {
@@ -124,10 +136,12 @@ fn addition_to<A: Allocator, B: Allocator>(
     held: &Held,
 ) -> Option<Addition> {
     let entry = entry_on(line)?;
-    let routine = routine_of(given.routines(), entry)?;
+    if !given.is_entry(entry) {
+        return None;
+    }
     let other = routine_of(proposed.routines(), entry)?;
     let body = held.free(other.body());
-    let offsets = set_of(&other.offsets()).minus(&set_of(&routine.offsets()));
+    let offsets = set_of(&other.offsets()).minus(&offsets_of(given, entry));
     if body.is_empty() && offsets.is_empty() {
         return None;
     }

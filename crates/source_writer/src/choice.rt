@@ -9,6 +9,7 @@ use crate::laws::plain_sources_mean;
 use crate::outline::Outline;
 use crate::plain::plain_source;
 use crate::pretty::pretty_source;
+use crate::promise::push_promise;
 use bin_tape::Image;
 use declaration::Declaration;
 use instruct::Profile;
@@ -52,20 +53,21 @@ fn plainly<A: Allocator>(
     plain_source(alloc, image)
 }
 
-/// The source of an image as an outline shows it: with comments, or else without them; and where the
-/// assembler reads neither as this image, since it is too long, the plain one.
+/// The source of an image as an outline shows it: with comments, of which these are on the whole program, or else
+/// without them; and where the assembler reads neither as this image, since it is too long, the plain one.
 fn source_by<A: Allocator + Copy>(
     alloc: A,
     image: &Image,
     outline: &Outline,
+    comments: &[u8],
 ) -> Result<Vec<u8, A>, AllocError>
     ensures { IfOk result (λ text. IsSourceOf outline.now.profile image.now text.items) }
 {
-    let commented = pretty_source(alloc, image, outline, true)?;
+    let commented = pretty_source(alloc, image, outline, Some(comments))?;
     if means(alloc, image, &commented, outline.profile)? {
         return Ok(commented);
     }
-    let bare = pretty_source(alloc, image, outline, false)?;
+    let bare = pretty_source(alloc, image, outline, None)?;
     if means(alloc, image, &bare, outline.profile)? {
         return Ok(bare);
     }
@@ -86,11 +88,12 @@ pub fn source_of<A: Allocator + Copy>(
 ) -> Result<Vec<u8, A>, AllocError>
     ensures { IfOk result (λ text. IsSourceOf profile image.now text.items) }
 {
-    source_by(alloc, image, &Outline::of(image, start, profile))
+    source_by(alloc, image, &Outline::of(image, start, profile), b"")
 }
 
 /// A source of an image, for a program with this declaration: the words of its bodies are written as
-/// instructions. It means this image on the declared machine.
+/// instructions. It means this image on the declared machine. Comments that begin with `/:` say in its first lines
+/// what is declared.
 ///
 /// # Errors
 ///
@@ -103,5 +106,12 @@ pub fn declared_source_of<A: Allocator + Copy, D: Allocator>(
     ensures { IfOk result (λ text.
         IsSourceOf (meaning declaration.now).profile image.now text.items) }
 {
-    source_by(alloc, image, &Outline::declared(image, declaration))
+    let mut comments = Vec::new(alloc);
+    push_promise(&mut comments, declaration)?;
+    source_by(
+        alloc,
+        image,
+        &Outline::declared(image, declaration),
+        &comments,
+    )
 }

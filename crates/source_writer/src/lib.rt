@@ -10,6 +10,7 @@ pub mod laws;
 mod outline;
 mod plain;
 mod pretty;
+mod promise;
 mod reach;
 mod remark;
 mod statement;

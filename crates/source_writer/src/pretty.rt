@@ -167,16 +167,17 @@ impl Outline {
     }
 }
 
-/// The source of an image as this outline shows it, with comments or without them.
+/// The source of an image as this outline shows it, with comments or without them. Those of the whole program are given.
 pub(crate) fn pretty_source<A: Allocator + Copy>(
     alloc: A,
     image: &Image,
     outline: &Outline,
-    commented: bool,
+    comments: Option<&[u8]>,
 ) -> Result<Vec<u8, A>, AllocError> {
     let mut text = Vec::new(alloc);
     let mut remark = Vec::new(alloc);
     outline.push_title(&mut text)?;
+    text.extend_from_slice(comments.unwrap_or(b""))?;
     outline.push_assignments(&mut text, image)?;
     let mut flow = Flow {
         is_open: false,
@@ -188,7 +189,7 @@ pub(crate) fn pretty_source<A: Allocator + Copy>(
             continue;
         };
         remark.clear();
-        if commented {
+        if comments.is_some() {
             outline.push_remark(&mut remark, image, at, word)?;
         }
         outline.push_before(&mut text, image, at, &flow)?;

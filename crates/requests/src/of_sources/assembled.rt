@@ -6,7 +6,10 @@ use crate::source_faults::visible_names;
 use command_line::Task;
 use command_parts::status::Fault;
 use command_parts::visible::visible_bytes;
-use labels::{Numbered, NumberingFault, PlaceFault, machine_of, name_declaration, number, place};
+use labels::{
+    Numbered, NumberingFault, PlaceFault, declared_lines, machine_of, name_declaration, number,
+    place,
+};
 use pal_acts::{PlacedWord, SourcePlace};
 use pal_asm::{SourceMap, map_source};
 use reports::reporting::{LinePlace, SourceNotes};
@@ -109,6 +112,16 @@ fn as_written(alloc: Global, text: &[u8], promise: Promise) -> Result<Vec<u8>, A
     Ok(whole)
 }
 
+/// The declaration with symbols as it is written for people. A line within a source that leaves out its address still
+/// does so here.
+fn written_by_people(alloc: Global, given: &Given) -> Result<Vec<u8>, AllocError> {
+    if given.promise == Promise::Within {
+        let parts = lend(alloc, &given.parts)?;
+        return without_empty_lines(alloc, &declared_lines(alloc, &parts)?);
+    }
+    as_written(alloc, &given.text, given.promise)
+}
+
 /// The declaration in numbers of a source that has no fault and no word, and no tape.
 #[inline(never)]
 fn wordless(
@@ -175,7 +188,7 @@ pub fn described(
     names: &[&str],
 ) -> Result<AssembledSource, AllocError> {
     let notes = notes_of(alloc, &numbered.map)?;
-    let written = as_written(alloc, &given.text, given.promise)?;
+    let written = written_by_people(alloc, &given)?;
     let shown = as_written(alloc, &numbered.declaration, given.promise)?;
     let names = visible_names(alloc, names)?;
     Ok(AssembledSource {

@@ -10,7 +10,7 @@ use command_parts::status::{Fault, Status};
 use command_parts::visible::visible_text;
 use diagnostics::inputs::{FaultyFile, push_numbered};
 use instruct::Profile;
-use labels::{NumberingFault, PlaceFault, declared_lines};
+use labels::{NumberingFault, PlaceFault, declaration_within};
 use std::alloc::{AllocError, Global};
 use std::fmt::Write;
 use std::rt::Files;
@@ -140,7 +140,7 @@ fn given_declaration<R: Files + Input>(
         });
     }
     let slices = lend(alloc, parts)?;
-    let text = declared_lines(alloc, &slices)?;
+    let text = declaration_within(alloc, &slices)?;
     if is_proposed(&asked.task, &text) {
         return Ok(Promised {
             text: unknown_declaration(alloc, &asked.task)?,

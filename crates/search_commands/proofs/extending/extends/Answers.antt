@@ -14,4 +14,8 @@ returns g c =
       stops = c.keeps_sets.ensures.stops c.if-not-keeps_sets.false;
       pauses = c.keeps_sets.ensures.pauses c.if-not-keeps_sets.false;
       reads = kept;
+      moves = c.keeps_leave.ensures.moves c.if-not-keeps_leave.false;
+      abandon = c.keeps_leave.ensures.abandon c.if-not-keeps_leave.false;
+      holds = c.asserts_alike.ensures.holds c.if-not-asserts_alike.false;
+      returns = c.asserts_alike.ensures.returns c.if-not-asserts_alike.false;
     }

@@ -3,8 +3,8 @@ use Rattle.search_commands.specs.Keeping.{Grows}
 use Rattle.search_commands.proofs.keeping.grows.Given as goal
 
 -- if what is left has grown to what is left of the other line, the whole line has grown
-abbrev pub invariant-loop-byte : goal.invariant-loop-byte
-invariant-loop-byte l = Grows l.left l.rest → Grows l.old l.new
+abbrev pub invariant-loop-left : goal.invariant-loop-left
+invariant-loop-left l = Grows l.left l.rest → Grows l.old l.new
 
-abbrev pub decreases-loop-byte : goal.decreases-loop-byte
-decreases-loop-byte l = length l.rest
+abbrev pub decreases-loop-left : goal.decreases-loop-left
+decreases-loop-left l = length l.rest

@@ -395,10 +395,13 @@ fn kind_in<R: Files + Input>(rt: &R, alloc: Global, name: &str) -> Option<Kind> 
     if is_read_once(rt, name) {
         return None;
     }
-    match bytes_of(rt, alloc, name) {
-        Ok(bytes) if !bytes.is_empty() => Some(kind_of(&bytes)),
-        _ => None,
+    let Ok(bytes) = bytes_of(rt, alloc, name) else {
+        return None;
+    };
+    if bytes.is_empty() {
+        return None;
     }
+    Some(kind_of(&bytes))
 }
 
 /// The name of the part of a source that has a fault, if it has that part.

@@ -14,10 +14,10 @@ head_of Page = HEAD.now
 -- shown after a no.
 unfoldable pub opening : ReportForm → Result (Unit {0}) Refusal → List ℕ
 opening Text _ = []
-opening Page (Ok _) = codes "</h1>\n<p>Proved: no run violates the declaration."
-opening Page (Err _) = codes "</h1>\n<p>This certificate shows nothing."
+opening Page (Ok _) = codes "</h1>\n<p class=yes>Proved: no run violates the declaration."
+opening Page (Err _) = codes "</h1>\n<p class=no>This certificate shows nothing."
 
 -- Behind the line of a search that is stuck a page says that nothing is shown.
 unfoldable pub stuck_opening : ReportForm → List ℕ
 stuck_opening Text = []
-stuck_opening Page = codes "</h1>\n<p>Nothing is shown."
+stuck_opening Page = codes "</h1>\n<p class=open>Nothing is shown."

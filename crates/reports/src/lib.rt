@@ -9,6 +9,7 @@ mod known_fact;
 mod listing;
 mod map;
 mod page;
+mod promises;
 mod relations;
 mod report;
 mod routines;

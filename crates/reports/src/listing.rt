@@ -121,10 +121,8 @@ pub(crate) fn write_variable<A: Allocator, B: Allocator, D: Allocator, C: Alloca
     } else {
         writer.words(&held.words);
     }
-    let unknown = report.facts.minus(&held.known_at);
-    if !unknown.is_empty() {
-        writer.item(b"any word at ");
-        writer.places(&unknown);
+    if !report.facts.is_subset(&held.known_at) {
+        writer.put(b" where it is known");
     }
 }
 

@@ -4,6 +4,7 @@ use crate::access::writes_through;
 use crate::graph::write_graph;
 use crate::listing::{ClaimCache, push_listing, write_variable};
 use crate::map::write_map;
+use crate::promises::{write_assertions, write_moves, write_returns};
 use crate::report::{Finding, Report};
 use crate::writer::{ReportForm, ReportWriter};
 use declaration::Declaration;
@@ -141,6 +142,7 @@ fn write_points<A: Allocator, D: Allocator>(
         b"and these entries, by the JMS that calls the routine or by an ISZ of the routine that skips an argument: ",
         &entries_of(declaration),
     );
+    write_moves(writer, declaration);
     match declaration.reads() {
         None => writer.put(b"<li>any cell may be read: the declaration has no list of reads\n"),
         Some(cells) => write_point(
@@ -149,9 +151,7 @@ fn write_points<A: Allocator, D: Allocator>(
             cells,
         ),
     }
-    writer.put(
-        b"<li>each routine returns to the address after its own call plus a declared offset\n",
-    );
+    write_returns(writer, declaration);
     write_point(
         writer,
         b"if it halts, it halts only at: ",
@@ -162,6 +162,7 @@ fn write_points<A: Allocator, D: Allocator>(
         b"of these, CONTINUE may be pressed only at: ",
         declaration.pauses(),
     );
+    write_assertions(writer, declaration);
 }
 
 /// Writes the rest of what a yes says, and what it does not.

@@ -36,9 +36,10 @@ run:
 	@echo "Proving pdp8 and all below it. From nothing this takes about an hour, and a second where nothing has changed since."
 	python3 tests/prove.py
 
-# The gate: the page of definitions, the texts of explain, the links of pages and the length of README, whether each edit applies and that there aren't too many;
-# every proof from nothing, the edits in must-fail/, every test and the program; and then, with the program that was proved,
-# whether pages, help, man page and completions agree, whether the reports of the examples are what the reference makes, and all cases.
+# The gate: the page of definitions, the texts of explain, the links of pages and the length of README, whether each edit applies and that
+# there aren't too many; every proof from nothing, the edits in must-fail/, every test and the program; and then, with the program that was
+# proved, whether help, docs/COMMANDS.md, man page and completions agree, whether the reports of the examples are what the reference makes,
+# and all cases.
 test:
 	python3 tests/definitions.py
 	python3 tests/explanations.py

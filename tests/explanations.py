@@ -64,15 +64,23 @@ def in_lines(before, text):
     return "\n".join(lines).removeprefix(before)
 
 
+def between(page, begin, end):
+    """What stands in a page between these texts, of which the first must be there."""
+    _, found, rest = page.partition(begin)
+    if not found:
+        raise ValueError(f"no page has {begin.strip()!r}")
+    return rest.partition(end)[0]
+
+
 def rows_of(page, heading):
     """The rows of the table whose first heading is this, as lists of cells."""
-    rows = page.partition(f"\n| {heading} |")[2].partition("\n\n")[0].splitlines()[2:]
+    rows = between(page, f"\n| {heading} |", "\n\n").splitlines()[2:]
     return [[cell.strip() for cell in row.strip("|").split(" |")] for row in rows]
 
 
 def section_of(page, heading):
     """What stands below a heading of a page, up to the next one of its level."""
-    return page.partition(f"\n## {heading}\n")[2].partition("\n## ")[0]
+    return between(page, f"\n## {heading}\n", "\n## ")
 
 
 def conditions(page):

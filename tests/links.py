@@ -1,6 +1,6 @@
 #!/usr/bin/env python3
-"""Looks at the pages: each link to a file leads to one, each file or page that is named in a page is there, README.md isn't too
-long, and no line of a page has more than 600 characters.
+"""Looks at the pages: each link leads to a file or a heading that is there, each file or page that is named in a page is there, README.md
+isn't too long, and no line of a page has more than 600 characters.
 
 usage: tests/links.py    names each page and what is wrong with it; exit status 1 where anything is
 """
@@ -21,14 +21,35 @@ def pages():
     return [path for path in told.stdout.split() if os.path.isfile(os.path.join(TOP, path))]
 
 
+def text_of(path):
+    with open(os.path.join(TOP, path), encoding='utf-8') as file:
+        return file.read()
+
+
+def without_blocks(text):
+    return re.sub(r'```.*?```', '', text, flags=re.S)
+
+
+def anchor_of(heading):
+    """The anchor of a heading: its words in lower case, without marks, with a dash for each space."""
+    words = re.sub(r'\[([^]]*)\]\([^)]*\)', r'\1', heading).strip().lower()
+    return re.sub(r'[^\w -]', '', words).replace(' ', '-')
+
+
+def anchors_of(path):
+    return {anchor_of(it) for it in re.findall(r'^#+ (.*)$', without_blocks(text_of(path)), re.M)}
+
+
 def faults(path):
     """What is wrong with a page."""
-    with open(os.path.join(TOP, path), encoding='utf-8') as file:
-        text = file.read()
-    prose = re.sub(r'```.*?```', '', text, flags=re.S)
-    for target in re.findall(r'\]\(([^)#\s]+)', prose):
-        if '://' not in target and not os.path.exists(os.path.join(TOP, os.path.dirname(path), target)):
+    text = text_of(path)
+    prose = without_blocks(text)
+    for target, anchor in re.findall(r'\]\(([^)#\s]*)#?([^)\s]*)', prose):
+        led = os.path.normpath(os.path.join(os.path.dirname(path), target)) if target else path
+        if '://' not in target and not os.path.exists(os.path.join(TOP, led)):
             yield f'links to {target}, which is not there'
+        elif anchor and led.endswith('.md') and '://' not in target and anchor not in anchors_of(led):
+            yield f'links to {target}#{anchor}, a heading that is not there'
     for name in set(NAMED.findall(prose)):
         if not os.path.exists(os.path.join(TOP, name)):
             yield f'names {name}, which is not there'

@@ -1,7 +1,7 @@
 -- Steps of a routine that break a rule alone.
 use Rattle.std.proofs.Common.{◌≡◌, ℕ, ◌<◌, ◌==◌, Bool, true, false, Option, Some, None, List, [], ◌∷◌, refl, inl, inr, subst, arith}
 use Rattle.std.specs.Prelude.{if◌then◌else◌}
-use Rattle.std.proofs.lemmas.Bool.{cases_eq, eqb-true, false≢true}
+use Rattle.std.proofs.lemmas.Bool.{cases_eq, eqb-true, false≢true, ne_eqb}
 use Rattle.instruct.specs.Instructions.{meaning_of}
 use Rattle.processor.specs.Cells.{Cells, updated}
 use Rattle.processor.specs.Machine.{State, Silent, after}
@@ -33,15 +33,15 @@ abbrev one_call : Calls
 one_call = record { entry = 0o210; after = 0o201 } ∷ []
 
 lies : (first second a w : ℕ) → calling first second a ≡ Some w → loaded first second a ≡ w
-lies first second a w = by (a == 0o200) (a == 0o201) (a == 0o211) (a == 0o212)
+lies first second a w = each (a == 0o200) (a == 0o201) (a == 0o211) (a == 0o212)
   where
-    by : (b c d e : Bool) → (if b then Some 0o4210 else (if c then Some 0o7000 else (if d then Some first else (if e then Some second else None)))) ≡ Some w
+    each : (b c d e : Bool) → (if b then Some 0o4210 else (if c then Some 0o7000 else (if d then Some first else (if e then Some second else None)))) ≡ Some w
         → (if b then 0o4210 else (if c then 0o7000 else (if d then first else (if e then second else 0)))) ≡ w
-    by true c d e is = cc
-    by false true d e is = cc
-    by false false true e is = cc
-    by false false false true is = cc
-    by false false false false is = absurd (let x : None ≡ Some w = is in cc)
+    each true c d e is = cc
+    each false true d e is = cc
+    each false false true e is = cc
+    each false false false true is = cc
+    each false false false false is = absurd (let x : None ≡ Some w = is in cc)
 
 starts : (first second ac : ℕ) → first < 4096 → second < 4096 → ac < 4096 → IsStart (calling first second) 0o200 (begun first second ac)
 starts first second ac one two small = record {
@@ -49,28 +49,28 @@ starts first second ac one two small = record {
   ac = small;
   link = omega arith;
   mq = omega arith;
-  words = λ a. words (a == 0o200) (a == 0o201) (a == 0o211) (a == 0o212);
+  words = λ a. fits (a == 0o200) (a == 0o201) (a == 0o211) (a == 0o212);
   loaded = lies first second;
 }
   where
-    words : (b c d e : Bool) → (if b then 0o4210 else (if c then 0o7000 else (if d then first else (if e then second else 0)))) < 4096
-    words true c d e = omega arith
-    words false true d e = omega arith
-    words false false true e = one
-    words false false false true = two
-    words false false false false = omega arith
+    fits : (b c d e : Bool) → (if b then 0o4210 else (if c then 0o7000 else (if d then first else (if e then second else 0)))) < 4096
+    fits true c d e = omega arith
+    fits false true d e = omega arith
+    fits false false true e = one
+    fits false false false true = two
+    fits false false false false = omega arith
 
--- the entry is not on the tape
+-- the entry is not on the tape, and so it may be written
+nowhere : (first second w : ℕ) → calling first second 0o210 ≡ Some w → ⊥
+nowhere first second w is = let none : None ≡ Some w = is in cc
+
 kept : (first second : ℕ) (memory : Cells) (value : ℕ) → ((a w : ℕ) → calling first second a ≡ Some w → memory a ≡ w)
     → (a w : ℕ) → calling first second a ≡ Some w → updated memory 0o210 value a ≡ w
 unfolding updated
 kept first second memory value old a w is = elim (cases_eq a 0o210) [
-  | inl e ↦ absurd (nowhere e)
-  | inr q ↦ rw q (old a w is)
+  | inl e ↦ absurd (let P : ℕ → Type 0 = λ x. calling first second x ≡ Some w in nowhere first second w (subst P e is))
+  | inr q ↦ rw (ne_eqb a 0o210 q) (old a w is)
 ]
-  where
-    nowhere : a ≡ 0o210 → ⊥
-    nowhere e = let P : ℕ → Type 0 = λ x. calling first second x ≡ Some w in (let none : None ≡ Some w = subst P e is in cc)
 
 -- DCA 0210, where no `moves` line names 0210
 pub moves_alone : BreaksAlone WritesDeclared (calling 0o3210 0o5610) with_routine
@@ -112,7 +112,7 @@ skips_alone = record {
   answers = Silent ∷ Silent ∷ [];
   before = moved;
   calls = one_call;
-  run = (called 0o3210 0o5610 0o212, (refl, refl), tt, moved, (refl, refl), tt, (refl, refl));
+  run = (called 0o3210 0o5610 0o212, (refl, refl), tt, (moved, (refl, refl), tt, (refl, refl)));
   broken = λ k. let found = k refl refl in not_declared found.1 found.3 found.4;
   others = others;
 }
@@ -140,7 +140,7 @@ abandon_alone = record {
   answers = Silent ∷ Silent ∷ [];
   before = left;
   calls = one_call;
-  run = (called 0o5201 0o7000 0, (refl, refl), tt, left, (refl, refl), tt, (refl, refl));
+  run = (called 0o5201 0o7000 0, (refl, refl), tt, (left, (refl, refl), tt, (refl, refl)));
   broken = λ k. false≢true k.in_body;
   others = others;
 }

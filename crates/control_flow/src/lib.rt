@@ -15,7 +15,7 @@ mod walk;
 pub use map::Map;
 pub use survey::{Findings, surveyed};
 pub use tape::Tape;
-pub use text::{push_cells, above_seven, push_further, push_range, push_reads, push_skips};
+pub use text::{above_seven, push_cells, push_further, push_range, push_reads, push_skips};
 pub use variables::Breadth;
 
 /// The runs in which it was seen what a program does.

@@ -17,6 +17,11 @@ joined old mid new a b first second = rw (second, first) (append_assoc old a b)
 pub joined_three : (old mid more new a b c : List ℕ) → mid ≡ old ++ a → more ≡ mid ++ b → new ≡ more ++ c → new ≡ old ++ ((a ++ b) ++ c)
 joined_three old mid more new a b c first second third = joined old more new (a ++ b) c (joined old mid more a b first second) third
 
+-- four pieces
+pub joined_four : (old mid more most new a b c d : List ℕ) → mid ≡ old ++ a → more ≡ mid ++ b → most ≡ more ++ c → new ≡ most ++ d → new ≡ old ++ (a ++ (b ++ (c ++ d)))
+joined_four old mid more most new a b c d first second third fourth =
+    joined old mid new a (b ++ (c ++ d)) first (joined mid more new b (c ++ d) second (joined more most new c d third fourth))
+
 -- five pieces
 pub joined_five : (old mid more most last new a b c d e : List ℕ) → mid ≡ old ++ a → more ≡ mid ++ b → most ≡ more ++ c → last ≡ most ++ d → new ≡ last ++ e →
     new ≡ old ++ (a ++ (b ++ (c ++ (d ++ e))))

@@ -44,7 +44,7 @@ place_in (reason.NoSites i e) = Some i
 place_in (reason.RoutineNotListed e) = None
 place_in (reason.TooManyWords i n) = Some i
 place_in (reason.ByWord i w b) = Some i
-place_in (reason.ExitMayDiffer o i s w) = None
+place_in (reason.ExitDeniesAssertion o i s w) = None
 
 -- The same of a reason, if there is one.
 abbrev pub place_of_reason : Option Reason → Option ℕ

@@ -262,11 +262,17 @@ call_text rules call.TooHigh = too_high_text rules
 call_text rules (call.Enters l) = codes " and continues after the entry: " ++ landing_text l
 call_text rules (call.Returns o i l) = returned_text rules o i ++ landing_text l
 
--- What a return violates.
-abbrev pub return_text : ReturnBreach → List ℕ
-return_text return.OtherRoutine = codes ", which is not its own entry"
-return_text (return.NotDeclared o) = around_offset (codes " with offset ") o (codes ", which is not declared")
-return_text (return.NotAllowed o l) = around_offset (codes " with offset ") o (codes "") ++ exit_text l
+-- That an offset of the routine of an entry is not declared. One above 7 can be declared by a `skips` line alone.
+abbrev pub undeclared_text : ℕ → ℕ → List ℕ
+undeclared_text e o =
+    if nat_lt o 8 then codes ", which is not declared"
+    else (codes ", which is not declared: add `skips " ++ octal_text e) ++ around_offset (codes " ") o (codes "`")
+
+-- What a return through an entry violates.
+abbrev pub return_text : ℕ → ReturnBreach → List ℕ
+return_text e return.OtherRoutine = codes ", which is not its own entry"
+return_text e (return.NotDeclared o) = around_offset (codes " with offset ") o (codes "") ++ undeclared_text e o
+return_text e (return.NotAllowed o l) = around_offset (codes " with offset ") o (codes "") ++ exit_text l
 
 -- Of what an assertion speaks.
 abbrev pub subject_text : Subject → List ℕ
@@ -275,23 +281,47 @@ subject_text subject.Link = codes "the link"
 subject_text subject.Mq = codes "MQ"
 subject_text (subject.Cell a) = octal_text a
 
+-- A word of it: the digit of a link, or four octal digits.
+abbrev pub subject_word : Subject → ℕ → List ℕ
+subject_word subject.Link w = if w == 0 then codes "0" else codes "1"
+subject_word _ w = octal_text w
+
 -- That it may have a word that a line of this name excludes.
-abbrev pub differing_text : Subject → ℕ → List ℕ → List ℕ
-differing_text s w line = (subject_text s ++ codes " may be " ++ octal_text w) ++ codes ", which a `" ++ line ++ codes "` line excludes"
+abbrev pub denied_text : Subject → ℕ → List ℕ → List ℕ
+denied_text s w line = subject_text s ++ (codes " may be " ++ (subject_word s w ++ (codes ", which a `" ++ (line ++ codes "` line excludes"))))
+
+-- How far an ISZ may count up the return word in its routine's own entry, by the rules.
+abbrev pub counting_text : Rules → List ℕ
+counting_text OfEquations = codes ", the routine's own entry, past offset 7, the most in certificates of versions 1 and 2"
+counting_text OfSums = codes ", the routine's own entry, past offset 77 or past 7777"
+
+-- That a DCA may store a word in its routine's own entry that is out of reach of a return address.
+abbrev pub moving_text : ℕ → ℕ → ℕ → List ℕ
+moving_text e w s =
+    (codes "it may store " ++ octal_text w) ++ (around (codes " in ") e (codes "") ++
+    around (codes ", which is not 0 to 77 behind the return address of the call at ") s (codes ""))
+
+-- An address, and behind it that a line with it is to be added, up to its end.
+abbrev pub advised_text : List ℕ → ℕ → List ℕ → List ℕ
+advised_text before at line = (before ++ octal_text at) ++ ((line ++ octal_text at) ++ codes "`")
 
 -- What a word violates.
 abbrev pub breach_text : Rules → Breach → List ℕ
 breach_text rules breach.NotSupported = codes "this word is not supported"
 breach_text rules (breach.WritesUndeclared c) = around (codes "it may write ") c (codes ", which is neither a variable nor an entry")
 breach_text rules (breach.WritesEntry c) = around (codes "it may write ") c (codes ", which is an entry")
+breach_text rules (breach.CountsTooFar c) = around (codes "it may increment ") c (counting_text rules)
+breach_text rules (breach.StoresInOwn c) = advised_text (codes "it may write ") c (codes ", the routine's own entry: add `moves ")
+breach_text rules (breach.MovesTooFar c w s) = moving_text c w s
 breach_text rules (breach.WritesUnlisted c) = around (codes "it may write ") c (codes ", which is not in the routine's written set")
 breach_text rules breach.HaltsUndeclared = codes "it halts, and no halt is declared there"
 breach_text rules breach.CallsThroughIndex = codes "it calls through an auto-index cell"
 breach_text rules (breach.Calls e b) = (codes "it calls " ++ octal_text e) ++ call_text rules b
-breach_text rules (breach.Returns e b) = (codes "it returns through " ++ octal_text e) ++ return_text b
+breach_text rules (breach.Returns e b) = (codes "it returns through " ++ octal_text e) ++ return_text e b
+breach_text rules (breach.JumpsToMain a) = advised_text (codes "it may continue at ") a (codes ", which is in main's body: add `abandon ")
 breach_text rules (breach.GoesOn a l) = around (codes "it may continue at ") a (codes ": ") ++ landing_text l
 breach_text rules (breach.ReadsUnlisted c) = around (codes "it may read ") c (codes ", which is not on the list of reads")
-breach_text rules (breach.MayDiffer s w) = differing_text s w (codes "holds")
+breach_text rules (breach.DeniesAssertion s w) = denied_text s w (codes "holds")
 
 -- What tells a fact from another at its address.
 abbrev pub mark_text : Mark → List ℕ
@@ -334,7 +364,7 @@ reason_text rules (reason.NoSites i e) = around (codes "the fact is in the body 
 reason_text rules (reason.RoutineNotListed e) = around (codes "the fact is in the body of ") e (codes ", which has no routine line")
 reason_text rules (reason.TooManyWords i n) = around_number (codes "") n (codes " words are possible")
 reason_text rules (reason.ByWord i w b) = breach_text rules b
-reason_text rules (reason.ExitMayDiffer o i s w) = exit_named rules o i ++ differing_text s w (codes "returns")
+reason_text rules (reason.ExitDeniesAssertion o i s w) = exit_named rules o i ++ denied_text s w (codes "returns")
 
 -- The word that is shown: the one that breaks the condition, or else the tape's.
 abbrev pub word_shown : List (Option ℕ) → ℕ → Option Reason → Option ℕ

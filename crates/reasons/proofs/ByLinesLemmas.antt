@@ -12,15 +12,15 @@ use Rattle.transfer.specs.Operations.{outcomes_of}
 use Rattle.transfer.specs.Outcomes.{Successor, Goes, CallsTo, Returns}
 use Rattle.transfer.specs.References.{possible}
 use Rattle.facts.specs.declared.Condition.{Condition}
-use Rattle.facts.specs.declared.Condition.TheVariants.{V1, V2, V3, V6, V8}
+use Rattle.facts.specs.declared.Condition.TheVariants.{V1, V2, V3, V4, V6, V8, V12, V16}
 use Rattle.certificate_lines.specs.Certificate.{Certificate}
-use Rattle.judge.specs.Conditions.{EachFact}
+use Rattle.judge.specs.Conditions.{EachFact, ExitsAreHeld}
 use Rattle.judge.specs.Landing.{Case, EachSuccessor, abandons, exits_of, place_in}
 use Rattle.reasons.specs.Breaches.{Breaks, CallBreaks, MissesAfter, MissesBeyond, OutcomeMisses, ReturnBreaks, SomeDenied, SomeOutcome, condition_of, condition_of_call}
 use Rattle.reasons.specs.Keeping.{Arrives, ArrivesBeyond, ArrivesWith, EachArrivesWith, FactsKeep, IsLowerIfListed, Keeps, KeepsCall, KeptOrUnowned, OutcomeArrives, ReturnsAsDeclared, ReturnsThrough, WordsKeep}
 use Rattle.reasons.specs.Landing.{Misses}
 use Rattle.reasons.specs.Points.{IsSought}
-use Rattle.reasons.specs.Reasons.{IsAskedFact, IsWrongWord}
+use Rattle.reasons.specs.Reasons.{HasWrongWord, IsAskedFact, IsWrongExit, IsWrongWord}
 use Rattle.reasons.specs.Stuck.{EachFailsByLinesAlone, FailsByLinesAlone, NoneFailsBefore, place_asked, is_call_of_lines, is_landing_of_lines, is_of_lines, is_return_of_lines, is_word_of_lines}
 use Rattle.reasons.specs.declared.breach.Breach.{Breach}
 use Rattle.reasons.specs.declared.breach.Breach.TheVariants as breach
@@ -34,7 +34,7 @@ use Rattle.reasons.specs.declared.reason.Reason.{Reason}
 use Rattle.reasons.specs.declared.reason.Reason.TheVariants as why
 use Rattle.reasons.specs.declared.sought.Sought.TheVariants.{NotOfLines}
 use Rattle.reasons.specs.declared.stuck.TheConstants.{ORDER}
-use Rattle.reasons.proofs.RefuteLemmas.{asked_here, both, declared_or, few, past_last, ranks_clash, some_denied_refutes}
+use Rattle.reasons.proofs.RefuteLemmas.{asked_here, both, counting_refutes, declared_or, exit_refutes, few, moving_refutes, past_last, ranks_clash, some_denied_refutes, storing_refutes}
 
 -- ---- what a kept condition excludes
 
@@ -122,14 +122,19 @@ word_kept : (lines : Bool) (j : Case) (r : Routine) (a : ℕ) (f : Fact) (m : Me
 word_kept lines j r a f m breach.NotSupported keeps breaks = absurd (breaks keeps)
 word_kept lines j r a f m (breach.WritesUndeclared b) keeps breaks = absurd (declared_or (j.declaration.variable b) (j.declaration.entry b) breaks.2 breaks.3 (keeps b breaks.0 breaks.1))
 word_kept lines j r a f m (breach.WritesEntry b) keeps breaks = absurd (breaks.3 keeps)
+word_kept lines j r a f m (breach.CountsTooFar b) keeps breaks = absurd (counting_refutes j r a f m b breaks keeps)
+word_kept lines j r a f m (breach.StoresInOwn b) keeps breaks = absurd (storing_refutes j r a f m b breaks keeps)
+word_kept lines j r a f m (breach.MovesTooFar b w s) keeps breaks = absurd (moving_refutes j r a f m b w s breaks keeps)
 word_kept lines j r a f m (breach.WritesUnlisted b) keeps breaks = refl
 word_kept lines j r a f m breach.HaltsUndeclared keeps breaks = absurd (breaks keeps)
 word_kept lines j r a f m breach.CallsThroughIndex keeps breaks = absurd (true≢false (sym breaks ∙ keeps.0))
 word_kept lines j r a f m (breach.Calls e b) keeps breaks = call_kept lines j r a f e b (call_of_word lines j r a f m e b breaks.0 breaks.1 keeps) breaks.2
 word_kept lines j r a f m (breach.Returns e b) keeps breaks = return_kept lines j r f e b (keeps e breaks.0) breaks.1
 word_kept lines j r a f m (breach.GoesOn b l) keeps breaks = outcomes_kept lines j r (abandons j.declaration r m) b l (outcomes_of (place_in j r) f a m) keeps breaks
+word_kept lines j r a f m (breach.JumpsToMain b) keeps breaks =
+    absurd (false≢true (outcomes_kept lines j r (abandons j.declaration r m) b OtherBody (outcomes_of (place_in j r) f a m) keeps breaks.misses))
 word_kept lines j r a f m (breach.ReadsUnlisted b) keeps breaks = absurd (breaks.2 (keeps b breaks.0 breaks.1))
-word_kept lines j r a f m (breach.MayDiffer s w) keeps breaks = absurd (none_denied (place_in j r) f a s w j.declaration.holds keeps breaks)
+word_kept lines j r a f m (breach.DeniesAssertion s w) keeps breaks = absurd (none_denied (place_in j r) f a s w j.declaration.holds keeps breaks)
 
 -- What is told of a word of a fact of which the condition is kept is of lines.
 fact_kept : (lines : Bool) (j : Case) (v : Condition) (a : ℕ) (r : Routine) (i : ℕ) (f : Fact) (reason : Reason) → WordsKeep lines j v r a f → IsWrongWord j r a f i v reason → is_of_lines reason ≡ true
@@ -145,7 +150,7 @@ fact_kept lines j v a r i f (why.SitesInMain k) kept wrong = refl
 fact_kept lines j v a r i f (why.NoOffset k e) kept wrong = refl
 fact_kept lines j v a r i f (why.NoSites k e) kept wrong = refl
 fact_kept lines j v a r i f (why.RoutineNotListed e) kept wrong = refl
-fact_kept lines j v a r i f (why.ExitMayDiffer o k s w) kept wrong = refl
+fact_kept lines j v a r i f (why.ExitDeniesAssertion o k s w) kept wrong = absurd wrong
 
 facts_kept : (lines : Bool) (j : Case) (v : Condition) (a : ℕ) (r : Routine) (i : ℕ) (f : Fact) (reason : Reason) → IsDeclared j.declaration → KeptOrUnowned lines j v a → IsAskedFact j r a i f → IsWrongWord j r a f i v reason → is_of_lines reason ≡ true
 facts_kept lines j v a r i f reason d (inl here) is wrong =
@@ -153,30 +158,98 @@ facts_kept lines j v a r i f reason d (inl here) is wrong =
     (asked_here j r a i f (WordsKeep lines j v r a) is (subst (λ k. FactsKeep lines j v k a (j.certificate.facts a)) (d.bodies_apart a here.0 r here.1 is.body) here.2)) wrong
 facts_kept lines j v a r i f reason d (inr none) is wrong = absurd (true≢false (sym is.body ∙ none r))
 
--- A condition that is kept fails by lines alone.
-pub fails_by_lines : (j : Case) (v : Condition) (a : ℕ) (lines : Bool) → IsDeclared j.declaration → KeptOrUnowned lines j v a → FailsByLinesAlone j a v
-fails_by_lines j v a lines d kept (why.TooManyWords k n) (inl start) = absurd start.2
-fails_by_lines j v a lines d kept (why.TooManyWords k n) (inr (inl line)) = absurd line.1
-fails_by_lines j v a lines d kept (why.TooManyWords k n) (inr (inr (inr exit))) = absurd exit.1
-fails_by_lines j v a lines d kept (why.TooManyWords k n) (inr (inr (inl word))) = facts_kept lines j v a word.routine word.index word.fact (why.TooManyWords k n) d kept word.is word.wrong
-fails_by_lines j v a lines d kept (why.ByWord k w b) (inl start) = absurd start.2
-fails_by_lines j v a lines d kept (why.ByWord k w b) (inr (inl line)) = absurd line.1
-fails_by_lines j v a lines d kept (why.ByWord k w b) (inr (inr (inr exit))) = absurd exit.1
-fails_by_lines j v a lines d kept (why.ByWord k w b) (inr (inr (inl word))) = facts_kept lines j v a word.routine word.index word.fact (why.ByWord k w b) d kept word.is word.wrong
-fails_by_lines j v a lines d kept (why.AtStart l) h = refl
-fails_by_lines j v a lines d kept why.LineAtNoEntry h = refl
-fails_by_lines j v a lines d kept why.InNoBody h = refl
-fails_by_lines j v a lines d kept (why.OffsetInMain i o) h = refl
-fails_by_lines j v a lines d kept (why.SitesInMain i) h = refl
-fails_by_lines j v a lines d kept (why.NoOffset i e) h = refl
-fails_by_lines j v a lines d kept (why.NoSites i e) h = refl
-fails_by_lines j v a lines d kept (why.RoutineNotListed e) h = refl
-fails_by_lines j v a lines d kept (why.ExitMayDiffer o i s w) h = refl
+-- Where what is declared of returns holds by all exits of an entry, no exit is wrong.
+no_wrong_exit : (j : Case) (v : Condition) (a : ℕ) (reason : Reason) → (v ≡ V16 → ExitsAreHeld j a) → (v ≡ V16) × IsWrongExit j a reason → ⊥
+no_wrong_exit j v a reason held exit = exit_refutes j a reason exit.1 (held exit.0)
+
+-- A condition that is kept, of exits too, fails by lines alone.
+pub fails_by_lines : (j : Case) (v : Condition) (a : ℕ) (lines : Bool) → IsDeclared j.declaration → (v ≡ V16 → ExitsAreHeld j a) → KeptOrUnowned lines j v a → FailsByLinesAlone j a v
+fails_by_lines j v a lines d held kept (why.TooManyWords k n) (inl start) = absurd start.2
+fails_by_lines j v a lines d held kept (why.TooManyWords k n) (inr (inl line)) = absurd line.1
+fails_by_lines j v a lines d held kept (why.TooManyWords k n) (inr (inr (inr exit))) = absurd exit.1
+fails_by_lines j v a lines d held kept (why.TooManyWords k n) (inr (inr (inl word))) = facts_kept lines j v a word.routine word.index word.fact (why.TooManyWords k n) d kept word.is word.wrong
+fails_by_lines j v a lines d held kept (why.ByWord k w b) (inl start) = absurd start.2
+fails_by_lines j v a lines d held kept (why.ByWord k w b) (inr (inl line)) = absurd line.1
+fails_by_lines j v a lines d held kept (why.ByWord k w b) (inr (inr (inr exit))) = absurd exit.1
+fails_by_lines j v a lines d held kept (why.ByWord k w b) (inr (inr (inl word))) = facts_kept lines j v a word.routine word.index word.fact (why.ByWord k w b) d kept word.is word.wrong
+fails_by_lines j v a lines d held kept (why.AtStart l) h = refl
+fails_by_lines j v a lines d held kept why.LineAtNoEntry h = refl
+fails_by_lines j v a lines d held kept why.InNoBody h = refl
+fails_by_lines j v a lines d held kept (why.OffsetInMain i o) h = refl
+fails_by_lines j v a lines d held kept (why.SitesInMain i) h = refl
+fails_by_lines j v a lines d held kept (why.NoOffset i e) h = refl
+fails_by_lines j v a lines d held kept (why.NoSites i e) h = refl
+fails_by_lines j v a lines d held kept (why.RoutineNotListed e) h = refl
+fails_by_lines j v a lines d held kept (why.ExitDeniesAssertion o i s w) (inl start) = absurd start.2
+fails_by_lines j v a lines d held kept (why.ExitDeniesAssertion o i s w) (inr (inl line)) = absurd line.1
+fails_by_lines j v a lines d held kept (why.ExitDeniesAssertion o i s w) (inr (inr (inl word))) = absurd word.wrong
+fails_by_lines j v a lines d held kept (why.ExitDeniesAssertion o i s w) (inr (inr (inr exit))) = absurd (no_wrong_exit j v a (why.ExitDeniesAssertion o i s w) held exit)
 
 -- What is found where lines do not count is not of lines.
 pub not_of_lines : (b : Bool) → IsSought NotOfLines b → b ≡ false
 not_of_lines true h = sym h
 not_of_lines false h = refl
+
+-- A call does not break the condition on what is declared to hold.
+no_call : (b : CallBreach) → condition_of_call b ≡ V16 → ⊥
+no_call call.NoEntry e = cc
+no_call call.NotListed e = cc
+no_call (call.NotLower rank own) e = cc
+no_call (call.Writes c) e = cc
+no_call call.EntryNotWritten e = cc
+no_call call.WritesCaller e = cc
+no_call call.NoSite e = cc
+no_call call.TooHigh e = cc
+no_call (call.Enters l) e = cc
+no_call (call.Returns o i l) e = cc
+
+-- What breaks it is not of lines.
+held_breach : (b : Breach) → condition_of b ≡ V16 → is_word_of_lines b ≡ false
+held_breach (breach.WritesUnlisted c) e = absurd (sixth e)
+  where
+    sixth : V6 ≡ V16 → ⊥
+    sixth same = cc
+held_breach (breach.Calls x b) e = absurd (no_call b e)
+held_breach (breach.Returns x b) e = absurd (twelfth e)
+  where
+    twelfth : V12 ≡ V16 → ⊥
+    twelfth same = cc
+held_breach (breach.GoesOn x l) e = absurd (fourth e)
+  where
+    fourth : V4 ≡ V16 → ⊥
+    fourth same = cc
+held_breach _ e = refl
+
+held_word : (j : Case) (r : Routine) (a : ℕ) (f : Fact) (i : ℕ) (reason : Reason) → IsWrongWord j r a f i V16 reason → is_of_lines reason ≡ false
+held_word j r a f i (why.TooManyWords k n) wrong = refl
+held_word j r a f i (why.ByWord k w b) wrong = held_breach b wrong.3
+held_word j r a f i (why.ExitDeniesAssertion o k s w) wrong = refl
+held_word j r a f i (why.AtStart l) wrong = absurd wrong
+held_word j r a f i why.LineAtNoEntry wrong = absurd wrong
+held_word j r a f i why.InNoBody wrong = absurd wrong
+held_word j r a f i (why.OffsetInMain k o) wrong = absurd wrong
+held_word j r a f i (why.SitesInMain k) wrong = absurd wrong
+held_word j r a f i (why.NoOffset k e) wrong = absurd wrong
+held_word j r a f i (why.NoSites k e) wrong = absurd wrong
+held_word j r a f i (why.RoutineNotListed e) wrong = absurd wrong
+
+held_exit : (j : Case) (e : ℕ) (reason : Reason) → IsWrongExit j e reason → is_of_lines reason ≡ false
+held_exit j e (why.ExitDeniesAssertion o k s w) wrong = refl
+held_exit j e (why.TooManyWords k n) wrong = absurd wrong
+held_exit j e (why.ByWord k w b) wrong = absurd wrong
+held_exit j e (why.AtStart l) wrong = absurd wrong
+held_exit j e why.LineAtNoEntry wrong = absurd wrong
+held_exit j e why.InNoBody wrong = absurd wrong
+held_exit j e (why.OffsetInMain k o) wrong = absurd wrong
+held_exit j e (why.SitesInMain k) wrong = absurd wrong
+held_exit j e (why.NoOffset k x) wrong = absurd wrong
+held_exit j e (why.NoSites k x) wrong = absurd wrong
+held_exit j e (why.RoutineNotListed x) wrong = absurd wrong
+
+-- What is told of what need not hold is not of lines.
+pub not_held_of_lines : (j : Case) (a : ℕ) (reason : Reason) → HasWrongWord j V16 a reason ⊎ IsWrongExit j a reason → is_of_lines reason ≡ false
+not_held_of_lines j a reason (inl word) = held_word j word.routine a word.fact word.index reason word.wrong
+not_held_of_lines j a reason (inr exit) = held_exit j a reason exit
 
 -- ---- the order
 
@@ -200,6 +273,10 @@ others_kept j r a f V8 le = record { few = λ e. absurd (eighth_not_third e); ea
     eighth_not_third e = cc
 others_kept j r a f _ le = absurd (omega (arith, le))
 
+-- The condition on what is declared to hold is asked.
+sixteenth_asked : (u : Condition) → 12 ≤ place_asked u → u ≡ V16 → ⊥
+sixteenth_asked u le is = (let less : place_asked u ≡ 11 = ap place_asked is in absurd (omega (arith, le, less)))
+
 -- So they fail by lines alone.
 others_fail : (j : Case) (a : ℕ) (u : Condition) → 12 ≤ place_asked u → FailsByLinesAlone j a u
 others_fail j a u le (why.TooManyWords k n) (inl start) = absurd start.2
@@ -218,7 +295,10 @@ others_fail j a u le (why.SitesInMain i) h = refl
 others_fail j a u le (why.NoOffset i e) h = refl
 others_fail j a u le (why.NoSites i e) h = refl
 others_fail j a u le (why.RoutineNotListed e) h = refl
-others_fail j a u le (why.ExitMayDiffer o i s w) h = refl
+others_fail j a u le (why.ExitDeniesAssertion o i s w) (inl start) = absurd start.2
+others_fail j a u le (why.ExitDeniesAssertion o i s w) (inr (inl line)) = absurd line.1
+others_fail j a u le (why.ExitDeniesAssertion o i s w) (inr (inr (inl word))) = absurd word.wrong
+others_fail j a u le (why.ExitDeniesAssertion o i s w) (inr (inr (inr exit))) = absurd (sixteenth_asked u le exit.0)
 
 -- The places of a list are counted up from n.
 Counted : ℕ → List Condition → Type 0

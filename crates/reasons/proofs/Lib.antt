@@ -1,4 +1,7 @@
+mod AbandonLemmas
 mod ByLinesLemmas
+mod DeniedLemmas
+mod EntryLemmas
 mod FoundLemmas
 mod GapLemmas
 mod LandingLemmas

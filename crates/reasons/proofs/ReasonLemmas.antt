@@ -25,6 +25,10 @@ use Rattle.certificate_lines.specs.Certificate.{Certificate, writes_of}
 use Rattle.judge.specs.Conditions.{Covers, CoversCallee, EachFact, IsPlaced}
 use Rattle.judge.specs.Landing.{Case, facts_in, place_in}
 use Rattle.judge.specs.Bodies.{IsOfBody}
+use Rattle.facts.specs.declared.Condition.{Condition}
+use Rattle.facts.specs.declared.Condition.TheVariants.{V16}
+use Rattle.reasons.specs.Reasons.{Explains, HasWrongWord, IsWrongExit}
+use Rattle.reasons.specs.declared.reason.Reason.{Reason}
 use Rattle.reasons.specs.Landing.{ExcludesOne, IsLeft, IsLeftAt}
 use Rattle.reasons.specs.declared.breach.Landing.{Landing}
 use Rattle.reasons.specs.declared.breach.Landing.TheVariants.{NoFact, OtherBody, Excluded, ExcludedUnder, NotTaken, NotEntailed}
@@ -171,3 +175,8 @@ pub left_here : (j : Case) (r : Routine) (a : ℕ) (k f : Fact) (pl : Place) (fs
 left_here j r a k f pl fs l here same place among h =
     left_inside j r a f l here
     (subst (λ xs. IsLeft (place_in j r) f xs l) among (subst (λ (p : Place). IsLeft p f fs l) place (subst (λ (x : Fact). IsLeft pl x fs l) same h)))
+
+-- What need not hold explains that the condition on what is declared to hold fails.
+pub not_held_explains : (j : Case) (v : Condition) (a : ℕ) (reason : Reason) → v ≡ V16 → HasWrongWord j V16 a reason ⊎ IsWrongExit j a reason → Explains j v a reason
+not_held_explains j v a reason is (inl word) = inr (inr (inl (subst (λ u. HasWrongWord j u a reason) (sym is) word)))
+not_held_explains j v a reason is (inr exit) = inr (inr (inr (is, exit)))

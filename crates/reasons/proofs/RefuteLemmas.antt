@@ -1,7 +1,9 @@
 -- Where it is explained that a condition fails of which several facts may be asked, it does not hold.
 use Rattle.std.proofs.Common.{◌≡◌, ℕ, ◌<◌, ◌≤◌, Bool, true, false, ◌&&◌, ◌||◌, ◌⊎◌, Some, None, List, [], ◌∷◌, length, refl, sym, ◌∙◌, subst, inl, inr, arith, if◌then◌else◌, zero, suc}
-use Rattle.std.proofs.lemmas.Bool.{true≢false}
-use Rattle.instruct.specs.Instructions.{Meaning, Jms, Jmp, meaning_of}
+use Rattle.std.proofs.lemmas.Bool.{eq-eqb, eqb-true, true≢false}
+use Rattle.instruct.specs.Instructions.{Meaning, Isz, Jms, Jmp, meaning_of, reference}
+use Rattle.instruct.specs.declared.Operation.{Operation}
+use Rattle.instruct.specs.declared.Operation.TheVariants as operation
 use Rattle.wordset.specs.Words.{Words, how_many, plus, some_below, has_some}
 use Rattle.wordset.proofs.Tests.{none_of_some}
 use Rattle.processor.specs.Runs.{Image}
@@ -9,9 +11,10 @@ use Rattle.declaration.specs.Declaration.{Routine, Assertion, PlaceAssertion, Re
 use Rattle.declaration.specs.declared.Subject.{Subject}
 use Rattle.domain.specs.Facts.{Fact, Place, Rules, OfEquations, OfSums, last_site}
 use Rattle.domain.specs.Adding.{is_void}
+use Rattle.domain.proofs.BriefLemmas.{only_of_one}
 use Rattle.domain.specs.Narrowing.{narrowed}
-use Rattle.facts.specs.Instructions.{calls_through_index, returned_through}
-use Rattle.facts.specs.Conditions.{IsAsserted, IsDenied, EachIsHeld, EachIsHeldBy, called}
+use Rattle.facts.specs.Instructions.{calls_through_index, returned_through, stores}
+use Rattle.facts.specs.Conditions.{CountsItsReturn, EntriesAreKept, IsAsserted, IsDenied, EachIsHeld, EachIsHeldBy, MayCount, MovesItsReturn, called, may_write, reach}
 use Rattle.facts.specs.Landing.{fact_at}
 use Rattle.transfer.specs.Operations.{outcomes_of}
 use Rattle.transfer.specs.Outcomes.{Successor, Goes, CallsTo, Returns}
@@ -20,8 +23,8 @@ use Rattle.facts.specs.declared.Condition.{Condition}
 use Rattle.facts.specs.declared.Condition.TheVariants.{V1, V2, V3, V4, V5, V6, V7, V8, V9, V10, V11, V12, V13, V14, V15, V16}
 use Rattle.certificate_lines.specs.Certificate.{Certificate, has_exits}
 use Rattle.judge.specs.Landing.{Case, place_in, sited, with_sites, sites_of, asked, asked_at, abandons, LandsAt, LandsBeyond, SuccessorLands, EachSuccessor, EachLandsAfter, exits_of, called_from, LandsAfter}
-use Rattle.judge.specs.Conditions.{EachFact, IsPlaced, IsOfMain, HasSites, LinesArePlaced, EachTarget, KeepsPointer, IsLower, MayCall, Covers, CoversCallee, IsSite, MayReturn, ReturnsWell, HoldsFor, HoldsForWords, HoldsAt}
-use Rattle.reasons.specs.Breaches.{Breaks, CallBreaks, MissesAfter, MissesBeyond, OutcomeMisses, ReturnBreaks, SomeDenied, SomeOutcome, condition_of, condition_of_call}
+use Rattle.judge.specs.Conditions.{EachFact, IsPlaced, IsOfMain, HasSites, LinesArePlaced, EachTarget, ExitsAreHeld, KeepsPointer, IsLower, MayCall, Covers, CoversCallee, IsSite, MayReturn, ReturnsWell, HoldsFor, HoldsForWords, HoldsAt}
+use Rattle.reasons.specs.Breaches.{Breaks, CallBreaks, MissesAfter, MissesBeyond, NamesOwn, OutcomeMisses, ReturnBreaks, SomeDenied, SomeOutcome, condition_of, condition_of_call}
 use Rattle.reasons.specs.Reasons.{IsAskedFact, IsMisplaced, IsWrongExit, IsWrongStart, IsWrongWord, SomeReturnDenied, claimed_at}
 use Rattle.reasons.specs.Laws.{ExplainedFails}
 use Rattle.reasons.specs.declared.breach.Breach.{Breach}
@@ -29,6 +32,7 @@ use Rattle.reasons.specs.declared.breach.Breach.TheVariants as breach
 use Rattle.reasons.specs.declared.breach.CallBreach.{CallBreach}
 use Rattle.reasons.specs.declared.breach.CallBreach.TheVariants as call
 use Rattle.reasons.specs.declared.breach.Landing.{Landing}
+use Rattle.reasons.specs.declared.breach.Landing.TheVariants.{OtherBody}
 use Rattle.reasons.specs.declared.breach.ReturnBreach.{ReturnBreach}
 use Rattle.reasons.specs.declared.breach.ReturnBreach.TheVariants as return
 use Rattle.reasons.specs.declared.reason.Reason.{Reason}
@@ -170,20 +174,65 @@ return_denied_refutes pl x e o s w [] h holds = absurd h
 return_denied_refutes pl x e o s w (r ∷ rs) (inl h) holds = denied_refutes pl x r.assertion w h.3 (holds.0 h.0 h.1)
 return_denied_refutes pl x e o s w (r ∷ rs) (inr h) holds = return_denied_refutes pl x e o s w rs h holds.1
 
+-- ---- the running routine's own entry
+
+-- The cell that a word names by this operation, not through a pointer, is one that it may write,
+written_own : (pl : Place) (f : Fact) (o : Operation) (e : ℕ) → stores o ≡ true → may_write pl f (reference o false e) e ≡ true
+written_own pl f operation.Isz e is = eq-eqb e e refl
+written_own pl f operation.Dca e is = eq-eqb e e refl
+written_own pl f _ e is = absurd (true≢false (sym is))
+
+-- so that what is asked of entries is asked of it.
+own_kept : (j : Case) (r : Routine) (f : Fact) (m : Meaning) (o : Operation) (e : ℕ) → stores o ≡ true → NamesOwn j r o m e → EntriesAreKept (place_in j r) f m →
+    CountsItsReturn (place_in j r) f (reference o false e) e ⊎ MovesItsReturn (place_in j r) f (reference o false e) e
+own_kept j r f m o e is names kept =
+    (subst (λ x. EntriesAreKept (place_in j r) f x) names.means kept) e names.small (written_own (place_in j r) f o e is) names.entry
+
+pub counting_refutes : (j : Case) (r : Routine) (a : ℕ) (f : Fact) (m : Meaning) (e : ℕ) → Breaks j r a f m (breach.CountsTooFar e) → EntriesAreKept (place_in j r) f m → ⊥
+counting_refutes j r a f m e h kept = elim (own_kept j r f m operation.Isz e refl h.0 kept) [
+  | inl counts ↦ h.1 counts.2
+  | inr moves ↦ absurd moves
+]
+
+pub storing_refutes : (j : Case) (r : Routine) (a : ℕ) (f : Fact) (m : Meaning) (e : ℕ) → Breaks j r a f m (breach.StoresInOwn e) → EntriesAreKept (place_in j r) f m → ⊥
+storing_refutes j r a f m e h kept = elim (own_kept j r f m operation.Dca e refl h.0 kept) [
+  | inl counts ↦ absurd counts
+  | inr moves ↦ both (j.declaration.moves e) moves.2 h.1
+]
+
+pub moving_refutes : (j : Case) (r : Routine) (a : ℕ) (f : Fact) (m : Meaning) (e w s : ℕ) → Breaks j r a f m (breach.MovesTooFar e w s) → EntriesAreKept (place_in j r) f m → ⊥
+moving_refutes j r a f m e w s h kept = elim (own_kept j r f m operation.Dca e refl h.0 kept) [
+  | inl counts ↦ absurd counts
+  | inr moves ↦ both (reach s w) (moves.3 s h.1.site.0 h.1.site.1 w h.1.word.0 h.1.word.1) h.1.beyond
+]
+
+-- An ISZ of the routine's own entry keeps the entries where the return word may be counted up once more.
+pub counting_kept : (j : Case) (r : Routine) (f : Fact) (m : Meaning) (e : ℕ) → NamesOwn j r operation.Isz m e → MayCount j.certificate.rules f → EntriesAreKept (place_in j r) f m
+counting_kept j r f m e names may =
+    subst (λ x. EntriesAreKept (place_in j r) f x) (sym names.means)
+    (λ a lt is entry. (let same : a ≡ e = eqb-true a e is in
+    subst (λ x. CountsItsReturn (place_in j r) f (Isz false e) x ⊎ MovesItsReturn (place_in j r) f (Isz false e) x) (sym same)
+    (inl (names.own, only_of_one e names.small, may))))
+
 -- ---- words
 
 word_refutes : (j : Case) (r : Routine) (a : ℕ) (f : Fact) (w : ℕ) (b : Breach) → Breaks j r a f (meaning_of j.declaration.profile a w) b → HoldsFor j (condition_of b) r a f (meaning_of j.declaration.profile a w) → ⊥
 word_refutes j r a f w breach.NotSupported h holds = h holds
 word_refutes j r a f w (breach.WritesUndeclared b) h holds = declared_or (j.declaration.variable b) (j.declaration.entry b) h.2 h.3 (holds b h.0 h.1)
 word_refutes j r a f w (breach.WritesEntry b) h holds = h.3 holds
+word_refutes j r a f w (breach.CountsTooFar b) h holds = counting_refutes j r a f (meaning_of j.declaration.profile a w) b h holds
+word_refutes j r a f w (breach.StoresInOwn b) h holds = storing_refutes j r a f (meaning_of j.declaration.profile a w) b h holds
+word_refutes j r a f w (breach.MovesTooFar b v s) h holds = moving_refutes j r a f (meaning_of j.declaration.profile a w) b v s h holds
 word_refutes j r a f w (breach.WritesUnlisted b) h holds = h.2 (holds b h.0 h.1)
 word_refutes j r a f w breach.HaltsUndeclared h holds = h holds
 word_refutes j r a f w breach.CallsThroughIndex h holds = pointer_refutes (meaning_of j.declaration.profile a w) h holds.0
 word_refutes j r a f w (breach.Calls e b) h holds = call_refutes j r a f (meaning_of j.declaration.profile a w) e h.0 h.1 b h.2 holds
 word_refutes j r a f w (breach.Returns e b) h holds = return_refutes j r f e b (meaning_of j.declaration.profile a w) h.0 h.1 holds
 word_refutes j r a f w (breach.GoesOn b l) h holds = outcomes_refute j r (meaning_of j.declaration.profile a w) b l (outcomes_of (place_in j r) f a (meaning_of j.declaration.profile a w)) h holds
+word_refutes j r a f w (breach.JumpsToMain b) h holds =
+    outcomes_refute j r (meaning_of j.declaration.profile a w) b OtherBody (outcomes_of (place_in j r) f a (meaning_of j.declaration.profile a w)) h.misses holds
 word_refutes j r a f w (breach.ReadsUnlisted b) h holds = h.2 (holds b h.0 h.1)
-word_refutes j r a f w (breach.MayDiffer s v) h holds = some_denied_refutes (place_in j r) f a s v j.declaration.holds h holds
+word_refutes j r a f w (breach.DeniesAssertion s v) h holds = some_denied_refutes (place_in j r) f a s v j.declaration.holds h holds
 
 -- ---- facts that are asked
 
@@ -249,7 +298,7 @@ wrong_refutes j v a r i f (why.SitesInMain k) is wrong holds = absurd wrong
 wrong_refutes j v a r i f (why.NoOffset k e) is wrong holds = absurd wrong
 wrong_refutes j v a r i f (why.NoSites k e) is wrong holds = absurd wrong
 wrong_refutes j v a r i f (why.RoutineNotListed e) is wrong holds = absurd wrong
-wrong_refutes j v a r i f (why.ExitMayDiffer o k s w) is wrong holds = absurd wrong
+wrong_refutes j v a r i f (why.ExitDeniesAssertion o k s w) is wrong holds = absurd wrong
 
 -- ---- lines
 
@@ -302,7 +351,7 @@ misplaced_refutes j a (why.RoutineNotListed e) declared h lines =
 misplaced_refutes j a (why.AtStart l) declared h lines = absurd h
 misplaced_refutes j a (why.TooManyWords i n) declared h lines = absurd h
 misplaced_refutes j a (why.ByWord i w b) declared h lines = absurd h
-misplaced_refutes j a (why.ExitMayDiffer o i s w) declared h lines = absurd h
+misplaced_refutes j a (why.ExitDeniesAssertion o i s w) declared h lines = absurd h
 
 -- ---- the start
 
@@ -317,7 +366,7 @@ start_refutes j a (why.NoSites i e) h holds = absurd h
 start_refutes j a (why.RoutineNotListed e) h holds = absurd h
 start_refutes j a (why.TooManyWords i n) h holds = absurd h
 start_refutes j a (why.ByWord i w b) h holds = absurd h
-start_refutes j a (why.ExitMayDiffer o i s w) h holds = absurd h
+start_refutes j a (why.ExitDeniesAssertion o i s w) h holds = absurd h
 
 -- ---- exits
 
@@ -338,11 +387,11 @@ asked_exit p OfSums image (f ∷ fs) (suc i) x lt is h = asked_exit p OfSums ima
     rest true k = k
     rest false k = k.1
 
-exit_refutes : (j : Case) (e : ℕ) (reason : Reason) → IsWrongExit j e reason → HoldsAt j V16 e → ⊥
-exit_refutes j e (why.ExitMayDiffer o i s w) h holds =
+pub exit_refutes : (j : Case) (e : ℕ) (reason : Reason) → IsWrongExit j e reason → ExitsAreHeld j e → ⊥
+exit_refutes j e (why.ExitDeniesAssertion o i s w) h holds =
     let is = h.1 in
     return_denied_refutes (place_in j (Some e)) h.0 e o s w j.declaration.returns h.2
-    (asked_exit (λ x. EachIsHeldBy (place_in j (Some e)) x e o j.declaration.returns) j.certificate.rules j.image (exits_of j e o) i h.0 is.there is.asked_is (holds.1 o is.offset))
+    (asked_exit (λ x. EachIsHeldBy (place_in j (Some e)) x e o j.declaration.returns) j.certificate.rules j.image (exits_of j e o) i h.0 is.there is.asked_is (holds o is.offset))
 exit_refutes j e (why.AtStart l) h holds = absurd h
 exit_refutes j e why.LineAtNoEntry h holds = absurd h
 exit_refutes j e why.InNoBody h holds = absurd h
@@ -354,8 +403,11 @@ exit_refutes j e (why.RoutineNotListed x) h holds = absurd h
 exit_refutes j e (why.TooManyWords i n) h holds = absurd h
 exit_refutes j e (why.ByWord i w b) h holds = absurd h
 
+exits_held : (j : Case) (v : Condition) (a : ℕ) → v ≡ V16 → HoldsAt j v a → ExitsAreHeld j a
+exits_held j v a is holds = (let held : HoldsAt j V16 a = subst (λ x. HoldsAt j x a) is holds in held.1)
+
 pub explained_fails : ExplainedFails
 explained_fails j v a reason declared (inl start) holds = start_refutes j a reason start.2 (subst (λ x. HoldsAt j x a) start.0 holds)
 explained_fails j v a reason declared (inr (inl line)) holds = misplaced_refutes j a reason declared line.1 (subst (λ x. HoldsAt j x a) line.0 holds)
-explained_fails j v a reason declared (inr (inr (inr exit))) holds = exit_refutes j a reason exit.1 (subst (λ x. HoldsAt j x a) exit.0 holds)
+explained_fails j v a reason declared (inr (inr (inr exit))) holds = exit_refutes j a reason exit.1 (exits_held j v a exit.0 holds)
 explained_fails j v a reason declared (inr (inr (inl word))) holds = wrong_refutes j v a word.routine word.index word.fact reason word.is word.wrong holds

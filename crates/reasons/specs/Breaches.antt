@@ -1,23 +1,26 @@
 -- What a possible word breaks at the address of a fact that may have sums.
 use Rattle.std.specs.Prelude.{◌≡◌, ℕ, ◌+◌, ◌<◌, ◌≤◌, Bool, true, false, ◌⊎◌, Some, None, List, [], ◌∷◌, length}
 use Rattle.wordset.specs.Words.{Words, plus}
-use Rattle.instruct.specs.Instructions.{Meaning}
+use Rattle.instruct.specs.Instructions.{Meaning, reference}
+use Rattle.instruct.specs.declared.Operation.{Operation}
+use Rattle.instruct.specs.declared.Operation.TheVariants as operation
 use Rattle.declaration.specs.Declaration.{Routine, PlaceAssertion, IsListed}
 use Rattle.declaration.specs.declared.Subject.{Subject}
 use Rattle.policy.specs.Rules.{IsSupported, HaltsDeclared}
 use Rattle.domain.specs.Facts.{Fact, Place, last_site}
 use Rattle.domain.specs.Moves.{joined}
-use Rattle.facts.specs.Instructions.{MayWrite, calls_through_index, returned_through}
-use Rattle.transfer.specs.Outcomes.{Successor, Goes, CallsTo, Returns}
+use Rattle.facts.specs.Instructions.{MayWrite, calls_through_index, is_jump, returned_through}
+use Rattle.transfer.specs.Outcomes.{Successor, Goes, CallsTo, Returns, ac_of}
 use Rattle.transfer.specs.Operations.{outcomes_of}
 use Rattle.facts.specs.Landing.{fact_at}
-use Rattle.facts.specs.Conditions.{EntriesAreKept, IsDenied, may_write, may_read, called}
+use Rattle.facts.specs.Conditions.{EntriesAreKept, IsDenied, MayCount, may_write, may_read, called, reach}
 use Rattle.facts.specs.declared.Condition.{Condition}
 use Rattle.facts.specs.declared.Condition.TheVariants.{V3, V4, V5, V6, V7, V8, V9, V10, V11, V12, V13, V14, V15, V16}
 use Rattle.certificate_lines.specs.Certificate.{writes_of}
 use Rattle.judge.specs.Landing.{Case, place_in, exits_of, called_from, abandons, as_main}
 use Rattle.reasons.specs.Landing.{Misses, MissesExit}
 use Rattle.reasons.specs.declared.breach.Landing.{Landing}
+use Rattle.reasons.specs.declared.breach.Landing.TheVariants.{OtherBody}
 use Rattle.reasons.specs.declared.breach.CallBreach.{CallBreach}
 use Rattle.reasons.specs.declared.breach.CallBreach.TheVariants as call
 use Rattle.reasons.specs.declared.breach.ReturnBreach.{ReturnBreach}
@@ -94,20 +97,46 @@ abbrev pub condition_of : Breach → Condition
 condition_of breach.NotSupported = V3
 condition_of (breach.WritesUndeclared c) = V5
 condition_of (breach.WritesEntry c) = V14
+condition_of (breach.CountsTooFar c) = V14
+condition_of (breach.StoresInOwn c) = V14
+condition_of (breach.MovesTooFar c w s) = V14
 condition_of (breach.WritesUnlisted c) = V6
 condition_of breach.HaltsUndeclared = V13
 condition_of breach.CallsThroughIndex = V7
 condition_of (breach.Calls e b) = condition_of_call b
 condition_of (breach.Returns e b) = V12
 condition_of (breach.GoesOn a l) = V4
+condition_of (breach.JumpsToMain a) = V4
 condition_of (breach.ReadsUnlisted c) = V15
-condition_of (breach.MayDiffer s w) = V16
+condition_of (breach.DeniesAssertion s w) = V16
 
 -- One of the assertions at the address is on this subject, which may have this word, and the word is not asserted.
 abbrev pub SomeDenied : Place → Fact → ℕ → Subject → ℕ → List PlaceAssertion → Type 0
 SomeDenied pl f a s w [] = ⊥
 SomeDenied pl f a s w (h ∷ hs) =
     ((h.places a ≡ true) × (h.assertion.subject ≡ s) × IsDenied pl f h.assertion w) ⊎ SomeDenied pl f a s w hs
+
+-- The word refers by this operation, and not through a pointer, to an entry, which is the running routine's own.
+pub record NamesOwn (j : Case) (r : Routine) (o : Operation) (m : Meaning) (e : ℕ) : Type 0 where
+  pub small : e < 4096
+  pub entry : j.declaration.entry e ≡ true
+  pub own : r ≡ Some e
+  pub means : m ≡ reference o false e
+
+-- The word is one of these, and does not lie 0 to 77 behind the return address of a call from this address, which is one of the
+-- fact's sites.
+pub record IsOutOfReach (f : Fact) (known : Words) (w s : ℕ) : Type 0 where
+  pub site : (s < 4096) × (f.sites s ≡ true)
+  pub word : (w < 4096) × (known w ≡ true)
+  pub beyond : reach s w ≡ false
+
+-- A JMP that is no return may go to an address of main's body, and does not land there since the address is not in the running
+-- routine's body: no calls are abandoned for it.
+pub record LeavesForMain (j : Case) (r : Routine) (a : ℕ) (f : Fact) (m : Meaning) (b : ℕ) : Type 0 where
+  pub jumps : is_jump m ≡ true
+  pub no_return : returned_through j.declaration m ≡ None
+  pub main : j.declaration.body None b ≡ true
+  pub misses : SomeOutcome (OutcomeMisses j r (abandons j.declaration r m) b OtherBody) (outcomes_of (place_in j r) f a m)
 
 -- What a word of this meaning breaks at the address a of a fact in a routine's body.
 abbrev pub Breaks : Case → Routine → ℕ → Fact → Meaning → Breach → Type 0
@@ -116,6 +145,9 @@ Breaks j r a f m (breach.WritesUndeclared b) =
     (b < 4096) × (may_write (place_in j r) f m b ≡ true) × (j.declaration.variable b ≡ false) × (j.declaration.entry b ≡ false)
 Breaks j r a f m (breach.WritesEntry b) =
     (b < 4096) × (may_write (place_in j r) f m b ≡ true) × (j.declaration.entry b ≡ true) × (EntriesAreKept (place_in j r) f m → ⊥)
+Breaks j r a f m (breach.CountsTooFar b) = NamesOwn j r operation.Isz m b × (MayCount j.certificate.rules f → ⊥)
+Breaks j r a f m (breach.StoresInOwn b) = NamesOwn j r operation.Dca m b × (j.declaration.moves b ≡ false)
+Breaks j r a f m (breach.MovesTooFar b w s) = NamesOwn j r operation.Dca m b × IsOutOfReach f (ac_of (place_in j r) f) w s
 Breaks j r a f m (breach.WritesUnlisted b) =
     (b < 4096) × (may_write (place_in j r) f m b ≡ true) × (MayWrite (writes_of j.certificate r) r b → ⊥)
 Breaks j r a f m breach.HaltsUndeclared = HaltsDeclared j.declaration m a → ⊥
@@ -123,6 +155,7 @@ Breaks j r a f m breach.CallsThroughIndex = calls_through_index m ≡ true
 Breaks j r a f m (breach.Calls e b) = (e < 4096) × (called (place_in j r) f m e ≡ true) × CallBreaks j r a f e b
 Breaks j r a f m (breach.Returns e b) = (returned_through j.declaration m ≡ Some e) × ReturnBreaks j r f e b
 Breaks j r a f m (breach.GoesOn b l) = SomeOutcome (OutcomeMisses j r (abandons j.declaration r m) b l) (outcomes_of (place_in j r) f a m)
+Breaks j r a f m (breach.JumpsToMain b) = LeavesForMain j r a f m b
 Breaks j r a f m (breach.ReadsUnlisted b) =
     (b < 4096) × (may_read (place_in j r) f m b ≡ true) × (IsListed j.declaration.reads b ⊎ (r ≡ Some b) → ⊥)
-Breaks j r a f m (breach.MayDiffer s w) = SomeDenied (place_in j r) f a s w j.declaration.holds
+Breaks j r a f m (breach.DeniesAssertion s w) = SomeDenied (place_in j r) f a s w j.declaration.holds

@@ -1,15 +1,16 @@
 -- What breaks a condition at a fact of which it is asked, as the code keeps the fact; it serves private contracts.
-use Rattle.std.specs.Prelude.{◌≡◌, ℕ, ◌<◌, Bool, true, false, [], ◌∷◌}
+use Rattle.std.specs.Prelude.{◌≡◌, ℕ, ◌<◌, Bool, true, false, None, List}
 use Rattle.instruct.specs.Instructions.{Meaning, meaning_of}
 use Rattle.facts.specs.declared.Condition.{Condition}
 use Rattle.certificate_lines.specs.Certificate.{Certificate}
 use Rattle.declaration.specs.Declaration.{Routine, PlaceAssertion}
 use Rattle.domain.specs.Facts.{Fact, Place}
-use Rattle.facts.specs.Conditions.{EachIsHeld, IsDenied}
+use Rattle.facts.specs.Conditions.{EachIsHeld}
+use Rattle.facts.specs.Instructions.{is_jump, returned_through}
 use Rattle.judge.specs.Landing.{Case, place_in}
 use Rattle.judge.specs.Points.{case_of, fact_asked}
 use Rattle.judge.specs.declared.point.Point.{Point}
-use Rattle.reasons.specs.Breaches.{Breaks, CallBreaks, ReturnBreaks, condition_of, condition_of_call}
+use Rattle.reasons.specs.Breaches.{Breaks, CallBreaks, ReturnBreaks, SomeDenied, condition_of, condition_of_call}
 use Rattle.reasons.specs.Landing.{Misses}
 use Rattle.reasons.specs.Reasons.{IsWrongWord}
 use Rattle.reasons.specs.Stuck.{is_call_of_lines, is_landing_of_lines, is_of_lines, is_return_of_lines, is_word_of_lines}
@@ -18,6 +19,7 @@ use Rattle.reasons.specs.declared.breach.Breach.TheVariants as breach
 use Rattle.reasons.specs.declared.breach.CallBreach.{CallBreach}
 use Rattle.reasons.specs.declared.breach.ReturnBreach.{ReturnBreach}
 use Rattle.reasons.specs.declared.breach.Landing.{Landing}
+use Rattle.reasons.specs.declared.breach.Landing.TheVariants.{OtherBody}
 use Rattle.reasons.specs.declared.reason.Reason.{Reason}
 use Rattle.reasons.specs.declared.sought.Sought.{Sought}
 use Rattle.reasons.specs.declared.sought.Sought.TheVariants.{Any, NotOfLines}
@@ -45,21 +47,29 @@ abbrev pub BreaksHere : {A C : Type 0} → (C → Certificate) → Point A C 132
 BreaksHere claims s v w b =
     (condition_of b ≡ v) × Breaks (case_of claims s) s.place.routine s.at (fact_asked s) (meaning_here claims s w) b
 
--- What one line says is to hold need not hold there, if it is to hold there: it is told what the subject may be.
-abbrev pub Differs : Place → Fact → ℕ → PlaceAssertion → Breach → Type 0
-Differs pl f a h (breach.MayDiffer s w) = (h.places a ≡ true) × (h.assertion.subject ≡ s) × IsDenied pl f h.assertion w
-Differs pl f a h _ = ⊥
+-- One of the assertions is made of the address, and its subject may have a word there that is not asserted.
+abbrev pub Denies : Place → Fact → ℕ → List PlaceAssertion → Breach → Type 0
+Denies pl f a hs (breach.DeniesAssertion s w) = SomeDenied pl f a s w hs
+Denies pl f a hs _ = ⊥
 
-abbrev pub DiffersHere : {A C : Type 0} → (C → Certificate) → Point A C 132 68 → PlaceAssertion → Breach → Type 0
-DiffersHere claims s h b = Differs (place_in (case_of claims s) s.place.routine) (fact_asked s) s.at h b
+abbrev pub DeniesHere : {A C : Type 0} → (C → Certificate) → Point A C 132 68 → List PlaceAssertion → Breach → Type 0
+DeniesHere claims s hs b = Denies (place_in (case_of claims s) s.place.routine) (fact_asked s) s.at hs b
 
--- What one line says is to hold holds there, if it is to hold there.
-abbrev pub HoldsOneHere : {A C : Type 0} → (C → Certificate) → Point A C 132 68 → PlaceAssertion → Type 0
-HoldsOneHere claims s h = EachIsHeld (place_in (case_of claims s) s.place.routine) (fact_asked s) s.at (h ∷ [])
+-- Those of the assertions that are made of the address hold there.
+abbrev pub AreHeldHere : {A C : Type 0} → (C → Certificate) → Point A C 132 68 → List PlaceAssertion → Type 0
+AreHeldHere claims s hs = EachIsHeld (place_in (case_of claims s) s.place.routine) (fact_asked s) s.at hs
 
--- It does, and this is one of the reasons that are looked for.
+-- The word fails the condition there, since it breaks this, which is one of the reasons that are looked for.
 abbrev pub BreaksAs : {A C : Type 0} → Sought → (C → Certificate) → Point A C 132 68 → Condition → ℕ → Breach → Type 0
 BreaksAs sought claims s v w b = BreaksHere claims s v w b × IsSought sought (is_word_of_lines b)
+
+-- It is told that an address is not in the running routine's body. It is in main's body, and a word of this meaning is a JMP and no
+-- return.
+pub record JumpsToMain (j : Case) (m : Meaning) (a : ℕ) (l : Landing) : Type 0 where
+  pub told : l ≡ OtherBody
+  pub jumps : is_jump m ≡ true
+  pub no_return : returned_through j.declaration m ≡ None
+  pub main : j.declaration.body None a ≡ true
 
 -- A call of the entry fails the condition there, since it breaks this.
 abbrev pub CallBreaksHere : {A C : Type 0} → (C → Certificate) → Point A C 132 68 → Condition → ℕ → CallBreach → Type 0

@@ -85,7 +85,7 @@ pub record IsAskedExit (j : Case) (e o i : ℕ) (x : Fact) : Type 0 where
 
 -- By an exit of the routine of the entry what is to hold when it returns need not hold.
 abbrev pub IsWrongExit : Case → ℕ → Reason → Type 0
-IsWrongExit j e (why.ExitMayDiffer o i s w) =
+IsWrongExit j e (why.ExitDeniesAssertion o i s w) =
     (x : Fact) × IsAskedExit j e o i x × SomeReturnDenied (place_in j (Some e)) x e o s w j.declaration.returns
 IsWrongExit j e _ = ⊥
 

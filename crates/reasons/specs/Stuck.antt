@@ -45,11 +45,12 @@ is_word_of_lines (breach.Returns e b) = is_return_of_lines b
 is_word_of_lines (breach.GoesOn a l) = is_landing_of_lines l
 is_word_of_lines _ = false
 
--- What is told is of lines: that one is missing, misplaced or too narrow, lets too much be written, or says too little of a return,
--- so that a certificate with other lines need not have it.
+-- What is told is of lines: that one is missing, misplaced or too narrow, or lets too much be written, so that the draft with more
+-- lines, or with wider ones, need not have it.
 abbrev pub is_of_lines : Reason → Bool
 is_of_lines (why.TooManyWords i n) = false
 is_of_lines (why.ByWord i w b) = is_word_of_lines b
+is_of_lines (why.ExitDeniesAssertion o i s w) = false
 is_of_lines _ = true
 
 -- It is told of the address at which the search is stuck, and is not of lines.

@@ -68,6 +68,13 @@ pub enum Breach {
     WritesUndeclared(Word),
     /// V14: it may write this entry.
     WritesEntry(Word),
+    /// V14: it is an ISZ of this entry, the running routine's own, whose word may not be counted up once more.
+    CountsTooFar(Word),
+    /// V14: it is a DCA into this entry, the running routine's own, in which the routine is not declared to store.
+    StoresInOwn(Word),
+    /// V14: it is a DCA into this entry, the running routine's own, in which the routine may store. It may store this word, the
+    /// second, which is not 0 to 77 behind the return address of the call from this address, the third.
+    MovesTooFar(Word, Word, Word),
     /// V6: it may write this cell, which is not in the written set of the running routine, nor its
     /// entry.
     WritesUnlisted(Word),
@@ -81,9 +88,11 @@ pub enum Breach {
     Returns(Word, ReturnBreach),
     /// V4: the run may go on at this address, and does not land there.
     GoesOn(Word, Landing),
+    /// V4: it is a JMP from a routine's body to this address of main's, for which no calls are abandoned.
+    JumpsToMain(Word),
     /// V15: it may read this cell, which is not on the list of reads, nor the entry of the running
     /// routine.
     ReadsUnlisted(Word),
     /// V16: this subject may have this word, which is not among those that it is declared to have here.
-    MayDiffer(Subject, Word),
+    DeniesAssertion(Subject, Word),
 }

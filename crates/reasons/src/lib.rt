@@ -5,6 +5,7 @@
 mod breach;
 mod calls;
 mod counterexample;
+mod entries;
 mod landing;
 pub mod laws;
 mod lines;

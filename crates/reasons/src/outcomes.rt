@@ -12,7 +12,7 @@ ghost use Rattle.judge.specs.Points.{IsPoint, case_of};
 ghost use Rattle.reasons.specs.Breaches.{MissesBeyond, OutcomeMisses, SomeOutcome};
 ghost use Rattle.reasons.specs.Keeping.{Arrives, ArrivesBeyond, KeepsHere, OutcomeArrives};
 ghost use Rattle.reasons.specs.Landing.{Misses};
-ghost use Rattle.reasons.specs.Points.{BreaksAs, IsSought, MissesAs, counts_lines, meaning_here};
+ghost use Rattle.reasons.specs.Points.{BreaksAs, IsSought, JumpsToMain, MissesAs, counts_lines, meaning_here};
 ghost use Rattle.reasons.specs.Stuck.{is_landing_of_lines};
 ghost use Rattle.reasons.specs.declared.breach.Landing.TheVariants.{OtherBody};
 
@@ -159,6 +159,7 @@ fn misses_at<A: Allocator, C: Claims>(
         MissesAs sought (case_of C.claims point.now) point.now.place.routine found.0 (fact_in_code known.old) found.1) }
     ensures none { IfNone result ((a : ℕ) → a < 4096 → words addresses.now a ≡ true →
         Arrives (counts_lines sought) (case_of C.claims point.now) point.now.place.routine a (fact_in_code known.old)) }
+    ensures kept { fact_in_code known.new ≡ fact_in_code known.old }
 {
     for at in addresses.iter() {
         if let Some(landing) = misses_here(point, sought, at, known, rooms) {
@@ -311,6 +312,43 @@ fn abandoned_by<A: Allocator, C: Claims>(point: &NarrowedPoint<'_, A, C>, word: 
     *point.place.declaration.abandons()
 }
 
+/// Whether it is told that an address is not in the body.
+fn is_other_body(landing: &Landing) -> bool
+    ensures { result ≡ true → landing.now ≡ OtherBody }
+{
+    match landing {
+        Landing::OtherBody => true,
+        Landing::NoFact => false,
+        Landing::Excluded(_) => false,
+        Landing::ExcludedUnder(_, _) => false,
+        Landing::NotTaken(_, _, _) => false,
+        Landing::NotEntailed => false,
+    }
+}
+
+/// Whether a word is a JMP, and no return, to an address of main's body that is told as outside the running routine's.
+fn jumps_to_main<A: Allocator, C: Claims>(
+    point: &NarrowedPoint<'_, A, C>,
+    word: Word,
+    at: Word,
+    landing: &Landing,
+) -> bool
+    requires { IsPoint C.claims point.now }
+    ensures { result ≡ true → JumpsToMain (case_of C.claims point.now)
+        (meaning_here C.claims point.now word) at landing.now }
+{
+    if !is_other_body(landing) {
+        return false;
+    }
+    if !point.place.is_jump(word) {
+        return false;
+    }
+    if point.place.returned_entry(point.at, word).is_some() {
+        return false;
+    }
+    point.is_inside(&None, at)
+}
+
 /// Where a word goes on and does not land.
 pub(crate) fn goes_on<A: Allocator, C: Claims, M: Allocator>(
     point: &NarrowedPoint<'_, A, C>,
@@ -328,6 +366,11 @@ pub(crate) fn goes_on<A: Allocator, C: Claims, M: Allocator>(
         .put_outcomes(point.fact, point.at, word, outcomes);
     match some_miss(point, sought, &abandoned_by(point, word), outcomes, left) {
         None => None,
-        Some(found) => Some(Breach::GoesOn(found.0, found.1)),
+        Some(found) => {
+            if jumps_to_main(point, word, found.0, &found.1) {
+                return Some(Breach::JumpsToMain(found.0));
+            }
+            Some(Breach::GoesOn(found.0, found.1))
+        }
     }
 }

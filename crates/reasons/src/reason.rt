@@ -1,6 +1,6 @@
 //! Why a condition fails.
 
-ghost use Rattle.std.specs.Prelude.{◌≡◌, ◌<◌, ◌∷◌, ◌⊎◌, [], true, false, is_some, length, IfNone, IfSome};
+ghost use Rattle.std.specs.Prelude.{◌≡◌, ◌<◌, ◌∷◌, ◌⊎◌, [], true, false, is_some, length, map, IfNone, IfSome};
 ghost use Rattle.wordset.specs.Lanes.{words};
 ghost use Rattle.declaration.specs.Declaration.{Routine};
 ghost use Rattle.facts.specs.Landing.{fact_at};
@@ -60,8 +60,8 @@ pub enum Reason {
     /// By this fact this word is possible, and breaks this.
     ByWord(usize, Word, Breach),
     /// V16: by the exit for this offset at this place among those for it the subject may have this word, which is not among
-    /// those that it is declared to have then.
-    ExitMayDiffer(usize, usize, Subject, Word),
+    /// those that it is declared to have when the routine returns so.
+    ExitDeniesAssertion(usize, usize, Subject, Word),
 }
 
 /// What is claimed of the routine of an entry, and nothing where it is not listed.
@@ -207,8 +207,9 @@ pub(crate) fn why_words<A: Allocator, C: Claims, M: Allocator>(
     why_facts(case, sought, &body, condition, at, rooms)
 }
 
-/// The subject of one assertion on returns and a word that it may have by an exit and is not declared to have.
-fn differs_at_return<A: Allocator>(
+/// The subject of one assertion and a word that it may have by an exit and that is not asserted, if the assertion is made of returns of
+/// the routine by this offset.
+fn denied_at_return<A: Allocator>(
     place: &Place<'_, A>,
     exit: &NarrowedFact,
     entry: Word,
@@ -232,20 +233,21 @@ fn differs_at_return<A: Allocator>(
     }
 }
 
-/// The same of the first line on returns of which it is so.
+/// The same of the first of some assertions of which it is so.
 fn first_return_denied<A: Allocator>(
     place: &Place<'_, A>,
     exit: &NarrowedFact,
     entry: Word,
     offset: Word,
+    returns: &[ReturnAssertion],
 ) -> Option<(Subject, Word)>
     ensures found { IfSome result (λ found. SomeReturnDenied (place_in_code place.now) (fact_in_code exit.now) entry offset
-        found.0 found.1 (place_in_code place.now).declaration.returns) }
+        found.0 found.1 (map return_assertion_of returns.now)) }
     ensures none { IfNone result (EachIsHeldBy (place_in_code place.now) (fact_in_code exit.now) entry offset
-        (place_in_code place.now).declaration.returns) }
+        (map return_assertion_of returns.now)) }
 {
-    for returning in place.declaration.returns() {
-        if let Some(found) = differs_at_return(place, exit, entry, offset, returning) {
+    for returning in returns {
+        if let Some(found) = denied_at_return(place, exit, entry, offset, returning) {
             return Some(found);
         }
     }
@@ -276,9 +278,10 @@ fn why_exit<A: Allocator, C: Claims, M: Allocator>(
         return None;
     }
     let place = place_of(case.image, case.declaration, &Some(entry), rules);
-    match first_return_denied(&place, fact, entry, Word::from_index(offset)) {
+    let returns = case.declaration.returns();
+    match first_return_denied(&place, fact, entry, Word::from_index(offset), returns) {
         None => None,
-        Some(found) => Some(Reason::ExitMayDiffer(offset, index, found.0, found.1)),
+        Some(found) => Some(Reason::ExitDeniesAssertion(offset, index, found.0, found.1)),
     }
 }
 
@@ -319,14 +322,16 @@ fn why_exits<A: Allocator, C: Claims, M: Allocator>(
     None
 }
 
-/// Why what is declared to hold at an address need not hold there, or when the routine of this entry returns.
-fn why_not_held<A: Allocator, C: Claims, M: Allocator>(
+/// Why what is declared to hold at an address need not hold there, or when the routine of this entry returns. No such reason is of
+/// lines.
+pub(crate) fn why_not_held<A: Allocator, C: Claims, M: Allocator>(
     case: &Case<'_, A, C>,
     at: Word,
     rooms: &mut WhyRooms<M>,
 ) -> Option<Reason>
     ensures found { IfSome result (λ reason. HasWrongWord (case_kept C.claims case.now) V16 at reason ⊎
         IsWrongExit (case_kept C.claims case.now) at reason) }
+    ensures not_of_lines { IfSome result (λ reason. is_of_lines reason ≡ false) }
     ensures none { IfNone result (KeptOrUnowned true (case_kept C.claims case.now) V16 at ×
         ExitsAreHeld (case_kept C.claims case.now) at) }
 {

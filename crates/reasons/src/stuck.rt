@@ -5,7 +5,7 @@ ghost use Rattle.judge.specs.Judged.{case_kept, judged};
 ghost use Rattle.reasons.specs.Reasons.{Explains};
 ghost use Rattle.reasons.specs.Stuck.{EachFailsByLinesAlone, FailsByLinesAlone, IsToldOf, NoneFailsBefore, is_of_lines};
 
-use crate::reason::{Reason, why_words};
+use crate::reason::{Reason, why_not_held, why_words};
 use crate::rooms::WhyRooms;
 use crate::sought::Sought;
 use bin_tape::Image;
@@ -44,7 +44,10 @@ fn why_by_words<A: Allocator, C: Claims, M: Allocator>(
     ensures none { IfNone result (FailsByLinesAlone (case_kept C.claims case.now) at condition) }
 {
     case.declaration.is_declared();
-    why_words(case, Sought::NotOfLines, condition, at, rooms)
+    match condition {
+        Condition::V16 => why_not_held(case, at, rooms),
+        _ => why_words(case, Sought::NotOfLines, condition, at, rooms),
+    }
 }
 
 /// Why a search is stuck at an address, by a draft of what it found until then: the first condition that fails there, and why. It

@@ -1,18 +1,19 @@
 //! What a possible word breaks by a fact.
 
-ghost use Rattle.std.specs.Prelude.{ℕ, ◌≡◌, ◌<◌, true, false, IfNone, IfSome};
+ghost use Rattle.std.specs.Prelude.{ℕ, ◌≡◌, ◌<◌, ◌∷◌, [], true, false, map, IfNone, IfSome};
 ghost use Rattle.wordset.specs.Lanes.{words};
-ghost use Rattle.facts.specs.declared.Condition.TheVariants.{V3, V5, V6, V13, V14, V15, V16};
+ghost use Rattle.facts.specs.declared.Condition.TheVariants.{V3, V5, V6, V13, V15, V16};
 ghost use Rattle.facts.specs.Conditions.{may_write};
 ghost use Rattle.judge.specs.Landing.{place_in};
 ghost use Rattle.judge.specs.Points.{HoldsHere, IsPoint, case_of, fact_asked, possible_at};
 ghost use Rattle.reasons.specs.Keeping.{EachKeepsHere, KeepsHere, WordsKeepHere};
 ghost use Rattle.declaration.specs.Kept.{place_assertion_of};
-ghost use Rattle.reasons.specs.Points.{BreaksAs, BreaksHere, DiffersHere, HoldsOneHere, IsWrongAs, counts_lines, meaning_here};
+ghost use Rattle.reasons.specs.Points.{AreHeldHere, BreaksAs, BreaksHere, DeniesHere, IsWrongAs, counts_lines, meaning_here};
 ghost use Rattle.reasons.specs.Stuck.{is_word_of_lines};
 
 use crate::breach::Breach;
 use crate::calls::{calls_wrongly, first_call};
+use crate::entries::writes_entry;
 use crate::outcomes::goes_on;
 use crate::reason::Reason;
 use crate::returns::returns_wrongly;
@@ -116,7 +117,7 @@ fn breach<A: Allocator, C: Claims, M: Allocator>(
         Condition::V13 => halts_undeclared(point, word),
         Condition::V14 => writes_entry(point, word),
         Condition::V15 => reads_unlisted(point, word),
-        Condition::V16 => may_differ(point, word),
+        Condition::V16 => denies_assertion(point, word),
     }
 }
 
@@ -153,7 +154,10 @@ fn halts_undeclared<A: Allocator, C: Claims>(
 }
 
 /// The cells that a word may write.
-fn written<A: Allocator, C: Claims>(point: &NarrowedPoint<'_, A, C>, word: Word) -> WordSet
+pub(crate) fn written<A: Allocator, C: Claims>(
+    point: &NarrowedPoint<'_, A, C>,
+    word: Word,
+) -> WordSet
     requires { IsPoint C.claims point.now }
     ensures { words result ≡ may_write (place_in (case_of C.claims point.now) point.now.place.routine)
         (fact_asked point.now) (meaning_here C.claims point.now word) }
@@ -197,43 +201,6 @@ fn writes_undeclared<A: Allocator, C: Claims>(
     match first_other(point, &rest) {
         None => None,
         Some(cell) => Some(Breach::WritesUndeclared(cell)),
-    }
-}
-
-/// The first entry of some cells.
-fn first_entry<A: Allocator, C: Claims>(
-    point: &NarrowedPoint<'_, A, C>,
-    cells: &WordSet,
-) -> Option<Word>
-    ensures found { IfSome result (λ cell. (cell < 4096) × (words cells.now cell ≡ true) ×
-        ((case_of C.claims point.now).declaration.entry cell ≡ true)) }
-    ensures none { IfNone result ((a : ℕ) → a < 4096 → words cells.now a ≡ true →
-        (case_of C.claims point.now).declaration.entry a ≡ false) }
-{
-    for cell in cells.iter() {
-        if point.place.declaration.is_entry(cell) {
-            return Some(cell);
-        }
-    }
-    None
-}
-
-/// An entry that a word may write, save where it counts the running routine's own.
-fn writes_entry<A: Allocator, C: Claims>(
-    point: &NarrowedPoint<'_, A, C>,
-    word: Word,
-) -> Option<Breach>
-    requires { IsPoint C.claims point.now }
-    ensures found { IfSome result (BreaksHere C.claims point.now V14 word) }
-    ensures by_word { IfSome result (λ b. is_word_of_lines b ≡ false) }
-    ensures none { IfNone result (HoldsHere C.claims point.now V14 word) }
-{
-    if point.place.entries_are_kept(point.fact, point.at, word) {
-        return None;
-    }
-    match first_entry(point, &written(point, word)) {
-        None => None,
-        Some(cell) => Some(Breach::WritesEntry(cell)),
     }
 }
 
@@ -282,9 +249,8 @@ fn reads_unlisted<A: Allocator, C: Claims>(
     }
 }
 
-/// A subject and a word that it may have where the word is not among those that it is declared to have, whatever word is
-/// executed.
-fn may_differ<A: Allocator, C: Claims>(
+/// A subject of which something is asserted here, and a word that it may have and that is not asserted, whatever word is executed.
+fn denies_assertion<A: Allocator, C: Claims>(
     point: &NarrowedPoint<'_, A, C>,
     word: Word,
 ) -> Option<Breach>
@@ -293,28 +259,41 @@ fn may_differ<A: Allocator, C: Claims>(
     ensures by_word { IfSome result (λ b. is_word_of_lines b ≡ false) }
     ensures none { IfNone result (HoldsHere C.claims point.now V16 word) }
 {
-    for holding in point.place.declaration.holds() {
-        if let Some(breach) = differs_from(point, holding) {
+    first_denied(point, point.place.declaration.holds())
+}
+
+/// The same of the first of some assertions of which it is so.
+fn first_denied<A: Allocator, C: Claims>(
+    point: &NarrowedPoint<'_, A, C>,
+    holds: &[PlaceAssertion],
+) -> Option<Breach>
+    requires { IsPoint C.claims point.now }
+    ensures found { IfSome result (DeniesHere C.claims point.now (map place_assertion_of holds.now)) }
+    ensures none { IfNone result (AreHeldHere C.claims point.now (map place_assertion_of holds.now)) }
+{
+    for holding in holds {
+        if let Some(breach) = denied_here(point, holding) {
             return Some(breach);
         }
     }
     None
 }
 
-/// The subject of one assertion and a word that it may have here and is not declared to have.
-fn differs_from<A: Allocator, C: Claims>(
+/// The subject of one assertion and a word that it may have and that is not asserted, if the assertion is made of this address.
+fn denied_here<A: Allocator, C: Claims>(
     point: &NarrowedPoint<'_, A, C>,
     holding: &PlaceAssertion,
 ) -> Option<Breach>
     requires { IsPoint C.claims point.now }
-    ensures found { IfSome result (DiffersHere C.claims point.now (place_assertion_of holding.now)) }
-    ensures none { IfNone result (HoldsOneHere C.claims point.now (place_assertion_of holding.now)) }
+    ensures found { IfSome result (DeniesHere C.claims point.now (place_assertion_of holding.now ∷ [])) }
+    ensures none { IfNone result (AreHeldHere C.claims point.now (place_assertion_of holding.now ∷ [])) }
 {
     if !holding.places().contains(point.at) {
         return None;
     }
-    match point.place.denied_word(point.fact, holding.assertion()) {
+    let assertion = holding.assertion();
+    match point.place.denied_word(point.fact, assertion) {
         None => None,
-        Some(denied) => Some(Breach::MayDiffer(*holding.assertion().subject(), denied)),
+        Some(denied) => Some(Breach::DeniesAssertion(*assertion.subject(), denied)),
     }
 }

@@ -7,6 +7,7 @@
 mod aiming;
 mod alphabet;
 mod asking;
+mod assertions;
 mod bits;
 mod hints;
 mod looks;

@@ -6,6 +6,7 @@ ghost use Rattle.peripherals.specs.World.{profile_of};
 
 use crate::aiming::Aims;
 use crate::alphabet::Alphabet;
+use crate::assertions::asserted_places;
 use crate::looks::{Look, looks};
 use crate::pace::Pace;
 use crate::plan::{Plan, Purpose};
@@ -22,6 +23,7 @@ use peripherals::NoMemory;
 use policy::Watcher;
 use std::alloc::Allocator;
 use turns::Turns;
+use wordset::WordSet;
 
 /// Steps before the first lesson from failed tests.
 const FIRST_LESSON: u32 = 200_000;
@@ -43,6 +45,8 @@ pub struct RunSearch<A: Allocator> {
     pub(crate) alphabet: Alphabet<A>,
     /// What is worth a look at each of the 4096 words.
     pub(crate) looks: [Look; 4096],
+    /// The places at which something is declared to hold.
+    pub(crate) asserted: WordSet,
     pub(crate) seen: Seen<A>,
     pub(crate) tree: Tree<A>,
     pub(crate) aims: Aims<A>,
@@ -116,6 +120,7 @@ impl<A: Allocator + Copy> RunSearch<A> {
             random: Random::new(seed),
             alphabet: Alphabet::of(alloc, program.image)?,
             looks: looks(program.declaration.profile()),
+            asserted: asserted_places(program.declaration),
             seen: Seen::nothing(alloc)?,
             tree: Tree::new(alloc, program)?,
             aims: Aims::none(alloc)?,

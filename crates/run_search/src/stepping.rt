@@ -6,16 +6,18 @@ ghost use Rattle.peripherals.specs.World.{profile_of};
 
 use crate::aiming::Miss;
 use crate::asking::Ask;
+use crate::assertions::{asserted_word, beyond_assertion};
 use crate::looks::Look;
 use crate::plan::{Plan, Purpose};
 use crate::record::Sight;
 use crate::running::{Input, Progress, Run};
 use crate::search::{DeclaredProgram, RunSearch, Trial};
 use crate::tree::Tail;
+use declaration::{Assertion, Declaration};
 use instruct::target;
 use peripherals::NoMemory;
 use policy::Watcher;
-use processor::effective_address;
+use processor::{Cpu, effective_address};
 use std::alloc::Allocator;
 use turns::Turns;
 use word12::Word;
@@ -211,6 +213,15 @@ impl<A: Allocator + Copy> RunSearch<A> {
         }
         if trial.plan.purpose != Purpose::Repeat {
             self.note(&trial.watcher, &mut trial.run, &trial.plan, glance)?;
+            if self.asserted.contains(trial.watcher.world().cpu().pc) {
+                let Trial {
+                    watcher,
+                    run,
+                    plan,
+                    ..
+                } = trial;
+                self.note_assertions(program.declaration, watcher, run, plan)?;
+            }
         }
         Ok(progress)
     }
@@ -275,6 +286,48 @@ impl<A: Allocator + Copy> RunSearch<A> {
             }
         }
         Ok(())
+    }
+
+    /// Notes the words of which something is declared to hold before the next step, and how far they are from words that are not
+    /// declared.
+    #[inline(never)]
+    fn note_assertions<D: Allocator>(
+        &mut self,
+        declaration: &Declaration<D>,
+        watcher: &Watcher<A>,
+        run: &mut Run<A>,
+        plan: &Plan<A>,
+    ) -> Result<(), NoMemory> {
+        let cpu = watcher.world().cpu();
+        for holding in declaration.holds() {
+            if holding.places().contains(cpu.pc) {
+                self.note_assertion(holding.assertion(), cpu, run, plan)?;
+            }
+        }
+        Ok(())
+    }
+
+    /// Notes the word of which an assertion speaks, and how far it is from one that is not asserted.
+    fn note_assertion(
+        &mut self,
+        assertion: &Assertion,
+        cpu: &Cpu,
+        run: &mut Run<A>,
+        plan: &Plan<A>,
+    ) -> Result<(), NoMemory> {
+        let Some(word) = asserted_word(assertion, cpu) else {
+            return Ok(());
+        };
+        self.note_value(run, cpu.pc, word);
+        let Some(beyond) = beyond_assertion(assertion, word) else {
+            return Ok(());
+        };
+        let miss = Miss {
+            at: cpu.pc,
+            ac: beyond,
+            is_for_zero: true,
+        };
+        self.note_miss(run, plan, miss)
     }
 
     /// Notes an address that was used or a word that was stored.

@@ -25,6 +25,8 @@ enum Omission {
     Stores(Word),
     /// It stores into this entry, and is no ISZ of the routine itself.
     StoresInEntry(Word),
+    /// It is a DCA into this entry, its routine's own, in which the routine is not declared to store.
+    StoresInOwn(Word),
     /// It increments this pointer, which is not a variable.
     Steps(Word),
     /// It calls this address, which is not an entry, in no body and no variable.
@@ -37,6 +39,8 @@ enum Omission {
     Jumps(Word),
     /// It jumps to this address, which is in another body, or an entry.
     JumpsAcross(Word),
+    /// It jumps from a routine's body to this address of main's, for which no calls are abandoned.
+    JumpsToMain(Word),
     /// It halts, and no halt is declared there.
     Halts,
     /// It halts at a pause, and this address, at which the operator goes on, is in no body, and no entry.
@@ -75,10 +79,11 @@ fn is_elsewhere<D: Allocator>(declaration: &Declaration<D>, place: Word) -> bool
 
 /// What a jump to an address that is not in the same body would violate.
 fn omitted_by_jump<D: Allocator>(declaration: &Declaration<D>, place: Word) -> Omission {
-    if is_elsewhere(declaration, place) {
-        Omission::JumpsAcross(place)
-    } else {
-        Omission::Jumps(place)
+    match declaration.owner_of(place) {
+        Some(Owner::Main) => Omission::JumpsToMain(place),
+        Some(Owner::Routine(_)) => Omission::JumpsAcross(place),
+        None if declaration.is_entry(place) => Omission::JumpsAcross(place),
+        None => Omission::Jumps(place),
     }
 }
 
@@ -97,6 +102,7 @@ fn omitted_by_reference<D: Allocator>(
     let is_own = owner == Owner::Routine(named);
     let is_moved = is_own && declaration.may_move(named);
     match Operation::of(word) {
+        Operation::Dca if is_own && !is_moved => Some(Omission::StoresInOwn(named)),
         Operation::Dca if !declaration.is_variable(named) && !is_moved => {
             Some(omitted_by_store(declaration, named))
         }
@@ -198,6 +204,10 @@ fn breach_words(omission: &Omission) -> Words {
         Omission::OfThe8e => around_place(b"only the PDP-8/E implements this word", b""),
         Omission::Stores(_) => around_place(b"it stores into ", b", which is not a variable"),
         Omission::StoresInEntry(_) => around_place(b"it stores into ", b", which is an entry"),
+        Omission::StoresInOwn(_) => around_place(
+            b"it stores into ",
+            b", which is the routine's own entry",
+        ),
         Omission::Steps(_) => around_place(
             b"it increments the pointer ",
             b", which is not a variable",
@@ -205,7 +215,7 @@ fn breach_words(omission: &Omission) -> Words {
         Omission::Calls(_) | Omission::CallsIntoBody(_) | Omission::CallsAutoIndex(_) => {
             around_place(b"it calls ", b", which is not an entry")
         }
-        Omission::Jumps(_) | Omission::JumpsAcross(_) => {
+        Omission::Jumps(_) | Omission::JumpsAcross(_) | Omission::JumpsToMain(_) => {
             around_place(b"it jumps to ", b", which is not in the same body")
         }
         Omission::Halts => around_place(b"it halts, and no halt is declared there", b""),
@@ -223,12 +233,14 @@ fn breach_place(at: Word, omission: &Omission) -> Option<Word> {
         Omission::Unsupported | Omission::OfThe8e | Omission::Halts => None,
         Omission::Stores(place)
         | Omission::StoresInEntry(place)
+        | Omission::StoresInOwn(place)
         | Omission::Steps(place)
         | Omission::Calls(place)
         | Omission::CallsIntoBody(place)
         | Omission::CallsAutoIndex(place)
         | Omission::Jumps(place)
         | Omission::JumpsAcross(place)
+        | Omission::JumpsToMain(place)
         | Omission::GoesOn(place)
         | Omission::GoesAcross(place) => Some(*place),
     }
@@ -266,6 +278,13 @@ fn push_remedy<L: Lines>(text: &mut L, at: Word, omission: &Omission) -> Result<
         Omission::Stores(cell) | Omission::Steps(cell) => {
             push_advice(text, b"add `var ", *cell, b"`")
         }
+        Omission::StoresInOwn(entry) => push_advice(text, b"add `moves ", *entry, b"`"),
+        Omission::JumpsToMain(place) => push_advice(
+            text,
+            b"leave the routine with a return, or add `abandon ",
+            *place,
+            b"`",
+        ),
         Omission::Calls(entry) => push_advice(text, b"add `sub ", *entry, b" body .. returns ..`"),
         Omission::CallsIntoBody(entry) => push_advice(
             text,
@@ -303,7 +322,8 @@ fn push_omission<L: Lines>(text: &mut L, at: Word, omission: &Omission) -> Resul
 }
 
 /// Adds the line of what to do about the instruction at which a search is stuck, after those on what a condition asks
-/// of it, if the tape and the declaration show by themselves what it violates.
+/// of it, if the tape and the declaration show by themselves what it violates. Where the reason already names a line that would
+/// allow the instruction, nothing is added.
 ///
 /// # Errors
 ///
@@ -321,6 +341,7 @@ pub fn push_stuck_remedy<L: Lines, D: Allocator>(
         Omission::NoWord | Omission::Unsupported | Omission::OfThe8e => {
             return push_omission(text, at, &omission);
         }
+        Omission::StoresInOwn(_) | Omission::JumpsToMain(_) => return Ok(()),
         Omission::StoresInEntry(_)
         | Omission::CallsAutoIndex(_)
         | Omission::JumpsAcross(_)

@@ -12,7 +12,7 @@ mod pieces;
 mod sums;
 
 use crate::verdicts::reason_text::asked::asked_of;
-use crate::verdicts::reason_text::breach::{push_breach, push_differing, push_exit_named};
+use crate::verdicts::reason_text::breach::{push_breach, push_denied, push_exit_named};
 use crate::verdicts::reason_text::landing::push_start;
 use crate::verdicts::reason_text::marks::push_which;
 use crate::verdicts::reason_text::pieces::{push_around, push_around_number, push_around_offset};
@@ -68,9 +68,9 @@ fn push_reason<L: Lines>(text: &mut L, rules: &Rules, reason: &Reason) -> Result
             push_around_number(text, b"", *count, b" words are possible")
         }
         Reason::ByWord(_, _, breach) => push_breach(text, rules, breach),
-        Reason::ExitMayDiffer(offset, index, subject, word) => {
+        Reason::ExitDeniesAssertion(offset, index, subject, word) => {
             push_exit_named(text, rules, *offset, *index)?;
-            push_differing(text, subject, *word, b"returns")
+            push_denied(text, subject, *word, b"returns")
         }
     }
 }

@@ -65,7 +65,7 @@ fn place_in(reason: &Reason) -> Option<usize>
         Reason::RoutineNotListed(_) => None,
         Reason::TooManyWords(index, _) => Some(*index),
         Reason::ByWord(index, _, _) => Some(*index),
-        Reason::ExitMayDiffer(..) => None,
+        Reason::ExitDeniesAssertion(..) => None,
     }
 }
 

@@ -1,11 +1,13 @@
 //! What a word violates: a write, a call, a return, or where it goes on.
 
-ghost use Rattle.std.specs.Prelude.{◌≡◌, ◌++◌, codes, decimal, OnOk};
-ghost use Rattle.diagnostics.specs.WhyText.{around, around_number, breach_text, call_text, differing_text, exit_named, from_one, return_text, returned_text, subject_text, too_high_text};
+ghost use Rattle.std.specs.Prelude.{◌≡◌, ◌==◌, ◌++◌, codes, decimal, if◌then◌else◌, OnOk};
+ghost use Rattle.diagnostics.specs.WhyText.{advised_text, around, around_number, breach_text, call_text, counting_text, denied_text, exit_named, from_one, moving_text, return_text, returned_text, subject_text, subject_word, too_high_text, undeclared_text};
 
 use crate::verdicts::reason_text::landing::{push_before_landing, push_exit, push_landing};
 use crate::verdicts::reason_text::pieces::{push_around, push_around_number, push_around_offset};
-use command_parts::message::{Lines, push_text_and_address, push_text_and_word};
+use command_parts::message::{
+    Lines, push_text_and_address, push_text_and_advised, push_text_and_word,
+};
 use declaration::Subject;
 use domain::Rules;
 use itoa::Buffer;
@@ -102,14 +104,28 @@ fn push_call<L: Lines>(text: &mut L, rules: &Rules, breach: &CallBreach) -> Resu
     }
 }
 
-/// Adds what a return violates.
-fn push_return<L: Lines>(text: &mut L, breach: &ReturnBreach) -> Result<(), AllocError>
-    ensures { OnOk result (L.text text.new ≡ L.text text.old ++ return_text breach.now) }
+/// Adds that an offset of the routine of an entry is not declared; of one above 7, which a `skips` line alone declares, with that line.
+fn push_undeclared<L: Lines>(text: &mut L, entry: Word, offset: usize) -> Result<(), AllocError>
+    ensures { OnOk result (L.text text.new ≡ L.text text.old ++ undeclared_text entry offset) }
+{
+    if offset < 8 {
+        return text.push_text(b", which is not declared");
+    }
+    push_text_and_advised(text, b", which is not declared: add `skips ", entry)?;
+    push_around_offset(text, b" ", offset, b"`")?;
+    Ok(())
+}
+
+/// Adds what a return through an entry violates.
+fn push_return<L: Lines>(text: &mut L, entry: Word, breach: &ReturnBreach) -> Result<(), AllocError>
+    ensures { OnOk result (L.text text.new ≡ L.text text.old ++ return_text entry breach.now) }
 {
     match breach {
         ReturnBreach::OtherRoutine => text.push_text(b", which is not its own entry"),
         ReturnBreach::NotDeclared(offset) => {
-            push_around_offset(text, b" with offset ", *offset, b", which is not declared")
+            push_around_offset(text, b" with offset ", *offset, b"")?;
+            push_undeclared(text, entry, *offset)?;
+            Ok(())
         }
         ReturnBreach::NotAllowed(offset, landing) => {
             push_around_offset(text, b" with offset ", *offset, b"")?;
@@ -139,21 +155,99 @@ fn push_subject<L: Lines>(text: &mut L, subject: &Subject) -> Result<(), AllocEr
     }
 }
 
+/// The digit of a link that is given as a word.
+fn link_digit(word: Word) -> &'static [u8]
+    ensures { result.now ≡ (if word == 0 then codes "0" else codes "1") }
+{
+    if word == Word::ZERO { b"0" } else { b"1" }
+}
+
+/// Adds a word of what an assertion speaks of.
+fn push_subject_word<L: Lines>(
+    text: &mut L,
+    subject: &Subject,
+    word: Word,
+) -> Result<(), AllocError>
+    ensures { OnOk result (L.text text.new ≡ L.text text.old ++ subject_word subject.now word) }
+{
+    match subject {
+        Subject::Link => text.push_text(link_digit(word)),
+        _ => text.push_text(&word.to_octal()),
+    }
+}
+
+/// Adds that a line of this name excludes what was told.
+fn push_line_excludes<L: Lines>(text: &mut L, line: &[u8]) -> Result<(), AllocError>
+    ensures { OnOk result (L.text text.new ≡
+        L.text text.old ++ (codes ", which a `" ++ (line.now ++ codes "` line excludes"))) }
+{
+    text.push_text(b", which a `")?;
+    text.push_text(line)?;
+    text.push_text(b"` line excludes")
+}
+
 /// Adds that the subject of an assertion may have a word that a line of this name excludes.
-pub fn push_differing<L: Lines>(
+pub fn push_denied<L: Lines>(
     text: &mut L,
     subject: &Subject,
     word: Word,
     line: &[u8],
 ) -> Result<(), AllocError>
     ensures { OnOk result (L.text text.new ≡
-        L.text text.old ++ differing_text subject.now word line.now) }
+        L.text text.old ++ denied_text subject.now word line.now) }
 {
     push_subject(text, subject)?;
-    push_text_and_word(text, b" may be ", word)?;
-    text.push_text(b", which a `")?;
-    text.push_text(line)?;
-    text.push_text(b"` line excludes")
+    text.push_text(b" may be ")?;
+    push_subject_word(text, subject, word)?;
+    push_line_excludes(text, line)?;
+    Ok(())
+}
+
+/// How far an ISZ may count up the return word in its routine's own entry, by the rules.
+fn counting(rules: &Rules) -> &'static [u8]
+    ensures { result.now ≡ counting_text rules.now }
+{
+    match rules {
+        Rules::OfEquations =>
+            b", the routine's own entry, past offset 7, the most in certificates of versions 1 and 2",
+        Rules::OfSums => b", the routine's own entry, past offset 77 or past 7777",
+    }
+}
+
+/// Adds that a DCA may store a word in its routine's own entry that is out of reach of the return address of a call.
+fn push_moving<L: Lines>(
+    text: &mut L,
+    entry: Word,
+    word: Word,
+    site: Word,
+) -> Result<(), AllocError>
+    ensures { OnOk result (L.text text.new ≡ L.text text.old ++ moving_text entry word site) }
+{
+    push_text_and_word(text, b"it may store ", word)?;
+    push_around(text, b" in ", entry, b"")?;
+    push_around(
+        text,
+        b", which is not 0 to 77 behind the return address of the call at ",
+        site,
+        b"",
+    )?;
+    Ok(())
+}
+
+/// Adds an address, and behind it that a line with it is to be added.
+fn push_address_and_advice<L: Lines>(
+    text: &mut L,
+    before: &[u8],
+    at: Word,
+    line: &[u8],
+) -> Result<(), AllocError>
+    ensures { OnOk result (L.text text.new ≡
+        L.text text.old ++ advised_text before.now at line.now) }
+{
+    push_text_and_address(text, before, at)?;
+    push_text_and_advised(text, line, at)?;
+    text.push_text(b"`")?;
+    Ok(())
 }
 
 /// Adds by which offset a routine returns, and by the rules of sums by which of its exit lines.
@@ -186,6 +280,16 @@ pub fn push_breach<L: Lines>(text: &mut L, rules: &Rules, breach: &Breach) -> Re
             push_write(text, *cell, b", which is neither a variable nor an entry")
         }
         Breach::WritesEntry(cell) => push_write(text, *cell, b", which is an entry"),
+        Breach::CountsTooFar(entry) => {
+            push_around(text, b"it may increment ", *entry, counting(rules))
+        }
+        Breach::StoresInOwn(entry) => push_address_and_advice(
+            text,
+            b"it may write ",
+            *entry,
+            b", the routine's own entry: add `moves ",
+        ),
+        Breach::MovesTooFar(entry, word, site) => push_moving(text, *entry, *word, *site),
         Breach::WritesUnlisted(cell) => {
             push_write(text, *cell, b", which is not in the routine's written set")
         }
@@ -197,18 +301,24 @@ pub fn push_breach<L: Lines>(text: &mut L, rules: &Rules, breach: &Breach) -> Re
         }
         Breach::Returns(entry, back) => {
             push_text_and_address(text, b"it returns through ", *entry)?;
-            push_return(text, back)
+            push_return(text, *entry, back)
         }
         Breach::GoesOn(at, landing) => {
             push_around(text, b"it may continue at ", *at, b": ")?;
             push_landing(text, landing)
         }
+        Breach::JumpsToMain(at) => push_address_and_advice(
+            text,
+            b"it may continue at ",
+            *at,
+            b", which is in main's body: add `abandon ",
+        ),
         Breach::ReadsUnlisted(cell) => push_around(
             text,
             b"it may read ",
             *cell,
             b", which is not on the list of reads",
         ),
-        Breach::MayDiffer(subject, word) => push_differing(text, subject, *word, b"holds"),
+        Breach::DeniesAssertion(subject, word) => push_denied(text, subject, *word, b"holds"),
     }
 }

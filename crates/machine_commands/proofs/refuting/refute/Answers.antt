@@ -4,6 +4,7 @@ use Rattle.std.specs.Io.KnownBytes.{Appends}
 use Rattle.streams.specs.Bytes.{AppendsFront}
 use Rattle.declaration.specs.Kept.{meaning}
 use Rattle.command_parts.specs.Messages.{plain}
+use Rattle.machine_commands.specs.RefuteText.{unbroken_text}
 use Rattle.machine_commands.proofs.refuting.refute.Goals as goal
 
 pub returns-in_err-put-3-clause-front_of_report : goal.returns-in_err-put-3-clause-front_of_report
@@ -41,6 +42,16 @@ returns-in_err-put-3-clause-written_first g c = λ marked.
       );
       written = written;
     })
+
+pub returns-in_default-clause-unbroken : goal.returns-in_default-clause-unbroken
+returns-in_default-clause-unbroken g c = λ done.
+    let steps : c.told_witness.new.turns.limit ≡ c.args.options.steps = search rules in
+    let written : Appends (g.P.ByteSink.taken c.args.report.now) (g.P.ByteSink.taken c.put.new.sink) c.in_ok-line.line.items = search rules in
+    record {
+      text = c.in_ok-line.line.items;
+      is = rw steps at c.in_ok-line.ensures;
+      written = written;
+    }
 
 pub returns-in_err-program-clause-reads : goal.returns-in_err-program-clause-reads
 returns-in_err-program-clause-reads g c =

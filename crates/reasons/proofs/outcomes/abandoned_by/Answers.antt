@@ -9,10 +9,10 @@ pub returns-then-is_none : goal.returns-then-is_none
 returns-then-is_none g c = c.empty.ensures ∙ fun_ext (λ a. sym (main_abandons_none (case_of g.C.Claims.claims c.args.point.now).declaration c.args.point.now.place.routine _ (c.is_none.ensures ∙ ap not c.if-is_none.true) a))
 
 pub returns-then-not-is_jump : goal.returns-then-not-is_jump
-returns-then-not-is_jump g c = c.empty.ensures ∙ fun_ext (λ a. sym (only_jumps_abandon (case_of g.C.Claims.claims c.args.point.now).declaration c.args.point.now.place.routine _ (sym (c.is_jump.ensures c.args.point.now.at) ∙ c.if-not-is_jump.true) a))
+returns-then-not-is_jump g c = c.empty-then-not-is_jump.ensures ∙ fun_ext (λ a. sym (only_jumps_abandon (case_of g.C.Claims.claims c.args.point.now).declaration c.args.point.now.place.routine _ (sym (c.is_jump.ensures c.args.point.now.at) ∙ c.if-not-is_jump.true) a))
 
 pub returns-then-is_some : goal.returns-then-is_some
-returns-then-is_some g c = c.empty.ensures ∙ fun_ext (λ a. sym (returns_abandon_none (case_of g.C.Claims.claims c.args.point.now).declaration c.args.point.now.place.routine _ (ap is_some (sym c.returned_entry.ensures) ∙ (sym c.is_some.ensures ∙ c.if-is_some.true)) a))
+returns-then-is_some g c = c.empty-then-is_some.ensures ∙ fun_ext (λ a. sym (returns_abandon_none (case_of g.C.Claims.claims c.args.point.now).declaration c.args.point.now.place.routine _ (ap is_some (sym c.returned_entry.ensures) ∙ (sym c.is_some.ensures ∙ c.if-is_some.true)) a))
 
 pub returns : goal.returns
 returns g c =

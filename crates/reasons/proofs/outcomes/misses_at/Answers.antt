@@ -25,3 +25,9 @@ returns-in-Some-misses_here-clause-found g c = (
 
 pub returns-clause-none : goal.returns-clause-none
 returns-clause-none g c = all_pass c.loop-at.invariant.0 c.in-None.ensures.steps
+
+pub returns-in-Some-misses_here-clause-kept : goal.returns-in-Some-misses_here-clause-kept
+returns-in-Some-misses_here-clause-kept g c = c.misses_here.ensures.kept ∙ c.loop-at.invariant.1
+
+pub returns-clause-kept : goal.returns-clause-kept
+returns-clause-kept g c = c.loop-at.invariant.1

@@ -19,7 +19,7 @@ returns-in-Goes-clause-found g c =
     let o = c.args.outcome.now in
     subst (λ k. IfSome c.misses_beyond.result (λ found. IsSought c.args.sought (is_landing_of_lines found.1) ×
     SomeOutcome (OutcomeMisses (case_of g.C.Claims.claims c.args.point.now) c.args.point.now.place.routine (words c.args.beyond.now) found.0 found.1) (outcome_of k (brief_words o.targets) (fact_in_code o.fact)))) (sym c.in-Goes.is)
-    (some_weaker c.misses_beyond.result _ _ (λ found h. (h.2.0, inl (h.0, h.1, h.2.1))) c.misses_beyond.ensures.found)
+    (some_weaker c.misses_beyond.result _ _ (λ found h. (h.2, inl (h.0, h.1, h.3))) c.misses_beyond.ensures.found)
 
 pub returns-in-Goes-clause-none : goal.returns-in-Goes-clause-none
 returns-in-Goes-clause-none g c =

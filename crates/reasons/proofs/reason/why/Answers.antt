@@ -2,7 +2,7 @@ use Rattle.std.proofs.Common.{inl, inr, subst}
 use Rattle.judge.specs.Conditions.{IsFirst}
 use Rattle.judge.specs.Judged.{judged}
 use Rattle.reasons.proofs.FoundLemmas.{found_of_held, found_of_lines, found_of_start, found_of_words, past_lines}
-use Rattle.reasons.proofs.ReasonLemmas.{some_weaker}
+use Rattle.reasons.proofs.ReasonLemmas.{not_held_explains, some_weaker}
 use Rattle.reasons.proofs.reason.why.Goals as goal
 
 pub returns-in-V1-clause-explained : goal.returns-in-V1-clause-explained
@@ -15,10 +15,8 @@ pub returns-in_default-clause-explained : goal.returns-in_default-clause-explain
 returns-in_default-clause-explained g c = some_weaker _ _ _ (λ x h. inr (inr (inl h))) c.why_words.ensures.found
 
 pub returns-in-V16-clause-explained : goal.returns-in-V16-clause-explained
-returns-in-V16-clause-explained g c = some_weaker _ _ _ (λ x h. elim h [
-  | inl word ↦ inr (inr (inl (rw c.in-V16.is word)))
-  | inr exit ↦ inr (inr (inr (c.in-V16.is, exit)))
-]) c.why_not_held.ensures.found
+returns-in-V16-clause-explained g c = some_weaker c.why_not_held.result _ _
+    (λ x h. not_held_explains (judged c.args.image.now c.args.declaration.now (g.C.Claims.claims c.args.claims.now)) c.args.refusal.now.condition c.args.refusal.now.address x c.in-V16.is h) c.why_not_held.ensures.found
 
 pub returns-in-V16-clause-found : goal.returns-in-V16-clause-found
 returns-in-V16-clause-found g c = λ first.

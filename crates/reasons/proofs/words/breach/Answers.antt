@@ -32,5 +32,5 @@ returns-in-V15-clause-found g c =
 
 pub returns-in-V16-clause-found : goal.returns-in-V16-clause-found
 returns-in-V16-clause-found g c =
-    subst (λ (u : Condition). IfSome c.may_differ.result (BreaksAs c.args.sought g.C.Claims.claims c.args.point.now u c.args.word)) (sym c.in-V16.is)
-    (by_word_alone c.args.sought c.may_differ.result _ c.may_differ.ensures.found c.may_differ.ensures.by_word)
+    subst (λ (u : Condition). IfSome c.denies_assertion.result (BreaksAs c.args.sought g.C.Claims.claims c.args.point.now u c.args.word)) (sym c.in-V16.is)
+    (by_word_alone c.args.sought c.denies_assertion.result _ c.denies_assertion.ensures.found c.denies_assertion.ensures.by_word)

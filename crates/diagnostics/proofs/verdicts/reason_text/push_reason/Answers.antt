@@ -1,7 +1,7 @@
 use Rattle.diagnostics.proofs.verdicts.reason_text.push_reason.Goals as goal
 
 pub returns-in-OffsetInMain : goal.returns-in-OffsetInMain
-returns-in-OffsetInMain g c = rw c.in-OffsetInMain.is c.push_around_number.ensures
+returns-in-OffsetInMain g c = rw c.in-OffsetInMain.is c.push_around_offset.ensures
 
 pub returns-in-SitesInMain : goal.returns-in-SitesInMain
 returns-in-SitesInMain g c = rw c.in-SitesInMain.is c.push_text-in-SitesInMain.ensures

@@ -1,6 +1,6 @@
 use Rattle.std.proofs.Common.{sym, ◌∙◌}
 use Rattle.wordset.proofs.IterLemmas.{none_yet, given_word, one_more, all_pass}
-use Rattle.reasons.proofs.words.first_entry.Goals as goal
+use Rattle.reasons.proofs.entries.first_entry.Goals as goal
 
 pub loop-cell-init : goal.loop-cell-init
 loop-cell-init g c = none_yet c.iter-cell-items.ensures c.into_iter-cell-iterator.ensures.into_iter_gives

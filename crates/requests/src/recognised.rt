@@ -116,6 +116,13 @@ fn takes_source(command: &str) -> bool {
     .any(|name| *name == command)
 }
 
+/// Whether a command writes its result to a file, which is named behind its inputs.
+fn writes_result(command: &str) -> bool {
+    ["declare", "guess", "refute", "report"]
+        .iter()
+        .any(|name| *name == command)
+}
+
 /// Whether a command takes a declaration behind a tape or a source.
 fn takes_declaration(command: &str) -> bool {
     ["verify", "check", "report", "guess", "refute", "watch"]
@@ -141,6 +148,17 @@ impl Asked<'_> {
             if let Some(name) = name {
                 let _ = write!(text, " {name}");
             }
+        }
+        self.push_output(text);
+    }
+
+    /// Adds where the result goes, if there is one.
+    fn push_output(&self, text: &mut String) {
+        if !writes_result(self.command) {
+            return;
+        }
+        if let Some(name) = self.names.output {
+            let _ = write!(text, " -o {name}");
         }
     }
 
@@ -169,6 +187,7 @@ impl Asked<'_> {
         if let Some(other) = self.names.declaration {
             let command = self.command;
             let _ = write!(text, ", as in pdp8 {command} {other} {name}");
+            self.push_output(text);
         }
     }
 
@@ -198,18 +217,21 @@ impl Asked<'_> {
 
     /// Adds what to do with a source that was given as a declaration.
     fn push_source_as_declaration(&self, text: &mut String, name: &str) {
-        let command = self.command;
-        let _ = if self.is_sourced {
-            write!(
-                text,
-                "{name} is a source, not a declaration: each part of the source has a --source of its own"
-            )
+        let _ = write!(text, "{name} is a source, not a declaration: ");
+        if self.is_sourced && self.takes_source {
+            let _ = text.push_str("each part of the source has a --source of its own");
+        } else if self.is_sourced {
+            let _ = text.push_str("the parts of the source stand without an option");
+        } else if self.takes_source {
+            self.push_with_source(text, name);
+            self.push_output(text);
+            let _ = text.push_str(" takes its /: lines for the declaration");
         } else {
-            write!(
+            let _ = write!(
                 text,
-                "{name} is a source, not a declaration: pdp8 {command} --source {name} takes its /: lines for the declaration"
-            )
-        };
+                "pdp8 place -o new.declaration {name} makes one of its /: lines"
+            );
+        }
     }
 
     /// Adds what to do with a file that was given as a declaration, if it is none.
@@ -255,6 +277,7 @@ impl Asked<'_> {
                 text,
                 ": it comes after the source, as in pdp8 {command} --source {source} {name}"
             );
+            self.push_output(text);
         }
     }
 
@@ -328,7 +351,7 @@ pub(crate) fn declaration_hint(
 ) -> String {
     let asked = Asked {
         command,
-        takes_source: true,
+        takes_source: takes_source(command),
         is_sourced: true,
         has_several_parts: false,
         names: FileNames::NONE,

@@ -183,7 +183,8 @@ fn push_line_excludes<L: Lines>(text: &mut L, line: &[u8]) -> Result<(), AllocEr
 {
     text.push_text(b", which a `")?;
     text.push_text(line)?;
-    text.push_text(b"` line excludes")
+    text.push_text(b"` line excludes")?;
+    Ok(())
 }
 
 /// Adds that the subject of an assertion may have a word that a line of this name excludes.

@@ -15,6 +15,8 @@ import sys
 import tempfile
 from pathlib import Path
 
+# The day of the last change of the files in the cases.
+DAY = "1971-06-30"
 ROOT = Path(__file__).parent.parent
 sys.path[:0] = [str(ROOT / "reference"), str(ROOT / "tests")]
 import check  # noqa: E402
@@ -184,7 +186,7 @@ class Report:
             return ["any word"]
         words, places = self.known[cell]
         unknown = sets.of(set(self.certificate.facts) - places)
-        return ["holds " + ("any word" if words == sets.ALL else shown(words))] + (["any word at " + shown(unknown, ADDRESS)] if unknown else [])
+        return ["holds " + ("any word" if words == sets.ALL else shown(words)) + (" where it is known" if unknown else "")]
 
     def heading(self, at, last):
         kind, owner = self.kind(at)
@@ -259,7 +261,7 @@ def wanted(pdp8, tape, declaration, certificate, kind=None):
     profile = declared.profile or "8i"
     names = {int(line[:4], 8): line[10:] for line in ran(pdp8, "dump", tape, "--profile", profile).splitlines()}
     report = (kind or Report)(image, declared, claims, names, refused)
-    return report.page(front) if kind else front + report.listing()
+    return report.page(front, (tape, declaration, certificate)) if kind else front + report.listing()
 
 
 def differs(name, want, found):
@@ -304,8 +306,12 @@ def cases_of(pdp8, loads):
     from report_pages import Page
     for name, tape, declaration, certificate in loads:
         want = wanted(pdp8, tape, declaration, certificate, Page)
-        command = f"report {name}.bin {declaration.name} {certificate.name} -"
-        yield f"```console\n$ pdp8 {command} | sed '1,/<body>/d' | grep -v '^<text'\n{without_head(want)}```\n\n"
+        files = tape, declaration, certificate
+        for file in files:
+            want = want.replace(f"{file}, sum", f"{file.name}, sum")
+        want = re.sub(r"changed [-0-9]{10}", f"changed {DAY}", want)
+        names = " ".join(file.name for file in files)
+        yield f"```console\n$ touch -d {DAY}T12:00Z {names}; pdp8 report {names} - | sed '1,/<body>/d' | grep -v '^<text'\n{without_head(want)}```\n\n"
 
 
 def compared(pdp8, loads):

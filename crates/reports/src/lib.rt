@@ -8,6 +8,7 @@ mod known;
 mod known_fact;
 mod listing;
 mod map;
+mod names;
 mod page;
 mod promises;
 mod relations;
@@ -19,6 +20,7 @@ mod variables;
 mod writer;
 
 use listing::{ClaimCache, push_listing};
+pub use names::PageNames;
 pub use page::page_below;
 pub use report::{Finding, Report};
 pub use source_notes::{LinePlace, SourceNote, SourceNotes};

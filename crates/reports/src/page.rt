@@ -195,7 +195,16 @@ fn write_reason<A: Allocator>(
     writer.put(b"</pre>\n");
 }
 
-/// Writes the verdict's meaning, after what it opens with.
+/// Writes from which files the program was read, if they have names.
+fn write_files<A: Allocator>(writer: &mut ReportWriter<A>, files: &[u8]) {
+    if !files.is_empty() {
+        writer.put(b"<p>");
+        writer.say(files);
+        writer.put(b"</p>\n");
+    }
+}
+
+/// Writes the verdict's meaning, after what it opens with, and the files of the program.
 fn write_verdict<A: Allocator, B: Allocator, D: Allocator, C: Allocator>(
     writer: &mut ReportWriter<A>,
     report: &Report<'_, B, D, C>,
@@ -214,6 +223,7 @@ fn write_verdict<A: Allocator, B: Allocator, D: Allocator, C: Allocator>(
             why,
         ),
     }
+    write_files(writer, report.files);
     writer.put(PARTS);
 }
 
@@ -225,6 +235,7 @@ fn write_row<A: Allocator, B: Allocator, D: Allocator, C: Allocator>(
 ) {
     writer.put(b"<tr><td>");
     writer.place(cell);
+    writer.label(report.label_at(cell));
     writer.put(b"<td>");
     match report.image.get(cell) {
         Some(word) => writer.word(word),

@@ -50,6 +50,16 @@ def point(text, members):
     return f"<li>{text}{shown(members, ADDRESS) if members else 'none'}\n"
 
 
+def asserted(said):
+    """The point of what is declared to hold: somewhere, or when a routine returns."""
+    words = (f"{min(said.words)}" if said.subject == "link" else shown(sets.of(said.words)))
+    what = {"ac": "AC", "mq": "MQ", "link": "the link"}.get(said.subject) or "the cell " + ADDRESS.format(said.subject)
+    by = "" if said.offsets is None or len(said.offsets) == 64 else " by " + ",".join(f"{it:o}" for it in sorted(said.offsets))
+    where = (f"whenever control is at {shown(sets.of(said.places), ADDRESS)}" if said.entry is None
+             else f"whenever the routine {ADDRESS.format(said.entry)} returns{by}")
+    return f"<li>{where}, {what} is {'' if len(said.words) == 1 else 'one of '}{words}\n"
+
+
 class Page(Report):
     """A report as a page."""
 
@@ -94,9 +104,12 @@ class Page(Report):
             point("only these cells are executed: ", bodies),
             point("only these cells, the variables, are written: ", sets.of(it.variables)),
             point("and these entries, by the JMS that calls the routine or by an ISZ of the routine that skips an argument: ", sets.of(set(it.routines))),
-            reads, "<li>each routine returns to the address after its own call plus a declared offset\n",
+            point("of these, a routine itself may store its return word, by a DCA, only in: ", sets.of(it.moves)) if it.moves else "",
+            reads, point("each return reaches a declared place after its own call, or all calls are abandoned for a declared place: ",
+                         sets.of(it.abandons)) if it.abandons
+            else "<li>each routine returns to the address after its own call plus a declared offset\n",
             point("if it halts, it halts only at: ", sets.of(set(it.stops) | set(it.pauses))),
-            point("of these, CONTINUE may be pressed only at: ", sets.of(it.pauses)), "</ul>\n",
+            point("of these, CONTINUE may be pressed only at: ", sets.of(it.pauses)), *map(asserted, sorted(it.asserted, key=lambda said: said.entry is not None)), "</ul>\n",
             "<p>It is not proved that the program ends, that it prints or computes what was intended, or that the declaration is a sensible one: "
             "if all cells may be written, a yes says little.</p>\n"))
 
@@ -200,11 +213,12 @@ class Page(Report):
                      else "Ranks should fall from caller to callee; this certificate does not show that they do.")
         parts.append("</p>\n<table>\n<tr><th>entry<th>rank<th>called from<th>the routine and what it calls may write"
                      "<th>words skipped after the call when it returns\n")
-        for entry, (_, offsets) in routines.items():
+        for entry in routines:
+            offsets = self.declared.offsets(entry)
             line = claims.get(entry)
             said = ("<td colspan=3>nothing is claimed about it" if line is None
                     else f"<td>{line.rank}<td>{shown(line.sites, ADDRESS)}<td>{may_write(line)}")
-            parts.append(f"<tr><td>{ADDRESS.format(entry)}{said}<td>{','.join(map(str, sorted(offsets))) or '-'}\n")
+            parts.append(f"<tr><td>{ADDRESS.format(entry)}{said}<td>{','.join(f'{offset:o}' for offset in sorted(offsets)) or '-'}\n")
         return "".join(parts) + "</table>\n"
 
     @staticmethod

@@ -199,15 +199,15 @@ class Report:
                      "unset": "nothing is declared here"}[kind]]
 
     def routine(self, entry):
-        line, offsets = self.certificate.routines.get(entry), sorted(self.declared.routines[entry][1])
+        line, offsets = self.certificate.routines.get(entry), sorted(self.declared.offsets(entry))
         items = [f"routine {entry:04o}"]
         if line is None:
             items.append("nothing is claimed about it")
         else:
             items += [f"rank {line.rank}", f"called from {shown(line.sites, ADDRESS)}", f"may write {may_write(line)}"]
-        items.append("returns by " + (",".join(map(str, offsets)) or "-"))
+        items.append("returns by " + (",".join(f"{offset:o}" for offset in offsets) or "-"))
         exits = sorted((offset, fact) for (of, offset), fact in self.certificate.exits.items() if of == entry)
-        return ["", "; ".join(items)] + [line_of(f"return by {offset}", of_fact(fact, None, False))
+        return ["", "; ".join(items)] + [line_of(f"return by {offset:o}", of_fact(fact, None, False))
                                          for offset, fact in exits]
 
     def listing(self):
@@ -283,11 +283,13 @@ def faults_of_page(page):
 
 
 def examples(pdp8, names, room):
-    """Each example and its variant: a name, the tape, the declaration and the certificate."""
+    """Each example and its variant: a name, the tape, the declaration and the certificate, which is of version 1 or 2."""
     for source in sorted((ROOT / "examples").glob("*.pal")):
         of = source.stem.removesuffix("-broken")
         certificate, declaration = (ROOT / "examples" / f"{of}.{kind}" for kind in ("certificate", "declaration"))
         if names and source.stem not in names or not certificate.exists():
+            continue
+        if certificate.read_text("ascii").startswith("PDP8-CERTIFICATE 3"):
             continue
         tape = Path(room) / f"{source.stem}.bin"
         profile = "8e" if "profile 8e" in declaration.read_text() else "8i"

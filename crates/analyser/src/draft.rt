@@ -54,7 +54,6 @@ fn stands_right<A: Allocator, D: Allocator>(
 }
 
 /// Whether there is an exit of the routine of an entry.
-#[tactic(auto, using(crate::proofs::DraftLemmas::has_exit))]
 fn has_exit<A: Allocator>(draft: &Certificate<A>, entry: Word) -> bool
     ensures { result ≡ true → has_exits (claims draft.now) entry ≡ true }
 {

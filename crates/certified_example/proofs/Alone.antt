@@ -52,7 +52,7 @@ stays = at_once 0o7401 None StaysInBody (omega arith) (λ k. k.supported) others
 
 pub writes : BreaksAlone WritesDeclared (image_with 0o3202) (bare None)
 unfolding meaning_of
-writes = at_once 0o3202 None WritesDeclared (omega arith) (λ k. elim (k 0o202 refl) [ inl e ↦ false≢true e | inr e ↦ e ]) others
+writes = at_once 0o3202 None WritesDeclared (omega arith) (λ k. elim (k 0o202 refl) [ inl e ↦ false≢true e | inr e ↦ false≢true e.1 ]) others
   where
     others : (other : Rule) → (other ≡ WritesDeclared → ⊥) → Keeps other (image_with 0o3202) (bare None) (begun 0o3202) []
     others StaysInBody n = record { in_body = refl; supported = tt }

@@ -45,7 +45,7 @@ unsupported safe = (first 0o7401 None (omega arith) safe).stays.supported
 -- DCA 0202, which is no variable
 pub undeclared_write : IsUnsafe 0o3202 None
 unfolding meaning_of
-undeclared_write safe = elim ((first 0o3202 None (omega arith) safe).writes 0o202 refl) [ inl e ↦ false≢true e | inr e ↦ e ]
+undeclared_write safe = elim ((first 0o3202 None (omega arith) safe).writes 0o202 refl) [ inl e ↦ false≢true e | inr e ↦ false≢true e.1 ]
 
 -- JMS 0205, which is no entry
 pub undeclared_call : IsUnsafe 0o4205 None

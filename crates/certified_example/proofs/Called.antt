@@ -102,7 +102,7 @@ moved = record { ac = 0; link = 0; mq = 0; pc = 0o212; memory = updated (updated
 
 -- 0211 would be the offset that is declared
 not_declared : (o : ℕ) → (o == 0o10) ≡ true → 0o212 ≡ after 0o201 o → ⊥
-not_declared o is there = let P : ℕ → Type 0 = λ x. 0o212 ≡ after 0o201 x in (let e : 0o212 ≡ 0o211 = subst P (eqb-true o 0o10 is) there in cc)
+not_declared o is there = let P : ℕ → Type 0 = λ x. 0o212 ≡ after 0o201 x in (let e : 0o212 ≡ 0o211 = subst P (eqb-true o 0o10 is) there in omega (arith, e))
 
 pub skips_alone : BreaksAlone ReturnsToItsCall (calling 0o3210 0o5610) skipping
 unfolding meaning_of updated

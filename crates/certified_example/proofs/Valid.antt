@@ -476,8 +476,8 @@ swapped a h = elim (cases_eq a 0o210) [
   | inr n ↦ (let other : (0o210 == a) ≡ false = left 0o210 a n in absurd (false≢true (rw other at h)))
 ]
 
-exits_of : (a : ℕ) → has_exits certificate a ≡ true → declaration.entry a ≡ true
-exits_of a h = elim (cases_eq a 0o210) [
+exits_at_entry : (a : ℕ) → has_exits certificate a ≡ true → declaration.entry a ≡ true
+exits_at_entry a h = elim (cases_eq a 0o210) [
   | inl e ↦ rw e refl
   | inr n ↦ absurd (true≢false (sym h ∙ none_in 64 _ (λ o lt. let other : (0o210 == a) ≡ false = left 0o210 a n in rw other refl)))
 ]
@@ -498,7 +498,7 @@ all_held e o (f ∷ fs) = (tt, all_held e o fs)
 
 pub is_valid : IsValid example
 is_valid V1 a asked = subst (λ x. LandsAt example None x (start_fact image)) (sym asked) starts
-is_valid V2 a asked = record { facts = placed_of a; routine = swapped a; exits = exits_of a }
+is_valid V2 a asked = record { facts = placed_of a; routine = swapped a; exits = exits_at_entry a }
 is_valid V3 a asked = (
   λ r b. each_by (IsFine r a) (λ f. how_many 4096 (possible (place_in example r) f a) ≤ 64) (asked_at example r a) (λ f h. h.few_words) (all_fine a r b),
   λ r b. each_by (IsFine r a) (HoldsForWords example V3 r a) (asked_at example r a) (λ f h w lw p. (h.each_word w p).v3) (all_fine a r b),
@@ -515,7 +515,7 @@ is_valid V12 a asked = λ r b. each_by (IsFine r a) (HoldsForWords example V12 r
 is_valid V13 a asked = λ r b. each_by (IsFine r a) (HoldsForWords example V13 r a) (asked_at example r a) (λ f h w lw p. (h.each_word w p).v13) (all_fine a r b)
 is_valid V14 a asked = λ r b. each_by (IsFine r a) (HoldsForWords example V14 r a) (asked_at example r a) (λ f h w lw p. (h.each_word w p).v14) (all_fine a r b)
 is_valid V15 a asked = λ r b. each_by (IsFine r a) (HoldsForWords example V15 r a) (asked_at example r a) (λ f h w lw p. (h.each_word w p).v15) (all_fine a r b)
-is_valid V16 a asked = (
+is_valid V16 a here = (
   λ r b. each_by (IsFine r a) (HoldsForWords example V16 r a) (asked_at example r a) (λ f h w lw p. (h.each_word w p).v16) (all_fine a r b),
   λ o lt. all_held a o (asked OfEquations image (exits_of example a o)),
 )

@@ -409,6 +409,11 @@ abbrev pub IsReason : Case → Result (Unit {0}) Refusal → Option Reason → T
 IsReason j (Ok _) reason = reason ≡ None
 IsReason j (Err r) reason = IsReasonFor j r reason
 
+-- Behind a no nothing more is told.
+abbrev pub IsOnlyAfterYes : Result (Unit {0}) Refusal → List ℕ → Type 0
+IsOnlyAfterYes (Ok _) more = Unit {0}
+IsOnlyAfterYes (Err r) more = more ≡ []
+
 -- The text is the line of the verdict on an image, a declaration and the lines of a certificate, why it is, and the fact there; and
 -- the status is that of the verdict.
 pub record IsExplanationOf (image : List (Option ℕ)) (declaration : Declaration) (lines : Text) (status : Status) (text : List ℕ) : Type 0 where
@@ -418,7 +423,9 @@ pub record IsExplanationOf (image : List (Option ℕ)) (declaration : Declaratio
   pub why : IsReason (checked_case image declaration lines) verdict reason
   pub telling : Telling
   pub told : IsTellingOf (certificate_of lines) verdict reason telling
-  pub text_is : text ≡ (verdict_text declaration verdict ++ why_text declaration.profile image verdict reason telling) ++ fact_shown lines verdict reason
+  pub more : List ℕ
+  pub only : IsOnlyAfterYes verdict more
+  pub text_is : text ≡ ((verdict_text declaration verdict ++ why_text declaration.profile image verdict reason telling) ++ fact_shown lines verdict reason) ++ more
   pub status_is : status ≡ verdict_status verdict
 
 -- To a text were added the line of the verdict on an image, a declaration and the lines of a certificate, why it is, and the fact there.

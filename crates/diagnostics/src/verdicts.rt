@@ -5,5 +5,6 @@ pub mod explanation;
 mod gathered;
 pub mod messages;
 pub mod reason_text;
+pub mod surplus_text;
 pub mod telling;
 pub mod verdict;

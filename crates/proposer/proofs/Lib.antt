@@ -1,2 +1,2 @@
-pub mod TouchLemmas
+pub mod ReadLemmas
 pub mod WidthLemmas

@@ -30,6 +30,8 @@ as_wide_on given mid more first second = record {
   variables = λ v lt is. second.variables v lt (first.variables v lt is);
   stops = within_both given.stop mid.stop mid.pause (union more.stop more.pause) first.stops second.stops second.pauses;
   pauses = within_both given.pause mid.stop mid.pause (union more.stop more.pause) first.pauses second.stops second.pauses;
+  moves = λ v lt is. second.moves v lt (first.moves v lt is);
+  abandon = λ v lt is. second.abandon v lt (first.abandon v lt is);
   reads = second.reads;
 }
 

@@ -1,5 +1,5 @@
 -- Which cells a proposed list of reads has.
-use Rattle.std.specs.Prelude.{ℕ, ◌≡◌, ◌<◌, ◌⊎◌, true, Some, List, [], ◌∷◌}
+use Rattle.std.specs.Prelude.{ℕ, ◌≡◌, ◌<◌, true, Some}
 use Rattle.wordset.specs.Words.{Words}
 use Rattle.declaration.specs.Declaration.{Routine}
 use Rattle.domain.specs.Facts.{Fact, Place}
@@ -7,11 +7,7 @@ use Rattle.facts.specs.Conditions.{may_read}
 use Rattle.facts.specs.PlaceInCode.{meaning_in}
 use Rattle.transfer.specs.References.{possible}
 use Rattle.judge.specs.Landing.{Case, asked_at, place_in}
-
--- Some fact of the list has the property.
-abbrev pub SomeFact : (Fact → Type 0) → List Fact → Type 0
-SomeFact p [] = ⊥
-SomeFact p (f ∷ fs) = p f ⊎ SomeFact p fs
+use Rattle.usage.specs.Uses.{SomeFact}
 
 -- By the fact at the address a word is possible that may read the cell.
 pub record IsReadBy (pl : Place) (at cell : ℕ) (f : Fact) : Type 0 where

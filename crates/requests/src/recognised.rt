@@ -116,6 +116,13 @@ fn takes_source(command: &str) -> bool {
     .any(|name| *name == command)
 }
 
+/// Whether a command writes its result to a file, which is named behind its inputs.
+fn writes_result(command: &str) -> bool {
+    ["declare", "guess", "refute", "report"]
+        .iter()
+        .any(|name| *name == command)
+}
+
 /// Whether a command takes a declaration behind a tape or a source.
 fn takes_declaration(command: &str) -> bool {
     ["verify", "check", "report", "guess", "refute", "watch"]
@@ -141,6 +148,17 @@ impl Asked<'_> {
             if let Some(name) = name {
                 let _ = write!(text, " {name}");
             }
+        }
+        self.push_output(text);
+    }
+
+    /// Adds where the result goes, if there is one.
+    fn push_output(&self, text: &mut String) {
+        if !writes_result(self.command) {
+            return;
+        }
+        if let Some(name) = self.names.output {
+            let _ = write!(text, " -o {name}");
         }
     }
 
@@ -169,6 +187,7 @@ impl Asked<'_> {
         if let Some(other) = self.names.declaration {
             let command = self.command;
             let _ = write!(text, ", as in pdp8 {command} {other} {name}");
+            self.push_output(text);
         }
     }
 
@@ -198,18 +217,21 @@ impl Asked<'_> {
 
     /// Adds what to do with a source that was given as a declaration.
     fn push_source_as_declaration(&self, text: &mut String, name: &str) {
-        let command = self.command;
-        let _ = if self.is_sourced {
-            write!(
-                text,
-                "{name} is a source, not a declaration: each part of the source has a --source of its own"
-            )
+        let _ = write!(text, "{name} is a source, not a declaration: ");
+        if self.is_sourced && self.takes_source {
+            let _ = text.push_str("each part of the source has a --source of its own");
+        } else if self.is_sourced {
+            let _ = text.push_str("the parts of the source stand without an option");
+        } else if self.takes_source {
+            self.push_with_source(text, name);
+            self.push_output(text);
+            let _ = text.push_str(" takes its /: lines for the declaration");
         } else {
-            write!(
+            let _ = write!(
                 text,
-                "{name} is a source, not a declaration: pdp8 {command} --source {name} takes its /: lines for the declaration"
-            )
-        };
+                "pdp8 place -o new.declaration {name} makes one of its /: lines"
+            );
+        }
     }
 
     /// Adds what to do with a file that was given as a declaration, if it is none.
@@ -255,6 +277,7 @@ impl Asked<'_> {
                 text,
                 ": it comes after the source, as in pdp8 {command} --source {source} {name}"
             );
+            self.push_output(text);
         }
     }
 
@@ -319,7 +342,8 @@ fn shown_line(alloc: Global, text: &str) -> String {
     }
 }
 
-/// The line on a file that was given as the declaration of a source, if it is none; else nothing.
+/// The line on a file that was given as the declaration of a source, if it is none; else nothing, and nothing of
+/// standard input.
 pub(crate) fn declaration_hint(
     alloc: Global,
     command: &'static str,
@@ -328,20 +352,20 @@ pub(crate) fn declaration_hint(
 ) -> String {
     let asked = Asked {
         command,
-        takes_source: true,
+        takes_source: takes_source(command),
         is_sourced: true,
         has_several_parts: false,
         names: FileNames::NONE,
     };
     let mut told = String::new(alloc);
-    if !text.is_empty() {
+    if name != "-" && !text.is_empty() {
         asked.push_as_declaration(&mut told, name, kind_of(text));
     }
     shown_line(alloc, &told)
 }
 
-/// The line on a file that was given as a part of a source, if it is none; else nothing. These are the names and the
-/// texts of the parts.
+/// The line on a file that was given as a part of a source, if it is none; else nothing, and nothing of standard
+/// input. These are the names and the texts of the parts.
 pub(crate) fn source_hint(
     alloc: Global,
     command: &'static str,
@@ -359,10 +383,12 @@ pub(crate) fn source_hint(
     };
     let index = fault.part.wrapping_sub(1);
     let mut told = String::new(alloc);
-    if let Some(name) = parts.get(index) {
-        if let Some(text) = texts.get(index) {
-            asked.push_as_source(&mut told, name, kind_of(text));
-        }
+    let name = parts.get(index).copied().unwrap_or("-");
+    if name == "-" {
+        return told;
+    }
+    if let Some(text) = texts.get(index) {
+        asked.push_as_source(&mut told, name, kind_of(text));
     }
     shown_line(alloc, &told)
 }
@@ -372,10 +398,13 @@ fn kind_in<R: Files + Input>(rt: &R, alloc: Global, name: &str) -> Option<Kind> 
     if is_read_once(rt, name) {
         return None;
     }
-    match bytes_of(rt, alloc, name) {
-        Ok(bytes) if !bytes.is_empty() => Some(kind_of(&bytes)),
-        _ => None,
+    let Ok(bytes) = bytes_of(rt, alloc, name) else {
+        return None;
+    };
+    if bytes.is_empty() {
+        return None;
     }
+    Some(kind_of(&bytes))
 }
 
 /// The name of the part of a source that has a fault, if it has that part.

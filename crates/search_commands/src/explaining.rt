@@ -13,13 +13,11 @@ ghost use Rattle.diagnostics.specs.WhyText.{IsExplanationOf};
 use command_parts::outcome::{Outcome, deliver};
 use command_parts::status::{Fault, Status};
 use diagnostics::verdicts::certificates::{Certified, certified_from};
-use diagnostics::verdicts::explanation::push_explanation;
-use diagnostics::verdicts::verdict::verdict_status;
-use judge::{Rooms, judge};
+use diagnostics::verdicts::messages::{VerdictMessage, check_message};
 use std::alloc::Allocator;
 use streams::{ByteSink, ByteSource};
 
-/// The verdict on a certificate of a program with why it is no, and its status.
+/// The verdict on a certificate of a program with why it is no, or with what a yes leaves to say, and its status.
 fn explanation_of<A: Allocator + Copy>(
     alloc: A,
     certified: &Certified<A>,
@@ -34,31 +32,20 @@ fn explanation_of<A: Allocator + Copy>(
         program,
         certificate,
     } = certified;
-    let mut rooms = Rooms::boxed(alloc)?;
-    let verdict = judge(
-        &program.image,
-        &program.declaration,
-        certificate,
-        &mut rooms,
-    );
-    let mut text = Vec::new(alloc);
-    push_explanation(
-        alloc,
-        &mut text,
-        &program.image,
-        &program.declaration,
-        certificate,
-        &verdict,
-    )?;
-    let status = verdict_status(&verdict);
-    Ok(Outcome { text, status })
+    let message = check_message(alloc, &program.image, &program.declaration, certificate)?;
+    let VerdictMessage { told, status } = message;
+    Ok(Outcome {
+        text: told.into_bytes(),
+        status,
+    })
 }
 
 /// Checks a certificate of a tape and a declaration, and writes the verdict: yes, with the numbers of
 /// cells in bodies, of variables, of entries, of declared halts and, where they are listed, of cells
 /// that may be read; or the first condition that fails and its address, and then the status is
 /// `Refused`, and lines follow that say why: the address with its word and name, what the condition
-/// asks, what breaks it as far as that is found, and the lines of the fact there.
+/// asks, what breaks it as far as that is found, and the lines of the fact there. Lines that follow a yes say what of the
+/// declaration is wider than the certificate needs, and what routines return with; these are tested and not proved.
 ///
 /// # Errors
 ///
@@ -76,7 +63,7 @@ pub fn explain<A: Allocator + Copy, R: ByteSource, D: ByteSource, C: ByteSource,
     requires declaration_readable { D.mark declaration.old ≡ false }
     requires certificate_readable { C.mark certificate.old ≡ false }
     requires writable { W.mark out.old ≡ false }
-    // What is written is the verdict, and why it is no.
+    // What is written is the verdict, and why it is no; after a yes more may follow.
     ensures explained { WritesAnswer
         (OfCertified (R.remaining tape.old) (D.remaining declaration.old)
         (C.remaining certificate.old) IsExplanationOf)

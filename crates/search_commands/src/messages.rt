@@ -22,6 +22,7 @@ use command_parts::message::Message;
 use command_parts::status::Fault;
 use command_parts::text::push_place;
 use declaration::Declaration;
+use diagnostics::verdicts::surplus_text::surplus_message;
 use diagnostics::verdicts::verdict::verdict_line;
 use itoa::Buffer;
 use machine_commands::violations::breach_lines;
@@ -46,7 +47,7 @@ pub struct AnswerMessage<A: Allocator> {
     pub answer: Answer<A>,
     /// The line of the answer.
     pub line: Vec<u8, A>,
-    /// The lines that say why, if that is asked for; there are none after a yes.
+    /// The lines that say why, if that is asked for.
     pub why: Message<A>,
     /// What the search had found where it was stuck, if that is the answer and it is to be explained.
     pub draft: Option<Certificate<A>>,
@@ -59,7 +60,7 @@ pub struct ProposalMessage<A: Allocator> {
     pub proposed: Proposed<A>,
     /// The line of the answer.
     pub line: Vec<u8, A>,
-    /// The lines that say why, if that is asked for; there are none after a yes.
+    /// The lines that say why, if that is asked for.
     pub why: Message<A>,
 }
 
@@ -295,8 +296,9 @@ fn breach_message<A: Allocator + Copy, D: Allocator>(
     Ok(breach_lines(alloc, image, declaration, events, watched, true)?)
 }
 
-/// The lines after an answer that say why: what the step is about to do that violates a rule, or what the search for
-/// a certificate lacks. There are none if they are not asked for, or after a yes.
+/// The lines after an answer that say why: after a yes what of the declaration is wider than the certificate needs, and what routines
+/// return with; or what the step is about to do that violates a rule, or what the search for a certificate lacks. There are none if
+/// they are not asked for.
 fn why_message<A: Allocator + Copy, D: Allocator>(
     alloc: A,
     image: &Image,
@@ -311,7 +313,8 @@ fn why_message<A: Allocator + Copy, D: Allocator>(
         return Ok(Message::new(alloc));
     }
     match &found.answer {
-        Answer::Yes(_) | Answer::NotKnown(Lack::TurnsSpent) => Ok(Message::new(alloc)),
+        Answer::Yes(certificate) => Ok(surplus_message(alloc, image, declaration, certificate)?),
+        Answer::NotKnown(Lack::TurnsSpent) => Ok(Message::new(alloc)),
         Answer::NotKnown(Lack::Stuck(at)) => {
             Ok(stuck_message(alloc, image, declaration, &found.draft, *at)?)
         }

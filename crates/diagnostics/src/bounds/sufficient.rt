@@ -2,7 +2,7 @@
 
 use crate::bounds::losses::{clears, is_test, refers_to_memory};
 use bin_tape::Image;
-use declaration::{Declaration, Owner};
+use declaration::Declaration;
 use instruct::{Operation, refers_indirectly, target};
 use processor::is_auto_index;
 use std::alloc::Allocator;
@@ -17,11 +17,8 @@ const MOST_BETWEEN: usize = 6;
 
 /// Whether the cell belongs to the routine that executes the instruction at an address: it is in the same body.
 fn is_in_same_body<D: Allocator>(declaration: &Declaration<D>, at: Word, cell: Word) -> bool {
-    match declaration.owner_of(at) {
-        None => false,
-        Some(Owner::Main) => declaration.in_main(cell),
-        Some(Owner::Routine(entry)) => declaration.in_body(entry, cell),
-    }
+    let owner = declaration.owner_of(at);
+    owner.is_some() && declaration.owner_of(cell) == owner
 }
 
 /// Whether a jump from an address to a cell stays within the rules, as far as the declaration tells.

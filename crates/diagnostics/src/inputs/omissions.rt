@@ -79,11 +79,12 @@ fn is_elsewhere<D: Allocator>(declaration: &Declaration<D>, place: Word) -> bool
 
 /// What a jump to an address that is not in the same body would violate.
 fn omitted_by_jump<D: Allocator>(declaration: &Declaration<D>, place: Word) -> Omission {
-    match declaration.owner_of(place) {
-        Some(Owner::Main) => Omission::JumpsToMain(place),
-        Some(Owner::Routine(_)) => Omission::JumpsAcross(place),
-        None if declaration.is_entry(place) => Omission::JumpsAcross(place),
-        None => Omission::Jumps(place),
+    if declaration.in_main(place) {
+        Omission::JumpsToMain(place)
+    } else if is_elsewhere(declaration, place) {
+        Omission::JumpsAcross(place)
+    } else {
+        Omission::Jumps(place)
     }
 }
 

@@ -8,6 +8,7 @@ ghost use Rattle.declaration.specs.Kept.{meaning};
 ghost use Rattle.diagnostics.specs.WhyText.{IsExplanationOf};
 
 use crate::verdicts::explanation::push_explanation;
+use crate::verdicts::surplus_text::surplus_after;
 use crate::verdicts::verdict::verdict_status;
 use bin_tape::Image;
 use certificate::Certificate;
@@ -26,7 +27,8 @@ pub struct VerdictMessage<A: Allocator> {
     pub status: Status,
 }
 
-/// What `check` says about a certificate, and why the verdict is no.
+/// What `check` says about a certificate, and why the verdict is no; or, after a yes, what of the declaration is wider than need
+/// be and what routines return with, which is tested and not proved.
 ///
 /// # Errors
 ///
@@ -38,7 +40,7 @@ pub fn check_message<A: Allocator + Copy, D: Allocator, C: Allocator>(
     declaration: &Declaration<D>,
     certificate: &Certificate<C>,
 ) -> Result<VerdictMessage<A>, AllocError>
-    // What is told is the verdict, and why it is no.
+    // What is told is the verdict, and why it is no; after a yes more may be told.
     ensures { IfOk result (λ message. IsExplanationOf image.now (meaning declaration.now)
         (text_of certificate.now) message.status (plain message.told)) }
 {
@@ -46,6 +48,8 @@ pub fn check_message<A: Allocator + Copy, D: Allocator, C: Allocator>(
     let verdict = judge(image, declaration, certificate, &mut rooms);
     let mut told = Message::new(alloc);
     push_explanation(alloc, &mut told, image, declaration, certificate, &verdict)?;
+    let more = surplus_after(alloc, image, declaration, certificate, &verdict)?;
+    told.push_message(&more)?;
     let status = verdict_status(&verdict);
     Ok(VerdictMessage { told, status })
 }

@@ -1,5 +1,7 @@
+use Rattle.std.proofs.Common.{ℕ, List, ◌++◌, ap, ◌∙◌}
 use Rattle.declaration.specs.Kept.{meaning}
 use Rattle.certificate_lines.specs.Kept.{meaning as text_of}
+use Rattle.command_parts.specs.Messages.{plain}
 use Rattle.diagnostics.specs.CheckText.{checked_case}
 use Rattle.diagnostics.proofs.CheckLemmas.{verdict_is}
 use Rattle.diagnostics.proofs.ReasonLemmas.{behind_nothing}
@@ -16,6 +18,8 @@ returns g c =
       why = told.why;
       telling = told.telling;
       told = told.told;
-      text_is = behind_nothing _ _ _ c.new-told.ensures told.text_is;
+      more = plain c.in_ok-surplus_after-more.result;
+      only = c.in_ok-surplus_after-more.ensures;
+      text_is = c.in_ok-push_message.ensures ∙ ap (λ (x : List ℕ). x ++ plain c.in_ok-surplus_after-more.result) (behind_nothing _ _ _ c.new-told.ensures told.text_is);
       status_is = c.verdict_status-status.ensures;
     }

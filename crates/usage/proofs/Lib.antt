@@ -1,0 +1,5 @@
+pub mod UseLemmas
+pub mod RunLemmas
+mod WordLemmas
+mod UnusedLemmas
+mod ReturnLemmas

@@ -1,0 +1,4 @@
+pub mod Uses
+pub mod Unused
+pub mod Returns
+pub mod Laws

@@ -1,0 +1,12 @@
+//! Which parts of a declaration the facts of a certificate use, and what routines return with by them.
+#![tactic(auto)]
+
+pub mod laws;
+mod returns;
+mod unused;
+mod uses;
+mod words;
+
+pub use returns::{Register, returned};
+pub use unused::{Surplus, surplus_of};
+pub use uses::{Use, used};

@@ -420,14 +420,14 @@ const WHY_VERIFY: Argument = Argument {
     name: "why",
     short: Some('w'),
     form: Form::Flag,
-    help: "if the answer is no or not known, writes why",
+    help: "also writes why, or after a yes what the declaration lists needlessly",
 };
 
 const WHY_CHECK: Argument = Argument {
     name: "why",
     short: Some('w'),
     form: Form::Flag,
-    help: "if the answer is no, writes what the condition asks and what violates it",
+    help: "also writes what violates the condition, or after a yes what the declaration lists needlessly",
 };
 
 const WHY_GUESS: Argument = Argument {

@@ -18,8 +18,8 @@ returns g c =
       why = told.why;
       telling = told.telling;
       told = told.told;
-      more = plain c.in_ok-surplus_after-more.result;
-      only = c.in_ok-surplus_after-more.ensures;
-      text_is = c.in_ok-push_message.ensures ∙ ap (λ (x : List ℕ). x ++ plain c.in_ok-surplus_after-more.result) (behind_nothing _ _ _ c.new-told.ensures told.text_is);
+      more = plain c.in_ok-more.more;
+      only = c.in_ok-more.ensures;
+      text_is = c.in_ok-push_message.ensures ∙ ap (λ (x : List ℕ). x ++ plain c.in_ok-more.more) (behind_nothing _ _ _ c.new-told.ensures told.text_is);
       status_is = c.verdict_status-status.ensures;
     }

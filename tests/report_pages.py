@@ -2,6 +2,8 @@
 
 How the page looks is read from the program's source: the one text that stands there as it stands in the page.
 """
+import datetime
+import itertools
 import re
 from pathlib import Path
 
@@ -15,9 +17,19 @@ LARGER = (" If the count were larger, the pointer would go further; if the progr
 DIRECT = re.compile(r"(AND|TAD|ISZ|DCA|JMS|JMP) [ZC][0-7]{3}$")
 
 
-def head():
-    text = re.search(r'const HEAD: &\[u8\] =\n    b"(.*)";\n', STYLE.read_text("utf-8"))[1]
+def constant(name):
+    text = re.search(rf'const {name}: &\[u8\] =\s+b"(.*)";\n', STYLE.read_text("utf-8"))[1]
     return text.replace("\\n", "\n").replace('\\"', '"')
+
+
+def head(title):
+    return constant("HEAD") + title + constant("STYLE") + title + constant("HEADING")
+
+
+def sum_and_date(path):
+    """What is said of a file: its name, the sum of its bytes, and the day of its last change."""
+    day = datetime.datetime.fromtimestamp(path.stat().st_mtime, datetime.timezone.utc).date()
+    return f"{path}, sum {sum(path.read_bytes()) % 65536:06o}, changed {day}"
 
 
 def escaped(text):
@@ -26,25 +38,38 @@ def escaped(text):
     return text
 
 
-def circle(at, kind, size):
-    return f"<circle class={kind} cx={34 + 10 * (at % 64) + 5} cy={14 + 10 * (at // 64) + 5} r={size} />"
+def circle(at, top, kind, size):
+    return f"<circle class={kind} cx={34 + 10 * (at % 64) + 5} cy={top + 5} r={size} />"
 
 
-def square(at, kind):
-    return f"<rect class={kind} x={34 + 10 * (at % 64)} y={14 + 10 * (at // 64)} width=9 height=9 />"
+def square(at, top, kind):
+    return f"<rect class={kind} x={34 + 10 * (at % 64)} y={top} width=9 height=9 />"
 
 
 def point(text, members):
     return f"<li>{text}{shown(members, ADDRESS) if members else 'none'}\n"
 
 
+def asserted(said):
+    """The point of what is declared to hold: somewhere, or when a routine returns."""
+    words = (f"{min(said.words)}" if said.subject == "link" else shown(sets.of(said.words)))
+    what = {"ac": "AC", "mq": "MQ", "link": "the link"}.get(said.subject) or "the cell " + ADDRESS.format(said.subject)
+    by = "" if said.offsets is None or len(said.offsets) == 64 else " by " + ",".join(f"{it:o}" for it in sorted(said.offsets))
+    where = (f"whenever control is at {shown(sets.of(said.places), ADDRESS)}" if said.entry is None
+             else f"whenever the routine {ADDRESS.format(said.entry)} returns{by}")
+    return f"<li>{where}, {what} is {'' if len(said.words) == 1 else 'one of '}{words}\n"
+
+
 class Page(Report):
     """A report as a page."""
 
-    def page(self, front):
+    def page(self, front, files):
         line, why = front.partition("\n")[::2]
         self.rows = set(self.lines())
-        parts = [head(), line, "\n</h1>\n<p>", self.yes() if self.refused is None else self.no(why)]
+        said = ("yes", self.yes()) if self.refused is None else ("no", self.no(why))
+        parts = [head(files[0].stem), line, f"\n</h1>\n<p class={said[0]}>", said[1]]
+        parts.append("<p>Files: " + escaped("; ".join(map(sum_and_date, files))) + escaped(
+            ". A sum is that of the file's bytes, in octal, modulo 200000; a date is that of its last change, in UTC.") + "</p>\n")
         parts.append("<p>A declaration says where the program starts and may halt, which cells are its instructions, which it may "
                      "write, and which routines it has. A certificate says what holds before each instruction, so that compliance "
                      "with the declaration can be checked.</p>\n")
@@ -79,9 +104,12 @@ class Page(Report):
             point("only these cells are executed: ", bodies),
             point("only these cells, the variables, are written: ", sets.of(it.variables)),
             point("and these entries, by the JMS that calls the routine or by an ISZ of the routine that skips an argument: ", sets.of(set(it.routines))),
-            reads, "<li>each routine returns to the address after its own call plus a declared offset\n",
+            point("of these, a routine itself may store its return word, by a DCA, only in: ", sets.of(it.moves)) if it.moves else "",
+            reads, point("each return reaches a declared place after its own call, or all calls are abandoned for a declared place: ",
+                         sets.of(it.abandons)) if it.abandons
+            else "<li>each routine returns to the address after its own call plus a declared offset\n",
             point("if it halts, it halts only at: ", sets.of(set(it.stops) | set(it.pauses))),
-            point("of these, CONTINUE may be pressed only at: ", sets.of(it.pauses)), "</ul>\n",
+            point("of these, CONTINUE may be pressed only at: ", sets.of(it.pauses)), *map(asserted, sorted(it.asserted, key=lambda said: said.entry is not None)), "</ul>\n",
             "<p>It is not proved that the program ends, that it prints or computes what was intended, or that the declaration is a sensible one: "
             "if all cells may be written, a yes says little.</p>\n"))
 
@@ -96,9 +124,11 @@ class Page(Report):
         return f"r{list(self.declared.routines).index(entry) % 6}"
 
     def map(self):
-        parts = ['<h2 id=memory>Memory, addresses in octal</h2>\n<svg viewBox="0 0 680 660" width=680 role=img aria-label="map of memory">\n'
-                 "<rect class=u x=34 y=14 width=640 height=640 />\n"]
-        parts += [f"<text x=4 y={14 + 10 * row + 8}>{64 * row:04o}</text>" for row in range(64)]
+        tops, empty, height = self.rows_of_map()
+        parts = [f'<h2 id=memory>Memory, addresses in octal</h2>\n<svg viewBox="0 0 680 {height + 20}" width=680 role=img aria-label="map of memory">\n'
+                 f"<rect class=u x=34 y=14 width=640 height={height} />\n"]
+        parts += [f"<text x=4 y={top + 8}>{64 * row:04o}</text>" for row, top in tops.items()]
+        parts += [f"<text x=4 y={top + 8}>{128 * first:04o}-{128 * last + 127:04o}: nothing</text>" for first, last, top in empty]
         parts += [f"<text x={34 + 80 * column} y=10>+{10 * column}</text>" for column in range(8)]
         parts.append("\n")
         line = 0
@@ -111,9 +141,27 @@ class Page(Report):
         parts.append('<span class="k e"></span>entry of a routine\n<span class="k v"></span>variable\n'
                      '<span class="k o"></span>other word of the tape\n'
                      "<br>A red ring is a declared halt, a black frame the start, a yellow dot a variable among instructions, a red "
-                     "frame the place of a no. Each row has 0100 cells. A cell leads to its line of the "
+                     "frame the place of a no. Each row has 0100 cells; consecutive pages of memory in which nothing stands are one row. A cell leads to its line of the "
                      "listing.</p>\n")
         return "".join(parts)
+
+    def rows_of_map(self):
+        """The upper edge of each row that is drawn, the runs of empty pages with the edge of their row, and the height of all."""
+        full = {at >> 7 for at in range(4096) if self.kind(at)[0] != "unset" or self.is_refused_at(at)}
+        tops, empty, top = {}, [], 14
+        for page, runs in itertools.groupby(range(32), lambda page: page if page in full else -1):
+            runs = list(runs)
+            if page in full:
+                tops |= {2 * page: top, 2 * page + 1: top + 10}
+                top += 20
+            else:
+                empty.append((runs[0], runs[-1], top))
+                top += 10
+        self.tops = tops
+        return tops, empty, top - 14
+
+    def top(self, at):
+        return self.tops[at // 64]
 
     def is_code(self, at):
         return self.kind(at)[0] == "body" or at in self.certificate.facts
@@ -128,15 +176,16 @@ class Page(Report):
     def cell(self, at):
         kind, owner = self.kind(at)
         body = "m" if kind == "body" and owner is None else self.colour(owner) if kind == "body" else kind[0]
-        marks = [square(at, body)]
+        top = self.top(at)
+        marks = [square(at, top, body)]
         if at in self.declared.variables and kind != "variable":
-            marks.append(circle(at, "w", "2.5"))
+            marks.append(circle(at, top, "w", "2.5"))
         if at in self.declared.stops or at in self.declared.pauses:
-            marks.append(circle(at, "h", "3"))
+            marks.append(circle(at, top, "h", "3"))
         if at == self.declared.start:
-            marks.append(square(at, "s"))
+            marks.append(square(at, top, "s"))
         if self.is_refused_at(at):
-            marks.append(square(at, '"s bad"'))
+            marks.append(square(at, top, '"s bad"'))
         return "".join(marks)
 
     # Routines
@@ -164,11 +213,12 @@ class Page(Report):
                      else "Ranks should fall from caller to callee; this certificate does not show that they do.")
         parts.append("</p>\n<table>\n<tr><th>entry<th>rank<th>called from<th>the routine and what it calls may write"
                      "<th>words skipped after the call when it returns\n")
-        for entry, (_, offsets) in routines.items():
+        for entry in routines:
+            offsets = self.declared.offsets(entry)
             line = claims.get(entry)
             said = ("<td colspan=3>nothing is claimed about it" if line is None
                     else f"<td>{line.rank}<td>{shown(line.sites, ADDRESS)}<td>{may_write(line)}")
-            parts.append(f"<tr><td>{ADDRESS.format(entry)}{said}<td>{','.join(map(str, sorted(offsets))) or '-'}\n")
+            parts.append(f"<tr><td>{ADDRESS.format(entry)}{said}<td>{','.join(f'{offset:o}' for offset in sorted(offsets)) or '-'}\n")
         return "".join(parts) + "</table>\n"
 
     @staticmethod

@@ -15,6 +15,8 @@ import sys
 import tempfile
 from pathlib import Path
 
+# The day of the last change of the files in the cases.
+DAY = "1971-06-30"
 ROOT = Path(__file__).parent.parent
 sys.path[:0] = [str(ROOT / "reference"), str(ROOT / "tests")]
 import check  # noqa: E402
@@ -184,7 +186,7 @@ class Report:
             return ["any word"]
         words, places = self.known[cell]
         unknown = sets.of(set(self.certificate.facts) - places)
-        return ["holds " + ("any word" if words == sets.ALL else shown(words))] + (["any word at " + shown(unknown, ADDRESS)] if unknown else [])
+        return ["holds " + ("any word" if words == sets.ALL else shown(words)) + (" where it is known" if unknown else "")]
 
     def heading(self, at, last):
         kind, owner = self.kind(at)
@@ -197,15 +199,15 @@ class Report:
                      "unset": "nothing is declared here"}[kind]]
 
     def routine(self, entry):
-        line, offsets = self.certificate.routines.get(entry), sorted(self.declared.routines[entry][1])
+        line, offsets = self.certificate.routines.get(entry), sorted(self.declared.offsets(entry))
         items = [f"routine {entry:04o}"]
         if line is None:
             items.append("nothing is claimed about it")
         else:
             items += [f"rank {line.rank}", f"called from {shown(line.sites, ADDRESS)}", f"may write {may_write(line)}"]
-        items.append("returns by " + (",".join(map(str, offsets)) or "-"))
+        items.append("returns by " + (",".join(f"{offset:o}" for offset in offsets) or "-"))
         exits = sorted((offset, fact) for (of, offset), fact in self.certificate.exits.items() if of == entry)
-        return ["", "; ".join(items)] + [line_of(f"return by {offset}", of_fact(fact, None, False))
+        return ["", "; ".join(items)] + [line_of(f"return by {offset:o}", of_fact(fact, None, False))
                                          for offset, fact in exits]
 
     def listing(self):
@@ -259,7 +261,7 @@ def wanted(pdp8, tape, declaration, certificate, kind=None):
     profile = declared.profile or "8i"
     names = {int(line[:4], 8): line[10:] for line in ran(pdp8, "dump", tape, "--profile", profile).splitlines()}
     report = (kind or Report)(image, declared, claims, names, refused)
-    return report.page(front) if kind else front + report.listing()
+    return report.page(front, (tape, declaration, certificate)) if kind else front + report.listing()
 
 
 def differs(name, want, found):
@@ -281,11 +283,13 @@ def faults_of_page(page):
 
 
 def examples(pdp8, names, room):
-    """Each example and its variant: a name, the tape, the declaration and the certificate."""
+    """Each example and its variant: a name, the tape, the declaration and the certificate, which is of version 1 or 2."""
     for source in sorted((ROOT / "examples").glob("*.pal")):
         of = source.stem.removesuffix("-broken")
         certificate, declaration = (ROOT / "examples" / f"{of}.{kind}" for kind in ("certificate", "declaration"))
         if names and source.stem not in names or not certificate.exists():
+            continue
+        if certificate.read_text("ascii").startswith("PDP8-CERTIFICATE 3"):
             continue
         tape = Path(room) / f"{source.stem}.bin"
         profile = "8e" if "profile 8e" in declaration.read_text() else "8i"
@@ -304,8 +308,12 @@ def cases_of(pdp8, loads):
     from report_pages import Page
     for name, tape, declaration, certificate in loads:
         want = wanted(pdp8, tape, declaration, certificate, Page)
-        command = f"report {name}.bin {declaration.name} {certificate.name} -"
-        yield f"```console\n$ pdp8 {command} | sed '1,/<body>/d' | grep -v '^<text'\n{without_head(want)}```\n\n"
+        files = tape, declaration, certificate
+        for file in files:
+            want = want.replace(f"{file}, sum", f"{file.name}, sum")
+        want = re.sub(r"changed [-0-9]{10}", f"changed {DAY}", want)
+        names = " ".join(file.name for file in files)
+        yield f"```console\n$ touch -d {DAY}T12:00Z {names}; pdp8 report {names} - | sed '1,/<body>/d' | grep -v '^<text'\n{without_head(want)}```\n\n"
 
 
 def compared(pdp8, loads):

@@ -122,11 +122,16 @@ ALONE = [
 ]
 
 
+def once_ready(script):
+    """The same keys and screens behind a line that says that the terminal shows no keys of its own any more."""
+    return [((), ['READY']), *[(keys, ['READY', *lines]) for keys, lines in script]]
+
+
 def at_a_terminal(folder, pdp8):
     return [
         play(folder, pdp8, 'pdp8 teletype guess.bin --switches 42 2>/dev/null', GUESSING),
-        play(folder, pdp8, 'stty -icanon -echo; pdp8 teletype edit.bin 2>/dev/null', EDITING),
-        play(folder, pdp8, 'stty raw -echo; pdp8 teletype echo.bin 2>/dev/null', ECHOING),
+        play(folder, pdp8, 'stty -icanon -echo; echo READY; pdp8 teletype edit.bin 2>/dev/null', once_ready(EDITING)),
+        play(folder, pdp8, "stty raw -echo; printf 'READY\\r\\n'; pdp8 teletype echo.bin 2>/dev/null", once_ready(ECHOING)),
         play(folder, pdp8, 'stty -icanon -echo; pdp8 teletype echo.bin', INTERRUPTING),
         play(folder, pdp8, 'stty -icanon -echo; pdp8 teletype echo.bin --interrupt 30', TELLING),
         play(folder, pdp8, 'pdp8', ALONE),

@@ -1,5 +1,5 @@
 -- What `check` reads and counts.
-use Rattle.std.proofs.Common.{ℕ, ◌≡◌, ◌<◌, ◌==◌, ◌&&◌, ◌||◌, ◌⊎◌, ◌∷◌, [], Bool, true, false, List, Option, Some, None, refl, sym, ◌∙◌, ap, inl, inr}
+use Rattle.std.proofs.Common.{ℕ, suc, ◌+◌, length, map, arith, ◌≡◌, ◌<◌, ◌==◌, ◌&&◌, ◌||◌, ◌⊎◌, ◌∷◌, [], Bool, true, false, List, Option, Some, None, refl, sym, ◌∙◌, ap, inl, inr}
 use Rattle.std.specs.Prelude.{IfSome, OnOk, MatchResult, Result, Ok, Err}
 use Rattle.std.specs.List.{list_any}
 use Rattle.std.proofs.lemmas.Bool.{true≢false, eq-eqb}
@@ -139,3 +139,16 @@ pub verdict_is : (j : Case) (verdict : Result (Unit {0}) Refusal) → MatchResul
     OnOk verdict (IsSafe j.image j.declaration) → IsVerdict j verdict
 verdict_is j (Ok u) exact safe = record { valid = exact; safe = safe }
 verdict_is j (Err r) exact safe = exact
+
+-- as many lines as are kept
+mapped_length : {A B : Type 0} (f : A → B) (xs : List A) → length (map f xs) ≡ length xs
+mapped_length f [] = refl
+mapped_length f (x ∷ xs) = ap suc (mapped_length f xs)
+
+pub lines_counted : {A B C D : Type 0} (f : A → B) (g : C → D) (xs : List A) (ys : List C) (hs : List B) (rs : List D) (m n : ℕ) → m ≡ length xs → n ≡ length ys → map f xs ≡ hs → map g ys ≡ rs → m + n ≡ length hs + length rs
+lines_counted f g xs ys hs rs m n count other is same =
+    let a : length (map f xs) ≡ length xs = mapped_length f xs in
+    let b : length (map g ys) ≡ length ys = mapped_length g ys in
+    let c : length (map f xs) ≡ length hs = ap length is in
+    let d : length (map g ys) ≡ length rs = ap length same in
+    omega (arith, a, b, c, d, count, other)

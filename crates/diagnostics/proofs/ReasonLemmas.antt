@@ -17,6 +17,10 @@ joined old mid new a b first second = rw (second, first) (append_assoc old a b)
 pub joined_three : (old mid more new a b c : List ℕ) → mid ≡ old ++ a → more ≡ mid ++ b → new ≡ more ++ c → new ≡ old ++ ((a ++ b) ++ c)
 joined_three old mid more new a b c first second third = joined old more new (a ++ b) c (joined old mid more a b first second) third
 
+-- three pieces, of which the second and the third belong together
+pub joined_to_three : (old mid more new a b c : List ℕ) → mid ≡ old ++ a → more ≡ mid ++ b → new ≡ more ++ c → new ≡ old ++ (a ++ (b ++ c))
+joined_to_three old mid more new a b c first second third = joined old mid new a (b ++ c) first (joined mid more new b c second third)
+
 -- four pieces
 pub joined_four : (old mid more most new a b c d : List ℕ) → mid ≡ old ++ a → more ≡ mid ++ b → most ≡ more ++ c → new ≡ most ++ d → new ≡ old ++ (a ++ (b ++ (c ++ d)))
 joined_four old mid more most new a b c d first second third fourth =

@@ -13,7 +13,7 @@ ghost use Rattle.reports.specs.Head.{head_of, stuck_opening};
 ghost use Rattle.reports.specs.DraftText.{IsDraftPage, IsDraftReport, IsDraftWorkFault, stuck_line};
 
 use crate::reporting::below_lines;
-use crate::{Finding, Report, ReportForm, SourceNotes, head_of, stuck_opening};
+use crate::{Finding, PageNames, Report, ReportForm, SourceNotes, head_of, stuck_opening};
 use analyser::{Attempt, guess_or_draft};
 use bin_tape::Image;
 use certificate::Certificate;
@@ -71,6 +71,7 @@ fn below_stuck<A: Allocator + Copy, D: Allocator, C: Allocator>(
     draft: &Certificate<C>,
     at: Word,
     form: ReportForm,
+    files: &[u8],
     notes: Option<&SourceNotes<A>>,
     given: Option<&[u8]>,
 ) -> Result<Vec<u8, A>, AllocError> {
@@ -88,23 +89,24 @@ fn below_stuck<A: Allocator + Copy, D: Allocator, C: Allocator>(
         draft,
         Finding::Stuck(at),
         failing,
+        files,
         notes,
     )?;
     below_lines(alloc, &report, &lines, form)
 }
 
 /// The line of a search that is stuck, with what stands before and right behind it in a form, and the rest.
-fn joined<A: Allocator>(
+fn joined<A: Allocator + Copy>(
     alloc: A,
     form: ReportForm,
+    title: &[u8],
     at: Word,
     rest: &[u8],
 ) -> Result<Vec<u8, A>, AllocError>
     ensures { IfOk result (λ page. page.items ≡
-        head_of form ++ (stuck_line at ++ (stuck_opening form ++ rest.now))) }
+        head_of form title.now ++ (stuck_line at ++ (stuck_opening form ++ rest.now))) }
 {
-    let mut page = Vec::new(alloc);
-    page.extend_from_slice(head_of(form))?;
+    let mut page = head_of(alloc, form, title)?;
     push_place(&mut page, b"not known: stuck at ", at)?;
     page.extend_from_slice(b"\n")?;
     page.extend_from_slice(stuck_opening(form))?;
@@ -112,7 +114,7 @@ fn joined<A: Allocator>(
     Ok(page)
 }
 
-/// The report of a draft. Where the lines that say why the search is stuck are given, it has these.
+/// The report of a draft for a program that has these names. Where the lines that say why the search is stuck are given, it has these.
 ///
 /// # Errors
 ///
@@ -124,13 +126,24 @@ pub fn draft_page<A: Allocator + Copy, D: Allocator, C: Allocator>(
     draft: &Certificate<C>,
     at: Word,
     form: ReportForm,
+    names: PageNames<'_>,
     notes: Option<&SourceNotes<A>>,
     given: Option<&[u8]>,
 ) -> Result<Vec<u8, A>, AllocError>
     ensures { IfOk result (λ page. IsDraftPage form at page.items) }
 {
-    let rest = below_stuck(alloc, image, declaration, draft, at, form, notes, given)?;
-    let page = joined(alloc, form, at, &rest)?;
+    let rest = below_stuck(
+        alloc,
+        image,
+        declaration,
+        draft,
+        at,
+        form,
+        names.files,
+        notes,
+        given,
+    )?;
+    let page = joined(alloc, form, names.title, at, &rest)?;
     Ok(page)
 }
 
@@ -185,7 +198,17 @@ pub fn report_draft<A: Allocator + Copy, R: ByteSource, D: ByteSource, W: ByteSi
     match &attempt {
         Attempt::Found(_) => Ok(Status::Done),
         Attempt::Stuck(at, draft) => {
-            let page = draft_page(alloc, image, promised, draft, *at, form, notes, None)?;
+            let page = draft_page(
+                alloc,
+                image,
+                promised,
+                draft,
+                *at,
+                form,
+                PageNames::unnamed(),
+                notes,
+                None,
+            )?;
             put(out, &page)?;
             Ok(Status::Refused)
         }

@@ -137,12 +137,13 @@ fn write_lines<A: Allocator, B: Allocator, D: Allocator, C: Allocator>(
     }
 }
 
-/// Writes a box with a name.
+/// Writes a box with a name, and with a label after it, if there is one.
 fn write_box<A: Allocator>(
     writer: &mut ReportWriter<A>,
     box_place: &BoxPlace,
     class: &[u8],
     name: &[u8],
+    label: &[u8],
 ) {
     let left = box_place.column.saturating_mul(ACROSS).saturating_add(10);
     writer.numbered(b"<rect class=b width=120 height=40 x=", left);
@@ -155,6 +156,7 @@ fn write_box<A: Allocator>(
     writer.numbered(b" y=", box_place.top().saturating_add(24));
     writer.put(b">");
     writer.put(name);
+    writer.label(label);
     writer.put(b"</text>\n");
 }
 
@@ -164,9 +166,16 @@ fn write_routine_box<A: Allocator>(
     box_place: &BoxPlace,
     place: usize,
     entry: Word,
+    label: &[u8],
 ) {
     writer.link(entry);
-    write_box(writer, box_place, colour_of(place), &entry.to_octal());
+    write_box(
+        writer,
+        box_place,
+        colour_of(place),
+        &entry.to_octal(),
+        label,
+    );
     writer.put(b"</a>");
 }
 
@@ -178,6 +187,7 @@ fn write_row<A: Allocator, B: Allocator, D: Allocator, C: Allocator>(
 ) {
     writer.put(b"<tr><td>");
     writer.place(routine.entry());
+    writer.label(report.label_at(routine.entry()));
     match report.certificate.routine(routine.entry()) {
         None => writer.put(b"<td colspan=3>nothing is claimed about it"),
         Some(claimed) => {
@@ -219,7 +229,7 @@ fn write_drawing<A: Allocator, B: Allocator, D: Allocator, C: Allocator>(
     for (place, routine) in report.declaration.routines().iter().enumerate() {
         write_lines(writer, report, box_places, place, routine);
     }
-    write_box(writer, &MAIN, b"m", b"main");
+    write_box(writer, &MAIN, b"m", b"main", b"");
     write_boxes(writer, report, box_places);
     writer.put(b"</svg>\n");
 }
@@ -236,6 +246,7 @@ fn write_boxes<A: Allocator, B: Allocator, D: Allocator, C: Allocator>(
             &box_place_at(box_places, place),
             place,
             routine.entry(),
+            report.label_at(routine.entry()),
         );
     }
 }

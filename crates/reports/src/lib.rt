@@ -8,7 +8,9 @@ mod known;
 mod known_fact;
 mod listing;
 mod map;
+mod names;
 mod page;
+mod promises;
 mod relations;
 mod report;
 mod routines;
@@ -18,6 +20,7 @@ mod variables;
 mod writer;
 
 use listing::{ClaimCache, push_listing};
+pub use names::PageNames;
 pub use page::page_below;
 pub use report::{Finding, Report};
 pub use source_notes::{LinePlace, SourceNote, SourceNotes};

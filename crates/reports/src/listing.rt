@@ -70,6 +70,7 @@ fn write_word<A: Allocator, B: Allocator, D: Allocator, C: Allocator>(
     writer.mark(&at.to_octal());
     writer.mark(b"><td>");
     writer.word(at);
+    writer.label(report.label_at(at));
     writer.put(b" ");
     writer.mark(b"<td>");
     writer.begin_items(SHORT);
@@ -121,10 +122,8 @@ pub(crate) fn write_variable<A: Allocator, B: Allocator, D: Allocator, C: Alloca
     } else {
         writer.words(&held.words);
     }
-    let unknown = report.facts.minus(&held.known_at);
-    if !unknown.is_empty() {
-        writer.item(b"any word at ");
-        writer.places(&unknown);
+    if !report.facts.is_subset(&held.known_at) {
+        writer.put(b" where it is known");
     }
 }
 
@@ -434,10 +433,7 @@ fn write_note<A: Allocator>(writer: &mut ReportWriter<A>, note: Option<SourceNot
     };
     writer.mark(b"<td>");
     writer.note();
-    if !note.label.is_empty() {
-        writer.say(note.label);
-        writer.put(b", ");
-    }
+    writer.noted_label(note.label);
     writer.numbered(b"line ", note.line);
     if note.is_first {
         writer.put(b": ");
@@ -514,6 +510,7 @@ fn write_heading<A: Allocator, B: Allocator, D: Allocator, C: Allocator>(
         Kind::Routine(entry) => {
             writer.put(b"body of routine ");
             writer.word(entry);
+            writer.label(report.label_at(entry));
             writer.put(b"\n");
         }
         Kind::Entry => {

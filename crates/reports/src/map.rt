@@ -1,14 +1,15 @@
-//! Memory as a map: 64 rows of 64 cells.
+//! Memory as a map: rows of 64 cells, two for each page of memory in which something stands.
 
 ghost use Rattle.std.specs.Prelude.{◌≡◌};
 ghost use Rattle.reports.specs.Drawn.{class_is, colour_text, kind_text};
 
-use crate::report::{Kind, Report};
+use crate::report::{Kind, Report, before};
 use crate::writer::ReportWriter;
 use declaration::Declaration;
 use instruct::name;
 use std::alloc::Allocator;
 use word12::Word;
+use wordset::WordSet;
 
 /// How many colours there are for routines.
 const COLOURS: usize = 6;
@@ -20,26 +21,104 @@ const TOP: usize = 14;
 
 const STEP: usize = 10;
 
-/// What the map begins with.
-const MAP: &[u8] = b"<h2 id=memory>Memory, addresses in octal</h2>\n\
-<svg viewBox=\"0 0 680 660\" width=680 role=img aria-label=\"map of memory\">\n\
-<rect class=u x=34 y=14 width=640 height=640 />\n";
+/// How many pages of memory there are, and how many words each has.
+const PAGES: usize = 32;
+
+const PAGE_WORDS: usize = 128;
+
+/// What the map begins with, up to its height.
+const MAP: &[u8] = b"<h2 id=memory>Memory, addresses in octal</h2>\n<svg viewBox=\"0 0 680 ";
+
+/// What stands after its height.
+const GROUND: &[u8] = b"\" width=680 role=img aria-label=\"map of memory\">\n\
+<rect class=u x=34 y=14 width=640 height=";
 
 /// What colours and marks mean that are not those of a body.
 const LEGEND: &[u8] = b"<span class=\"k e\"></span>entry of a routine\n\
 <span class=\"k v\"></span>variable\n\
 <span class=\"k o\"></span>other word of the tape\n\
 <br>A red ring is a declared halt, a black frame the start, a yellow dot a variable among instructions, a red frame \
-the place of a no. Each row has 0100 cells. A cell leads to its line of the listing.</p>\n";
+the place of a no. Each row has 0100 cells; consecutive pages of memory in which nothing stands are one row. A cell leads to its line of the listing.</p>\n";
 
 /// Where a cell stands from the left.
 fn left_of(at: Word) -> usize {
     LEFT + STEP * usize::from(at.low_half())
 }
 
-/// Where a cell stands from above.
-fn top_of(at: Word) -> usize {
-    TOP + STEP * usize::from(at.high_half())
+/// Where the rows of the map stand.
+#[derive(Drop)]
+struct MapRows {
+    /// The cells of the pages in which nothing stands.
+    empty: WordSet,
+    /// The upper edge of the first row of each page.
+    tops: [usize; PAGES],
+    /// The lower edge of the last row.
+    bottom: usize,
+}
+
+/// Whether nothing stands in the page that begins at an address.
+fn is_empty_page<B: Allocator, D: Allocator, C: Allocator>(
+    report: &Report<'_, B, D, C>,
+    first: Word,
+) -> bool {
+    for offset in 0..PAGE_WORDS {
+        let at = first.add(Word::from_index(offset));
+        if report.kind_of(at) != Kind::Unset || report.is_marked(at) {
+            return false;
+        }
+    }
+    true
+}
+
+/// The cells of the pages in which nothing stands.
+fn empty_cells<B: Allocator, D: Allocator, C: Allocator>(report: &Report<'_, B, D, C>) -> WordSet {
+    let mut empty = WordSet::empty();
+    for page in 0..PAGES {
+        let first = Word::from_index(PAGE_WORDS * page);
+        if is_empty_page(report, first) {
+            let last = first.add(Word::from_index(PAGE_WORDS - 1));
+            empty = empty.union(&WordSet::range(first, last));
+        }
+    }
+    empty
+}
+
+/// How high the rows are that the page which begins at an address adds: two rows, or one for the first of several in
+/// which nothing stands.
+fn height_of(empty: &WordSet, first: Word) -> usize {
+    if !empty.contains(first) {
+        2 * STEP
+    } else if first == Word::ZERO || !empty.contains(before(first)) {
+        STEP
+    } else {
+        0
+    }
+}
+
+impl MapRows {
+    /// The rows for a report.
+    fn of<B: Allocator, D: Allocator, C: Allocator>(report: &Report<'_, B, D, C>) -> MapRows {
+        let empty = empty_cells(report);
+        let mut tops = [TOP; PAGES];
+        let mut bottom = TOP;
+        for (page, top) in tops.iter_mut().enumerate() {
+            *top = bottom;
+            let height = height_of(&empty, Word::from_index(PAGE_WORDS.saturating_mul(page)));
+            bottom = bottom.saturating_add(height);
+        }
+        MapRows {
+            empty,
+            tops,
+            bottom,
+        }
+    }
+
+    /// Where a cell stands from above.
+    fn top_of(&self, at: Word) -> usize {
+        let row = usize::from(at.high_half());
+        let top = self.tops.get(row / 2).copied().unwrap_or(TOP);
+        top.saturating_add(STEP * (row % 2))
+    }
 }
 
 /// The place of a routine among those that are declared.
@@ -80,14 +159,36 @@ fn class_of<D: Allocator>(declaration: &Declaration<D>, kind: &Kind) -> &'static
     }
 }
 
-/// Writes the numbers at the side and above.
-fn write_scale<A: Allocator>(writer: &mut ReportWriter<A>) {
+/// Writes a text beside the row that begins at an address.
+fn begin_row_text<A: Allocator>(writer: &mut ReportWriter<A>, rows: &MapRows, first: Word) {
+    writer.numbered(b"<text x=4 y=", rows.top_of(first).saturating_add(8));
+    writer.put(b">");
+    writer.word(first);
+}
+
+/// Writes the numbers at the side.
+fn write_row_numbers<A: Allocator>(writer: &mut ReportWriter<A>, rows: &MapRows) {
     for row in 0..64usize {
-        writer.numbered(b"<text x=4 y=", TOP + STEP * row + 8);
-        writer.put(b">");
-        writer.word(Word::from_index(64 * row));
-        writer.put(b"</text>");
+        let first = Word::from_index(64 * row);
+        if !rows.empty.contains(first) {
+            begin_row_text(writer, rows, first);
+            writer.put(b"</text>");
+        }
     }
+}
+
+/// Writes beside each row of pages in which nothing stands which these are.
+fn write_empty_rows<A: Allocator>(writer: &mut ReportWriter<A>, rows: &MapRows) {
+    for (first, last) in rows.empty.ranges() {
+        begin_row_text(writer, rows, first);
+        writer.put(b"-");
+        writer.word(last);
+        writer.put(b": nothing</text>");
+    }
+}
+
+/// Writes the numbers above.
+fn write_column_numbers<A: Allocator>(writer: &mut ReportWriter<A>) {
     for column in 0..8usize {
         writer.numbered(b"<text x=", LEFT + 8 * STEP * column);
         writer.numbered(b" y=10>+", 10 * column);
@@ -96,22 +197,33 @@ fn write_scale<A: Allocator>(writer: &mut ReportWriter<A>) {
 }
 
 /// Writes a circle or a dot in the middle of a cell.
-fn write_dot<A: Allocator>(writer: &mut ReportWriter<A>, at: Word, class: &[u8], size: &[u8]) {
+fn write_dot<A: Allocator>(
+    writer: &mut ReportWriter<A>,
+    rows: &MapRows,
+    at: Word,
+    class: &[u8],
+    size: &[u8],
+) {
     writer.put(b"<circle class=");
     writer.put(class);
     writer.numbered(b" cx=", left_of(at).saturating_add(5));
-    writer.numbered(b" cy=", top_of(at).saturating_add(5));
+    writer.numbered(b" cy=", rows.top_of(at).saturating_add(5));
     writer.put(b" r=");
     writer.put(size);
     writer.put(b" />");
 }
 
 /// Writes the square of a cell.
-fn write_square<A: Allocator>(writer: &mut ReportWriter<A>, at: Word, class: &[u8]) {
+fn write_square<A: Allocator>(
+    writer: &mut ReportWriter<A>,
+    rows: &MapRows,
+    at: Word,
+    class: &[u8],
+) {
     writer.put(b"<rect class=");
     writer.put(class);
     writer.numbered(b" x=", left_of(at));
-    writer.numbered(b" y=", top_of(at));
+    writer.numbered(b" y=", rows.top_of(at));
     writer.put(b" width=9 height=9 />");
 }
 
@@ -119,21 +231,22 @@ fn write_square<A: Allocator>(writer: &mut ReportWriter<A>, at: Word, class: &[u
 fn write_marks<A: Allocator, B: Allocator, D: Allocator, C: Allocator>(
     writer: &mut ReportWriter<A>,
     report: &Report<'_, B, D, C>,
+    rows: &MapRows,
     at: Word,
     kind: &Kind,
 ) {
     let declaration = report.declaration;
     if declaration.is_variable(at) && *kind != Kind::Variable {
-        write_dot(writer, at, b"w", b"2.5");
+        write_dot(writer, rows, at, b"w", b"2.5");
     }
     if declaration.is_stop(at) || declaration.is_pause(at) {
-        write_dot(writer, at, b"h", b"3");
+        write_dot(writer, rows, at, b"h", b"3");
     }
     if declaration.start() == at {
-        write_square(writer, at, b"s");
+        write_square(writer, rows, at, b"s");
     }
     if report.is_marked(at) {
-        write_square(writer, at, b"\"s bad\"");
+        write_square(writer, rows, at, b"\"s bad\"");
     }
 }
 
@@ -173,6 +286,7 @@ fn write_title<A: Allocator, B: Allocator, D: Allocator, C: Allocator>(
 ) {
     writer.put(b"<title>");
     writer.word(at);
+    writer.label(report.label_at(at));
     writer.put(kind_text(kind));
     if let Kind::Routine(entry) = kind {
         writer.word(*entry);
@@ -189,14 +303,15 @@ fn write_title<A: Allocator, B: Allocator, D: Allocator, C: Allocator>(
 fn write_cell<A: Allocator, B: Allocator, D: Allocator, C: Allocator>(
     writer: &mut ReportWriter<A>,
     report: &Report<'_, B, D, C>,
+    rows: &MapRows,
     at: Word,
     line: Word,
 ) {
     let kind = report.kind_of(at);
     writer.link(line);
     write_title(writer, report, at, &kind);
-    write_square(writer, at, class_of(report.declaration, &kind));
-    write_marks(writer, report, at, &kind);
+    write_square(writer, rows, at, class_of(report.declaration, &kind));
+    write_marks(writer, report, rows, at, &kind);
     writer.put(b"</a>\n");
 }
 
@@ -204,6 +319,7 @@ fn write_cell<A: Allocator, B: Allocator, D: Allocator, C: Allocator>(
 fn write_cells<A: Allocator, B: Allocator, D: Allocator, C: Allocator>(
     writer: &mut ReportWriter<A>,
     report: &Report<'_, B, D, C>,
+    rows: &MapRows,
 ) {
     let mut line = Word::ZERO;
     for index in 0..4096 {
@@ -212,22 +328,23 @@ fn write_cells<A: Allocator, B: Allocator, D: Allocator, C: Allocator>(
             line = at;
         }
         if report.kind_of(at) != Kind::Unset || report.is_marked(at) {
-            write_cell(writer, report, at, line);
+            write_cell(writer, report, rows, at, line);
         }
     }
 }
 
 /// Writes what the colours and marks mean.
-fn write_legend<A: Allocator, D: Allocator>(
+fn write_legend<A: Allocator, B: Allocator, D: Allocator, C: Allocator>(
     writer: &mut ReportWriter<A>,
-    declaration: &Declaration<D>,
+    report: &Report<'_, B, D, C>,
 ) {
     writer.put(b"<p><span class=\"k m\"></span>main\n");
-    for (place, routine) in declaration.routines().iter().enumerate() {
+    for (place, routine) in report.declaration.routines().iter().enumerate() {
         writer.put(b"<span class=\"k ");
         writer.put(colour_of(place));
         writer.put(b"\"></span>routine ");
         writer.place(routine.entry());
+        writer.label(report.label_at(routine.entry()));
         writer.put(b"\n");
     }
     writer.put(LEGEND);
@@ -238,10 +355,15 @@ pub(crate) fn write_map<A: Allocator, B: Allocator, D: Allocator, C: Allocator>(
     writer: &mut ReportWriter<A>,
     report: &Report<'_, B, D, C>,
 ) {
-    writer.put(MAP);
-    write_scale(writer);
+    let rows = MapRows::of(report);
+    writer.numbered(MAP, rows.bottom.saturating_add(6));
+    writer.numbered(GROUND, rows.bottom.saturating_sub(TOP));
+    writer.put(b" />\n");
+    write_row_numbers(writer, &rows);
+    write_empty_rows(writer, &rows);
+    write_column_numbers(writer);
     writer.put(b"\n");
-    write_cells(writer, report);
+    write_cells(writer, report, &rows);
     writer.put(b"</svg>\n");
-    write_legend(writer, report.declaration);
+    write_legend(writer, report);
 }

@@ -4,6 +4,7 @@ use crate::access::writes_through;
 use crate::graph::write_graph;
 use crate::listing::{ClaimCache, push_listing, write_variable};
 use crate::map::write_map;
+use crate::promises::{write_assertions, write_moves, write_returns};
 use crate::report::{Finding, Report};
 use crate::writer::{ReportForm, ReportWriter};
 use declaration::Declaration;
@@ -141,6 +142,7 @@ fn write_points<A: Allocator, D: Allocator>(
         b"and these entries, by the JMS that calls the routine or by an ISZ of the routine that skips an argument: ",
         &entries_of(declaration),
     );
+    write_moves(writer, declaration);
     match declaration.reads() {
         None => writer.put(b"<li>any cell may be read: the declaration has no list of reads\n"),
         Some(cells) => write_point(
@@ -149,9 +151,7 @@ fn write_points<A: Allocator, D: Allocator>(
             cells,
         ),
     }
-    writer.put(
-        b"<li>each routine returns to the address after its own call plus a declared offset\n",
-    );
+    write_returns(writer, declaration);
     write_point(
         writer,
         b"if it halts, it halts only at: ",
@@ -162,6 +162,7 @@ fn write_points<A: Allocator, D: Allocator>(
         b"of these, CONTINUE may be pressed only at: ",
         declaration.pauses(),
     );
+    write_assertions(writer, declaration);
 }
 
 /// Writes the rest of what a yes says, and what it does not.
@@ -194,7 +195,16 @@ fn write_reason<A: Allocator>(
     writer.put(b"</pre>\n");
 }
 
-/// Writes the verdict's meaning, after what it opens with.
+/// Writes from which files the program was read, if they have names.
+fn write_files<A: Allocator>(writer: &mut ReportWriter<A>, files: &[u8]) {
+    if !files.is_empty() {
+        writer.put(b"<p>");
+        writer.say(files);
+        writer.put(b"</p>\n");
+    }
+}
+
+/// Writes the verdict's meaning, after what it opens with, and the files of the program.
 fn write_verdict<A: Allocator, B: Allocator, D: Allocator, C: Allocator>(
     writer: &mut ReportWriter<A>,
     report: &Report<'_, B, D, C>,
@@ -213,6 +223,7 @@ fn write_verdict<A: Allocator, B: Allocator, D: Allocator, C: Allocator>(
             why,
         ),
     }
+    write_files(writer, report.files);
     writer.put(PARTS);
 }
 
@@ -224,6 +235,7 @@ fn write_row<A: Allocator, B: Allocator, D: Allocator, C: Allocator>(
 ) {
     writer.put(b"<tr><td>");
     writer.place(cell);
+    writer.label(report.label_at(cell));
     writer.put(b"<td>");
     match report.image.get(cell) {
         Some(word) => writer.word(word),

@@ -56,6 +56,8 @@ pub struct Report<'a, A: Allocator, D: Allocator, C: Allocator> {
     pub(crate) finding: Finding,
     /// The name of the condition that fails, or nothing where none is told.
     pub(crate) failing: &'a str,
+    /// What is said about the files of the program, or nothing.
+    pub(crate) files: &'a [u8],
     /// What the source says about addresses, where one is known.
     notes: Option<&'a SourceNotes<A>>,
     /// The addresses with a fact.
@@ -113,7 +115,8 @@ pub(crate) fn claimed_of<C: Allocator>(certificate: &Certificate<C>, entry: Word
 
 impl<'a, A: Allocator + Copy, D: Allocator, C: Allocator> Report<'a, A, D, C> {
     /// The report of a certificate and of what is known about it, with the name of the condition that fails, if one
-    /// is told, and what the source says about addresses, if it is known.
+    /// is told, a line on the files of the program, if they have names, and what the source says about addresses, if it
+    /// is known.
     ///
     /// # Errors
     ///
@@ -125,6 +128,7 @@ impl<'a, A: Allocator + Copy, D: Allocator, C: Allocator> Report<'a, A, D, C> {
         certificate: &'a Certificate<C>,
         finding: Finding,
         failing: &'a str,
+        files: &'a [u8],
         notes: Option<&'a SourceNotes<A>>,
     ) -> Result<Report<'a, A, D, C>, AllocError> {
         let mut facts = WordSet::empty();
@@ -136,6 +140,7 @@ impl<'a, A: Allocator + Copy, D: Allocator, C: Allocator> Report<'a, A, D, C> {
             rules: certificate.rules(),
             finding,
             failing,
+            files,
             notes,
             facts,
             held,
@@ -156,6 +161,14 @@ impl<A: Allocator, D: Allocator, C: Allocator> Report<'_, A, D, C> {
         match self.notes {
             Some(notes) => notes.at(at),
             None => None,
+        }
+    }
+
+    /// The label of an address; empty where the source says none.
+    pub(crate) fn label_at(&self, at: Word) -> &[u8] {
+        match self.note_at(at) {
+            Some(note) => note.label,
+            None => b"",
         }
     }
 

@@ -12,7 +12,7 @@ ghost use Rattle.reports.specs.Head.{head_of, opening};
 ghost use Rattle.reports.specs.ReportText.{IsReportOf};
 
 use crate::{Finding, Report, head_of, listing_below, opening, page_below};
-pub use crate::{LinePlace, ReportForm, SourceNote, SourceNotes};
+pub use crate::{LinePlace, PageNames, ReportForm, SourceNote, SourceNotes};
 use bin_tape::Image;
 use certificate::Certificate;
 use command_parts::outcome::{Outcome, deliver};
@@ -92,6 +92,7 @@ fn below<A: Allocator + Copy, D: Allocator, C: Allocator>(
     certificate: &Certificate<C>,
     verdict: &Result<(), Refusal>,
     form: ReportForm,
+    files: &[u8],
     notes: Option<&SourceNotes<A>>,
 ) -> Result<Vec<u8, A>, AllocError> {
     let lines = why_lines(alloc, image, declaration, certificate, verdict)?;
@@ -109,35 +110,41 @@ fn below<A: Allocator + Copy, D: Allocator, C: Allocator>(
         certificate,
         finding,
         failing,
+        files,
         notes,
     )?;
     below_lines(alloc, &report, &lines, form)
 }
 
 /// The line of a verdict, with what stands before and right behind it in a form, and the rest.
-fn joined<A: Allocator>(
+fn joined<A: Allocator + Copy>(
     alloc: A,
     form: ReportForm,
+    title: &[u8],
     verdict: &Result<(), Refusal>,
     line: &[u8],
     rest: &[u8],
 ) -> Result<Vec<u8, A>, AllocError>
     ensures { IfOk result (λ page. page.items ≡
-        head_of form ++ (line.now ++ (opening form verdict.now ++ rest.now))) }
+        head_of form title.now ++ (line.now ++ (opening form verdict.now ++ rest.now))) }
 {
-    let mut page = Vec::new(alloc);
-    page.extend_from_slice(head_of(form))?;
+    let mut page = head_of(alloc, form, title)?;
     page.extend_from_slice(line)?;
     page.extend_from_slice(opening(form, verdict))?;
     page.extend_from_slice(rest)?;
     Ok(page)
 }
 
-/// The report on a certificate of a program, and the status of its verdict.
+/// The report on a certificate of a program that has these names, and the status of its verdict.
+///
+/// # Errors
+///
+/// Memory was refused.
 pub fn report_of<A: Allocator + Copy>(
     alloc: A,
     certified: &Certified<A>,
     form: ReportForm,
+    names: PageNames<'_>,
     notes: Option<&SourceNotes<A>>,
 ) -> Result<Outcome<A>, Fault>
     ensures page { IfOk result (λ page. IsReportOf form certified.now.program.image
@@ -158,9 +165,10 @@ pub fn report_of<A: Allocator + Copy>(
         &certified.certificate,
         &verdict,
         form,
+        names.files,
         notes,
     )?;
-    let text = joined(alloc, form, &verdict, &line, &rest)?;
+    let text = joined(alloc, form, names.title, &verdict, &line, &rest)?;
     let status = verdict_status(&verdict);
     Ok(Outcome { text, status })
 }
@@ -203,7 +211,10 @@ pub fn report<A: Allocator + Copy, R: ByteSource, D: ByteSource, C: ByteSource, 
         (declaration.new ≡ declaration.old) (certificate.new ≡ certificate.old) result }
 {
     match certified_from(alloc, tape, declaration, certificate) {
-        Ok(certified) => deliver(report_of(alloc, &certified, form, notes), out),
+        Ok(certified) => deliver(
+            report_of(alloc, &certified, form, PageNames::unnamed(), notes),
+            out,
+        ),
         Err(fault) => Err(fault),
     }
 }

@@ -67,6 +67,7 @@ pub(crate) fn write_routine<A: Allocator, B: Allocator, D: Allocator, C: Allocat
     writer.begin_items(0);
     writer.item(b"routine ");
     writer.word(routine.entry());
+    writer.label(report.label_at(routine.entry()));
     match report.certificate.routine(routine.entry()) {
         Some(claimed) => write_claimed(writer, &claimed),
         None => writer.item(b"nothing is claimed about it"),

@@ -146,6 +146,22 @@ impl<A: Allocator> ReportWriter<A> {
         self.mark(b"</a>");
     }
 
+    /// Writes in a page a label after its address, if there is one.
+    pub(crate) fn label(&mut self, label: &[u8]) {
+        if self.is_page && !label.is_empty() {
+            self.put(b" ");
+            self.say(label);
+        }
+    }
+
+    /// Writes in plain text the label of a note, if there is one; in a page it stands after the address.
+    pub(crate) fn noted_label(&mut self, label: &[u8]) {
+        if !self.is_page && !label.is_empty() {
+            self.put(label);
+            self.put(b", ");
+        }
+    }
+
     /// Writes the words from one to another, both of them.
     pub(crate) fn run(&mut self, first: Word, last: Word, linked: bool) {
         if linked {

@@ -1,10 +1,11 @@
 //! The report of a search for a certificate that is stuck.
 
 use crate::files::{finish, is_read_once, open_output};
+use crate::named_files::NamedFiles;
 use crate::of_sources::assembled::AssembledSource;
 use crate::of_sources::source_lines::labelled;
 use crate::stuck::{Stuck, stuck_why};
-use command_line::Destination;
+use command_line::{Destination, ProgramRequest};
 use command_parts::status::{DeviceFault, Fault, Status};
 use reports::drafting::draft_page;
 use reports::reporting::ReportForm;
@@ -31,11 +32,13 @@ fn why_in(
 pub fn report_stuck<R: Files + Print>(
     rt: &R,
     alloc: Global,
+    asked: &ProgramRequest<'_>,
     stuck: &Stuck<'_>,
     name: &str,
     source: Option<&AssembledSource>,
 ) -> Result<(), Fault> {
     let why = why_in(alloc, stuck, source)?;
+    let files = NamedFiles::of(rt, alloc, asked, None)?;
     let mut file = open_output(rt, alloc, Destination::MadeLast(name))?;
     let bytes = draft_page(
         alloc,
@@ -44,6 +47,7 @@ pub fn report_stuck<R: Files + Print>(
         stuck.draft,
         stuck.at,
         ReportForm::Page,
+        files.names(),
         source.map(|source| &source.notes),
         match &why {
             Some(lines) => Some(lines.as_slice()),

@@ -6,6 +6,7 @@ pub mod drafted;
 pub mod faults;
 pub mod files;
 pub mod inputs;
+mod named_files;
 pub mod of_files;
 pub mod of_machine;
 pub mod of_programs;

@@ -342,7 +342,8 @@ fn shown_line(alloc: Global, text: &str) -> String {
     }
 }
 
-/// The line on a file that was given as the declaration of a source, if it is none; else nothing.
+/// The line on a file that was given as the declaration of a source, if it is none; else nothing, and nothing of
+/// standard input.
 pub(crate) fn declaration_hint(
     alloc: Global,
     command: &'static str,
@@ -357,14 +358,14 @@ pub(crate) fn declaration_hint(
         names: FileNames::NONE,
     };
     let mut told = String::new(alloc);
-    if !text.is_empty() {
+    if name != "-" && !text.is_empty() {
         asked.push_as_declaration(&mut told, name, kind_of(text));
     }
     shown_line(alloc, &told)
 }
 
-/// The line on a file that was given as a part of a source, if it is none; else nothing. These are the names and the
-/// texts of the parts.
+/// The line on a file that was given as a part of a source, if it is none; else nothing, and nothing of standard
+/// input. These are the names and the texts of the parts.
 pub(crate) fn source_hint(
     alloc: Global,
     command: &'static str,
@@ -382,10 +383,12 @@ pub(crate) fn source_hint(
     };
     let index = fault.part.wrapping_sub(1);
     let mut told = String::new(alloc);
-    if let Some(name) = parts.get(index) {
-        if let Some(text) = texts.get(index) {
-            asked.push_as_source(&mut told, name, kind_of(text));
-        }
+    let name = parts.get(index).copied().unwrap_or("-");
+    if name == "-" {
+        return told;
+    }
+    if let Some(text) = texts.get(index) {
+        asked.push_as_source(&mut told, name, kind_of(text));
     }
     shown_line(alloc, &told)
 }
@@ -395,10 +398,13 @@ fn kind_in<R: Files + Input>(rt: &R, alloc: Global, name: &str) -> Option<Kind> 
     if is_read_once(rt, name) {
         return None;
     }
-    match bytes_of(rt, alloc, name) {
-        Ok(bytes) if !bytes.is_empty() => Some(kind_of(&bytes)),
-        _ => None,
+    let Ok(bytes) = bytes_of(rt, alloc, name) else {
+        return None;
+    };
+    if bytes.is_empty() {
+        return None;
     }
+    Some(kind_of(&bytes))
 }
 
 /// The name of the part of a source that has a fault, if it has that part.

@@ -1,8 +1,8 @@
 -- Lines that are kept, line by line.
-use Rattle.std.proofs.Common.{ℕ, ◌≡◌, ◌∷◌, ◌++◌, ◌==◌, ◌∙◌, List, [], true, false, inl, inr, length, refl, sym, ap, subst, arith}
+use Rattle.std.proofs.Common.{ℕ, ◌≡◌, ◌<◌, ◌+◌, ◌∷◌, ◌++◌, ◌==◌, ◌∙◌, List, [], true, false, inl, inr, length, refl, sym, ap, subst, arith}
 use Rattle.std.specs.Prelude.{codes}
 use Rattle.std.specs.List.{list_all}
-use Rattle.std.proofs.lemmas.List.{append-nil}
+use Rattle.std.proofs.lemmas.List.{append-nil, length-append}
 use Rattle.std.specs.Str.{bytes_eq}
 use Rattle.std.proofs.lemmas.Slice.Eq.{bytes_eq-Decides}
 use Rattle.search_commands.specs.Keeping.{AreAdded, Grows, HasLine, IsAdded, IsCommentOrEnd, IsMark, KeepsLine, KeepsLines, ends_word, first_line, is_spaced, is_spelling, mark, other_lines}
@@ -61,6 +61,23 @@ pub put_in : (old new others front rest : List ℕ) → new ≡ 32 ∷ others �
 put_in old new others front rest e f spelled ends h =
     let P : List ℕ → Type 0 = λ t. Grows old t in
     subst P (sym (e ∙ ap (λ t. 32 ∷ t) f)) (put front old rest spelled ends h)
+
+-- what is left of a line is shorter
+pub put_shorter : (new others front rest : List ℕ) → new ≡ 32 ∷ others → others ≡ front ++ rest → length rest < length new
+put_shorter new others front rest e f =
+    let whole : length new ≡ 1 + length others = ap (λ (t : List ℕ). length t) e in
+    let parts : length others ≡ length front + length rest = ap (λ (t : List ℕ). length t) f ∙ length-append front rest in
+    omega (arith, whole, parts)
+
+-- a byte stands in both lines
+pub both_stand : (left others right more : List ℕ) (first byte : ℕ) → left ≡ first ∷ others → right ≡ byte ∷ more → first ≡ byte → (byte == 47) ≡ false → Grows others more → Grows left right
+both_stand left others right more first byte e f same_byte slash h =
+    let P : List ℕ → Type 0 = λ t. Grows left t in
+    subst P (sym f) (first_stands left others more first byte e same_byte slash h)
+
+-- a byte less is left
+pub same_shorter : (right more : List ℕ) (byte : ℕ) → right ≡ byte ∷ more → length more < length right
+same_shorter right more byte e = let whole : length right ≡ 1 + length more = ap (λ (t : List ℕ). length t) e in omega (arith, whole)
 
 -- ranges are named
 pub named_ranges : (text front rest : List ℕ) → text ≡ front ++ rest → length rest ≡ 0 → list_all is_spaced front ≡ true → IsMark (mark ++ text)

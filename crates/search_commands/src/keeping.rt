@@ -151,13 +151,13 @@ fn first_ranges(text: &[u8]) -> Parted<'_>
 fn are_named(text: &[u8]) -> bool
     ensures { result ≡ true → IsMark (mark ++ text.now) }
 {
-    let Parted { front, rest } = first_ranges(text);
-    if !are_spaced(front) {
+    let named = first_ranges(text);
+    if !are_spaced(named.front) {
         return false;
     }
-    match rest.strip_prefix(RETURNS) {
+    match named.rest.strip_prefix(RETURNS) {
         Some(offsets) => are_spaced(offsets),
-        None => rest.is_empty(),
+        None => named.rest.is_empty(),
     }
 }
 
@@ -223,14 +223,23 @@ fn behind_put<'a>(old: &'a [u8], new: &'a [u8]) -> Option<Growth<'a>>
         Grows left.old.now left.new.now → Grows old.now new.now) }
     ensures shorter { IfSome result (λ left. length left.new.now < length new.now) }
 {
-    let [b' ', others @ ..] = new else {
+    let Some(others) = new.strip_prefix(b" ") else {
         return None;
     };
-    let Parted { front, rest } = first_word(others);
-    if !are_spelling(front) || !ends_word(old) || has_next(old, front) {
+    let word = first_word(others);
+    if !are_spelling(word.front) {
         return None;
     }
-    Some(Growth { old, new: rest })
+    if !ends_word(old) {
+        return None;
+    }
+    if has_next(old, word.front) {
+        return None;
+    }
+    Some(Growth {
+        old,
+        new: word.rest,
+    })
 }
 
 /// What is left where a byte stands in both lines.
@@ -239,12 +248,22 @@ fn behind_same<'a>(old: &'a [u8], new: &'a [u8]) -> Option<Growth<'a>>
         Grows left.old.now left.new.now → Grows old.now new.now) }
     ensures shorter { IfSome result (λ left. length left.new.now < length new.now) }
 {
-    let (first, old) = old.split_first()?;
-    let (byte, new) = new.split_first()?;
-    if *first != *byte || *byte == b'/' {
+    let Some((first, others)) = old.split_first() else {
+        return None;
+    };
+    let Some((byte, more)) = new.split_first() else {
+        return None;
+    };
+    if *byte == b'/' {
         return None;
     }
-    Some(Growth { old, new })
+    if *first == *byte {
+        return Some(Growth {
+            old: others,
+            new: more,
+        });
+    }
+    None
 }
 
 /// What is left behind the next piece of a line that has grown.
@@ -265,14 +284,14 @@ fn grows(old: &[u8], new: &[u8]) -> bool
 {
     let mut left = old;
     let mut rest = new;
-    while !ends_here(left, rest) {
-        let Some(behind) = behind_piece(left, rest) else {
-            return false;
-        };
+    while let Some(behind) = behind_piece(left, rest) {
+        if ends_here(left, rest) {
+            return true;
+        }
         left = behind.old;
         rest = behind.new;
     }
-    true
+    ends_here(left, rest)
 }
 
 /// Whether a line is kept: it is as it was, or has grown.

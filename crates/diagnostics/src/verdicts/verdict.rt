@@ -1,6 +1,6 @@
 //! The line of a verdict.
 
-ghost use Rattle.std.specs.Prelude.{◌≡◌, ◌+◌, ◌++◌, codes, length, OnOk, IfOk, Option};
+ghost use Rattle.std.specs.Prelude.{◌≡◌, ◌+◌, ◌++◌, codes, decimal, length, OnOk, IfOk, Option};
 ghost use Rattle.word12.specs.Words.{octal_text};
 ghost use Rattle.wordset.specs.Words.{SameWords};
 ghost use Rattle.wordset.specs.Lanes.{words};
@@ -171,6 +171,30 @@ fn push_reads<A: Allocator, D: Allocator>(
     push_count(text, cells, b" read cells")
 }
 
+/// Adds a number of assertions.
+fn push_number_of_assertions<A: Allocator>(
+    text: &mut Vec<u8, A>,
+    count: usize,
+) -> Result<(), AllocError>
+    ensures { OnOk result (text.new.items ≡
+        text.old.items ++ (decimal count ++ codes " assertions")) }
+{
+    let mut digits = Buffer::new();
+    text.extend_from_slice(digits.format(count).as_bytes())?;
+    text.extend_from_slice(b" assertions")
+}
+
+/// Adds a number of assertions behind a comma, if it is not 0.
+fn push_assertion_count<A: Allocator>(text: &mut Vec<u8, A>, count: usize) -> Result<(), AllocError>
+    ensures { OnOk result (text.new.items ≡ text.old.items ++ assertions_text count) }
+{
+    if count == 0 {
+        return Ok(());
+    }
+    text.extend_from_slice(b", ")?;
+    push_number_of_assertions(text, count)
+}
+
 /// Adds how many lines declare what is to hold, if some do.
 fn push_assertions<A: Allocator, D: Allocator>(
     text: &mut Vec<u8, A>,
@@ -179,14 +203,9 @@ fn push_assertions<A: Allocator, D: Allocator>(
     ensures { let d = meaning declaration.now in OnOk result
         (text.new.items ≡ text.old.items ++ assertions_text (length d.holds + length d.returns)) }
 {
-    let count = declaration.holds().len() + declaration.returns().len();
-    if count == 0 {
-        return Ok(());
-    }
-    let mut digits = Buffer::new();
-    text.extend_from_slice(b", ")?;
-    text.extend_from_slice(digits.format(count).as_bytes())?;
-    text.extend_from_slice(b" assertions")
+    let at_places = declaration.holds().len();
+    let at_returns = declaration.returns().len();
+    push_assertion_count(text, at_places + at_returns)
 }
 
 /// The line of a program that is safe.

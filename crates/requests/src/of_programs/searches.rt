@@ -13,7 +13,7 @@ use analyser::{Attempt, guess, guess_or_draft, guess_version, guess_version_or_d
 use bin_tape::Image;
 use certificate::Certificate;
 use certificate_lines::Version;
-use command_line::Destination;
+use command_line::{Destination, ProgramRequest};
 use command_parts::options::{DeclareOptions, RefuteOptions};
 use command_parts::programs::Program;
 use command_parts::status::{Fault, Status};
@@ -43,19 +43,19 @@ fn write_found<R: Files + Print>(
 fn tell_stuck<R: Files + Print + Eprint>(
     rt: &R,
     alloc: Global,
+    asked: &ProgramRequest<'_>,
     source: Option<&AssembledSource>,
     stuck: &Stuck<'_>,
     report: Option<&str>,
-    explained: bool,
 ) -> Result<Status, Fault> {
-    if explained {
+    if asked.explained {
         let told = stuck_message(alloc, stuck)?;
         let _ = put(&mut tell_to(rt), &lines_of(alloc, source, &told)?);
     }
     if let Some(name) = report {
-        report_stuck(rt, alloc, stuck, name, source)?;
+        report_stuck(rt, alloc, asked, stuck, name, source)?;
     }
-    if explained {
+    if asked.explained {
         return Ok(Status::Refused);
     }
     Err(Fault::Guess(GuessFault::Stuck(stuck.at)))
@@ -94,15 +94,15 @@ pub(crate) fn guessed<R: Files + Print + Eprint, I: Read + Drop>(
     rt: &R,
     alloc: Global,
     opened: &mut OpenProgram<'_, I>,
+    asked: &ProgramRequest<'_>,
     out: Destination<'_>,
     report: Option<&str>,
     version: Option<Version>,
-    explained: bool,
 ) -> Result<Status, Fault> {
     let mut file = open_output(rt, alloc, out)?;
     let source = opened.source;
     let Program { image, declaration } = opened.read(alloc)?;
-    if !explained && report.is_none() {
+    if !asked.explained && report.is_none() {
         return write_found(&mut file, &found_for(alloc, &image, &declaration, version)?);
     }
     match &attempt_for(alloc, &image, &declaration, version)? {
@@ -114,7 +114,7 @@ pub(crate) fn guessed<R: Files + Print + Eprint, I: Read + Drop>(
                 at: *at,
                 draft,
             };
-            tell_stuck(rt, alloc, source, &stuck, report, explained)
+            tell_stuck(rt, alloc, asked, source, &stuck, report)
         }
     }
 }

@@ -1,6 +1,7 @@
 //! What is done with a program that is open. The other files of a command are opened before the program is read.
 
 use crate::files::{finish, open_input, open_output};
+use crate::named_files::NamedFiles;
 use crate::of_machine::places::{Named, named_in};
 use crate::of_programs::open::OpenProgram;
 use crate::of_programs::searches::{declared, guessed, refuted};
@@ -75,6 +76,7 @@ fn reported<R: Files + Input + Print, I: Read + Drop>(
     rt: &R,
     alloc: Global,
     opened: &mut OpenProgram<'_, I>,
+    asked: &ProgramRequest<'_>,
     certificate: &str,
     out: Destination<'_>,
     form: ReportForm,
@@ -83,12 +85,13 @@ fn reported<R: Files + Input + Print, I: Read + Drop>(
     let mut file = open_output(rt, alloc, out)?;
     let notes = opened.source.map(|source| &source.notes);
     let program = opened.read(alloc)?;
-    let certificate = certificate_from(alloc, &mut claims)?;
+    let found = certificate_from(alloc, &mut claims)?;
     let certified = Certified {
         program,
-        certificate,
+        certificate: found,
     };
-    let page = report_of(alloc, &certified, form, notes);
+    let files = NamedFiles::of(rt, alloc, asked, Some(certificate))?;
+    let page = report_of(alloc, &certified, form, files.names(), notes);
     let status = deliver(page, &mut Writes::new(&mut file))?;
     finish(&mut file, status)
 }
@@ -234,7 +237,15 @@ pub(crate) fn carry_out<R: Files + Input + Print + Eprint, I: Read + Drop>(
             certificate,
             out,
             text,
-        } => reported(rt, alloc, opened, certificate, *out, report_form(*text)),
+        } => reported(
+            rt,
+            alloc,
+            opened,
+            asked,
+            certificate,
+            *out,
+            report_form(*text),
+        ),
         Task::Watch {
             events,
             show,
@@ -263,7 +274,7 @@ pub(crate) fn carry_out<R: Files + Input + Print + Eprint, I: Read + Drop>(
             out,
             report,
             version,
-        } => guessed(rt, alloc, opened, *out, *report, *version, explained),
+        } => guessed(rt, alloc, opened, asked, *out, *report, *version),
         Task::Refute { out, options } => refuted(rt, alloc, opened, *out, options),
         Task::Declare { out, options } => declared(rt, alloc, opened, *out, *options),
         Task::Place { out } => placed(rt, alloc, opened.source, *out),

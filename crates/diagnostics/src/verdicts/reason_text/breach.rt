@@ -251,6 +251,14 @@ fn push_address_and_advice<L: Lines>(
     Ok(())
 }
 
+/// Adds the number of a place, counted from 1, and a comma.
+fn push_number_and_comma<L: Lines>(text: &mut L, index: usize) -> Result<(), AllocError>
+    ensures { OnOk result (L.text text.new ≡
+        L.text text.old ++ around_number (codes "") (from_one index) (codes ", ")) }
+{
+    push_around_number(text, b"", index.saturating_add(1), b", ")
+}
+
 /// Adds by which offset a routine returns, and by the rules of sums by which of its exit lines.
 pub fn push_exit_named<L: Lines>(
     text: &mut L,
@@ -266,7 +274,8 @@ pub fn push_exit_named<L: Lines>(
         }
         Rules::OfSums => {
             push_around_offset(text, b"when it returns with offset ", offset, b" by exit ")?;
-            push_around_number(text, b"", index.saturating_add(1), b", ")
+            push_number_and_comma(text, index)?;
+            Ok(())
         }
     }
 }

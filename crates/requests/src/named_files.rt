@@ -1,0 +1,132 @@
+//! How a report names a program and its files. It is tested, not proved.
+
+use crate::source_faults::input_name;
+use command_line::{ProgramNames, ProgramRequest};
+use command_parts::visible::visible_text;
+use jiff::Timestamp;
+use jiff::civil::Date;
+use jiff::tz::TimeZone;
+use reports::reporting::PageNames;
+use std::alloc::{AllocError, Global};
+use std::fmt::Write;
+use std::fs::{self, Metadata};
+use std::io::Read;
+use std::path::Path;
+use std::rt::Files;
+
+/// What is said after the names of the files.
+const UNITS: &str =
+    ". A sum is that of the file's bytes, in octal, modulo 200000; a date is that of its last change, in UTC.";
+
+/// The sum of the bytes of a file, if it can be read.
+fn sum_of<R: Files>(rt: &R, alloc: Global, name: &str) -> Option<u16> {
+    let mut bytes = Vec::new(alloc);
+    let _ = fs::open(rt, name).ok()?.read_to_end(&mut bytes).ok()?;
+    let sum = bytes
+        .iter()
+        .fold(0u16, |sum, byte| sum.wrapping_add(u16::from(*byte)));
+    Some(sum)
+}
+
+/// The date of a file's last change, if it is known.
+fn date_of(found: &Metadata) -> Option<Date> {
+    let changed = Timestamp::try_from(found.modified().ok()?).ok()?;
+    Some(changed.to_zoned(TimeZone::UTC).date())
+}
+
+/// Adds the name of a file, and of a plain one the sum of its bytes and the date of its last change.
+fn push_file<R: Files>(
+    rt: &R,
+    alloc: Global,
+    text: &mut String,
+    name: &str,
+) -> Result<(), AllocError> {
+    text.push_str(&visible_text(alloc, input_name(name))?)?;
+    let Ok(found) = fs::metadata(rt, name) else {
+        return Ok(());
+    };
+    if name == "-" || !found.is_file() {
+        return Ok(());
+    }
+    if let Some(sum) = sum_of(rt, alloc, name) {
+        write!(text, ", sum {sum:06o}").map_err(|_| AllocError)?;
+    }
+    if let Some(date) = date_of(&found) {
+        write!(text, ", changed {date}").map_err(|_| AllocError)?;
+    }
+    Ok(())
+}
+
+/// Adds a further file.
+fn push_further<R: Files>(
+    rt: &R,
+    alloc: Global,
+    text: &mut String,
+    name: Option<&str>,
+) -> Result<(), AllocError> {
+    let Some(name) = name else {
+        return Ok(());
+    };
+    text.push_str("; ")?;
+    push_file(rt, alloc, text, name)
+}
+
+/// The name of the file of a tape, or of the first part of a source.
+fn first_of<'a>(program: &ProgramNames<'a>) -> &'a str {
+    match program {
+        ProgramNames::Tape(tape) => tape,
+        ProgramNames::Source(parts) => parts.first().copied().unwrap_or("-"),
+    }
+}
+
+/// The name of a program without its folder and its ending.
+fn title_of(name: &str) -> &str {
+    if name == "-" {
+        return input_name(name);
+    }
+    Path::new(name).file_stem().unwrap_or(name)
+}
+
+/// A program and its files as a page names them.
+#[derive(Drop)]
+pub(crate) struct NamedFiles<'a> {
+    title: &'a str,
+    files: String,
+}
+
+impl<'a> NamedFiles<'a> {
+    /// The names of a program's files, of its declaration and of a certificate. The files are read once more.
+    ///
+    /// # Errors
+    ///
+    /// Memory was refused.
+    pub(crate) fn of<R: Files>(
+        rt: &R,
+        alloc: Global,
+        asked: &ProgramRequest<'a>,
+        certificate: Option<&str>,
+    ) -> Result<NamedFiles<'a>, AllocError> {
+        let first = first_of(&asked.program);
+        let mut files = String::new(alloc);
+        files.push_str("Files: ")?;
+        push_file(rt, alloc, &mut files, first)?;
+        for part in asked.program.parts().iter().skip(1) {
+            push_further(rt, alloc, &mut files, Some(part))?;
+        }
+        push_further(rt, alloc, &mut files, asked.declaration)?;
+        push_further(rt, alloc, &mut files, certificate)?;
+        files.push_str(UNITS)?;
+        Ok(NamedFiles {
+            title: title_of(first),
+            files,
+        })
+    }
+
+    /// The names for a page.
+    pub(crate) fn names(&self) -> PageNames<'_> {
+        PageNames {
+            title: self.title.as_bytes(),
+            files: self.files.as_bytes(),
+        }
+    }
+}

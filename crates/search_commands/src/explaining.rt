@@ -6,6 +6,7 @@ ghost use Rattle.declaration.specs.Kept.{meaning};
 ghost use Rattle.command_parts.specs.Answers.{IsLaterFault, IsMemoryFault, WritesAnswer, output};
 ghost use Rattle.command_parts.specs.Faults.{fails_to_write};
 ghost use Rattle.command_parts.specs.Inputs.{input};
+ghost use Rattle.command_parts.specs.Messages.{plain};
 ghost use Rattle.diagnostics.specs.CertificateFaults.{ReadsCertified};
 ghost use Rattle.diagnostics.specs.CertificateInputs.{OfCertified};
 ghost use Rattle.diagnostics.specs.WhyText.{IsExplanationOf};
@@ -16,6 +17,18 @@ use diagnostics::verdicts::certificates::{Certified, certified_from};
 use diagnostics::verdicts::messages::{VerdictMessage, check_message};
 use std::alloc::Allocator;
 use streams::{ByteSink, ByteSource};
+
+/// What is told, as it reads without a source.
+fn outcome_of<A: Allocator>(message: VerdictMessage<A>) -> Outcome<A>
+    ensures text { result.text.items ≡ plain message.told }
+    ensures status { result.status ≡ message.status }
+{
+    let VerdictMessage { told, status } = message;
+    Outcome {
+        text: told.into_bytes(),
+        status,
+    }
+}
 
 /// The verdict on a certificate of a program with why it is no, or with what a yes leaves to say, and its status.
 fn explanation_of<A: Allocator + Copy>(
@@ -32,12 +45,10 @@ fn explanation_of<A: Allocator + Copy>(
         program,
         certificate,
     } = certified;
-    let message = check_message(alloc, &program.image, &program.declaration, certificate)?;
-    let VerdictMessage { told, status } = message;
-    Ok(Outcome {
-        text: told.into_bytes(),
-        status,
-    })
+    match check_message(alloc, &program.image, &program.declaration, certificate) {
+        Ok(message) => Ok(outcome_of(message)),
+        Err(_) => Err(Fault::NoMemory),
+    }
 }
 
 /// Checks a certificate of a tape and a declaration, and writes the verdict: yes, with the numbers of

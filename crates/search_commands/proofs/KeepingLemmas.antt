@@ -65,26 +65,26 @@ put_in old new others front rest e f spelled ends h =
 -- what is left of a line is shorter
 pub put_shorter : (new others front rest : List ℕ) → new ≡ 32 ∷ others → others ≡ front ++ rest → length rest < length new
 put_shorter new others front rest e f =
-    let whole : length new ≡ 1 + length others = ap (λ (t : List ℕ). length t) e in
+    let whole : length new ≡ length {A = ℕ} (32 ∷ others) = ap (λ (t : List ℕ). length t) e in
     let parts : length others ≡ length front + length rest = ap (λ (t : List ℕ). length t) f ∙ length-append front rest in
     omega (arith, whole, parts)
 
 -- a byte stands in both lines
 pub both_stand : (left others right more : List ℕ) (first byte : ℕ) → left ≡ first ∷ others → right ≡ byte ∷ more → first ≡ byte → (byte == 47) ≡ false → Grows others more → Grows left right
-both_stand left others right more first byte e f same_byte slash h =
+both_stand left others right tail first byte e f same_byte slash h =
     let P : List ℕ → Type 0 = λ t. Grows left t in
-    subst P (sym f) (first_stands left others more first byte e same_byte slash h)
+    subst P (sym f) (first_stands left others tail first byte e same_byte slash h)
 
 -- a byte less is left
 pub same_shorter : (right more : List ℕ) (byte : ℕ) → right ≡ byte ∷ more → length more < length right
-same_shorter right more byte e = let whole : length right ≡ 1 + length more = ap (λ (t : List ℕ). length t) e in omega (arith, whole)
+same_shorter right tail byte e = let whole : length right ≡ length {A = ℕ} (byte ∷ tail) = ap (λ (t : List ℕ). length t) e in omega (arith, whole)
 
 -- ranges are named
 pub named_ranges : (text front rest : List ℕ) → text ≡ front ++ rest → length rest ≡ 0 → list_all is_spaced front ≡ true → IsMark (mark ++ text)
-named_ranges text front [] e none spaced =
+named_ranges text front [] e empty spaced =
     let P : List ℕ → Type 0 = λ t. IsMark (mark ++ t) in
     subst P (sym (e ∙ append-nil front)) (ranges front spaced)
-named_ranges text front (x ∷ xs) e none spaced = absurd (omega (arith, none))
+named_ranges text front (x ∷ xs) e empty spaced = absurd (omega (arith, empty))
 
 -- ranges and offsets are named
 pub named_offsets : (text front rest behind : List ℕ) → text ≡ front ++ rest → rest ≡ codes "returns" ++ behind → list_all is_spaced front ≡ true → list_all is_spaced behind ≡ true → IsMark (mark ++ text)

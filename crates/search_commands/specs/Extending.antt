@@ -13,8 +13,8 @@ KeepsReads (Some cells) (Some more) = IsWithin cells more
 -- The second declaration extends the first: start and machine are the same, and all that the first says of bodies,
 -- routines, variables, halts, listed reads, entries in which their routines may store, and places for which calls may be
 -- abandoned the second says too. It may say more of these. Since no cell is in two bodies, no entry is in a body or a
--- variable, and no stop is a pause, whatever has one of these roles keeps it. What is to hold at places and at returns is
--- the same, neither less nor more.
+-- variable, and no stop is a pause, whatever has one of these roles keeps it. What is to hold at
+-- places and at returns stands in lines of its own, which are kept as lines.
 pub record Extends (given more : Declaration) : Type 0 where
   pub start_is : more.start ≡ given.start
   pub profile_is : more.profile ≡ given.profile
@@ -25,5 +25,3 @@ pub record Extends (given more : Declaration) : Type 0 where
   pub reads : KeepsReads given.reads more.reads
   pub moves : IsWithin given.moves more.moves
   pub abandon : IsWithin given.abandon more.abandon
-  pub holds : more.holds ≡ given.holds
-  pub returns : more.returns ≡ given.returns

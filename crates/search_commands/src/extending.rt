@@ -49,14 +49,6 @@ fn keeps_leave<A: Allocator, B: Allocator>(given: &Declaration<A>, more: &Declar
     given.moves().is_subset(more.moves()) && given.abandons().is_subset(more.abandons())
 }
 
-/// Whether the same is to hold, at places and at returns.
-fn asserts_alike<A: Allocator, B: Allocator>(given: &Declaration<A>, more: &Declaration<B>) -> bool
-    ensures holds { result ≡ true → (meaning more.now).holds ≡ (meaning given.now).holds }
-    ensures returns { result ≡ true → (meaning more.now).returns ≡ (meaning given.now).returns }
-{
-    more.holds() == given.holds() && more.returns() == given.returns()
-}
-
 /// Whether the second declaration extends the first.
 pub fn extends<A: Allocator, B: Allocator>(given: &Declaration<A>, more: &Declaration<B>) -> bool
     ensures { result ≡ true → Extends (meaning given.now) (meaning more.now) }
@@ -71,9 +63,6 @@ pub fn extends<A: Allocator, B: Allocator>(given: &Declaration<A>, more: &Declar
         return false;
     }
     if !keeps_leave(given, more) {
-        return false;
-    }
-    if !asserts_alike(given, more) {
         return false;
     }
     keeps_cells(given, more)

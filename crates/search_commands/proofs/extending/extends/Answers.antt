@@ -16,6 +16,4 @@ returns g c =
       reads = kept;
       moves = c.keeps_leave.ensures.moves c.if-not-keeps_leave.false;
       abandon = c.keeps_leave.ensures.abandon c.if-not-keeps_leave.false;
-      holds = c.asserts_alike.ensures.holds c.if-not-asserts_alike.false;
-      returns = c.asserts_alike.ensures.returns c.if-not-asserts_alike.false;
     }

@@ -7,4 +7,4 @@ pub returns-then-ends_here : goal.returns-then-ends_here
 returns-then-ends_here c = λ done. c.loop-behind.invariant (c.if-ends_here.ensures done)
 
 pub returns : goal.returns
-returns c = λ done. c.loop-behind.invariant (c.ends_here.ensures done)
+returns c = λ done. c.loop-behind.invariant (c.ends_here-2.ensures done)

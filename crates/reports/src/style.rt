@@ -1,6 +1,8 @@
 //! How a page looks, with what it begins, and what it says right after the verdict.
 
-ghost use Rattle.std.specs.Prelude.{◌≡◌, IfOk};
+ghost use Rattle.std.specs.Prelude.{◌≡◌, ◌++◌, IfOk};
+ghost use Rattle.std.specs.List.{filter};
+ghost use Rattle.reports.specs.declared.style.TheConstants.{STYLE, HEADING};
 ghost use Rattle.reports.specs.Head.{head_of, is_plain, opening, stuck_opening};
 
 use crate::writer::ReportForm;
@@ -25,21 +27,39 @@ fn is_plain(byte: u8) -> bool
     byte >= b' ' && byte <= b'~' && byte != b'<' && byte != b'&'
 }
 
-/// What a page with a title begins with, up to the verdict.
-fn page_head<A: Allocator + Copy>(alloc: A, title: &[u8]) -> Result<Vec<u8, A>, AllocError>
-    ensures { IfOk result (λ head. head.items ≡ head_of ReportForm.Page title.now) }
+/// A title without what may not stand in one.
+fn plain_of<A: Allocator + Copy>(alloc: A, title: &[u8]) -> Result<Vec<u8, A>, AllocError>
+    ensures { IfOk result (λ plain. plain.items ≡ filter is_plain title.now) }
 {
-    let plain: Vec<u8, A> = title
+    title
         .iter()
         .copied()
         .filter(|byte| is_plain(*byte))
-        .collect(alloc)?;
+        .collect(alloc)
+}
+
+/// What a page begins with after its title: how it looks, the name of the program, and the tag of the heading.
+fn after_title<A: Allocator>(alloc: A, name: &[u8]) -> Result<Vec<u8, A>, AllocError>
+    ensures { IfOk result (λ rest. rest.items ≡ STYLE.now ++ (name.now ++ HEADING.now)) }
+{
+    let mut rest = Vec::new(alloc);
+    rest.extend_from_slice(STYLE)?;
+    rest.extend_from_slice(name)?;
+    rest.extend_from_slice(HEADING)?;
+    Ok(rest)
+}
+
+/// What a page with a title begins with, up to the verdict.
+#[tactic(auto, unfolding(crate::specs::Head::head_of))]
+fn page_head<A: Allocator + Copy>(alloc: A, title: &[u8]) -> Result<Vec<u8, A>, AllocError>
+    ensures { IfOk result (λ head. head.items ≡ head_of ReportForm.Page title.now) }
+{
+    let plain = plain_of(alloc, title)?;
+    let rest = after_title(alloc, &plain)?;
     let mut head = Vec::new(alloc);
     head.extend_from_slice(HEAD)?;
     head.extend_from_slice(&plain)?;
-    head.extend_from_slice(STYLE)?;
-    head.extend_from_slice(&plain)?;
-    head.extend_from_slice(HEADING)?;
+    head.extend_from_slice(&rest)?;
     Ok(head)
 }
 
@@ -49,6 +69,7 @@ fn page_head<A: Allocator + Copy>(alloc: A, title: &[u8]) -> Result<Vec<u8, A>, 
 /// # Errors
 ///
 /// Memory was refused.
+#[tactic(auto, unfolding(crate::specs::Head::head_of))]
 pub fn head_of<A: Allocator + Copy>(
     alloc: A,
     form: ReportForm,

@@ -16,12 +16,11 @@ use Rattle.reports.specs.Head.{head_of, stuck_opening}
 abbrev pub stuck_line : ℕ → List ℕ
 stuck_line at = (codes "not known: stuck at " ++ octal_text at) ++ codes "\n"
 
--- The page is what stands before the line in its form, with some title, then the line of a search that is stuck at this address, then that
+-- The page is what stands before the line in its form, then the line of a search that is stuck at this address, then that
 -- nothing is shown, and then more.
 pub record IsDraftPage (form : ReportForm) (at : ℕ) (page : List ℕ) : Type 0 where
-  pub title : List ℕ
   pub rest : List ℕ
-  pub page_is : page ≡ head_of form title ++ (stuck_line at ++ (stuck_opening form ++ rest))
+  pub page_is : page ≡ head_of form ++ (stuck_line at ++ (stuck_opening form ++ rest))
 
 -- The frames are a tape, the text is that of a declaration, and there is the draft of a certificate whose lines are where
 -- they may be, and which has a fact at an address; the page is that of a search that is stuck there.

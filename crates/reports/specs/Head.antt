@@ -1,20 +1,14 @@
 -- What stands before the verdict in a report, and right behind it.
-use Rattle.std.specs.Prelude.{ℕ, ◌==◌, nat_le, Bool, not, ◌&&◌, ◌||◌, codes, List, [], ◌++◌, Result, Ok, Err}
-use Rattle.std.specs.List.{filter}
+use Rattle.std.specs.Prelude.{ℕ, codes, List, [], Result, Ok, Err}
 use Rattle.judge.specs.declared.judging.Refusal.{Refusal}
 use Rattle.reports.specs.declared.writer.ReportForm.{ReportForm}
 use Rattle.reports.specs.declared.writer.ReportForm.TheVariants.{Text, Page}
-use Rattle.reports.specs.declared.style.TheConstants.{HEAD, STYLE, HEADING}
+use Rattle.reports.specs.declared.style.TheConstants.{HEAD}
 
--- The character may stand in a title: it is printable, of ASCII, and no markup.
-abbrev pub is_plain : ℕ → Bool
-is_plain c = (nat_le 32 c && nat_le c 126) && not (c == 60 || c == 38)
-
--- Plain text begins with the verdict. A page of HTML begins with its head, which has a title and says how the page looks, with the
--- title once more, and with the tag of its heading.
-unfoldable pub head_of : ReportForm → List ℕ → List ℕ
-head_of Text title = []
-head_of Page title = HEAD.now ++ (filter is_plain title ++ (STYLE.now ++ (filter is_plain title ++ HEADING.now)))
+-- Plain text begins with the verdict, a page of HTML with its head: how it looks, and the tag of its heading.
+unfoldable pub head_of : ReportForm → List ℕ
+head_of Text = []
+head_of Page = HEAD.now
 
 -- Behind the verdict a page says, in a whole sentence, that no run breaks the declaration after a yes, and that nothing is
 -- shown after a no.

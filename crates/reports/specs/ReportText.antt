@@ -7,12 +7,11 @@ use Rattle.reports.specs.declared.writer.ReportForm.{ReportForm}
 use Rattle.reports.specs.Head.{head_of, opening}
 use Rattle.diagnostics.specs.CheckText.{IsVerdictOf}
 
--- The page is what stands before the verdict in its form, with some title, then the line of the verdict on the image, the
+-- The page is what stands before the verdict in its form, then the line of the verdict on the image, the
 -- declaration and the certificate's lines, as `check` writes it, then what stands right behind that verdict, and then more; and
 -- the status is that of the verdict.
 pub record IsReportOf (form : ReportForm) (image : List (Option ℕ)) (declaration : Declaration) (lines : Text) (status : Status) (page : List ℕ) : Type 0 where
   pub line : List ℕ
   pub checked : IsVerdictOf image declaration lines status line
-  pub title : List ℕ
   pub rest : List ℕ
-  pub page_is : page ≡ head_of form title ++ (line ++ (opening form checked.verdict ++ rest))
+  pub page_is : page ≡ head_of form ++ (line ++ (opening form checked.verdict ++ rest))

@@ -96,17 +96,17 @@ fn below_stuck<A: Allocator + Copy, D: Allocator, C: Allocator>(
 }
 
 /// The line of a search that is stuck, with what stands before and right behind it in a form, and the rest.
-fn joined<A: Allocator + Copy>(
+fn joined<A: Allocator>(
     alloc: A,
     form: ReportForm,
-    title: &[u8],
     at: Word,
     rest: &[u8],
 ) -> Result<Vec<u8, A>, AllocError>
     ensures { IfOk result (λ page. page.items ≡
-        head_of form title.now ++ (stuck_line at ++ (stuck_opening form ++ rest.now))) }
+        head_of form ++ (stuck_line at ++ (stuck_opening form ++ rest.now))) }
 {
-    let mut page = head_of(alloc, form, title)?;
+    let mut page = Vec::new(alloc);
+    page.extend_from_slice(head_of(form))?;
     push_place(&mut page, b"not known: stuck at ", at)?;
     page.extend_from_slice(b"\n")?;
     page.extend_from_slice(stuck_opening(form))?;
@@ -143,7 +143,7 @@ pub fn draft_page<A: Allocator + Copy, D: Allocator, C: Allocator>(
         notes,
         given,
     )?;
-    let page = joined(alloc, form, names.title, at, &rest)?;
+    let page = joined(alloc, form, at, &rest)?;
     Ok(page)
 }
 

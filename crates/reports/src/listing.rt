@@ -260,7 +260,7 @@ impl ClaimCache {
     )
         requires { length ((claims report.now.certificate.now).facts at) ≡ 1 }
         ensures { let c = claims report.now.certificate.now in ShowsFact c.rules
-            (image_of report.now.image.now) (words self.old.routine.sites) (fact_at (c.facts at) 0)
+            (image_of report.now.image.now) (words self.new.routine.sites) (fact_at (c.facts at) 0)
             (fact_of (is_even at) self.new) }
     {
         let image = report.image;

@@ -117,18 +117,18 @@ fn below<A: Allocator + Copy, D: Allocator, C: Allocator>(
 }
 
 /// The line of a verdict, with what stands before and right behind it in a form, and the rest.
-fn joined<A: Allocator + Copy>(
+fn joined<A: Allocator>(
     alloc: A,
     form: ReportForm,
-    title: &[u8],
     verdict: &Result<(), Refusal>,
     line: &[u8],
     rest: &[u8],
 ) -> Result<Vec<u8, A>, AllocError>
     ensures { IfOk result (λ page. page.items ≡
-        head_of form title.now ++ (line.now ++ (opening form verdict.now ++ rest.now))) }
+        head_of form ++ (line.now ++ (opening form verdict.now ++ rest.now))) }
 {
-    let mut page = head_of(alloc, form, title)?;
+    let mut page = Vec::new(alloc);
+    page.extend_from_slice(head_of(form))?;
     page.extend_from_slice(line)?;
     page.extend_from_slice(opening(form, verdict))?;
     page.extend_from_slice(rest)?;
@@ -168,7 +168,7 @@ pub fn report_of<A: Allocator + Copy>(
         names.files,
         notes,
     )?;
-    let text = joined(alloc, form, names.title, &verdict, &line, &rest)?;
+    let text = joined(alloc, form, &verdict, &line, &rest)?;
     let status = verdict_status(&verdict);
     Ok(Outcome { text, status })
 }

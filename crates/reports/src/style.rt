@@ -1,85 +1,23 @@
 //! How a page looks, with what it begins, and what it says right after the verdict.
 
-ghost use Rattle.std.specs.Prelude.{◌≡◌, ◌++◌, IfOk};
-ghost use Rattle.std.specs.List.{filter};
-ghost use Rattle.reports.specs.declared.style.TheConstants.{STYLE, HEADING};
-ghost use Rattle.reports.specs.Head.{head_of, is_plain, opening, stuck_opening};
+ghost use Rattle.std.specs.Prelude.{◌≡◌};
+ghost use Rattle.reports.specs.Head.{head_of, opening, stuck_opening};
 
 use crate::writer::ReportForm;
 use judge::Refusal;
-use std::alloc::{AllocError, Allocator};
 
-/// What a page begins with, up to its title.
+/// What a page begins with, up to the verdict.
 const HEAD: &[u8] =
-    b"<!DOCTYPE html>\n<html lang=en>\n<head><meta charset=utf-8><meta name=viewport content=width=device-width><title>";
+    b"<!DOCTYPE html>\n<html lang=en>\n<head><meta charset=utf-8><meta name=viewport content=width=device-width><title>pdp8 report</title><style>body{font:15px/1.45 sans-serif;margin:1.5em auto;max-width:70em;padding:0 1em;color:#111;background:#fff}p.name{font-size:1.6em;margin:0 0 .3em}h1{font-size:1.35em;border-left:.4em solid #888;padding-left:.5em}h1:has(+.yes){border-color:#2f8f4e;background:#e2f4e6}h1:has(+.no){border-color:#c00;background:#fde4e4}h1:has(+.open){border-color:#e0a100;background:#fff4d0}h2{font-size:1.1em;margin:1.6em 0 .4em}a{color:#035;text-decoration-color:#9bd}code,pre,table{font-family:monospace;font-size:13px}pre{background:#fdeaea;padding:.6em;white-space:pre-wrap}table{border-collapse:collapse;width:100%}td,th{text-align:left;vertical-align:top;padding:.1em .7em .1em 0;border-bottom:1px solid #eee}th{padding-top:.8em}td:first-child,.c{white-space:nowrap}i{font-style:normal;color:#888}tr:target,tr.bad{background:#fff3b0}svg{max-width:100%;height:auto;display:block}svg text{font:9px monospace;fill:#333}svg .n{font-size:14px}.u{fill:#f4f4f4}.m{fill:#3b6fb6;background:#3b6fb6}.e{fill:#111;background:#111}.v{fill:#e0a100;background:#e0a100}.o{fill:#b5b5b5;background:#b5b5b5}.r0{fill:#2f8f4e;background:#2f8f4e}.r1{fill:#8a4fbf;background:#8a4fbf}.r2{fill:#1f9aa8;background:#1f9aa8}.r3{fill:#b5583a;background:#b5583a}.r4{fill:#7a8b1f;background:#7a8b1f}.r5{fill:#c04f8f;background:#c04f8f}.h{fill:#fff;stroke:#c00;stroke-width:1.5}.s{fill:none;stroke:#000;stroke-width:1.5}.w{fill:#e0a100}.bad{stroke:#d00;stroke-width:2.5}.b{fill:#fff;stroke:#333}.l{stroke:#777;fill:none}.k{display:inline-block;width:.8em;height:.8em;margin:0 .3em 0 1em}@media print{body{font-size:11px;margin:0;max-width:none}table{font-size:9px}tr{break-inside:avoid}a{color:inherit;text-decoration:none}*{print-color-adjust:exact;-webkit-print-color-adjust:exact}}</style></head>\n<body>\n<h1>";
 
-/// What stands between the title and the program's name: how the page looks.
-const STYLE: &[u8] =
-    b"</title><style>body{font:15px/1.45 sans-serif;margin:1.5em auto;max-width:70em;padding:0 1em;color:#111;background:#fff}p.name{font-size:1.6em;margin:0 0 .3em}h1{font-size:1.35em;border-left:.4em solid #888;padding-left:.5em}h1:has(+.yes){border-color:#2f8f4e;background:#e2f4e6}h1:has(+.no){border-color:#c00;background:#fde4e4}h1:has(+.open){border-color:#e0a100;background:#fff4d0}h2{font-size:1.1em;margin:1.6em 0 .4em}a{color:#035;text-decoration-color:#9bd}code,pre,table{font-family:monospace;font-size:13px}pre{background:#fdeaea;padding:.6em;white-space:pre-wrap}table{border-collapse:collapse;width:100%}td,th{text-align:left;vertical-align:top;padding:.1em .7em .1em 0;border-bottom:1px solid #eee}th{padding-top:.8em}td:first-child,.c{white-space:nowrap}i{font-style:normal;color:#888}tr:target,tr.bad{background:#fff3b0}svg{max-width:100%;height:auto;display:block}svg text{font:9px monospace;fill:#333}svg .n{font-size:14px}.u{fill:#f4f4f4}.m{fill:#3b6fb6;background:#3b6fb6}.e{fill:#111;background:#111}.v{fill:#e0a100;background:#e0a100}.o{fill:#b5b5b5;background:#b5b5b5}.r0{fill:#2f8f4e;background:#2f8f4e}.r1{fill:#8a4fbf;background:#8a4fbf}.r2{fill:#1f9aa8;background:#1f9aa8}.r3{fill:#b5583a;background:#b5583a}.r4{fill:#7a8b1f;background:#7a8b1f}.r5{fill:#c04f8f;background:#c04f8f}.h{fill:#fff;stroke:#c00;stroke-width:1.5}.s{fill:none;stroke:#000;stroke-width:1.5}.w{fill:#e0a100}.bad{stroke:#d00;stroke-width:2.5}.b{fill:#fff;stroke:#333}.l{stroke:#777;fill:none}.k{display:inline-block;width:.8em;height:.8em;margin:0 .3em 0 1em}@media print{body{font-size:11px;margin:0;max-width:none}table{font-size:9px}tr{break-inside:avoid}a{color:inherit;text-decoration:none}*{print-color-adjust:exact;-webkit-print-color-adjust:exact}}</style></head>\n<body>\n<p class=name>";
-
-/// What stands between the program's name and the verdict, which is the heading.
-const HEADING: &[u8] = b"</p>\n<h1>";
-
-/// Whether a byte may stand in a title: a printable character of ASCII that is no markup.
-fn is_plain(byte: u8) -> bool
-    ensures { result ≡ is_plain byte }
-{
-    byte >= b' ' && byte <= b'~' && byte != b'<' && byte != b'&'
-}
-
-/// A title without what may not stand in one.
-fn plain_of<A: Allocator + Copy>(alloc: A, title: &[u8]) -> Result<Vec<u8, A>, AllocError>
-    ensures { IfOk result (λ plain. plain.items ≡ filter is_plain title.now) }
-{
-    title
-        .iter()
-        .copied()
-        .filter(|byte| is_plain(*byte))
-        .collect(alloc)
-}
-
-/// What a page begins with after its title: how it looks, the name of the program, and the tag of the heading.
-fn after_title<A: Allocator>(alloc: A, name: &[u8]) -> Result<Vec<u8, A>, AllocError>
-    ensures { IfOk result (λ rest. rest.items ≡ STYLE.now ++ (name.now ++ HEADING.now)) }
-{
-    let mut rest = Vec::new(alloc);
-    rest.extend_from_slice(STYLE)?;
-    rest.extend_from_slice(name)?;
-    rest.extend_from_slice(HEADING)?;
-    Ok(rest)
-}
-
-/// What a page with a title begins with, up to the verdict.
+/// What stands before the verdict in a form.
 #[tactic(auto, unfolding(crate::specs::Head::head_of))]
-fn page_head<A: Allocator + Copy>(alloc: A, title: &[u8]) -> Result<Vec<u8, A>, AllocError>
-    ensures { IfOk result (λ head. head.items ≡ head_of ReportForm.Page title.now) }
-{
-    let plain = plain_of(alloc, title)?;
-    let rest = after_title(alloc, &plain)?;
-    let mut head = Vec::new(alloc);
-    head.extend_from_slice(HEAD)?;
-    head.extend_from_slice(&plain)?;
-    head.extend_from_slice(&rest)?;
-    Ok(head)
-}
-
-/// What stands before the verdict in a form. A page has a title, from which markup and all that is not printable ASCII
-/// is left out.
-///
-/// # Errors
-///
-/// Memory was refused.
-#[tactic(auto, unfolding(crate::specs::Head::head_of))]
-pub fn head_of<A: Allocator + Copy>(
-    alloc: A,
-    form: ReportForm,
-    title: &[u8],
-) -> Result<Vec<u8, A>, AllocError>
-    ensures { IfOk result (λ head. head.items ≡ head_of form title.now) }
+pub fn head_of(form: ReportForm) -> &'static [u8]
+    ensures { result.now ≡ head_of form }
 {
     match form {
-        ReportForm::Text => Ok(Vec::new(alloc)),
-        ReportForm::Page => page_head(alloc, title),
+        ReportForm::Text => b"",
+        ReportForm::Page => HEAD,
     }
 }
 

@@ -1,4 +1,4 @@
-//! How a report names a program and its files. It is tested, not proved.
+//! What a report says about a program and its files. It is tested, not proved.
 
 use crate::source_faults::input_name;
 use command_line::{ProgramNames, ProgramRequest};
@@ -87,14 +87,13 @@ fn title_of(name: &str) -> &str {
     Path::new(name).file_stem().unwrap_or(name)
 }
 
-/// A program and its files as a page names them.
+/// What a page says about a program and its files.
 #[derive(Drop)]
-pub(crate) struct NamedFiles<'a> {
-    title: &'a str,
+pub(crate) struct NamedFiles {
     files: String,
 }
 
-impl<'a> NamedFiles<'a> {
+impl NamedFiles {
     /// The names of a program's files, of its declaration and of a certificate. The files are read once more.
     ///
     /// # Errors
@@ -103,12 +102,13 @@ impl<'a> NamedFiles<'a> {
     pub(crate) fn of<R: Files>(
         rt: &R,
         alloc: Global,
-        asked: &ProgramRequest<'a>,
+        asked: &ProgramRequest<'_>,
         certificate: Option<&str>,
-    ) -> Result<NamedFiles<'a>, AllocError> {
+    ) -> Result<NamedFiles, AllocError> {
         let first = first_of(&asked.program);
         let mut files = String::new(alloc);
-        files.push_str("Files: ")?;
+        files.push_str(&visible_text(alloc, title_of(first))?)?;
+        files.push_str(". Files: ")?;
         push_file(rt, alloc, &mut files, first)?;
         for part in asked.program.parts().iter().skip(1) {
             push_further(rt, alloc, &mut files, Some(part))?;
@@ -116,16 +116,12 @@ impl<'a> NamedFiles<'a> {
         push_further(rt, alloc, &mut files, asked.declaration)?;
         push_further(rt, alloc, &mut files, certificate)?;
         files.push_str(UNITS)?;
-        Ok(NamedFiles {
-            title: title_of(first),
-            files,
-        })
+        Ok(NamedFiles { files })
     }
 
     /// The names for a page.
     pub(crate) fn names(&self) -> PageNames<'_> {
         PageNames {
-            title: self.title.as_bytes(),
             files: self.files.as_bytes(),
         }
     }

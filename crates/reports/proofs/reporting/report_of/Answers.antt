@@ -15,7 +15,6 @@ returns-clause-page g c = record {
     line_is = c.in_ok-line.ensures;
     status_is = c.verdict_status-status.ensures;
   };
-  title = c.args.names.title.now;
   rest = c.in_ok-rest.rest.items;
   page_is = search rules;
 }

@@ -3,6 +3,6 @@ use Rattle.reports.proofs.known_fact.KnownFact.read_exit.Goals as goal
 
 pub returns : goal.returns
 returns g c = record {
-  claimed = rw (c.put_sites.ensures, c.put_exit.ensures, c.rules-rules.ensures) refl;
-  fact = rw (c.copy_from.ensures.fact, c.put_sites.ensures, c.put_exit.ensures, c.rules-rules.ensures) refl;
+  claimed = rw (c.put_sites.ensures, c.put_exit.ensures.fact, c.rules-rules.ensures) refl;
+  fact = rw (c.copy_from.ensures.fact, c.put_sites.ensures, c.put_exit.ensures.fact, c.rules-rules.ensures) refl;
 }

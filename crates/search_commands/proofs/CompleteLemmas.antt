@@ -30,6 +30,8 @@ extends_own d = record {
   stops = λ v small is. is;
   pauses = λ v small is. is;
   reads = keeps_own d.reads;
+  moves = λ v small is. is;
+  abandon = λ v small is. is;
 }
 
 -- so its text is that of an extension
@@ -52,6 +54,8 @@ own_addition given proposed text declares = record {
     stop = λ is. so_left (given.stop a) (proposed.stop a) is;
     pause = λ is. so_left (given.pause a) (proposed.pause a) is;
     read = λ is. so_left (lists given.reads a) (lists proposed.reads a) is;
+    moves = λ is. so_left (given.moves a) (proposed.moves a) is;
+    abandon = λ is. so_left (given.abandon a) (proposed.abandon a) is;
   };
 }
 

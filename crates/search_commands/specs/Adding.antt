@@ -14,7 +14,7 @@ lists (Some cells) a = cells a
 -- Whatever the last declaration allows of a cell, the given one or the proposed one allows: the cell is in a body of theirs, an
 -- entry, a variable, a stop or a pause of theirs, an entry in which its routine may store, or a place for which calls may be
 -- abandoned, or it is on their list of reads; and its routine may return at each of the offsets 0 to 77 at which it may in one
--- of them. What is to hold allows nothing, and is left to `Extends`.
+-- of them. What is declared to hold allows nothing.
 pub record AddsToCell (given proposed more : Declaration) (a : ℕ) : Type 0 where
   pub body : (r : Routine) → more.body r a ≡ true → given.body r a || proposed.body r a ≡ true
   pub offset : (o : ℕ) → o < 64 → more.offset a o ≡ true → given.offset a o || proposed.offset a o ≡ true

@@ -202,11 +202,6 @@ fn interrupt_key(interrupt: Interrupt, at_terminal: bool) -> Option<u8> {
     }
 }
 
-/// An octal digit of a byte, by how far right it stands.
-fn digit_of(byte: u8, shift: u32) -> char {
-    char::from(b'0' + (byte >> shift & 7))
-}
-
 /// Says which key interrupts the session, if one does.
 fn tell_key<R: Eprint>(rt: &R, key: Option<u8>) {
     let Some(byte) = key else {
@@ -216,8 +211,7 @@ fn tell_key<R: Eprint>(rt: &R, key: Option<u8>) {
         let letter = char::from(byte + 0o100);
         eprintln!(rt; "^{letter} ends the session when the program asks for a key")
     } else {
-        let (high, middle, low) = (digit_of(byte, 6), digit_of(byte, 3), digit_of(byte, 0));
-        eprintln!(rt; "key {high}{middle}{low} ends the session when the program asks for a key")
+        eprintln!(rt; "key {byte:03o} ends the session when the program asks for a key")
     };
     match told {
         Ok(()) | Err(_) => {}

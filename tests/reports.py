@@ -254,7 +254,7 @@ def wanted(pdp8, tape, declaration, certificate, kind=None):
     verdict = ran(pdp8, "check", tape, declaration, certificate)
     words = verdict.split()
     refused = (words[1], int(words[3], 8)) if words[0] == "no:" else None
-    front = ran(pdp8, "check", tape, declaration, certificate, "--why")
+    front = ran(pdp8, "check", tape, declaration, certificate, "--why") if refused else verdict
     if refused:
         lines = front.splitlines(keepends=True)
         front = "".join(line for line in lines if not line.startswith(("fact ", "cell ", "equal ")))

@@ -11,24 +11,24 @@ const MOST_BYTES: usize = 1_048_576;
 
 /// A sink that counts bytes and keeps none, and takes no more than are read of a certificate.
 #[derive(Drop)]
-struct Count {
+struct CountingSink {
     bytes: usize,
     failed: bool,
 }
 
-impl Count {
+impl CountingSink {
     /// None was taken yet.
-    fn new() -> Count
+    fn new() -> CountingSink
         ensures { result.failed ≡ false }
     {
-        Count {
+        CountingSink {
             bytes: 0,
             failed: false,
         }
     }
 }
 
-impl ByteSink for Count {
+impl ByteSink for CountingSink {
     ghost use Rattle.std.specs.Prelude.{None};
 
     ghost taken = { λ sink. None };
@@ -55,5 +55,5 @@ impl ByteSink for Count {
 
 /// Whether the text of a certificate has at most 1,048,576 bytes.
 pub(crate) fn is_short<A: Allocator>(certificate: &Certificate<A>) -> bool {
-    certificate.write(&mut Count::new()).is_ok()
+    certificate.write(&mut CountingSink::new()).is_ok()
 }

@@ -1,5 +1,5 @@
-pub mod Called
+pub mod ProgramCommands
 pub mod Machines
 pub mod Outputs
 pub mod Options
-pub mod Requested
+pub mod Requests

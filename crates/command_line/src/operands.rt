@@ -3,13 +3,13 @@
 
 ghost use Rattle.std.specs.Prelude.{◌≡◌, IfOk, Some, codes, false, map, not, option_map, true};
 ghost use Rattle.command_line.specs.Options.{sources_given, value};
-ghost use Rattle.command_line.specs.Requested.{AreBehind, AreOfDeclare, AreWithSource, IsDeclarationGiven, IsLastGiven, IsProgramGiven, declaration_behind, declaration_given, last_behind, last_with_tape, needs_out};
+ghost use Rattle.command_line.specs.Requests.{AreBehind, AreOfDeclare, AreWithSource, IsDeclarationGiven, IsLastGiven, IsProgramGiven, declaration_behind, declaration_given, last_behind, last_with_tape, needs_out};
 
-use crate::called::Called;
+use crate::fault::{CommandLineFault, Misuse};
 use crate::operator::is_watched_with_operator;
 use crate::outputs::has_output;
+use crate::program_command::ProgramCommand;
 use crate::programs::ProgramNames;
-use crate::refused::{Misuse, Refused};
 use crate::values::{has_value, is_start_named, operand_of};
 use clap::ArgMatches;
 use std::alloc::{AllocError, Global};
@@ -26,7 +26,7 @@ pub(crate) struct Operands<'a> {
 /// The operands that stand after a source: a declaration, if there is one, and the last one, if the command
 /// needs it.
 #[derive(Clone, Copy)]
-struct LaterOperands<'a> {
+struct OperandsAfterSource<'a> {
     declaration: Option<&'a str>,
     last: Option<&'a str>,
 }
@@ -36,7 +36,7 @@ fn operands_behind<'a>(
     is_needed: bool,
     first: Option<&'a str>,
     second: Option<&'a str>,
-) -> LaterOperands<'a>
+) -> OperandsAfterSource<'a>
     ensures declaration { option_map (λ name. name.now) result.declaration ≡
         declaration_behind is_needed (option_map (λ name. name.now) first.entry)
         (option_map (λ name. name.now) second.entry) }
@@ -45,17 +45,17 @@ fn operands_behind<'a>(
         (option_map (λ name. name.now) second.entry) }
 {
     if !is_needed {
-        return LaterOperands {
+        return OperandsAfterSource {
             declaration: first,
             last: None,
         };
     }
     match second {
-        None => LaterOperands {
+        None => OperandsAfterSource {
             declaration: None,
             last: first,
         },
-        Some(last) => LaterOperands {
+        Some(last) => OperandsAfterSource {
             declaration: first,
             last: Some(last),
         },
@@ -71,11 +71,13 @@ fn has_more_operands(found: &ArgMatches<'_>, is_needed: bool) -> bool {
 }
 
 /// The operands of a command with a source that needs none but the declaration. clap has taken them for those of a tape.
-fn declaration_alone<'a>(found: &ArgMatches<'a>) -> Result<LaterOperands<'a>, Refused>
+fn declaration_alone<'a>(
+    found: &ArgMatches<'a>,
+) -> Result<OperandsAfterSource<'a>, CommandLineFault>
     ensures { IfOk result (AreBehind false found.now) }
 {
     if has_more_operands(found, false) {
-        return Err(Refused::Misuse(Misuse::TapeAndSource));
+        return Err(CommandLineFault::Misuse(Misuse::TapeAndSource));
     }
     let first = found.get_str("TAPE");
     let second = found.get_str("DECLARATION");
@@ -86,67 +88,70 @@ fn declaration_alone<'a>(found: &ArgMatches<'a>) -> Result<LaterOperands<'a>, Re
 fn declaration_and_last<'a>(
     found: &ArgMatches<'a>,
     name: &'static str,
-) -> Result<LaterOperands<'a>, Refused>
+) -> Result<OperandsAfterSource<'a>, CommandLineFault>
     ensures { IfOk result (AreBehind true found.now) }
 {
     if has_more_operands(found, true) {
-        return Err(Refused::Misuse(Misuse::TapeAndSource));
+        return Err(CommandLineFault::Misuse(Misuse::TapeAndSource));
     }
     let first = found.get_str("TAPE");
     let second = found.get_str("DECLARATION");
     let operands = operands_behind(true, first, second);
     if operands.last.is_none() {
-        return Err(Refused::NoOperand(name));
+        return Err(CommandLineFault::NoOperand(name));
     }
     Ok(operands)
 }
 
 /// The operands of a search with a source: the last one is OUT, unless `-o` stands in its place. A single operand without
 /// `-o` might be meant for the declaration or for OUT, and is refused.
-fn search_operands<'a>(found: &ArgMatches<'a>) -> Result<LaterOperands<'a>, Refused>
+fn search_operands<'a>(found: &ArgMatches<'a>) -> Result<OperandsAfterSource<'a>, CommandLineFault>
     ensures { IfOk result (AreBehind (needs_out found.now) found.now) }
 {
     if has_output(found) {
         return declaration_alone(found);
     }
     if !has_value(found, "TAPE") {
-        return Err(Refused::Misuse(Misuse::NoOutput));
+        return Err(CommandLineFault::Misuse(Misuse::NoOutput));
     }
     let operands = declaration_and_last(found, "OUT")?;
     if operands.declaration.is_none() {
-        return Err(Refused::Misuse(Misuse::NoOutput));
+        return Err(CommandLineFault::Misuse(Misuse::NoOutput));
     }
     Ok(operands)
 }
 
 /// The same of `declare`, whose declaration is an option.
-fn declare_operands<'a>(found: &ArgMatches<'a>) -> Result<LaterOperands<'a>, Refused>
+fn declare_operands<'a>(found: &ArgMatches<'a>) -> Result<OperandsAfterSource<'a>, CommandLineFault>
     ensures { IfOk result (AreOfDeclare found.now) }
 {
     let operands = search_operands(found)?;
     if operands.declaration.is_some() {
-        return Err(Refused::Misuse(Misuse::TapeAndSource));
+        return Err(CommandLineFault::Misuse(Misuse::TapeAndSource));
     }
-    Ok(LaterOperands {
+    Ok(OperandsAfterSource {
         declaration: found.get_str("from"),
         last: operands.last,
     })
 }
 
 /// The same of the report of a certificate. It goes to the value of `-o`: all operands are inputs.
-fn report_operands<'a>(found: &ArgMatches<'a>) -> Result<LaterOperands<'a>, Refused>
+fn report_operands<'a>(found: &ArgMatches<'a>) -> Result<OperandsAfterSource<'a>, CommandLineFault>
     ensures { IfOk result (AreBehind true found.now) }
 {
     if !has_output(found) {
-        return Err(Refused::Misuse(Misuse::NoOutput));
+        return Err(CommandLineFault::Misuse(Misuse::NoOutput));
     }
     declaration_and_last(found, "CERTIFICATE")
 }
 
 /// Ensures that a declaration which is given determines the start and the machine.
-pub(crate) fn start_once(found: &ArgMatches<'_>, declaration: Option<&str>) -> Result<(), Refused> {
+pub(crate) fn start_once(
+    found: &ArgMatches<'_>,
+    declaration: Option<&str>,
+) -> Result<(), CommandLineFault> {
     if declaration.is_some() && is_start_named(found) {
-        return Err(Refused::Misuse(Misuse::DeclarationAndStart));
+        return Err(CommandLineFault::Misuse(Misuse::DeclarationAndStart));
     }
     Ok(())
 }
@@ -164,7 +169,7 @@ fn copied<'a>(alloc: Global, names: &[&'a str]) -> Result<Vec<&'a str>, AllocErr
 fn watched_operands<'a>(
     found: &ArgMatches<'a>,
     operated: bool,
-) -> Result<LaterOperands<'a>, Refused>
+) -> Result<OperandsAfterSource<'a>, CommandLineFault>
     ensures { IfOk result (AreBehind (not operated) found.now) }
 {
     if operated {
@@ -175,30 +180,30 @@ fn watched_operands<'a>(
 
 /// The operands that stand behind the source of a command.
 fn operands_with_source<'a>(
-    called: Called,
+    called: ProgramCommand,
     found: &ArgMatches<'a>,
     operated: bool,
-) -> Result<LaterOperands<'a>, Refused>
+) -> Result<OperandsAfterSource<'a>, CommandLineFault>
     ensures { IfOk result (AreWithSource operated called found.now) }
 {
     match called {
-        Called::Verify => declaration_alone(found),
-        Called::Watch => watched_operands(found, operated),
-        Called::Guess => search_operands(found),
-        Called::Refute => search_operands(found),
-        Called::Declare => declare_operands(found),
-        Called::Report => report_operands(found),
-        Called::Check => declaration_and_last(found, "CERTIFICATE"),
+        ProgramCommand::Verify => declaration_alone(found),
+        ProgramCommand::Watch => watched_operands(found, operated),
+        ProgramCommand::Guess => search_operands(found),
+        ProgramCommand::Refute => search_operands(found),
+        ProgramCommand::Declare => declare_operands(found),
+        ProgramCommand::Report => report_operands(found),
+        ProgramCommand::Check => declaration_and_last(found, "CERTIFICATE"),
     }
 }
 
 /// The operands of a command with `--source`, which gives these parts.
 fn source_operands<'a>(
     alloc: Global,
-    called: Called,
+    called: ProgramCommand,
     found: &ArgMatches<'a>,
     parts: &[&'a str],
-) -> Result<Operands<'a>, Refused>
+) -> Result<Operands<'a>, CommandLineFault>
     requires { sources_given found.now ≡ Some (map (λ name. name.now) parts.now) }
     ensures program { IfOk result (λ operands. IsProgramGiven found.now operands.program) }
     ensures declaration { IfOk result (λ operands. IsDeclarationGiven called found.now
@@ -217,30 +222,33 @@ fn source_operands<'a>(
 }
 
 /// The declaration of a command with a tape.
-fn tape_declaration<'a>(called: Called, found: &ArgMatches<'a>) -> Option<&'a str>
+fn tape_declaration<'a>(called: ProgramCommand, found: &ArgMatches<'a>) -> Option<&'a str>
     ensures { option_map (λ name. name.now) result ≡ declaration_given called found.now }
 {
     match called {
-        Called::Verify => found.get_str("DECLARATION"),
-        Called::Declare => found.get_str("from"),
+        ProgramCommand::Verify => found.get_str("DECLARATION"),
+        ProgramCommand::Declare => found.get_str("from"),
         _ => Some(operand_of(found, "DECLARATION")),
     }
 }
 
 /// The last operand of a command with a tape.
-fn tape_last<'a>(called: Called, found: &ArgMatches<'a>) -> Option<&'a str>
+fn tape_last<'a>(called: ProgramCommand, found: &ArgMatches<'a>) -> Option<&'a str>
     ensures { option_map (λ name. name.now) result ≡ last_with_tape called found.now }
 {
     match called {
-        Called::Check => found.get_str("CERTIFICATE"),
-        Called::Report => found.get_str("CERTIFICATE"),
-        Called::Watch => found.get_str("EVENTS"),
+        ProgramCommand::Check => found.get_str("CERTIFICATE"),
+        ProgramCommand::Report => found.get_str("CERTIFICATE"),
+        ProgramCommand::Watch => found.get_str("EVENTS"),
         _ => found.get_str("OUT"),
     }
 }
 
 /// The operands of a command with a tape.
-fn tape_operands<'a>(called: Called, found: &ArgMatches<'a>) -> Result<Operands<'a>, Refused>
+fn tape_operands<'a>(
+    called: ProgramCommand,
+    found: &ArgMatches<'a>,
+) -> Result<Operands<'a>, CommandLineFault>
     ensures program { IfOk result (λ operands. IsProgramGiven found.now operands.program) }
     ensures declaration { IfOk result (λ operands. IsDeclarationGiven called found.now
         operands.program (option_map (λ name. name.now) operands.declaration)) }
@@ -248,8 +256,8 @@ fn tape_operands<'a>(called: Called, found: &ArgMatches<'a>) -> Result<Operands<
         operands.program (option_map (λ name. name.now) operands.last)) }
 {
     let last = tape_last(called, found);
-    if called == Called::Watch && last.is_none() && !is_watched_with_operator(found) {
-        return Err(Refused::Misuse(Misuse::NoEvents));
+    if called == ProgramCommand::Watch && last.is_none() && !is_watched_with_operator(found) {
+        return Err(CommandLineFault::Misuse(Misuse::NoEvents));
     }
     Ok(Operands {
         program: ProgramNames::Tape(operand_of(found, "TAPE")),
@@ -261,9 +269,9 @@ fn tape_operands<'a>(called: Called, found: &ArgMatches<'a>) -> Result<Operands<
 /// The operands of a command on a program and its declaration.
 pub(crate) fn operands_of<'a>(
     alloc: Global,
-    called: Called,
+    called: ProgramCommand,
     found: &ArgMatches<'a>,
-) -> Result<Operands<'a>, Refused>
+) -> Result<Operands<'a>, CommandLineFault>
     ensures program { IfOk result (λ operands. IsProgramGiven found.now operands.program) }
     ensures declaration { IfOk result (λ operands. IsDeclarationGiven called found.now
         operands.program (option_map (λ name. name.now) operands.declaration)) }

@@ -3,18 +3,18 @@
 ghost use Rattle.std.specs.Prelude.{◌≡◌, ◌||◌, IfOk, codes};
 ghost use Rattle.command_line.specs.Machines.{IsOperatedRunGiven, IsTeletypeGiven};
 ghost use Rattle.command_line.specs.Options.{AreSessionOptions, AreTeletypeOptions, IsWatchedWithOperator, IsWordNamed, value};
-ghost use Rattle.command_line.specs.Requested.{IsSessionGiven};
+ghost use Rattle.command_line.specs.Requests.{IsSessionGiven};
 
+use crate::fault::{CommandLineFault, Misuse};
 use crate::names::FileNames;
 use crate::outputs::punch_of;
-use crate::refused::{Misuse, Refused};
-use crate::shown::{Places, Stopping, shown_on, stopping_on};
+use crate::place_options::{PlaceOptions, StopOptions, shown_on, stopping_on};
 use crate::tapes::tape_of;
 use crate::values::{
     continues_of, has_value, is_given, profile_of, read_standard_input_once, run_options, start_of,
 };
 use clap::ArgMatches;
-use command_parts::options::{Manner, SessionOptions, SummaryForm, TeletypeOptions};
+use command_parts::options::{KeyOptions, SessionOptions, SummaryForm, TeletypeOptions};
 use streams::text::octal_byte;
 use word12::Word;
 use wordset::WordSet;
@@ -25,13 +25,13 @@ pub struct Session<'a> {
     /// The name of the tape's file, unless a source takes its place.
     pub tape: Option<&'a str>,
     /// What the devices are joined to.
-    pub joined: Joined<'a>,
+    pub joined: DeviceConnections<'a>,
     /// How the tape is run.
     pub options: SessionOptions,
     /// What the summary tells.
     pub summary: SummaryForm<'a>,
     /// How the run is followed, if it may be stopped.
-    pub stopping: Option<Stopping>,
+    pub stopping: Option<StopOptions>,
 }
 
 impl<'a> Session<'a> {
@@ -63,7 +63,7 @@ pub struct WatchedSession<'a> {
     /// How often CONTINUE is pressed at declared pauses at most, if it may be.
     pub continues: Option<u32>,
     /// How the run is followed, if it may be stopped.
-    pub stopping: Option<Stopping>,
+    pub stopping: Option<StopOptions>,
     /// Whether it is said what violates a rule.
     pub explained: bool,
 }
@@ -106,7 +106,7 @@ pub struct TeletypeSession<'a> {
     /// What the summary tells.
     pub summary: SummaryForm<'a>,
     /// How it is followed, if it may be stopped.
-    pub stopping: Option<Stopping>,
+    pub stopping: Option<StopOptions>,
     /// The key that interrupts it.
     pub interrupt: Interrupt,
 }
@@ -125,7 +125,7 @@ impl<'a> TeletypeSession<'a> {
 
 /// What the devices of a machine are joined to.
 #[derive(Clone, Copy)]
-pub struct Joined<'a> {
+pub struct DeviceConnections<'a> {
     /// The name of the file whose frames are in the reader.
     pub reader: Option<&'a str>,
     /// The name of the file that the punched bytes go to.
@@ -166,30 +166,33 @@ fn is_any(a: bool, b: bool, c: bool, d: bool, e: bool, f: bool) -> bool
 }
 
 /// What the switches are set to, if they are.
-fn switches_of(found: &ArgMatches<'_>) -> Result<Option<Word>, Refused>
+fn switches_of(found: &ArgMatches<'_>) -> Result<Option<Word>, CommandLineFault>
     ensures { IfOk result (IsWordNamed (value found.now (codes "switches"))) }
 {
     match found.get_str("switches") {
         None => Ok(None),
         Some(text) => match Word::from_octal(text.as_bytes()) {
             Ok(word) => Ok(Some(word)),
-            Err(fault) => Err(Refused::Switches(fault)),
+            Err(fault) => Err(CommandLineFault::Switches(fault)),
         },
     }
 }
 
 /// The run with an operator that the options of `run` ask for.
-pub fn session_of<'a>(found: &ArgMatches<'a>, places: &Places<'a>) -> Result<Session<'a>, Refused>
+pub fn session_of<'a>(
+    found: &ArgMatches<'a>,
+    places: &PlaceOptions<'a>,
+) -> Result<Session<'a>, CommandLineFault>
     ensures { IfOk result (IsOperatedRunGiven found.now) }
 {
     let tape = tape_of(found)?;
     let reader = found.get_str("reader");
     let keys = found.get_str("keys");
     if found.get_str("events").is_some() {
-        return Err(Refused::Misuse(Misuse::EventsAndOperator));
+        return Err(CommandLineFault::Misuse(Misuse::EventsAndOperator));
     }
     if found.get_flag("trace-long") {
-        return Err(Refused::Misuse(Misuse::LongTrace));
+        return Err(CommandLineFault::Misuse(Misuse::LongTrace));
     }
     let names = [tape.unwrap_or(""), reader.unwrap_or(""), keys.unwrap_or("")];
     read_standard_input_once(&names)?;
@@ -209,7 +212,7 @@ pub fn session_of<'a>(found: &ArgMatches<'a>, places: &Places<'a>) -> Result<Ses
     };
     Ok(Session {
         tape,
-        joined: Joined {
+        joined: DeviceConnections {
             reader,
             punch,
             keys,
@@ -222,7 +225,10 @@ pub fn session_of<'a>(found: &ArgMatches<'a>, places: &Places<'a>) -> Result<Ses
 }
 
 /// How a tape is run with an operator, with these cells shown.
-fn session_options(found: &ArgMatches<'_>, show: WordSet) -> Result<SessionOptions, Refused>
+fn session_options(
+    found: &ArgMatches<'_>,
+    show: WordSet,
+) -> Result<SessionOptions, CommandLineFault>
     ensures { IfOk result (AreSessionOptions found.now) }
 {
     let run = run_options(found, show)?;
@@ -239,15 +245,15 @@ pub fn watched_session_of<'a>(
     tape: &'a str,
     declaration: &'a str,
     show: WordSet,
-    stopping: Option<Stopping>,
+    stopping: Option<StopOptions>,
     found: &ArgMatches<'a>,
-) -> Result<WatchedSession<'a>, Refused>
+) -> Result<WatchedSession<'a>, CommandLineFault>
     ensures { IfOk result (IsSessionGiven found.now) }
 {
     let reader = found.get_str("reader");
     let keys = found.get_str("keys");
     if found.get_str("EVENTS").is_some() {
-        return Err(Refused::Misuse(Misuse::ListAndOperator));
+        return Err(CommandLineFault::Misuse(Misuse::ListAndOperator));
     }
     let inputs = [tape, declaration, reader.unwrap_or(""), keys.unwrap_or("")];
     read_standard_input_once(&inputs)?;
@@ -269,8 +275,8 @@ pub fn watched_session_of<'a>(
 fn teletype_options(
     found: &ArgMatches<'_>,
     tape: Option<&str>,
-    places: &Places<'_>,
-) -> Result<TeletypeOptions, Refused>
+    places: &PlaceOptions<'_>,
+) -> Result<TeletypeOptions, CommandLineFault>
     ensures { IfOk result (AreTeletypeOptions found.now) }
 {
     let start = start_of(found)?;
@@ -281,7 +287,7 @@ fn teletype_options(
         start,
         profile,
         switches,
-        manner: Manner {
+        manner: KeyOptions {
             raw: is_given(found, "raw"),
             mark: is_given(found, "mark"),
         },
@@ -290,14 +296,14 @@ fn teletype_options(
 }
 
 /// The key that interrupts a session, where the bytes of keys are struck as they come or are not.
-fn interrupt_of(found: &ArgMatches<'_>, raw: bool) -> Result<Interrupt, Refused> {
+fn interrupt_of(found: &ArgMatches<'_>, raw: bool) -> Result<Interrupt, CommandLineFault> {
     match found.get_str("interrupt") {
         None if raw => Ok(Interrupt::Off),
         None => Ok(Interrupt::Usual),
         Some("off") => Ok(Interrupt::Off),
         Some(text) => match octal_byte(text.as_bytes()) {
             Some(byte) => Ok(Interrupt::Key(byte)),
-            None => Err(Refused::Misuse(Misuse::Interrupt)),
+            None => Err(CommandLineFault::Misuse(Misuse::Interrupt)),
         },
     }
 }
@@ -305,8 +311,8 @@ fn interrupt_of(found: &ArgMatches<'_>, raw: bool) -> Result<Interrupt, Refused>
 /// The session at the teletype that the options of `teletype` ask for.
 pub fn teletype_of<'a>(
     found: &ArgMatches<'a>,
-    places: &Places<'a>,
-) -> Result<TeletypeSession<'a>, Refused>
+    places: &PlaceOptions<'a>,
+) -> Result<TeletypeSession<'a>, CommandLineFault>
     ensures { IfOk result (IsTeletypeGiven found.now) }
 {
     let tape = tape_of(found)?;

@@ -6,7 +6,7 @@ ghost use Rattle.std.specs.Str.{bytes_eq};
 ghost use Rattle.command_line.specs.Options.{has_value, value};
 ghost use Rattle.command_line.specs.Outputs.{is_same_file, without_here};
 
-use crate::refused::{Misuse, Refused};
+use crate::fault::{CommandLineFault, Misuse};
 use crate::values::has_value;
 use clap::ArgMatches;
 
@@ -92,21 +92,24 @@ pub fn report_of<'a>(
     found: &ArgMatches<'a>,
     others: &[&str],
     out: &Destination<'_>,
-) -> Result<Option<&'a str>, Refused> {
+) -> Result<Option<&'a str>, CommandLineFault> {
     let Some(name) = found.get_str("report") else {
         return Ok(None);
     };
     if is_taken(name, others) || is_taken(name, &[out.name()]) {
-        return Err(Refused::Misuse(Misuse::ReportIsTaken));
+        return Err(CommandLineFault::Misuse(Misuse::ReportIsTaken));
     }
     if is_source_name(name) {
-        return Err(Refused::Misuse(Misuse::ReportIsSource));
+        return Err(CommandLineFault::Misuse(Misuse::ReportIsSource));
     }
     Ok(Some(name))
 }
 
 /// Where the punched bytes go, if they go to a file: it is none of these inputs, and is not named like a source.
-pub fn punch_of<'a>(found: &ArgMatches<'a>, inputs: &[&str]) -> Result<Option<&'a str>, Refused>
+pub fn punch_of<'a>(
+    found: &ArgMatches<'a>,
+    inputs: &[&str],
+) -> Result<Option<&'a str>, CommandLineFault>
     ensures { IfOk result (λ name. option_map (λ it. it.now) name ≡
         value found.now (codes "punch")) }
 {
@@ -114,13 +117,13 @@ pub fn punch_of<'a>(found: &ArgMatches<'a>, inputs: &[&str]) -> Result<Option<&'
         return Ok(None);
     };
     if name == "-" {
-        return Err(Refused::Misuse(Misuse::PunchToOutput));
+        return Err(CommandLineFault::Misuse(Misuse::PunchToOutput));
     }
     if is_taken(name, inputs) {
-        return Err(Refused::Misuse(Misuse::PunchIsTaken));
+        return Err(CommandLineFault::Misuse(Misuse::PunchIsTaken));
     }
     if is_source_name(name) {
-        return Err(Refused::Misuse(Misuse::PunchIsSource));
+        return Err(CommandLineFault::Misuse(Misuse::PunchIsSource));
     }
     Ok(Some(name))
 }
@@ -129,9 +132,9 @@ pub fn punch_of<'a>(found: &ArgMatches<'a>, inputs: &[&str]) -> Result<Option<&'
 pub fn no_input<'a>(
     destination: Destination<'a>,
     inputs: &[&str],
-) -> Result<Destination<'a>, Refused> {
+) -> Result<Destination<'a>, CommandLineFault> {
     if is_taken(destination.name(), inputs) {
-        return Err(Refused::Misuse(Misuse::OutputIsInput));
+        return Err(CommandLineFault::Misuse(Misuse::OutputIsInput));
     }
     Ok(destination)
 }
@@ -140,10 +143,10 @@ pub fn no_input<'a>(
 pub fn no_source<'a>(
     destination: Destination<'a>,
     inputs: &[&str],
-) -> Result<Destination<'a>, Refused> {
+) -> Result<Destination<'a>, CommandLineFault> {
     let destination = no_input(destination, inputs)?;
     if is_source_name(destination.name()) {
-        return Err(Refused::Misuse(Misuse::ResultIsSource));
+        return Err(CommandLineFault::Misuse(Misuse::ResultIsSource));
     }
     Ok(destination)
 }
@@ -167,7 +170,7 @@ pub fn kept_destination<'a>(found: &ArgMatches<'a>) -> Destination<'a> {
 
 /// What the names of the files that `verify` writes begin with, and which of them it may replace.
 #[derive(Clone, Copy)]
-pub struct Save<'a> {
+pub struct SaveOptions<'a> {
     /// What their names begin with.
     pub name: &'a str,
     /// Whether the declaration may be one of them, since none is given.
@@ -188,7 +191,7 @@ pub const EVENTS_ENDING: &str = ".events";
 /// The endings of the files that `verify --save` writes; that of a declaration, which it may only propose, is first.
 const SAVED_ENDINGS: [&str; 3] = [DECLARATION_ENDING, CERTIFICATE_ENDING, EVENTS_ENDING];
 
-impl<'a> Save<'a> {
+impl<'a> SaveOptions<'a> {
     /// The endings of the files that may be written.
     pub fn endings(&self) -> &'static [&'static str] {
         if self.proposed {
@@ -220,20 +223,20 @@ pub fn save_of<'a>(
     found: &ArgMatches<'a>,
     inputs: &[&str],
     proposed: bool,
-) -> Result<Option<Save<'a>>, Refused> {
+) -> Result<Option<SaveOptions<'a>>, CommandLineFault> {
     let Some(name) = found.get_str("save") else {
         return Ok(None);
     };
     if is_folder_name(name) {
-        return Err(Refused::Misuse(Misuse::SaveIsFolder));
+        return Err(CommandLineFault::Misuse(Misuse::SaveIsFolder));
     }
-    let save = Save {
+    let save = SaveOptions {
         name,
         proposed,
         forced: found.get_flag("force"),
     };
     if save.takes(inputs) {
-        return Err(Refused::Misuse(Misuse::SaveIsTaken));
+        return Err(CommandLineFault::Misuse(Misuse::SaveIsTaken));
     }
     Ok(Some(save))
 }

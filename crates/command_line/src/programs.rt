@@ -2,20 +2,20 @@
 //! its source. It is proved that the files of a program are those that were given.
 
 ghost use Rattle.std.specs.Prelude.{◌≡◌, IfOk, Some, codes, option_map, unwrap_or};
-ghost use Rattle.command_line.specs.Called.{command_of};
+ghost use Rattle.command_line.specs.ProgramCommands.{command_of};
 ghost use Rattle.command_line.specs.Options.{IsFlagGiven, IsVersionNamed, value, version_named};
-ghost use Rattle.command_line.specs.Requested.{IsDeclarationGiven, IsDeclareGiven, IsGuessGiven, IsProgramGiven, IsRefuteGiven, IsReportGiven, IsSessionGiven, IsTaskGiven, IsTaskOf, IsVerifyGiven};
+ghost use Rattle.command_line.specs.Requests.{IsDeclarationGiven, IsDeclareGiven, IsGuessGiven, IsProgramGiven, IsRefuteGiven, IsReportGiven, IsSessionGiven, IsTaskGiven, IsTaskOf, IsVerifyGiven};
 
-use crate::called::{Called, command_of};
+use crate::fault::{CommandLineFault, Misuse};
 use crate::names::FileNames;
 use crate::operands::{Operands, inputs_of, operands_of, start_once};
 use crate::operator::{WatchedSession, is_watched_with_operator, watched_session_of};
 use crate::outputs::{
-    Destination, Save, is_source_name, is_taken, kept_destination, no_input, no_source, report_of,
-    save_of,
+    Destination, SaveOptions, is_source_name, is_taken, kept_destination, no_input, no_source,
+    report_of, save_of,
 };
-use crate::refused::{Misuse, Refused};
-use crate::shown::{Octal, Places, Stopping, places_of};
+use crate::place_options::{OctalAddresses, PlaceOptions, StopOptions, places_of};
+use crate::program_command::{ProgramCommand, command_of};
 use crate::sources::source_names;
 use crate::values::{
     declare_options, is_given, is_start_named, read_standard_input_once, refute_options,
@@ -38,7 +38,7 @@ pub struct ProgramRequest<'a> {
     /// What is done.
     pub task: Task<'a>,
     /// The cells that are shown of a run and where it is stopped, which may have the symbols of a source.
-    pub places: Places<'a>,
+    pub places: PlaceOptions<'a>,
     /// Whether a start or a machine is named.
     pub asked: bool,
     /// Whether more is said than the line of an answer or of a fault.
@@ -60,7 +60,7 @@ pub enum Task<'a> {
     /// To say whether the program complies with its declaration.
     Verify {
         /// The files for what is found, if it is saved.
-        save: Option<Save<'a>>,
+        save: Option<SaveOptions<'a>>,
         /// How the answer is searched for.
         options: VerifyOptions,
     },
@@ -85,7 +85,7 @@ pub enum Task<'a> {
         /// The cells whose words are shown when the run of a tape is over.
         show: WordSet,
         /// How the run of a tape is followed, if it may be stopped.
-        stopping: Option<Stopping>,
+        stopping: Option<StopOptions>,
     },
     /// To watch a run with an operator.
     WatchSession(WatchedSession<'a>),
@@ -169,7 +169,7 @@ impl<'a> Task<'a> {
     }
 
     /// The files for what is found, if it is saved.
-    pub fn save(&self) -> Option<Save<'a>> {
+    pub fn save(&self) -> Option<SaveOptions<'a>> {
         match self {
             Task::Verify { save, .. } => *save,
             _ => None,
@@ -252,11 +252,11 @@ fn certificate_of<'a>(found: &ArgMatches<'a>, out: Option<&'a str>) -> Destinati
 fn session_on<'a>(
     found: &ArgMatches<'a>,
     operands: &Operands<'a>,
-    followed: Followed,
-) -> Result<WatchedSession<'a>, Refused>
+    followed: WatchedRunOptions,
+) -> Result<WatchedSession<'a>, CommandLineFault>
     ensures { IfOk result (IsSessionGiven found.now) }
 {
-    let Followed { show, stopping } = followed;
+    let WatchedRunOptions { show, stopping } = followed;
     match operands.program.tape() {
         Some(tape) => {
             let declaration = operands.declaration.unwrap_or("-");
@@ -271,8 +271,8 @@ fn session_of_operands<'a>(
     alloc: Global,
     found: &ArgMatches<'a>,
     operands: &Operands<'a>,
-    followed: Followed,
-) -> Result<WatchedSession<'a>, Refused>
+    followed: WatchedRunOptions,
+) -> Result<WatchedSession<'a>, CommandLineFault>
     ensures { IfOk result (IsSessionGiven found.now) }
 {
     let session = session_on(found, operands, followed)?;
@@ -282,19 +282,19 @@ fn session_of_operands<'a>(
 }
 
 /// The version of a certificate that is named.
-fn version_named(name: &str) -> Result<Version, Refused>
+fn version_named(name: &str) -> Result<Version, CommandLineFault>
     ensures { IfOk result (λ version. version_named name.now ≡ Some version) }
 {
     match name {
         "1" => Ok(Version::One),
         "2" => Ok(Version::Two),
         "3" => Ok(Version::Three),
-        _ => Err(Refused::Misuse(Misuse::GuessedVersion)),
+        _ => Err(CommandLineFault::Misuse(Misuse::GuessedVersion)),
     }
 }
 
 /// The version of the certificate for which a search is asked, if one is.
-fn guessed_version(found: &ArgMatches<'_>) -> Result<Option<Version>, Refused>
+fn guessed_version(found: &ArgMatches<'_>) -> Result<Option<Version>, CommandLineFault>
     ensures { IfOk result (IsVersionNamed (value found.now (codes "certificate"))) }
 {
     match found.get_str("certificate") {
@@ -312,7 +312,7 @@ fn guess_task<'a>(
     found: &ArgMatches<'a>,
     operands: &Operands<'a>,
     inputs: &[&'a str],
-) -> Result<Task<'a>, Refused>
+) -> Result<Task<'a>, CommandLineFault>
     ensures { IfOk result (IsGuessGiven found.now) }
 {
     let is_tape = operands.program.tape().is_some();
@@ -324,10 +324,10 @@ fn guess_task<'a>(
     };
     let report = report_of(found, named, &out)?;
     if report.is_some_and(|name| is_taken(name, inputs)) {
-        return Err(Refused::Misuse(Misuse::ReportIsTaken));
+        return Err(CommandLineFault::Misuse(Misuse::ReportIsTaken));
     }
     if is_tape && report.is_some() && inputs.iter().any(|input| **input == *"-") {
-        return Err(Refused::Misuse(Misuse::ReportOfStandardInput));
+        return Err(CommandLineFault::Misuse(Misuse::ReportOfStandardInput));
     }
     let version = guessed_version(found)?;
     Ok(Task::Guess {
@@ -342,7 +342,7 @@ fn verify_task<'a>(
     found: &ArgMatches<'a>,
     operands: &Operands<'a>,
     inputs: &[&'a str],
-) -> Result<Task<'a>, Refused>
+) -> Result<Task<'a>, CommandLineFault>
     ensures { IfOk result (IsVerifyGiven found.now) }
 {
     let save = save_of(found, inputs, operands.declaration.is_none())?;
@@ -355,7 +355,7 @@ fn refute_task<'a>(
     found: &ArgMatches<'a>,
     operands: &Operands<'a>,
     inputs: &[&'a str],
-) -> Result<Task<'a>, Refused>
+) -> Result<Task<'a>, CommandLineFault>
     ensures { IfOk result (IsRefuteGiven found.now) }
 {
     let out = no_source(result_of(found, operands.last), inputs)?;
@@ -368,7 +368,7 @@ fn declare_task<'a>(
     found: &ArgMatches<'a>,
     operands: &Operands<'a>,
     inputs: &[&'a str],
-) -> Result<Task<'a>, Refused>
+) -> Result<Task<'a>, CommandLineFault>
     ensures { IfOk result (IsDeclareGiven found.now) }
 {
     let out = no_source(result_of(found, operands.last), inputs)?;
@@ -381,7 +381,7 @@ fn report_task<'a>(
     found: &ArgMatches<'a>,
     operands: &Operands<'a>,
     inputs: &[&'a str],
-) -> Result<Task<'a>, Refused>
+) -> Result<Task<'a>, CommandLineFault>
     ensures { IfOk result (IsReportGiven found.now
         (option_map (λ name. name.now) operands.now.last)) }
 {
@@ -405,27 +405,27 @@ fn name_or_input<'a>(name: &Option<&'a str>) -> &'a str
 
 /// What a command asks for, whose program, declaration and last input are these inputs.
 fn task_of<'a>(
-    called: Called,
+    called: ProgramCommand,
     found: &ArgMatches<'a>,
     operands: &Operands<'a>,
     inputs: &[&'a str],
-    followed: Followed,
-) -> Result<Task<'a>, Refused>
+    followed: WatchedRunOptions,
+) -> Result<Task<'a>, CommandLineFault>
     ensures { IfOk result (IsTaskGiven called found.now
         (option_map (λ name. name.now) operands.now.last)) }
 {
     match called {
-        Called::Verify => verify_task(found, operands, inputs),
-        Called::Watch => Ok(Task::Watch {
+        ProgramCommand::Verify => verify_task(found, operands, inputs),
+        ProgramCommand::Watch => Ok(Task::Watch {
             events: name_or_input(&operands.last),
             show: followed.show,
             stopping: followed.stopping,
         }),
-        Called::Guess => guess_task(found, operands, inputs),
-        Called::Refute => refute_task(found, operands, inputs),
-        Called::Declare => declare_task(found, operands, inputs),
-        Called::Report => report_task(found, operands, inputs),
-        Called::Check => Ok(Task::Check {
+        ProgramCommand::Guess => guess_task(found, operands, inputs),
+        ProgramCommand::Refute => refute_task(found, operands, inputs),
+        ProgramCommand::Declare => declare_task(found, operands, inputs),
+        ProgramCommand::Report => report_task(found, operands, inputs),
+        ProgramCommand::Check => Ok(Task::Check {
             certificate: name_or_input(&operands.last),
         }),
     }
@@ -433,29 +433,32 @@ fn task_of<'a>(
 
 /// What is shown of a watched run, and where it is stopped.
 #[derive(Clone, Copy)]
-struct Followed {
+struct WatchedRunOptions {
     show: WordSet,
-    stopping: Option<Stopping>,
+    stopping: Option<StopOptions>,
 }
 
 /// What is shown of a watched run of a tape, and where it is stopped. Of a source that is not known yet.
-fn followed_on(operands: &Operands<'_>, places: &Places<'_>) -> Result<Followed, Refused> {
+fn followed_on(
+    operands: &Operands<'_>,
+    places: &PlaceOptions<'_>,
+) -> Result<WatchedRunOptions, CommandLineFault> {
     if operands.program.tape().is_none() {
-        return Ok(Followed {
+        return Ok(WatchedRunOptions {
             show: WordSet::empty(),
             stopping: None,
         });
     }
-    Ok(Followed {
-        show: places.shown(&Octal)?,
-        stopping: places.stopping(&Octal)?,
+    Ok(WatchedRunOptions {
+        show: places.shown(&OctalAddresses)?,
+        stopping: places.stopping(&OctalAddresses)?,
     })
 }
 
 /// The last operand of a command, if it is an input.
-fn last_input<'a>(called: Called, operands: &Operands<'a>) -> Option<&'a str> {
+fn last_input<'a>(called: ProgramCommand, operands: &Operands<'a>) -> Option<&'a str> {
     match called {
-        Called::Check | Called::Report | Called::Watch => operands.last,
+        ProgramCommand::Check | ProgramCommand::Report | ProgramCommand::Watch => operands.last,
         _ => None,
     }
 }
@@ -463,16 +466,16 @@ fn last_input<'a>(called: Called, operands: &Operands<'a>) -> Option<&'a str> {
 /// What a command asks for whose operands are these.
 fn task_on<'a>(
     alloc: Global,
-    called: Called,
+    called: ProgramCommand,
     found: &ArgMatches<'a>,
     operands: &Operands<'a>,
-    places: &Places<'a>,
-) -> Result<Task<'a>, Refused>
+    places: &PlaceOptions<'a>,
+) -> Result<Task<'a>, CommandLineFault>
     ensures { IfOk result (IsTaskGiven called found.now
         (option_map (λ name. name.now) operands.now.last)) }
 {
     let followed = followed_on(operands, places)?;
-    if called == Called::Watch && is_watched_with_operator(found) {
+    if called == ProgramCommand::Watch && is_watched_with_operator(found) {
         let session = session_of_operands(alloc, found, operands, followed)?;
         return Ok(Task::WatchSession(session));
     }
@@ -487,7 +490,7 @@ pub(crate) fn program_request<'a>(
     alloc: Global,
     command: &str,
     found: &ArgMatches<'a>,
-) -> Result<ProgramRequest<'a>, Refused>
+) -> Result<ProgramRequest<'a>, CommandLineFault>
     // The files of the program are those that were given, and so is the declaration: one is proposed for a tape only if none
     // is given to `verify` or `declare`.
     ensures program { IfOk result (λ asked. IsProgramGiven found.now asked.program) }
@@ -522,7 +525,7 @@ pub(crate) fn program_request<'a>(
 pub(crate) fn place_request<'a>(
     alloc: Global,
     found: &ArgMatches<'a>,
-) -> Result<ProgramRequest<'a>, Refused> {
+) -> Result<ProgramRequest<'a>, CommandLineFault> {
     let operands = Operands {
         program: ProgramNames::Source(source_names(alloc, found)?),
         declaration: found.get_str("declaration"),
@@ -532,7 +535,7 @@ pub(crate) fn place_request<'a>(
     read_standard_input_once(&inputs)?;
     let out = no_input(kept_destination(found), &inputs)?;
     if is_source_name(out.name()) {
-        return Err(Refused::Misuse(Misuse::PlacedIsSource));
+        return Err(CommandLineFault::Misuse(Misuse::PlacedIsSource));
     }
     let Operands {
         program,

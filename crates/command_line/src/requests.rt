@@ -1,10 +1,10 @@
 //! What the command line asks for.
 
 use crate::commands::command;
+use crate::fault::CommandLineFault;
 use crate::operator::{Session, TeletypeSession};
 use crate::programs::{ProgramRequest, place_request, program_request};
-use crate::refused::Refused;
-use crate::sourced::{SourcedRequest, machine_request};
+use crate::source_programs::{SourceProgramRequest, machine_request};
 use crate::sources::{AssembleRequest, ListRequest, assemble_request, list_request};
 use crate::tapes::{
     DumpRequest, MigrateRequest, RunRequest, SourceRequest, migrate_request, source_request,
@@ -25,7 +25,7 @@ pub enum Request<'a> {
     /// To list the words of a tape.
     Dump(DumpRequest<'a>),
     /// To do one of these with the program of a source.
-    Sourced(SourcedRequest<'a>),
+    Sourced(SourceProgramRequest<'a>),
     /// To assemble a source.
     Assemble(AssembleRequest<'a>),
     /// To write a source of a tape.
@@ -57,7 +57,7 @@ fn request_of<'a>(
     alloc: Global,
     command: &str,
     found: &ArgMatches<'a>,
-) -> Result<Request<'a>, Refused> {
+) -> Result<Request<'a>, CommandLineFault> {
     match command {
         "run" | "teletype" | "dump" => machine_request(alloc, command, found),
         "assemble" => Ok(Request::Assemble(assemble_request(alloc, found)?)),
@@ -77,7 +77,7 @@ fn request_of<'a>(
 pub fn parse_arguments<'a, S: AsStr>(
     alloc: Global,
     arguments: &'a [S],
-) -> Result<CommandLine<'a>, Refused> {
+) -> Result<CommandLine<'a>, CommandLineFault> {
     let matches = command(alloc)?.try_get_matches_from(arguments)?;
     match matches.subcommand() {
         Some((name, found)) => Ok(CommandLine {
@@ -85,6 +85,6 @@ pub fn parse_arguments<'a, S: AsStr>(
             explained: found.get_flag("why"),
         }),
         // clap refuses a line without a command, so this isn't reached.
-        None => Err(Refused::Memory),
+        None => Err(CommandLineFault::Memory),
     }
 }

@@ -1,8 +1,8 @@
 //! What may be asked for with a source that is assembled.
 
+use crate::fault::{CommandLineFault, Misuse};
 use crate::names::FileNames;
 use crate::outputs::{Destination, emptied_destination, has_output, is_source_name, no_input};
-use crate::refused::{Misuse, Refused};
 use crate::values::{profile_of, read_standard_input_once};
 use clap::ArgMatches;
 use instruct::Profile;
@@ -47,7 +47,7 @@ pub struct ListRequest<'a> {
 pub(crate) fn source_names<'a>(
     alloc: Global,
     found: &ArgMatches<'a>,
-) -> Result<Vec<&'a str>, Refused> {
+) -> Result<Vec<&'a str>, CommandLineFault> {
     let mut names = Vec::new(alloc);
     // With -o the first operand is a part of the source too.
     if has_output(found) {
@@ -55,7 +55,7 @@ pub(crate) fn source_names<'a>(
     }
     names.extend_from_slice(found.get_strs("SOURCE").unwrap_or(&[]))?;
     if names.is_empty() {
-        return Err(Refused::NoOperand("SOURCE"));
+        return Err(CommandLineFault::NoOperand("SOURCE"));
     }
     read_standard_input_once(&names)?;
     Ok(names)
@@ -66,11 +66,11 @@ pub(crate) fn source_names<'a>(
 pub(crate) fn assemble_request<'a>(
     alloc: Global,
     found: &ArgMatches<'a>,
-) -> Result<AssembleRequest<'a>, Refused> {
+) -> Result<AssembleRequest<'a>, CommandLineFault> {
     let sources = source_names(alloc, found)?;
     let out = no_input(emptied_destination(found), &sources)?;
     if is_source_name(out.name()) {
-        return Err(Refused::Misuse(Misuse::OutputIsSource));
+        return Err(CommandLineFault::Misuse(Misuse::OutputIsSource));
     }
     Ok(AssembleRequest {
         out,
@@ -84,7 +84,7 @@ pub(crate) fn assemble_request<'a>(
 pub(crate) fn list_request<'a>(
     alloc: Global,
     found: &ArgMatches<'a>,
-) -> Result<ListRequest<'a>, Refused> {
+) -> Result<ListRequest<'a>, CommandLineFault> {
     Ok(ListRequest {
         sources: source_names(alloc, found)?,
         profile: profile_of(found)?,

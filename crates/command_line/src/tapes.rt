@@ -4,10 +4,10 @@ ghost use Rattle.std.specs.Prelude.{◌≡◌, IfOk, codes, option_map};
 ghost use Rattle.command_line.specs.Machines.{IsDumpGiven, IsMigrateGiven, IsRunGiven, IsSourceGiven, tape_given};
 ghost use Rattle.command_line.specs.Options.{value};
 
+use crate::fault::{CommandLineFault, Misuse};
 use crate::names::FileNames;
 use crate::outputs::{Destination, emptied_destination, kept_destination, no_input, no_source};
-use crate::refused::{Misuse, Refused};
-use crate::shown::{Places, Stopping, shown_on, stopping_on};
+use crate::place_options::{PlaceOptions, StopOptions, shown_on, stopping_on};
 use crate::values::{
     has_value, is_given, is_start_named, operand_of, profile_of, read_standard_input_once,
     run_options, start_of,
@@ -28,7 +28,7 @@ pub struct RunRequest<'a> {
     /// How it is run.
     pub options: RunOptions,
     /// How it is followed, if it may be stopped.
-    pub stopping: Option<Stopping>,
+    pub stopping: Option<StopOptions>,
     /// Whether a long line is written for each instruction.
     pub long: bool,
 }
@@ -45,12 +45,12 @@ impl<'a> RunRequest<'a> {
 }
 
 /// The name of the tape's file, unless a source takes its place.
-pub(crate) fn tape_of<'a>(found: &ArgMatches<'a>) -> Result<Option<&'a str>, Refused>
+pub(crate) fn tape_of<'a>(found: &ArgMatches<'a>) -> Result<Option<&'a str>, CommandLineFault>
     ensures { IfOk result (λ tape. option_map (λ name. name.now) tape ≡ tape_given found.now) }
 {
     match found.get_strs("source") {
         None => Ok(Some(operand_of(found, "TAPE"))),
-        Some(_) if has_value(found, "TAPE") => Err(Refused::Misuse(Misuse::TapeAndSource)),
+        Some(_) if has_value(found, "TAPE") => Err(CommandLineFault::Misuse(Misuse::TapeAndSource)),
         Some(_) => Ok(None),
     }
 }
@@ -58,8 +58,8 @@ pub(crate) fn tape_of<'a>(found: &ArgMatches<'a>) -> Result<Option<&'a str>, Ref
 /// The run of a tape without an operator. Of a source the cells that are shown and the stops are not known yet.
 pub(crate) fn run_request<'a>(
     found: &ArgMatches<'a>,
-    places: &Places<'a>,
-) -> Result<RunRequest<'a>, Refused>
+    places: &PlaceOptions<'a>,
+) -> Result<RunRequest<'a>, CommandLineFault>
     ensures { IfOk result (IsRunGiven found.now) }
 {
     let tape = tape_of(found)?;
@@ -67,7 +67,7 @@ pub(crate) fn run_request<'a>(
     read_standard_input_once(&[tape.unwrap_or(""), events.unwrap_or("")])?;
     let long = is_given(found, "trace-long");
     if long && found.get_flag("trace") {
-        return Err(Refused::Misuse(Misuse::LongTrace));
+        return Err(CommandLineFault::Misuse(Misuse::LongTrace));
     }
     let show = shown_on(tape, places)?;
     let options = run_options(found, show)?;
@@ -103,7 +103,7 @@ impl<'a> DumpRequest<'a> {
 }
 
 /// The list of words that is asked for.
-pub(crate) fn dump_request<'a>(found: &ArgMatches<'a>) -> Result<DumpRequest<'a>, Refused>
+pub(crate) fn dump_request<'a>(found: &ArgMatches<'a>) -> Result<DumpRequest<'a>, CommandLineFault>
     ensures { IfOk result (IsDumpGiven found.now) }
 {
     let tape = tape_of(found)?;
@@ -145,14 +145,16 @@ impl<'a> SourceRequest<'a> {
 }
 
 /// The source that is asked for.
-pub(crate) fn source_request<'a>(found: &ArgMatches<'a>) -> Result<SourceRequest<'a>, Refused>
+pub(crate) fn source_request<'a>(
+    found: &ArgMatches<'a>,
+) -> Result<SourceRequest<'a>, CommandLineFault>
     ensures { IfOk result (IsSourceGiven found.now) }
 {
     let tape = operand_of(found, "TAPE");
     let declaration = found.get_str("declaration");
     read_standard_input_once(&[tape, declaration.unwrap_or("")])?;
     if declaration.is_some() && is_start_named(found) {
-        return Err(Refused::Misuse(Misuse::DeclarationAndStart));
+        return Err(CommandLineFault::Misuse(Misuse::DeclarationAndStart));
     }
     let out = no_input(kept_destination(found), &[tape, declaration.unwrap_or("-")])?;
     let start = start_of(found)?;
@@ -190,7 +192,7 @@ impl<'a> MigrateRequest<'a> {
 }
 
 /// The name of the declaration's file, which is given if version 3 is asked for, and only then.
-fn declaration_of_sites<'a>(found: &ArgMatches<'a>) -> Result<Option<&'a str>, Refused>
+fn declaration_of_sites<'a>(found: &ArgMatches<'a>) -> Result<Option<&'a str>, CommandLineFault>
     ensures { IfOk result (λ name. option_map (λ it. it.now) name ≡
         value found.now (codes "declaration")) }
 {
@@ -198,16 +200,18 @@ fn declaration_of_sites<'a>(found: &ArgMatches<'a>) -> Result<Option<&'a str>, R
     let is_third = match found.get_str("certificate") {
         None | Some("2") => false,
         Some("3") => true,
-        Some(_) => return Err(Refused::Misuse(Misuse::Version)),
+        Some(_) => return Err(CommandLineFault::Misuse(Misuse::Version)),
     };
     if declaration.is_some() != is_third {
-        return Err(Refused::Misuse(Misuse::VersionAndDeclaration));
+        return Err(CommandLineFault::Misuse(Misuse::VersionAndDeclaration));
     }
     Ok(declaration)
 }
 
 /// The certificate in another version that is asked for.
-pub(crate) fn migrate_request<'a>(found: &ArgMatches<'a>) -> Result<MigrateRequest<'a>, Refused>
+pub(crate) fn migrate_request<'a>(
+    found: &ArgMatches<'a>,
+) -> Result<MigrateRequest<'a>, CommandLineFault>
     ensures { IfOk result (IsMigrateGiven found.now) }
 {
     let certificate = operand_of(found, "CERTIFICATE");

@@ -5,7 +5,7 @@ ghost use Rattle.std.specs.List.{count_by};
 ghost use Rattle.command_line.specs.Outputs.{is_standard_input};
 ghost use Rattle.command_line.specs.Options.{AreDeclareOptions, AreRefuteOptions, AreRunOptions, AreVerifyOptions, IsFlagGiven, IsNumberNamed, machine_given, machine_named, number_or, operand, start_given, value, value_or};
 
-use crate::refused::{Misuse, Refused};
+use crate::fault::{CommandLineFault, Misuse};
 use clap::ArgMatches;
 use command_parts::options::{DeclareOptions, RefuteOptions, RunOptions, VerifyOptions};
 use instruct::Profile;
@@ -69,30 +69,30 @@ pub(crate) fn is_given(found: &ArgMatches<'_>, name: &str) -> bool
 }
 
 /// The machine of a name.
-fn machine_named(name: &str) -> Result<Profile, Refused>
+fn machine_named(name: &str) -> Result<Profile, CommandLineFault>
     ensures { IfOk result (λ machine. machine_named name.now ≡ Some machine) }
 {
     match name {
         "8i" => Ok(Profile::Pdp8I),
         "8e" => Ok(Profile::Pdp8E),
-        _ => Err(Refused::Misuse(Misuse::Profile)),
+        _ => Err(CommandLineFault::Misuse(Misuse::Profile)),
     }
 }
 
 /// The machine that is meant.
-pub(crate) fn profile_of(found: &ArgMatches<'_>) -> Result<Profile, Refused>
+pub(crate) fn profile_of(found: &ArgMatches<'_>) -> Result<Profile, CommandLineFault>
     ensures { IfOk result (λ machine. machine_given found.now ≡ Some machine) }
 {
     machine_named(value_or(found, "profile", "8i"))
 }
 
 /// The address of the first instruction.
-pub(crate) fn start_of(found: &ArgMatches<'_>) -> Result<Word, Refused>
+pub(crate) fn start_of(found: &ArgMatches<'_>) -> Result<Word, CommandLineFault>
     ensures { IfOk result (λ start. start_given found.now ≡ Ok start) }
 {
     match Word::from_octal(value_or(found, "start", "0200").as_bytes()) {
         Ok(start) => Ok(start),
-        Err(fault) => Err(Refused::from(fault)),
+        Err(fault) => Err(CommandLineFault::from(fault)),
     }
 }
 
@@ -119,31 +119,34 @@ fn number_or(
 }
 
 /// How many rounds are made at most.
-fn rounds_of(found: &ArgMatches<'_>) -> Result<u32, Refused>
+fn rounds_of(found: &ArgMatches<'_>) -> Result<u32, CommandLineFault>
     ensures { IfOk result (λ rounds.
         number_or 1 1000000 100000 (value found.now (codes "steps")) ≡ Some rounds) }
 {
     match number_or(found, "steps", 1, MOST_ROUNDS, ROUNDS) {
         Some(rounds) => Ok(rounds),
-        None => Err(Refused::Steps(MOST_ROUNDS)),
+        None => Err(CommandLineFault::Steps(MOST_ROUNDS)),
     }
 }
 
 /// How often CONTINUE is pressed at declared pauses at most, if it may be.
-pub(crate) fn continues_of(found: &ArgMatches<'_>) -> Result<Option<u32>, Refused>
+pub(crate) fn continues_of(found: &ArgMatches<'_>) -> Result<Option<u32>, CommandLineFault>
     ensures { IfOk result (IsNumberNamed 1 1000000 (value found.now (codes "continue"))) }
 {
     match found.get_str("continue") {
         None => Ok(None),
         Some(text) => match decimal_between(1, MOST_CONTINUES, text.as_bytes()) {
             Some(times) => Ok(Some(times)),
-            None => Err(Refused::Misuse(Misuse::Continue)),
+            None => Err(CommandLineFault::Misuse(Misuse::Continue)),
         },
     }
 }
 
 /// How a tape is run whose run shows these cells.
-pub(crate) fn run_options(found: &ArgMatches<'_>, show: WordSet) -> Result<RunOptions, Refused>
+pub(crate) fn run_options(
+    found: &ArgMatches<'_>,
+    show: WordSet,
+) -> Result<RunOptions, CommandLineFault>
     ensures options { IfOk result (AreRunOptions found.now) }
     ensures shown { IfOk result (λ options. options.show ≡ show) }
 {
@@ -160,7 +163,7 @@ pub(crate) fn run_options(found: &ArgMatches<'_>, show: WordSet) -> Result<RunOp
 }
 
 /// What a declaration is proposed for.
-pub(crate) fn declare_options(found: &ArgMatches<'_>) -> Result<DeclareOptions, Refused>
+pub(crate) fn declare_options(found: &ArgMatches<'_>) -> Result<DeclareOptions, CommandLineFault>
     ensures { IfOk result (AreDeclareOptions found.now) }
 {
     let start = start_of(found)?;
@@ -173,29 +176,29 @@ pub(crate) fn declare_options(found: &ArgMatches<'_>) -> Result<DeclareOptions, 
 }
 
 /// How many steps a search for a run makes at most.
-fn search_steps_of(found: &ArgMatches<'_>) -> Result<u32, Refused>
+fn search_steps_of(found: &ArgMatches<'_>) -> Result<u32, CommandLineFault>
     ensures { IfOk result (λ steps.
         number_or 1 100000000 20000000 (value found.now (codes "steps")) ≡ Some steps) }
 {
     match number_or(found, "steps", 1, MOST_SEARCH_STEPS, SEARCH_STEPS) {
         Some(steps) => Ok(steps),
-        None => Err(Refused::Steps(MOST_SEARCH_STEPS)),
+        None => Err(CommandLineFault::Steps(MOST_SEARCH_STEPS)),
     }
 }
 
 /// Where the random numbers of a search begin.
-fn seed_of(found: &ArgMatches<'_>) -> Result<u32, Refused>
+fn seed_of(found: &ArgMatches<'_>) -> Result<u32, CommandLineFault>
     ensures { IfOk result (λ seed.
         number_or 0 99999999 1 (value found.now (codes "seed")) ≡ Some seed) }
 {
     match number_or(found, "seed", 0, MOST_SEED, SEED) {
         Some(seed) => Ok(seed),
-        None => Err(Refused::Misuse(Misuse::Seed)),
+        None => Err(CommandLineFault::Misuse(Misuse::Seed)),
     }
 }
 
 /// How a run that violates a declaration is searched for.
-pub(crate) fn refute_options(found: &ArgMatches<'_>) -> Result<RefuteOptions, Refused>
+pub(crate) fn refute_options(found: &ArgMatches<'_>) -> Result<RefuteOptions, CommandLineFault>
     ensures { IfOk result (AreRefuteOptions found.now) }
 {
     let steps = search_steps_of(found)?;
@@ -208,7 +211,7 @@ pub(crate) fn refute_options(found: &ArgMatches<'_>) -> Result<RefuteOptions, Re
 }
 
 /// How it is found out whether a program complies with its declaration.
-pub(crate) fn verify_options(found: &ArgMatches<'_>) -> Result<VerifyOptions, Refused>
+pub(crate) fn verify_options(found: &ArgMatches<'_>) -> Result<VerifyOptions, CommandLineFault>
     ensures { IfOk result (AreVerifyOptions found.now) }
 {
     let start = start_of(found)?;
@@ -229,7 +232,7 @@ fn is_standard_input(name: &str) -> bool
 }
 
 /// Ensures that at most one of these inputs is standard input.
-pub(crate) fn read_standard_input_once(names: &[&str]) -> Result<(), Refused>
+pub(crate) fn read_standard_input_once(names: &[&str]) -> Result<(), CommandLineFault>
     ensures once { IfOk result (λ done.
         count_by (λ name. is_standard_input name.now) names.now ≤ 1) }
     ensures refused { IfErr result (λ fault.
@@ -237,7 +240,7 @@ pub(crate) fn read_standard_input_once(names: &[&str]) -> Result<(), Refused>
 {
     let count = names.iter().filter(|name| is_standard_input(name)).count();
     if count > 1 {
-        return Err(Refused::Misuse(Misuse::BothStandardInput));
+        return Err(CommandLineFault::Misuse(Misuse::BothStandardInput));
     }
     Ok(())
 }

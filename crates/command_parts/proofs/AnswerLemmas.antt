@@ -6,7 +6,7 @@ use Rattle.std.proofs.lemmas.Bool.{true≢false}
 use Rattle.streams.specs.Bytes.{AppendsFront}
 use Rattle.command_parts.specs.declared.status.Fault.{Fault}
 use Rattle.command_parts.specs.declared.status.Fault.TheVariants.{Device}
-use Rattle.command_parts.specs.declared.outcome.Outcome.{Outcome}
+use Rattle.command_parts.specs.declared.outcome.CommandResult.{CommandResult}
 use Rattle.command_parts.specs.declared.status.Status.{Status}
 use Rattle.command_parts.specs.declared.status.DeviceFault.TheVariants.{Read, Write}
 use Rattle.command_parts.specs.Answers.{EndsAt, FailsBy, GoesOn, IsLaterFault, NeverFails, Output, Reads, ReadsDeclaration, ReadsTape, ReadsTwo, WritesAnswer, output}
@@ -136,7 +136,7 @@ pub outcome_written : {T : Type 0} {P : T → List ℕ → Type 0} {out : Output
 outcome_written {P = P} answer text is w = written_so (λ a t same. rw (same.0, same.1) is) w
 
 -- what a command delivers is right
-pub delivered : {A : Type 0} {P R : Status → List ℕ → Type 0} {out : Output} {result : Result Status Fault} (told : Result (Outcome A) Fault) →
+pub delivered : {A : Type 0} {P R : Status → List ℕ → Type 0} {out : Output} {result : Result Status Fault} (told : Result (CommandResult A) Fault) →
     IfOk told (λ o. R o.status o.text.items) → ((status : Status) (text : List ℕ) → R status text → P status text) →
     WritesAnswer (λ s t. IsOkAnd told (λ o. (s ≡ o.status) × (t ≡ o.text.items))) out result → WritesAnswer P out result
 delivered (Ok o) is on w = written_so (λ s t same. rw (same.0, same.1) (on o.status o.text.items is)) w

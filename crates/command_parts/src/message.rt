@@ -11,7 +11,7 @@ use std::alloc::{AllocError, Allocator};
 use word12::Word;
 
 /// Takes a text for people, piece by piece. A call fails where memory is refused.
-pub trait Lines {
+pub trait MessageWriter {
     /// The text so far, as it reads without a source.
     ghost text: { Self → List ℕ };
 
@@ -38,7 +38,7 @@ pub trait Lines {
 }
 
 /// Bytes take a text as it reads without a source.
-impl<A: Allocator> Lines for Vec<u8, A> {
+impl<A: Allocator> MessageWriter for Vec<u8, A> {
     ghost text = { λ bytes. bytes.items };
 
     fn push_text(&mut self, piece: &[u8]) -> Result<(), AllocError> {
@@ -65,7 +65,7 @@ impl<A: Allocator> Lines for Vec<u8, A> {
 
 /// What stands before a place of a text.
 #[derive(Clone, Copy, PartialEq, Eq, Debug)]
-pub enum Mark {
+pub enum AddressMark {
     /// The four digits of an address.
     Address(Word),
     /// The four digits of an address within a line of a declaration that is advised.
@@ -80,7 +80,7 @@ pub struct PlacedMark {
     /// How many bytes of the text stand before it.
     pub place: usize,
     /// What they end with.
-    pub mark: Mark,
+    pub mark: AddressMark,
 }
 
 /// A text for people, and where it has addresses of the program.
@@ -159,7 +159,7 @@ impl<A: Allocator> Message<A> {
     }
 
     /// Marks what the text ends with.
-    fn mark(&mut self, mark: Mark) -> Result<(), AllocError>
+    fn mark(&mut self, mark: AddressMark) -> Result<(), AllocError>
         ensures { self.new.bytes ≡ self.old.bytes }
     {
         let place = self.bytes.len();
@@ -181,7 +181,7 @@ impl<A: Allocator> Message<A> {
     }
 }
 
-impl<A: Allocator> Lines for Message<A> {
+impl<A: Allocator> MessageWriter for Message<A> {
     ghost use Rattle.command_parts.specs.Messages.{plain};
 
     ghost text = { λ message. plain message };
@@ -192,12 +192,12 @@ impl<A: Allocator> Lines for Message<A> {
 
     fn push_address(&mut self, at: Word) -> Result<(), AllocError> {
         push_word(&mut self.bytes, at)?;
-        self.mark(Mark::Address(at))
+        self.mark(AddressMark::Address(at))
     }
 
     fn push_advised_address(&mut self, at: Word) -> Result<(), AllocError> {
         push_word(&mut self.bytes, at)?;
-        self.mark(Mark::AdvisedAddress(at))
+        self.mark(AddressMark::AdvisedAddress(at))
     }
 
     fn push_instruction(
@@ -210,12 +210,12 @@ impl<A: Allocator> Lines for Message<A> {
         if word.is_none() {
             return Ok(());
         }
-        self.mark(Mark::Instruction(at))
+        self.mark(AddressMark::Instruction(at))
     }
 }
 
 /// Adds a text, and behind it an address.
-pub fn push_text_and_address<L: Lines>(
+pub fn push_text_and_address<L: MessageWriter>(
     text: &mut L,
     before: &[u8],
     at: Word,
@@ -227,7 +227,7 @@ pub fn push_text_and_address<L: Lines>(
 }
 
 /// Adds a text, and behind it an address within a line of a declaration that is advised.
-pub fn push_text_and_advised<L: Lines>(
+pub fn push_text_and_advised<L: MessageWriter>(
     text: &mut L,
     before: &[u8],
     at: Word,
@@ -239,7 +239,7 @@ pub fn push_text_and_advised<L: Lines>(
 }
 
 /// Adds a text, and behind it a word that is no address.
-pub fn push_text_and_word<L: Lines>(
+pub fn push_text_and_word<L: MessageWriter>(
     text: &mut L,
     before: &[u8],
     word: Word,

@@ -99,7 +99,7 @@ pub struct VerifyOptions {
 
 /// How the bytes of keys are struck at the teletype.
 #[derive(Clone, Copy, PartialEq, Eq, Debug)]
-pub struct Manner {
+pub struct KeyOptions {
     /// They are struck as they come. Else a carriage return is struck for a line feed, and each key has
     /// channel 8 set, as people type at a terminal.
     pub raw: bool,
@@ -117,7 +117,7 @@ pub struct TeletypeOptions {
     /// What the switches are set to first, if they are.
     pub switches: Option<Word>,
     /// How the bytes of keys are struck.
-    pub manner: Manner,
+    pub manner: KeyOptions,
     /// The cells whose words are shown when the session is over.
     pub show: WordSet,
 }

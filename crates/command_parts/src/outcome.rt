@@ -10,7 +10,7 @@ use streams::{ByteSink, put};
 
 /// What a command answers: the text that it writes, and the status that it ends with.
 #[derive(Drop)]
-pub struct Outcome<A: Allocator> {
+pub struct CommandResult<A: Allocator> {
     /// The text that goes to the output.
     pub text: Vec<u8, A>,
     /// The status.
@@ -27,7 +27,7 @@ pub fn write_text<W: ByteSink>(out: &mut W, text: &[u8]) -> Result<(), Fault>
     Ok(put(out, text)?)
 }
 
-impl<A: Allocator> Outcome<A> {
+impl<A: Allocator> CommandResult<A> {
     /// Writes the text, and gives the status.
     pub fn write<W: ByteSink>(&self, out: &mut W) -> Result<Status, Fault>
         requires { W.mark out.old ≡ false }
@@ -43,7 +43,7 @@ impl<A: Allocator> Outcome<A> {
 
 /// Writes what a command has to tell, if its work had no fault.
 pub fn deliver<A: Allocator, W: ByteSink>(
-    told: Result<Outcome<A>, Fault>,
+    told: Result<CommandResult<A>, Fault>,
     out: &mut W,
 ) -> Result<Status, Fault>
     requires writable { W.mark out.old ≡ false }

@@ -3,20 +3,20 @@
 //! who reads the text judges it.
 #![tactic(auto)]
 
+mod exploration;
 mod map;
 mod steps;
-mod survey;
 mod tape;
 mod text;
 mod trials;
 mod variables;
 mod walk;
 
+pub use exploration::{Findings, explore_runs};
 pub use map::Map;
-pub use survey::{Findings, surveyed};
 pub use tape::Tape;
 pub use text::{above_seven, push_cells, push_further, push_range, push_reads, push_skips};
-pub use variables::Breadth;
+pub use variables::VariableSelection;
 
 /// The runs in which it was seen what a program does.
 #[derive(Clone, Copy, PartialEq, Eq, Debug)]

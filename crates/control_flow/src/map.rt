@@ -3,7 +3,7 @@
 ghost use Rattle.std.specs.Prelude.{◌≡◌};
 
 use crate::tape::{Tape, Visit};
-use crate::walk::{Spot, Walk};
+use crate::walk::{ProgramPoint, Traversal};
 use instruct::Profile;
 use word12::Word;
 use wordset::WordSet;
@@ -174,8 +174,8 @@ impl Map {
 
     /// Follows main's body, and gives its cells.
     pub(crate) fn follow_main(&mut self, tape: &Tape<'_>) -> WordSet {
-        let mut walk = Walk::new(None);
-        walk.meet(Spot {
+        let mut walk = Traversal::new(None);
+        walk.meet(ProgramPoint {
             at: self.start,
             offset: 0,
         });
@@ -188,8 +188,8 @@ impl Map {
     /// Follows the body of an entry, and gives its cells. Those of bodies that were followed before
     /// can't be in it.
     pub(crate) fn follow_routine(&mut self, tape: &Tape<'_>, entry: Word) -> WordSet {
-        let mut walk = Walk::new(Some(entry));
-        let here = Spot {
+        let mut walk = Traversal::new(Some(entry));
+        let here = ProgramPoint {
             at: entry,
             offset: 0,
         };
@@ -210,14 +210,14 @@ impl Map {
     }
 
     /// Meets the cells of a body from which runs were seen to make steps.
-    fn meet_visits(&self, tape: &Tape<'_>, walk: &mut Walk) {
+    fn meet_visits(&self, tape: &Tape<'_>, walk: &mut Traversal) {
         if let Some(visits) = tape.visits {
             self.meet_all(visits.places, walk);
         }
     }
 
     /// Meets the cells of these visits that the running routine's body may have.
-    fn meet_all(&self, visits: &[Visit], walk: &mut Walk) {
+    fn meet_all(&self, visits: &[Visit], walk: &mut Traversal) {
         for visit in visits {
             if visit.entry == walk.entry && !self.entries.contains(visit.spot.at) {
                 walk.meet(visit.spot);
@@ -226,7 +226,7 @@ impl Map {
     }
 
     /// Goes on from all cells that are met, and gives them.
-    fn follow(&mut self, tape: &Tape<'_>, walk: &mut Walk) -> WordSet {
+    fn follow(&mut self, tape: &Tape<'_>, walk: &mut Traversal) -> WordSet {
         for _step in 0..MOST_STEPS {
             let Some(here) = walk.next() else {
                 break;

@@ -2,7 +2,7 @@
 
 use crate::map::Map;
 use crate::tape::Tape;
-use crate::walk::{Spot, Walk};
+use crate::walk::{ProgramPoint, Traversal};
 use instruct::{DeviceOperation, Instruction, Operation, decode, halts, refers_indirectly, target};
 use processor::is_auto_index;
 use word12::Word;
@@ -10,7 +10,13 @@ use word12::Word;
 impl Map {
     /// Goes on at a cell, if it may be in the body: it is on the tape or is stored in, no entry, and in
     /// no other body.
-    pub(crate) fn go(&mut self, tape: &Tape<'_>, walk: &mut Walk, here: &Spot, to: Word) {
+    pub(crate) fn go(
+        &mut self,
+        tape: &Tape<'_>,
+        walk: &mut Traversal,
+        here: &ProgramPoint,
+        to: Word,
+    ) {
         let is_there = tape.get(to).is_some() || (self.stored.contains(to) && tape.may_be_code(to));
         let is_free = !self.entries.contains(to) && !self.round.code.contains(to);
         if is_there && is_free && tape.may_be_in(walk.owner(), to) {
@@ -21,18 +27,18 @@ impl Map {
     }
 
     /// Goes on at the next cell.
-    fn go_on(&mut self, tape: &Tape<'_>, walk: &mut Walk, here: &Spot) {
+    fn go_on(&mut self, tape: &Tape<'_>, walk: &mut Traversal, here: &ProgramPoint) {
         self.go(tape, walk, here, here.at.increment());
     }
 
     /// Goes on at the cell past the next one.
-    fn skip(&mut self, tape: &Tape<'_>, walk: &mut Walk, here: &Spot) {
+    fn skip(&mut self, tape: &Tape<'_>, walk: &mut Traversal, here: &ProgramPoint) {
         self.go(tape, walk, here, here.at.increment().increment());
     }
 
     /// Goes on from a cell. Where it is stored in, other words may stand there, and control may go on
     /// to the next cell.
-    pub(crate) fn visit(&mut self, tape: &Tape<'_>, walk: &mut Walk, here: &Spot) {
+    pub(crate) fn visit(&mut self, tape: &Tape<'_>, walk: &mut Traversal, here: &ProgramPoint) {
         let changes = self.stored.contains(here.at);
         if changes {
             self.go_on(tape, walk, here);
@@ -54,7 +60,7 @@ impl Map {
     }
 
     /// Goes on from a word of group 2.
-    fn operate(&mut self, tape: &Tape<'_>, walk: &mut Walk, here: &Spot, word: Word) {
+    fn operate(&mut self, tape: &Tape<'_>, walk: &mut Traversal, here: &ProgramPoint, word: Word) {
         if halts(word) && !self.stored.contains(here.at) {
             self.round.halts.insert(here.at);
             if !self.pauses.contains(here.at) {
@@ -72,7 +78,7 @@ impl Map {
     }
 
     /// Goes on from a device word.
-    fn ask(&mut self, tape: &Tape<'_>, walk: &mut Walk, here: &Spot, word: Word) {
+    fn ask(&mut self, tape: &Tape<'_>, walk: &mut Traversal, here: &ProgramPoint, word: Word) {
         self.go_on(tape, walk, here);
         if let Some(operation) = DeviceOperation::of(word, self.profile) {
             match operation {
@@ -86,7 +92,7 @@ impl Map {
     }
 
     /// Goes on from a memory reference.
-    fn refer(&mut self, tape: &Tape<'_>, walk: &mut Walk, here: &Spot, word: Word) {
+    fn refer(&mut self, tape: &Tape<'_>, walk: &mut Traversal, here: &ProgramPoint, word: Word) {
         let address = &self.address(tape, here.at, word);
         match Operation::of(word) {
             Operation::And | Operation::Tad => {
@@ -140,7 +146,7 @@ impl Map {
     }
 
     /// A DCA stores. One that names the routine's own entry stores its return word, and no word tells which that is.
-    fn deposit(&mut self, walk: &mut Walk, word: Word, address: &Option<Word>) {
+    fn deposit(&mut self, walk: &mut Traversal, word: Word, address: &Option<Word>) {
         match address {
             Some(cell) if walk.is_own(*cell) && !refers_indirectly(word) => {
                 self.round.moves.insert(*cell);
@@ -151,10 +157,16 @@ impl Map {
     }
 
     /// Goes on from ISZ. That of the routine's own entry counts the return word up, and doesn't skip.
-    fn count(&mut self, tape: &Tape<'_>, walk: &mut Walk, here: &Spot, address: &Option<Word>) {
+    fn count(
+        &mut self,
+        tape: &Tape<'_>,
+        walk: &mut Traversal,
+        here: &ProgramPoint,
+        address: &Option<Word>,
+    ) {
         if let Some(cell) = address {
             if walk.is_own(*cell) {
-                let later = Spot {
+                let later = ProgramPoint {
                     at: here.at,
                     offset: here.offset.saturating_add(1),
                 };
@@ -168,7 +180,13 @@ impl Map {
     }
 
     /// Goes on from JMS.
-    fn call(&mut self, tape: &Tape<'_>, walk: &mut Walk, here: &Spot, address: &Option<Word>) {
+    fn call(
+        &mut self,
+        tape: &Tape<'_>,
+        walk: &mut Traversal,
+        here: &ProgramPoint,
+        address: &Option<Word>,
+    ) {
         if let Some(entry) = address {
             self.enter(tape, walk, here, *entry);
             return;
@@ -181,7 +199,7 @@ impl Map {
     }
 
     /// Goes on after a call of an entry, as far as it's known how the routine returns.
-    fn enter(&mut self, tape: &Tape<'_>, walk: &mut Walk, here: &Spot, entry: Word) {
+    fn enter(&mut self, tape: &Tape<'_>, walk: &mut Traversal, here: &ProgramPoint, entry: Word) {
         if is_auto_index(entry) || entry == self.start || self.banned.contains(entry) {
             self.round.astray.insert(here.at);
             return;
@@ -197,8 +215,8 @@ impl Map {
     fn jump(
         &mut self,
         tape: &Tape<'_>,
-        walk: &mut Walk,
-        here: &Spot,
+        walk: &mut Traversal,
+        here: &ProgramPoint,
         word: Word,
         address: &Option<Word>,
     ) {
@@ -216,7 +234,7 @@ impl Map {
     }
 
     /// Goes on at the target of a JMP. From a routine's body a JMP to a cell of main's abandons all open calls.
-    fn jump_to(&mut self, tape: &Tape<'_>, walk: &mut Walk, here: &Spot, to: Word) {
+    fn jump_to(&mut self, tape: &Tape<'_>, walk: &mut Traversal, here: &ProgramPoint, to: Word) {
         if walk.entry.is_some() && self.round.main.contains(to) {
             self.round.abandons.insert(to);
         } else {
@@ -225,7 +243,7 @@ impl Map {
     }
 
     /// Goes on from JMP where it isn't known where it goes.
-    fn jump_by_table(&mut self, tape: &Tape<'_>, walk: &mut Walk, here: &Spot) {
+    fn jump_by_table(&mut self, tape: &Tape<'_>, walk: &mut Traversal, here: &ProgramPoint) {
         self.round.jumps.insert(here.at);
         let jumped = self.jumped;
         for to in jumped.iter() {

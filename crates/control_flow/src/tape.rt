@@ -3,7 +3,7 @@
 ghost use Rattle.std.specs.Prelude.{◌≡◌};
 
 use crate::ObservedRuns;
-use crate::walk::Spot;
+use crate::walk::ProgramPoint;
 use bin_tape::Image;
 use declaration::Owner;
 use word12::Word;
@@ -13,7 +13,7 @@ use wordset::WordSet;
 #[derive(Clone, Copy)]
 pub(crate) struct Visit {
     pub(crate) entry: Option<Word>,
-    pub(crate) spot: Spot,
+    pub(crate) spot: ProgramPoint,
 }
 
 /// A return: the routine's entry, and by how much its return word was past the return address.

@@ -7,7 +7,7 @@ use wordset::WordSet;
 
 /// Which cells are taken for variables, beside those that instructions store in by name.
 #[derive(Clone, Copy)]
-pub enum Breadth {
+pub enum VariableSelection {
     /// None.
     Stored,
     /// Those that are no code and that no instruction names, and those without a word on the tape.
@@ -18,12 +18,12 @@ pub enum Breadth {
 
 impl Map {
     /// The cells that are taken for variables.
-    pub fn variables(&self, image: &Image, breadth: Breadth) -> WordSet {
+    pub fn variables(&self, image: &Image, breadth: VariableSelection) -> WordSet {
         let data = WordSet::all().minus(&self.round.code);
         let more = match breadth {
-            Breadth::Stored => WordSet::empty(),
-            Breadth::Tables => data.minus(&loaded(image).meet(&self.round.named)),
-            Breadth::Data => data,
+            VariableSelection::Stored => WordSet::empty(),
+            VariableSelection::Tables => data.minus(&loaded(image).meet(&self.round.named)),
+            VariableSelection::Data => data,
         };
         self.stored.union(&more).minus(&self.entries)
     }

@@ -6,15 +6,15 @@ use wordset::WordSet;
 
 /// A cell of a body, and by how far the routine's return word may have been counted up there.
 #[derive(Clone, Copy)]
-pub(crate) struct Spot {
+pub(crate) struct ProgramPoint {
     pub(crate) at: Word,
     pub(crate) offset: usize,
 }
 
-impl Spot {
+impl ProgramPoint {
     /// Another cell with the same offset.
-    pub(crate) fn to(&self, at: Word) -> Spot {
-        Spot {
+    pub(crate) fn to(&self, at: Word) -> ProgramPoint {
+        ProgramPoint {
             at,
             offset: self.offset,
         }
@@ -24,17 +24,17 @@ impl Spot {
 /// A body while it is followed: the routine's entry, if it isn't main's; whether its words don't tell by which offsets it returns;
 /// and by offset the cells that were met and those from which to go on.
 #[derive(Drop)]
-pub(crate) struct Walk {
+pub(crate) struct Traversal {
     pub(crate) entry: Option<Word>,
     pub(crate) is_open: bool,
     met: [WordSet; 8],
     waiting: [WordSet; 8],
 }
 
-impl Walk {
+impl Traversal {
     /// Nothing was met yet.
-    pub(crate) fn new(entry: Option<Word>) -> Walk {
-        Walk {
+    pub(crate) fn new(entry: Option<Word>) -> Traversal {
+        Traversal {
             entry,
             is_open: false,
             met: [WordSet::empty(); 8],
@@ -60,7 +60,7 @@ impl Walk {
 
     /// Meets a cell, from which to go on if it wasn't met. Where the return word was counted up by more than 7, this is most likely
     /// done in a loop.
-    pub(crate) fn meet(&mut self, spot: Spot) {
+    pub(crate) fn meet(&mut self, spot: ProgramPoint) {
         let Some(met) = self.met.get_mut(spot.offset) else {
             self.is_open = true;
             return;
@@ -75,12 +75,12 @@ impl Walk {
     }
 
     /// The next cell from which to go on.
-    pub(crate) fn next(&mut self) -> Option<Spot> {
+    pub(crate) fn next(&mut self) -> Option<ProgramPoint> {
         for offset in 0..8usize {
             let cells = &mut self.waiting[offset];
             if let Some(at) = cells.least() {
                 cells.remove(at);
-                return Some(Spot { at, offset });
+                return Some(ProgramPoint { at, offset });
             }
         }
         None

@@ -4,8 +4,8 @@ use Rattle.std.specs.List.{list_any}
 use Rattle.std.proofs.lemmas.Bool.{true≢false}
 use Rattle.domain.specs.Facts.{Fact}
 use Rattle.facts.specs.Landing.{fact_at}
-use Rattle.diagnostics.specs.Telling.{has_mark}
-use Rattle.diagnostics.specs.declared.verdicts.telling.Mark.{Mark}
+use Rattle.diagnostics.specs.ReasonContexts.{has_mark}
+use Rattle.diagnostics.specs.declared.verdicts.reason_context.Distinction.{Distinction}
 
 or_left : (a b : Bool) → a ≡ true → (a || b) ≡ true
 or_left true b e = refl
@@ -22,7 +22,7 @@ some_at p (f ∷ fs) zero less is = or_left (p f) (list_any p fs) is
 some_at p (f ∷ fs) (suc i) less is = or_right (p f) (list_any p fs) (some_at p fs i (omega (arith, less)) is)
 
 -- the one at a place does not have the mark
-pub lacking_at : (m : Mark) (fs : List Fact) (n i : ℕ) (f : Fact) (r : Bool) → n ≡ length fs → i < n → f ≡ fact_at fs i → r ≡ has_mark f m → r ≡ false →
+pub lacking_at : (m : Distinction) (fs : List Fact) (n i : ℕ) (f : Fact) (r : Bool) → n ≡ length fs → i < n → f ≡ fact_at fs i → r ≡ has_mark f m → r ≡ false →
     list_any (λ g. not (has_mark g m)) fs ≡ true
 lacking_at m fs n i f r count less same test fails =
     let inside : i < length fs = subst (λ (k : ℕ). i < k) count less in

@@ -1,5 +1,5 @@
 pub mod CertificateInputs
 pub mod CertificateFaults
 pub mod CheckText
-pub mod Telling
+pub mod ReasonContexts
 pub mod WhyText

@@ -38,10 +38,10 @@ use Rattle.command_parts.specs.Dumping.{dump_line}
 use Rattle.command_parts.specs.LinkText.{link_text}
 use Rattle.diagnostics.specs.CheckText.{IsVerdict, checked_case, condition_text, verdict_status, verdict_text}
 use Rattle.certificate_lines.specs.Written.{fact_text_at}
-use Rattle.diagnostics.specs.Telling.{IsTellingOf, place_of_reason}
-use Rattle.diagnostics.specs.declared.verdicts.telling.Mark.{Mark}
-use Rattle.diagnostics.specs.declared.verdicts.telling.Mark.TheVariants as mark
-use Rattle.diagnostics.specs.declared.verdicts.telling.Telling.{Telling}
+use Rattle.diagnostics.specs.ReasonContexts.{IsTellingOf, place_of_reason}
+use Rattle.diagnostics.specs.declared.verdicts.reason_context.Distinction.{Distinction}
+use Rattle.diagnostics.specs.declared.verdicts.reason_context.Distinction.TheVariants as mark
+use Rattle.diagnostics.specs.declared.verdicts.reason_context.ReasonContext.{ReasonContext}
 
 -- What each condition asks by the rules of equations.
 abbrev pub asked_text : Condition → List ℕ
@@ -324,7 +324,7 @@ breach_text rules (breach.ReadsUnlisted c) = around (codes "it may read ") c (co
 breach_text rules (breach.DeniesAssertion s w) = denied_text s w (codes "holds")
 
 -- What tells a fact from another at its address.
-abbrev pub mark_text : Mark → List ℕ
+abbrev pub mark_text : Distinction → List ℕ
 mark_text (mark.CalledFrom a) = codes ", called from " ++ octal_text a
 mark_text mark.LinkClear = codes ", link 0"
 mark_text mark.LinkSet = codes ", link 1"
@@ -332,16 +332,16 @@ mark_text (mark.Accumulator w) = codes ", AC = " ++ octal_text w
 mark_text (mark.Cell c w) = (codes ", " ++ octal_text c) ++ (codes " = " ++ octal_text w)
 
 -- The same, if something tells it.
-abbrev pub told_mark : Option Mark → List ℕ
+abbrev pub told_mark : Option Distinction → List ℕ
 told_mark None = []
 told_mark (Some m) = mark_text m
 
 -- All that tells it.
-abbrev pub marks_text : Telling → List ℕ
+abbrev pub marks_text : ReasonContext → List ℕ
 marks_text t = ((told_mark t.site ++ told_mark t.link) ++ told_mark t.accumulator) ++ told_mark t.cell
 
 -- Which fact it is, where several stand at the address: its place among their lines, and what tells it.
-abbrev pub which_text : Telling → Option ℕ → List ℕ
+abbrev pub which_text : ReasonContext → Option ℕ → List ℕ
 which_text t None = []
 which_text t (Some i) =
     if nat_lt t.count 2 then []
@@ -372,12 +372,12 @@ word_shown image at (Some (reason.ByWord i w b)) = Some w
 word_shown image at _ = word_at image at
 
 -- The line of a reason, if there is one, told by which fact it is so.
-abbrev pub reason_line : Telling → Option Reason → List ℕ
+abbrev pub reason_line : ReasonContext → Option Reason → List ℕ
 reason_line t None = []
 reason_line t (Some r) = (which_text t t.place ++ reason_text t.rules r) ++ codes "\n"
 
 -- The address with its word and its name, what the condition asks, and why it fails. After a yes there is nothing.
-abbrev pub why_text : Profile → List (Option ℕ) → Result (Unit {0}) Refusal → Option Reason → Telling → List ℕ
+abbrev pub why_text : Profile → List (Option ℕ) → Result (Unit {0}) Refusal → Option Reason → ReasonContext → List ℕ
 why_text profile image (Ok _) reason t = []
 why_text profile image (Err r) reason t =
     dump_line profile r.address (word_shown image r.address reason) ++
@@ -421,7 +421,7 @@ pub record IsExplanationOf (image : List (Option ℕ)) (declaration : Declaratio
   pub is : IsVerdict (checked_case image declaration lines) verdict
   pub reason : Option Reason
   pub why : IsReason (checked_case image declaration lines) verdict reason
-  pub telling : Telling
+  pub telling : ReasonContext
   pub told : IsTellingOf (certificate_of lines) verdict reason telling
   pub more : List ℕ
   pub only : IsOnlyAfterYes verdict more
@@ -432,6 +432,6 @@ pub record IsExplanationOf (image : List (Option ℕ)) (declaration : Declaratio
 pub record AddsExplanation (image : List (Option ℕ)) (declaration : Declaration) (lines : Text) (verdict : Result (Unit {0}) Refusal) (old new : List ℕ) : Type 0 where
   pub reason : Option Reason
   pub why : IsReason (checked_case image declaration lines) verdict reason
-  pub telling : Telling
+  pub telling : ReasonContext
   pub told : IsTellingOf (certificate_of lines) verdict reason telling
   pub text_is : new ≡ old ++ ((verdict_text declaration verdict ++ why_text declaration.profile image verdict reason telling) ++ fact_shown lines verdict reason)

@@ -1,20 +1,20 @@
 //! What is said about a pointer where a search for a certificate is stuck: the words that it may hold there, those that would be
 //! enough, and the last place where fewer were known. It is tested, not proved.
 
-mod known;
+mod draft_facts;
 mod losses;
 mod relations;
 mod sets;
 mod sufficient;
 
-use crate::bounds::known::Known;
-use crate::bounds::losses::{Loss, loss_at, may_go_on, refers_to_memory};
+use crate::bounds::draft_facts::DraftFacts;
+use crate::bounds::losses::{PrecisionLoss, loss_at, may_go_on, refers_to_memory};
 use crate::bounds::relations::{Relation, lost_relation};
 use crate::bounds::sets::push_set;
 use crate::bounds::sufficient::{sufficient_words, test_of_pointer};
 use bin_tape::Image;
 use certificate::Certificate;
-use command_parts::message::{Lines, push_text_and_address};
+use command_parts::message::{MessageWriter, push_text_and_address};
 use declaration::Declaration;
 use domain::Location;
 use instruct::{name, refers_indirectly, target};
@@ -40,7 +40,7 @@ fn pointer_at<D: Allocator>(image: &Image, declaration: &Declaration<D>, at: Wor
 struct LostBound {
     from: Word,
     to: Word,
-    loss: Loss,
+    loss: PrecisionLoss,
 }
 
 /// Looks at the addresses from which a run may come to this one: gives the first where the bound of the
@@ -49,7 +49,7 @@ fn step_back<A: Allocator, D: Allocator, C: Allocator>(
     seen: &mut Vec<Word, A>,
     image: &Image,
     declaration: &Declaration<D>,
-    known: &mut Known<'_, C>,
+    known: &mut DraftFacts<'_, C>,
     pointer: Word,
     here: Word,
 ) -> Result<Option<LostBound>, AllocError> {
@@ -84,7 +84,7 @@ fn lost_before<A: Allocator + Copy, D: Allocator, C: Allocator>(
     alloc: A,
     image: &Image,
     declaration: &Declaration<D>,
-    known: &mut Known<'_, C>,
+    known: &mut DraftFacts<'_, C>,
     pointer: Word,
     at: Word,
 ) -> Result<Option<LostBound>, AllocError> {
@@ -110,7 +110,7 @@ fn lost_before<A: Allocator + Copy, D: Allocator, C: Allocator>(
 /// # Errors
 ///
 /// `AllocError` if memory was refused.
-pub fn push_bound<A: Allocator + Copy, L: Lines, D: Allocator, C: Allocator>(
+pub fn push_bound<A: Allocator + Copy, L: MessageWriter, D: Allocator, C: Allocator>(
     alloc: A,
     text: &mut L,
     image: &Image,
@@ -121,7 +121,7 @@ pub fn push_bound<A: Allocator + Copy, L: Lines, D: Allocator, C: Allocator>(
     let Some(pointer) = pointer_at(image, declaration, at) else {
         return Ok(());
     };
-    let mut known = Known::of(image, draft);
+    let mut known = DraftFacts::of(image, draft);
     if !known.has_fact(at) {
         return Ok(());
     }
@@ -139,7 +139,7 @@ pub fn push_bound<A: Allocator + Copy, L: Lines, D: Allocator, C: Allocator>(
 
 /// Adds which of the words that a pointer may hold would be enough for the instruction at an address, if they are fewer, and which test
 /// in the same body could show it.
-fn push_sufficient<L: Lines, D: Allocator>(
+fn push_sufficient<L: MessageWriter, D: Allocator>(
     text: &mut L,
     image: &Image,
     declaration: &Declaration<D>,
@@ -161,7 +161,7 @@ fn push_sufficient<L: Lines, D: Allocator>(
 }
 
 /// Adds the skip in the same body that tests a sum with a pointer, or that there is none.
-fn push_test<L: Lines, D: Allocator>(
+fn push_test<L: MessageWriter, D: Allocator>(
     text: &mut L,
     image: &Image,
     declaration: &Declaration<D>,
@@ -183,7 +183,7 @@ fn push_test<L: Lines, D: Allocator>(
 
 /// Adds the relation that a loop loses, if the bound was lost where paths meet and there is one; otherwise where the
 /// bound was lost, and why.
-fn push_lost<A: Allocator + Copy, L: Lines, D: Allocator, C: Allocator>(
+fn push_lost<A: Allocator + Copy, L: MessageWriter, D: Allocator, C: Allocator>(
     alloc: A,
     text: &mut L,
     image: &Image,
@@ -192,7 +192,7 @@ fn push_lost<A: Allocator + Copy, L: Lines, D: Allocator, C: Allocator>(
     pointer: Word,
     lost: &LostBound,
 ) -> Result<(), AllocError> {
-    if lost.loss != Loss::Meeting {
+    if lost.loss != PrecisionLoss::Meeting {
         return push_loss(text, image, declaration, pointer, lost);
     }
     let (from, head) = (lost.from, lost.to);
@@ -204,7 +204,7 @@ fn push_lost<A: Allocator + Copy, L: Lines, D: Allocator, C: Allocator>(
 }
 
 /// Adds the name of the word at an address, if the tape has one.
-fn push_name<L: Lines, D: Allocator>(
+fn push_name<L: MessageWriter, D: Allocator>(
     text: &mut L,
     image: &Image,
     declaration: &Declaration<D>,
@@ -217,7 +217,7 @@ fn push_name<L: Lines, D: Allocator>(
 }
 
 /// Adds a relation that a loop keeps on one way, and the instruction at which it is lost on another.
-fn push_relation<L: Lines, D: Allocator>(
+fn push_relation<L: MessageWriter, D: Allocator>(
     text: &mut L,
     image: &Image,
     declaration: &Declaration<D>,
@@ -235,7 +235,7 @@ fn push_relation<L: Lines, D: Allocator>(
 }
 
 /// Adds where the bound of a pointer was lost, and why.
-fn push_loss<L: Lines, D: Allocator>(
+fn push_loss<L: MessageWriter, D: Allocator>(
     text: &mut L,
     image: &Image,
     declaration: &Declaration<D>,

@@ -2,9 +2,9 @@
 
 pub mod certificates;
 pub mod explanation;
-mod gathered;
 pub mod messages;
+pub mod reason_context;
 pub mod reason_text;
 pub mod surplus_text;
-pub mod telling;
+mod vector_sink;
 pub mod verdict;

@@ -100,7 +100,7 @@ impl Plan {
 
 /// What a command left: its answer, the output that the plan names, and how much went to all outputs.
 #[derive(Drop)]
-struct Left {
+struct ObservedResult {
     answer: Result<Status, Fault>,
     out: MemorySink<Global>,
     total: usize,
@@ -230,7 +230,7 @@ fn promised<A: Allocator + Copy>(
 }
 
 /// What is left by a run with an operator.
-fn operated<A: Allocator + Copy>(alloc: A, heap: Global, plan: &Plan) -> Left {
+fn operated<A: Allocator + Copy>(alloc: A, heap: Global, plan: &Plan) -> ObservedResult {
     let mut outputs = Outputs {
         report: plan.sink(0, heap),
         teletype: plan.sink(1, heap),
@@ -253,11 +253,16 @@ fn operated<A: Allocator + Copy>(alloc: A, heap: Global, plan: &Plan) -> Left {
         1 => teletype,
         _ => punch,
     };
-    Left { answer, out, total }
+    ObservedResult { answer, out, total }
 }
 
 /// What is left by a guess that says why it is stuck.
-fn guessed<A: Allocator + Copy>(alloc: A, heap: Global, plan: &Plan, text: &[u8]) -> Left {
+fn guessed<A: Allocator + Copy>(
+    alloc: A,
+    heap: Global,
+    plan: &Plan,
+    text: &[u8],
+) -> ObservedResult {
     let mut found = plan.sink(0, heap);
     let mut report = plan.sink(1, heap);
     let answer = guess_or_explain(
@@ -269,12 +274,17 @@ fn guessed<A: Allocator + Copy>(alloc: A, heap: Global, plan: &Plan, text: &[u8]
     );
     let total = found.bytes().len().saturating_add(report.bytes().len());
     let out = if plan.output == 0 { found } else { report };
-    Left { answer, out, total }
+    ObservedResult { answer, out, total }
 }
 
 /// What a command leaves by a plan. It takes its memory from the first allocator, and what it writes is
 /// kept by the second.
-fn left_by<A: Allocator + Copy>(alloc: A, heap: Global, command: Command, plan: &Plan) -> Left {
+fn left_by<A: Allocator + Copy>(
+    alloc: A,
+    heap: Global,
+    command: Command,
+    plan: &Plan,
+) -> ObservedResult {
     match command {
         Command::Session => operated(alloc, heap, plan),
         Command::GuessOrExplain => guessed(alloc, heap, plan, HALT_DECLARED),
@@ -283,7 +293,7 @@ fn left_by<A: Allocator + Copy>(alloc: A, heap: Global, command: Command, plan: 
             let mut out = plan.sink(0, heap);
             let answer = answered(alloc, command, plan, &mut out);
             let total = out.bytes().len();
-            Left { answer, out, total }
+            ObservedResult { answer, out, total }
         }
     }
 }

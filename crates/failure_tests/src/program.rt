@@ -1,6 +1,6 @@
 //! The whole program where a file or a stream fails: what is written until then, what is told and the status.
 
-use crate::runtime::{ROOMY, Rooms, run_program};
+use crate::runtime::{OutputLimits, ROOMY, run_program};
 
 /// Words with a file of which a read fails after some bytes.
 const FAILING_READS: [&str; 25] = [
@@ -77,7 +77,7 @@ fn a_write_that_fails_is_told(rt: HostRuntime) {
         let whole = run_program(rt.alloc(), words, ROOMY);
         assert_eq!(rt; whole.status, *status, "{words}");
         for eighth in 0..8usize {
-            let rooms = Rooms {
+            let rooms = OutputLimits {
                 printed: whole.printed.len().saturating_mul(eighth) / 8,
                 written: whole.written.len().saturating_mul(eighth) / 8,
                 ..ROOMY
@@ -105,7 +105,7 @@ const TOLD: [(&str, u8); 7] = [
 #[test]
 fn a_standard_error_that_fails_leaves_the_status(rt: HostRuntime) {
     for (words, status) in &TOLD {
-        let end = run_program(rt.alloc(), words, Rooms { told: 0, ..ROOMY });
+        let end = run_program(rt.alloc(), words, OutputLimits { told: 0, ..ROOMY });
         assert_eq!(rt; end.status, *status, "{words}");
         assert!(rt; end.told.is_empty() && end.written.is_empty(), "{words}");
     }

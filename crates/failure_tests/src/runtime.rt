@@ -36,14 +36,14 @@ fn content(name: &str) -> Option<&'static [u8]> {
 
 /// Bytes that are only added to, up to so many.
 #[derive(Drop)]
-struct Page {
+struct OutputBuffer {
     bytes: RefCell<Vec<u8, Global>>,
     room: usize,
 }
 
-impl Page {
-    fn new(alloc: Global, room: usize) -> Page {
-        Page {
+impl OutputBuffer {
+    fn new(alloc: Global, room: usize) -> OutputBuffer {
+        OutputBuffer {
             bytes: RefCell::new(Vec::new(alloc)),
             room,
         }
@@ -66,13 +66,13 @@ impl Page {
 
 /// A file: the bytes still to be read, whether a read behind them fails, and where the written ones go.
 #[derive(Drop)]
-pub struct Sheet<'d> {
+pub struct FakeFile<'d> {
     rest: &'d [u8],
-    written: &'d Page,
+    written: &'d OutputBuffer,
     fails: bool,
 }
 
-impl Read for Sheet<'_> {
+impl Read for FakeFile<'_> {
     fn read(&mut self, buf: &mut [u8]) -> io::Result<usize> {
         if self.fails && self.rest.is_empty() {
             return Err(unsupported());
@@ -81,7 +81,7 @@ impl Read for Sheet<'_> {
     }
 }
 
-impl Write for Sheet<'_> {
+impl Write for FakeFile<'_> {
     fn write(&mut self, buf: &[u8]) -> io::Result<usize> {
         self.written.add(buf)?;
         Ok(buf.len())
@@ -96,13 +96,13 @@ fn unsupported() -> io::Error {
     io::Error::from(ErrorKind::Unsupported)
 }
 
-impl Seek for Sheet<'_> {
+impl Seek for FakeFile<'_> {
     fn seek(&mut self, _to: SeekFrom) -> io::Result<u64> {
         Err(unsupported())
     }
 }
 
-impl OpenFile for Sheet<'_> {
+impl OpenFile for FakeFile<'_> {
     fn metadata(&self) -> io::Result<Metadata> {
         Err(unsupported())
     }
@@ -122,10 +122,10 @@ impl OpenFile for Sheet<'_> {
 
 /// What the program did.
 #[derive(Drop)]
-struct Pages {
-    printed: Page,
-    told: Page,
-    written: Page,
+struct OutputBuffers {
+    printed: OutputBuffer,
+    told: OutputBuffer,
+    written: OutputBuffer,
 }
 
 /// The runtime. Its words are those of a text, separated by spaces.
@@ -133,7 +133,7 @@ struct Pages {
 struct FakeRuntime<'d> {
     alloc: Global,
     words: &'d str,
-    pages: &'d Pages,
+    pages: &'d OutputBuffers,
 }
 
 impl Alloc for FakeRuntime<'_> {
@@ -167,7 +167,7 @@ impl Env for FakeRuntime<'_> {
 }
 
 /// Adds the text of a value to a page.
-fn add_text<D: Display + Drop>(alloc: Global, page: &Page, value: D) -> io::Result<()> {
+fn add_text<D: Display + Drop>(alloc: Global, page: &OutputBuffer, value: D) -> io::Result<()> {
     match format!(in alloc; "{value}") {
         Ok(text) => page.add(text.as_bytes()),
         Err(_) => Err(unsupported()),
@@ -217,11 +217,11 @@ impl Input for FakeRuntime<'_> {
 }
 
 impl<'d> Files for FakeRuntime<'d> {
-    type File = Sheet<'d>;
+    type File = FakeFile<'d>;
 
     type Dir = &'static [u8];
 
-    fn open_file(&self, how: &OpenOptions, path: &str) -> io::Result<Sheet<'d>> {
+    fn open_file(&self, how: &OpenOptions, path: &str) -> io::Result<FakeFile<'d>> {
         how.check()?;
         let found = if how.asks_create() || how.asks_create_new() {
             Some(b"".as_slice())
@@ -229,7 +229,7 @@ impl<'d> Files for FakeRuntime<'d> {
             content(path)
         };
         match found {
-            Some(rest) => Ok(Sheet {
+            Some(rest) => Ok(FakeFile {
                 rest,
                 written: &self.pages.written,
                 fails: path.starts_with("failing"),
@@ -277,14 +277,14 @@ impl<'d> Files for FakeRuntime<'d> {
 
 /// For how many bytes there is room on standard output, on standard error and in files.
 #[derive(Clone, Copy)]
-pub struct Rooms {
+pub struct OutputLimits {
     pub printed: usize,
     pub told: usize,
     pub written: usize,
 }
 
 /// There is room for all.
-pub const ROOMY: Rooms = Rooms {
+pub const ROOMY: OutputLimits = OutputLimits {
     printed: usize::MAX,
     told: usize::MAX,
     written: usize::MAX,
@@ -292,7 +292,7 @@ pub const ROOMY: Rooms = Rooms {
 
 /// What the program leaves: its status, and what went to standard output, to standard error and to files.
 #[derive(Drop)]
-pub struct Ended {
+pub struct ProgramResult {
     pub status: u8,
     pub printed: Vec<u8, Global>,
     pub told: Vec<u8, Global>,
@@ -300,11 +300,11 @@ pub struct Ended {
 }
 
 /// Runs the program with these words, separated by spaces, where a write past the room that there is fails.
-pub fn run_program(alloc: Global, words: &str, rooms: Rooms) -> Ended {
-    let pages = Pages {
-        printed: Page::new(alloc, rooms.printed),
-        told: Page::new(alloc, rooms.told),
-        written: Page::new(alloc, rooms.written),
+pub fn run_program(alloc: Global, words: &str, rooms: OutputLimits) -> ProgramResult {
+    let pages = OutputBuffers {
+        printed: OutputBuffer::new(alloc, rooms.printed),
+        told: OutputBuffer::new(alloc, rooms.told),
+        written: OutputBuffer::new(alloc, rooms.written),
     };
     let runtime = FakeRuntime {
         alloc,
@@ -312,12 +312,12 @@ pub fn run_program(alloc: Global, words: &str, rooms: Rooms) -> Ended {
         pages: &pages,
     };
     let status = exit_status(&runtime, false);
-    let Pages {
+    let OutputBuffers {
         printed,
         told,
         written,
     } = pages;
-    Ended {
+    ProgramResult {
         status,
         printed: printed.into_bytes(),
         told: told.into_bytes(),

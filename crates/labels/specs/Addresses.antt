@@ -6,8 +6,8 @@ use Rattle.streams.specs.Text.{octal_word}
 use Rattle.pal_text.specs.declared.names.Name.{Name}
 use Rattle.pal_text.specs.Names.{name}
 use Rattle.pal_acts.specs.Values.{known}
-use Rattle.labels.specs.declared.fault.Flaw.{Flaw}
-use Rattle.labels.specs.declared.fault.Flaw.TheVariants.{Form, Symbol, Memory, Order}
+use Rattle.labels.specs.declared.fault.AddressFault.{AddressFault}
+use Rattle.labels.specs.declared.fault.AddressFault.TheVariants.{Form, Symbol, Memory, Order}
 use Rattle.labels.specs.declared.address.Cells.{Cells}
 use Rattle.labels.specs.declared.address.Cells.TheVariants.{One, Range}
 
@@ -33,29 +33,29 @@ after_name text = drop (position_or_len ends_name text) text
 
 -- An address and what stands behind it, or what is wrong with it.
 abbrev pub Reading : Type 0
-Reading = Result (ℕ × List ℕ) Flaw
+Reading = Result (ℕ × List ℕ) AddressFault
 
 -- The address that a symbol has as its value; a symbol without one has the flaw Symbol.
-abbrev pub symbol_value : Option ℕ → Result ℕ Flaw
+abbrev pub symbol_value : Option ℕ → Result ℕ AddressFault
 symbol_value (Some value) = Ok value
 symbol_value None = Err Symbol
 
 -- The number that one to four octal digits spell; anything else is none.
-abbrev pub number_value : Option ℕ → Result ℕ Flaw
+abbrev pub number_value : Option ℕ → Result ℕ AddressFault
 number_value (Some value) = Ok value
 number_value None = Err Form
 
 -- The value of the symbol with these bytes, by the symbols of a source.
-abbrev pub value_of : List (Name × ℕ) → List ℕ → Result ℕ Flaw
+abbrev pub value_of : List (Name × ℕ) → List ℕ → Result ℕ AddressFault
 value_of own bytes = symbol_value (known [] own (record { letters = name bytes }))
 
 -- The address so many cells above an address, or below it. It isn't taken modulo 10000.
-abbrev pub moved : ℕ → Bool → ℕ → Result ℕ Flaw
+abbrev pub moved : ℕ → Bool → ℕ → Result ℕ AddressFault
 moved at true count = if nat_lt at count then Err Memory else Ok (at - count)
 moved at false count = if nat_lt (at + count) 4096 then Ok (at + count) else Err Memory
 
 -- An address, where there is one, with what stands behind it.
-abbrev pub behind : Result ℕ Flaw → List ℕ → Reading
+abbrev pub behind : Result ℕ AddressFault → List ℕ → Reading
 behind (Ok at) rest = Ok (at, rest)
 behind (Err flaw) rest = Err flaw
 
@@ -84,7 +84,7 @@ with_offset at (sign ∷ number) =
     if is_sign sign && begins_number number then offset at (sign == 45) number else Ok (at, sign ∷ number)
 
 -- A symbol's address, where it has one, with what follows the symbol.
-abbrev pub symbol_then : Result ℕ Flaw → List ℕ → Reading
+abbrev pub symbol_then : Result ℕ AddressFault → List ℕ → Reading
 symbol_then (Ok at) rest = with_offset at rest
 symbol_then (Err flaw) rest = Err flaw
 
@@ -101,19 +101,19 @@ abbrev pub address_of : List (Name × ℕ) → List ℕ → Reading
 address_of own text = address_by own (name_of text) (after_name text)
 
 -- The cells from one address to the next one, behind which nothing stands.
-abbrev pub span : ℕ → Reading → Result Cells Flaw
+abbrev pub span : ℕ → Reading → Result Cells AddressFault
 span low (Err flaw) = Err flaw
 span low (Ok (high, [])) = if nat_le low high then Ok (Range low high) else Err Order
 span low (Ok (high, other ∷ more)) = Err Form
 
 -- The cells of an address, or with a dash and another address those from one to the other.
-abbrev pub cells_from : List (Name × ℕ) → Reading → Result Cells Flaw
+abbrev pub cells_from : List (Name × ℕ) → Reading → Result Cells AddressFault
 cells_from own (Err flaw) = Err flaw
 cells_from own (Ok (low, [])) = Ok (One low)
 cells_from own (Ok (low, dash ∷ rest)) = if dash == 45 then span low (address_of own rest) else Err Form
 
 -- The cells of a word: an address or a range.
-abbrev pub cells_of : List (Name × ℕ) → List ℕ → Result Cells Flaw
+abbrev pub cells_of : List (Name × ℕ) → List ℕ → Result Cells AddressFault
 cells_of own word = cells_from own (address_of own word)
 
 -- Cells as a declaration spells them in numbers.

@@ -5,15 +5,15 @@ use Rattle.std.specs.List.{before_first, list_any, position_or_len, slice_index,
 use Rattle.std.specs.Str.Lines.{strip_carriage_return}
 use Rattle.streams.specs.Text.{is_slash, words_of}
 use Rattle.pal_text.specs.declared.names.Name.{Name}
-use Rattle.labels.specs.declared.fault.Flaw.{Flaw}
-use Rattle.labels.specs.declared.fault.Flaw.TheVariants.{Form, Symbol, Memory, Order}
+use Rattle.labels.specs.declared.fault.AddressFault.{AddressFault}
+use Rattle.labels.specs.declared.fault.AddressFault.TheVariants.{Form, Symbol, Memory, Order}
 use Rattle.labels.specs.declared.fault.PlaceFault.{PlaceFault}
 use Rattle.labels.specs.declared.fault.PlaceFault.TheVariants.{BadLine, NoSymbol, PastMemory, Backwards, TooMany, NoMemory}
 use Rattle.labels.specs.declared.address.Cells.{Cells}
 use Rattle.labels.specs.Addresses.{is_capital, cells_of, cells_text}
 
 -- A flaw as the fault of a line.
-abbrev pub fault_at : ℕ → Flaw → PlaceFault
+abbrev pub fault_at : ℕ → AddressFault → PlaceFault
 fault_at n Form = BadLine n
 fault_at n Symbol = NoSymbol n
 fault_at n Memory = PastMemory n
@@ -24,7 +24,7 @@ abbrev pub Placed : Type 0
 Placed = Result (List ℕ) PlaceFault
 
 -- Cells as they are spelled, or what they flaw as the fault of a line.
-abbrev pub spelled : ℕ → Result Cells Flaw → Placed
+abbrev pub spelled : ℕ → Result Cells AddressFault → Placed
 spelled n (Ok cells) = Ok (cells_text cells)
 spelled n (Err flaw) = Err (fault_at n flaw)
 

@@ -4,7 +4,7 @@ ghost use Rattle.std.specs.Prelude.{◌≡◌, ◌++◌, Ok, Err, OnOk, IfOk, If
 ghost use Rattle.std.specs.List.{position, position_or_len};
 ghost use Rattle.labels.specs.Addresses.{is_capital, is_digit, is_sign, begins_number, ends_name, name_of, after_name, value_of, moved, offset, with_offset, address_of, span, cells_of, cells_text};
 
-use crate::fault::Flaw;
+use crate::fault::AddressFault;
 use pal_acts::SymbolTable;
 use pal_text::Name;
 use std::alloc::{AllocError, Allocator};
@@ -22,7 +22,7 @@ pub enum Cells {
 
 /// An address at the front of a text, and what stands behind it.
 #[derive(Clone, Copy)]
-struct Front<'a> {
+struct AddressPrefix<'a> {
     at: Word,
     rest: &'a [u8],
 }
@@ -80,23 +80,23 @@ fn after_name(text: &[u8]) -> &[u8]
 }
 
 /// The value of the symbol with these bytes.
-fn value_of<A: Allocator + Copy>(own: &SymbolTable<A>, bytes: &[u8]) -> Result<Word, Flaw>
+fn value_of<A: Allocator + Copy>(own: &SymbolTable<A>, bytes: &[u8]) -> Result<Word, AddressFault>
     ensures { result ≡ value_of own.now.entries bytes.now }
 {
     match own.get(&Name::new(bytes)) {
         Some(value) => Ok(*value),
-        None => Err(Flaw::Symbol),
+        None => Err(AddressFault::Symbol),
     }
 }
 
 /// The address so many cells above an address, or below it.
-fn moved(at: Word, below: bool, count: Word) -> Result<Word, Flaw>
+fn moved(at: Word, below: bool, count: Word) -> Result<Word, AddressFault>
     ensures { result ≡ moved at below count }
 {
     let (at, count) = (at.value(), count.value());
     let to = if below {
         if at < count {
-            return Err(Flaw::Memory);
+            return Err(AddressFault::Memory);
         }
         at - count
     } else {
@@ -104,21 +104,21 @@ fn moved(at: Word, below: bool, count: Word) -> Result<Word, Flaw>
     };
     match Word::new(to) {
         Some(word) => Ok(word),
-        None => Err(Flaw::Memory),
+        None => Err(AddressFault::Memory),
     }
 }
 
 /// An address moved by the number at the front of a text.
-fn offset(at: Word, below: bool, number: &[u8]) -> Result<Front<'_>, Flaw>
+fn offset(at: Word, below: bool, number: &[u8]) -> Result<AddressPrefix<'_>, AddressFault>
     ensures found { IfOk result (λ front.
         offset at below number.now ≡ Ok (front.at, front.rest.now)) }
     ensures refused { IfErr result (λ flaw. offset at below number.now ≡ Err flaw) }
 {
     let Some(count) = text::octal_word(name_of(number)) else {
-        return Err(Flaw::Form);
+        return Err(AddressFault::Form);
     };
     match moved(at, below, count) {
-        Ok(at) => Ok(Front {
+        Ok(at) => Ok(AddressPrefix {
             at,
             rest: after_name(number),
         }),
@@ -134,7 +134,7 @@ fn is_sign(byte: u8) -> bool
 }
 
 /// A symbol's address, moved where a sign and a digit follow it.
-fn with_offset(at: Word, rest: &[u8]) -> Result<Front<'_>, Flaw>
+fn with_offset(at: Word, rest: &[u8]) -> Result<AddressPrefix<'_>, AddressFault>
     ensures found { IfOk result (λ front.
         with_offset at rest.now ≡ Ok (front.at, front.rest.now)) }
     ensures refused { IfErr result (λ flaw. with_offset at rest.now ≡ Err flaw) }
@@ -143,7 +143,7 @@ fn with_offset(at: Word, rest: &[u8]) -> Result<Front<'_>, Flaw>
         [sign, number @ ..] if is_sign(*sign) && begins_number(number) => {
             offset(at, *sign == b'-', number)
         }
-        _ => Ok(Front { at, rest }),
+        _ => Ok(AddressPrefix { at, rest }),
     }
 }
 
@@ -161,7 +161,7 @@ fn begins_number(text: &[u8]) -> bool
 fn front_of<'a, A: Allocator + Copy>(
     own: &SymbolTable<A>,
     text: &'a [u8],
-) -> Result<Front<'a>, Flaw>
+) -> Result<AddressPrefix<'a>, AddressFault>
     ensures found { IfOk result (λ front.
         address_of own.now.entries text.now ≡ Ok (front.at, front.rest.now)) }
     ensures refused { IfErr result (λ flaw. address_of own.now.entries text.now ≡ Err flaw) }
@@ -169,28 +169,32 @@ fn front_of<'a, A: Allocator + Copy>(
     let name = name_of(text);
     let rest = after_name(text);
     match name {
-        [] => Err(Flaw::Form),
+        [] => Err(AddressFault::Form),
         [first, ..] if is_capital(*first) => match value_of(own, name) {
             Ok(at) => with_offset(at, rest),
             Err(flaw) => Err(flaw),
         },
         _ => match text::octal_word(name) {
-            Some(at) => Ok(Front { at, rest }),
-            None => Err(Flaw::Form),
+            Some(at) => Ok(AddressPrefix { at, rest }),
+            None => Err(AddressFault::Form),
         },
     }
 }
 
 /// The cells from an address to the one that is spelled next.
-fn span<A: Allocator + Copy>(own: &SymbolTable<A>, low: Word, text: &[u8]) -> Result<Cells, Flaw>
+fn span<A: Allocator + Copy>(
+    own: &SymbolTable<A>,
+    low: Word,
+    text: &[u8],
+) -> Result<Cells, AddressFault>
     ensures { result ≡ span low (address_of own.now.entries text.now) }
 {
     match front_of(own, text) {
         Ok(high) => {
             if !high.rest.is_empty() {
-                Err(Flaw::Form)
+                Err(AddressFault::Form)
             } else if high.at.value() < low.value() {
-                Err(Flaw::Order)
+                Err(AddressFault::Order)
             } else {
                 Ok(Cells::Range(low, high.at))
             }
@@ -204,14 +208,17 @@ fn span<A: Allocator + Copy>(own: &SymbolTable<A>, low: Word, text: &[u8]) -> Re
 /// # Errors
 ///
 /// What is wrong with the word.
-pub fn cells_of<A: Allocator + Copy>(own: &SymbolTable<A>, word: &[u8]) -> Result<Cells, Flaw>
+pub fn cells_of<A: Allocator + Copy>(
+    own: &SymbolTable<A>,
+    word: &[u8],
+) -> Result<Cells, AddressFault>
     ensures { result ≡ cells_of own.now.entries word.now }
 {
     match front_of(own, word) {
         Ok(low) => match low.rest {
             [] => Ok(Cells::One(low.at)),
             [b'-', rest @ ..] => span(own, low.at, rest),
-            _ => Err(Flaw::Form),
+            _ => Err(AddressFault::Form),
         },
         Err(flaw) => Err(flaw),
     }

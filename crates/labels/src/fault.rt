@@ -31,7 +31,7 @@ pub enum PlaceFault {
 
 /// Why a word is no address and no range.
 #[derive(Clone, Copy, PartialEq, Eq, Debug)]
-pub enum Flaw {
+pub enum AddressFault {
     /// It is neither an address nor a range.
     Form,
     /// The source doesn't define the symbol.
@@ -42,16 +42,16 @@ pub enum Flaw {
     Order,
 }
 
-impl Flaw {
+impl AddressFault {
     /// A flaw as the fault of a line.
     pub(crate) fn on_line(self, number: usize) -> PlaceFault
         ensures { result ≡ fault_at number self }
     {
         match self {
-            Flaw::Form => PlaceFault::BadLine(number),
-            Flaw::Symbol => PlaceFault::NoSymbol(number),
-            Flaw::Memory => PlaceFault::PastMemory(number),
-            Flaw::Order => PlaceFault::Backwards(number),
+            AddressFault::Form => PlaceFault::BadLine(number),
+            AddressFault::Symbol => PlaceFault::NoSymbol(number),
+            AddressFault::Memory => PlaceFault::PastMemory(number),
+            AddressFault::Order => PlaceFault::Backwards(number),
         }
     }
 }

@@ -15,6 +15,6 @@ pub mod within;
 pub use fault::PlaceFault;
 pub use naming::name_declaration;
 pub use placing::place;
-pub use program::{Numbered, NumberingFault, number};
+pub use program::{NumberedProgram, NumberingFault, number};
 pub use tags::Tags;
 pub use within::{declaration_within, declared_lines, machine_of};

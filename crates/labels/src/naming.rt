@@ -9,7 +9,8 @@ ghost use Rattle.labels.specs.Programs.{IsSourceFault};
 use crate::address::{Cells, cells_of};
 use crate::fault::PlaceFault;
 use crate::placing::{
-    Cut, comment_of, cut_line, place, push_comment, return_of, said_of, without_return,
+    FirstLine, comment_of, place, push_comment, return_of, said_of, split_first_line,
+    without_return,
 };
 use crate::program::{NumberingFault, translation_of};
 use crate::within::{machine_of, reads_on, reads_on_after};
@@ -363,10 +364,10 @@ fn push_line<A: Allocator + Copy, S: Allocator + Copy>(
 }
 
 /// The first line of what is left of a text, and what is left behind it; no line is an empty one.
-fn cut_if<'t>(left: Option<&'t [u8]>) -> Cut<'t> {
+fn split_if_any<'t>(left: Option<&'t [u8]>) -> FirstLine<'t> {
     match left {
-        Some(text) => cut_line(text),
-        None => Cut {
+        Some(text) => split_first_line(text),
+        None => FirstLine {
             line: &[],
             rest: None,
         },
@@ -385,8 +386,8 @@ fn push_lines<A: Allocator + Copy, S: Allocator + Copy>(
     let mut rest = behind;
     let mut written = written_behind;
     while let Some(left) = rest {
-        let cut = cut_line(left);
-        let kept = cut_if(written);
+        let cut = split_first_line(left);
+        let kept = split_if_any(written);
         text.push(b'\n')?;
         push_line(alloc, own, tags, cut.line, kept.line, text)?;
         rest = cut.rest;
@@ -405,8 +406,8 @@ fn name_lines<A: Allocator + Copy, S: Allocator + Copy>(
 ) -> Result<Vec<u8, A>, AllocError> {
     let tags = tags_of(alloc, own, parts)?;
     let mut text = Vec::new(alloc);
-    let cut = cut_line(numbers);
-    let kept = cut_line(written);
+    let cut = split_first_line(numbers);
+    let kept = split_first_line(written);
     push_line(alloc, own, &tags, cut.line, kept.line, &mut text)?;
     push_lines(alloc, own, &tags, cut.rest, kept.rest, &mut text)?;
     Ok(text)

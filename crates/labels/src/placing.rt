@@ -203,23 +203,23 @@ fn place_of_feed(text: &[u8]) -> Option<usize>
 
 /// A line, and what stands behind its line feed, if it has one.
 #[derive(Clone, Copy)]
-pub(crate) struct Cut<'a> {
+pub(crate) struct FirstLine<'a> {
     pub(crate) line: &'a [u8],
     pub(crate) rest: Option<&'a [u8]>,
 }
 
 /// The first line of a text, and the text behind it.
-pub(crate) fn cut_line(text: &[u8]) -> Cut<'_>
+pub(crate) fn split_first_line(text: &[u8]) -> FirstLine<'_>
     ensures lines { slice_split is_feed text.now ≡
         result.line.now ∷ lines_behind result.rest }
     ensures shorter { length_behind result.rest ≤ length text.now }
 {
     match place_of_feed(text) {
-        Some(end) => Cut {
+        Some(end) => FirstLine {
             line: &text[..end],
             rest: Some(&text[end + 1..]),
         },
-        None => Cut {
+        None => FirstLine {
             line: text,
             rest: None,
         },
@@ -242,7 +242,7 @@ fn place_lines<A: Allocator, S: Allocator + Copy>(
     let mut rest = behind;
     let mut number = before;
     while let Some(text) = rest {
-        let cut = cut_line(text);
+        let cut = split_first_line(text);
         number += 1;
         out.extend_from_slice(b"\n")?;
         place_line(own, number, cut.line, out)?;
@@ -264,7 +264,7 @@ fn place_all<A: Allocator, S: Allocator + Copy>(
         (IsPlaceFault (placed_all own.now.entries (slice_split is_feed text.now))) }
 {
     let mut out = Vec::new(alloc);
-    let cut = cut_line(text);
+    let cut = split_first_line(text);
     place_line(own, 1, cut.line, &mut out)?;
     place_lines(own, 1, cut.rest, &mut out)?;
     Ok(out)

@@ -19,7 +19,7 @@ use streams::{ByteSink, Failed};
 
 /// A program's tape, its declaration in numbers, and the source with its lines.
 #[derive(Drop)]
-pub struct Numbered<A: Allocator + Copy> {
+pub struct NumberedProgram<A: Allocator + Copy> {
     /// The tape's frames.
     pub tape: Vec<u8, A>,
     /// The declaration's text.
@@ -140,7 +140,7 @@ fn numbered_of<A: Allocator + Copy>(
     alloc: A,
     parts: &[&[u8]],
     declaration: &[u8],
-) -> Result<Numbered<A>, NumberingFault>
+) -> Result<NumberedProgram<A>, NumberingFault>
     ensures numbered { IfOk result (λ numbered. IsNumbered (texts parts.now) declaration.now
         numbered.tape.items numbered.declaration.items) }
     ensures refused { IfErr result (IsNumberingFault (texts parts.now) declaration.now) }
@@ -148,7 +148,7 @@ fn numbered_of<A: Allocator + Copy>(
     let map = mapped(alloc, parts, declaration)?;
     let tape = tape_of(alloc, map.image())?;
     match place(alloc, declaration, map.symbols()) {
-        Ok(declaration) => Ok(Numbered {
+        Ok(declaration) => Ok(NumberedProgram {
             tape,
             declaration,
             map,
@@ -168,7 +168,7 @@ pub fn number<A: Allocator + Copy>(
     alloc: A,
     parts: &[&[u8]],
     declaration: &[u8],
-) -> Result<Numbered<A>, NumberingFault>
+) -> Result<NumberedProgram<A>, NumberingFault>
     // The tape is the one that is written of the image that the source means, and the declaration the one
     // that its symbols place.
     ensures numbered { IfOk result (λ numbered. IsNumbered (texts parts.now) declaration.now

@@ -7,15 +7,15 @@ use streams::{ByteSink, ByteSource, put, read_at_most};
 
 /// A reader and writer whose next calls are interrupted so many times, and then fail or not. It forgets what is written.
 #[derive(Drop)]
-struct Interrupted<'t> {
+struct InterruptedStream<'t> {
     times: usize,
     fails: bool,
     rest: &'t [u8],
 }
 
-impl<'t> Interrupted<'t> {
-    fn new(times: usize, fails: bool, rest: &'t [u8]) -> Interrupted<'t> {
-        Interrupted { times, fails, rest }
+impl<'t> InterruptedStream<'t> {
+    fn new(times: usize, fails: bool, rest: &'t [u8]) -> InterruptedStream<'t> {
+        InterruptedStream { times, fails, rest }
     }
 
     /// What an interruption or a failure answers, if it's due.
@@ -31,14 +31,14 @@ impl<'t> Interrupted<'t> {
     }
 }
 
-impl Read for Interrupted<'_> {
+impl Read for InterruptedStream<'_> {
     fn read(&mut self, buf: &mut [u8]) -> io::Result<usize> {
         self.refuse()?;
         self.rest.read(buf)
     }
 }
 
-impl Write for Interrupted<'_> {
+impl Write for InterruptedStream<'_> {
     fn write(&mut self, buf: &[u8]) -> io::Result<usize> {
         self.refuse()?;
         Ok(buf.len())
@@ -52,11 +52,11 @@ impl Write for Interrupted<'_> {
 #[test]
 fn an_interrupted_read_is_tried_again(rt: HostRuntime) -> Result<(), Fail> {
     for times in [0, 1, 2, 30] {
-        let mut source = Reads::new(Interrupted::new(times, false, b"TAD 200"));
+        let mut source = Reads::new(InterruptedStream::new(times, false, b"TAD 200"));
         let text = read_at_most(rt.alloc(), &mut source, 100)?;
         assert!(rt; text.as_slice() == b"TAD 200".as_slice() && !source.failed());
     }
-    let mut source = Reads::new(Interrupted::new(3, true, b"TAD 200"));
+    let mut source = Reads::new(InterruptedStream::new(3, true, b"TAD 200"));
     assert!(rt; read_at_most(rt.alloc(), &mut source, 100).is_err() && source.failed());
     Ok(())
 }
@@ -64,9 +64,9 @@ fn an_interrupted_read_is_tried_again(rt: HostRuntime) -> Result<(), Fail> {
 #[test]
 fn an_interrupted_write_is_tried_again(rt: HostRuntime) {
     for times in [0, 1, 2, 30] {
-        let mut sink = Writes::new(Interrupted::new(times, false, b""));
+        let mut sink = Writes::new(InterruptedStream::new(times, false, b""));
         assert!(rt; put(&mut sink, b"HALT 0200").is_ok() && !sink.failed());
     }
-    let mut sink = Writes::new(Interrupted::new(3, true, b""));
+    let mut sink = Writes::new(InterruptedStream::new(3, true, b""));
     assert!(rt; put(&mut sink, b"HALT 0200").is_err() && sink.failed());
 }

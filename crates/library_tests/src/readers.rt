@@ -123,13 +123,13 @@ fn a_read_of_a_certificate_that_fails_is_told(rt: HostRuntime) {
 
 /// Gives some bytes and then one for ever, and counts what it gave.
 #[derive(Drop)]
-struct Endless {
+struct EndlessReader {
     front: &'static [u8],
     byte: u8,
     given: usize,
 }
 
-impl ByteSource for Endless {
+impl ByteSource for EndlessReader {
     ghost use Rattle.std.specs.Prelude.{None, false};
 
     ghost remaining = { λ _. None };
@@ -152,9 +152,9 @@ impl ByteSource for Endless {
     }
 }
 
-impl Endless {
-    fn new(front: &'static [u8], byte: u8) -> Endless {
-        Endless {
+impl EndlessReader {
+    fn new(front: &'static [u8], byte: u8) -> EndlessReader {
+        EndlessReader {
             front,
             byte,
             given: 0,
@@ -184,11 +184,11 @@ const ENDLESS: [(&[u8], CertificateFault, usize); 4] = [
 
 #[test]
 fn no_more_is_read_than_the_answer_needs(rt: HostRuntime) {
-    let mut source = Endless::new(b"", 0o200);
+    let mut source = EndlessReader::new(b"", 0o200);
     assert!(rt; read_from(&mut source) == Err(TapeFault::TooLong));
     assert_eq!(rt; source.given, 65_537);
     for (front, fault, given) in &ENDLESS {
-        let mut source = Endless::new(front, b'x');
+        let mut source = EndlessReader::new(front, b'x');
         let told = Certificate::read_from(rt.alloc(), &mut source).err();
         assert_eq!(rt; told, Some(*fault));
         assert_eq!(rt; source.given, *given, "{fault}");

@@ -10,11 +10,11 @@ use std::test::Fail;
 
 /// Takes nothing, and doesn't say that it failed.
 #[derive(Drop)]
-struct Full {
+struct FullWriter {
     failed: bool,
 }
 
-impl ByteSink for Full {
+impl ByteSink for FullWriter {
     ghost use Rattle.std.specs.Prelude.{None};
 
     ghost taken = { λ _. None };
@@ -35,12 +35,16 @@ impl ByteSink for Full {
 
 #[test]
 fn a_writer_that_takes_nothing_is_told(rt: HostRuntime) -> Result<(), Fail> {
-    let written = write_tape(&image(&HELLO_WORDS), &mut Full { failed: false });
+    let written = write_tape(&image(&HELLO_WORDS), &mut FullWriter { failed: false });
     assert!(rt; written == Err(WriteTapeFault::WriteFault));
     let certificate = Certificate::parse(rt.alloc(), HELLO_CERTIFICATE)?;
-    let written = certificate.write(&mut Full { failed: false });
+    let written = certificate.write(&mut FullWriter { failed: false });
     assert_eq!(rt; written, Err(WriteFault));
     let program = assemble(rt.alloc(), &[HELLO], Profile::Pdp8I)?;
-    assert!(rt; program.write_listing(&mut Full { failed: false }).is_err());
+    assert!(rt;
+        program
+            .write_listing(&mut FullWriter { failed: false })
+            .is_err()
+    );
     Ok(())
 }

@@ -6,7 +6,7 @@ use Rattle.peripherals.specs.declared.Event.{Event}
 use Rattle.peripherals.specs.declared.Event.TheVariants.{Step, Key, PrinterDone, ReaderDone, PunchDone, Switches, Continue}
 use Rattle.peripherals.specs.Devices.{WorldState, word_at_pc}
 use Rattle.peripherals.specs.Operator.{Plan, first_due, left_after, round_due, struck_as}
-use Rattle.command_parts.specs.declared.options.Manner.{Manner}
+use Rattle.command_parts.specs.declared.options.KeyOptions.{KeyOptions}
 use Rattle.machine_commands.specs.Schedule.{Schedule}
 
 -- The next instruction asks for a key: it is KSF, and finds the keyboard's flag clear.
@@ -70,7 +70,7 @@ typing = record {
 
 -- The byte of a key. As people type at a terminal a carriage return is struck for a line feed, and channel 8 is set; as the bytes
 -- come they stay as they are, but for channel 8 where that is asked for.
-abbrev pub typed_as : Manner → ℕ → ℕ
+abbrev pub typed_as : KeyOptions → ℕ → ℕ
 typed_as manner byte =
     if manner.raw then struck_as manner.mark byte else struck_as true (if byte == 10 then 13 else byte)
 
@@ -79,7 +79,7 @@ unfoldable pub all_rounds : ℕ
 all_rounds = 18446744073709551615
 
 -- Where a session begins, with these frames and these bytes of keys still to come.
-abbrev pub first_sitting : Option ℕ → Manner → List ℕ → List ℕ → Sitting
+abbrev pub first_sitting : Option ℕ → KeyOptions → List ℕ → List ℕ → Sitting
 first_sitting switches manner frames bytes = record {
   plan = record { switches = switches; rounds = all_rounds; frames = frames; keys = map (typed_as manner) bytes };
   last = None;

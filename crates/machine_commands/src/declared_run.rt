@@ -14,7 +14,7 @@ ghost use Rattle.machine_commands.specs.Trace.{trace_of};
 
 use crate::follow::{End, RunOutcome, advance};
 use crate::last::{KeptTrace, last_lines};
-use crate::shown::{first, happening};
+use crate::shown_cells::{first, happening};
 use crate::stopped_session::visits_past;
 use crate::summary::push_state;
 use bin_tape::Image;
@@ -166,7 +166,7 @@ fn declared_stop_of<A: Allocator + Copy, D: Allocator>(
 
 /// The events of a declared run up to where it is stopped, or all of them.
 #[derive(Clone, Copy)]
-pub(crate) struct DeclaredCut<'e> {
+pub(crate) struct EventPrefix<'e> {
     pub(crate) events: &'e [Event],
     pub(crate) stopped: bool,
 }
@@ -188,12 +188,12 @@ pub(crate) fn declared_cut<'e, A: Allocator + Copy, D: Allocator>(
     declaration: &Declaration<D>,
     stops: &Stops,
     events: &'e [Event],
-) -> Result<DeclaredCut<'e>, NoMemory>
+) -> Result<EventPrefix<'e>, NoMemory>
     ensures { IfOk result (λ cut. IsDeclaredCut stops.now (meaning declaration.now) image.now events.now
         cut.events.now cut.stopped) }
 {
     let stop = declared_stop_of(alloc, image, declaration, stops, events)?;
-    Ok(DeclaredCut {
+    Ok(EventPrefix {
         events: up_to(events, stop),
         stopped: stop.is_some(),
     })
@@ -244,7 +244,7 @@ pub(crate) fn lines_before<A: Allocator + Copy, D: Allocator>(
     alloc: A,
     image: &Image,
     declaration: &Declaration<D>,
-    cut: &DeclaredCut<'_>,
+    cut: &EventPrefix<'_>,
     last: Option<u32>,
 ) -> Result<Vec<u8, A>, NoMemory>
     ensures { IfOk result (λ text. IsLinesBefore image.now (meaning declaration.now) cut.now.events.now

@@ -8,7 +8,7 @@ use peripherals::Operator;
 use streams::{ByteSource, Failed};
 
 /// What may say that the operator left.
-pub trait Leaves {
+pub trait OperatorPresence {
     /// Whether the operator left.
     ghost left: { Self → Bool };
 
@@ -17,7 +17,7 @@ pub trait Leaves {
         ensures { result ≡ left self.now };
 }
 
-impl Leaves for Operator<'_> {
+impl OperatorPresence for Operator<'_> {
     ghost left = { λ o. false };
 
     fn has_left(&self) -> bool {
@@ -27,20 +27,20 @@ impl Leaves for Operator<'_> {
 
 /// The bytes of keys up to one by which the operator leaves, if there is one; the program never gets it.
 #[derive(Drop)]
-pub struct KeysUntil<K> {
+pub struct InterruptibleKeys<K> {
     keys: K,
     key: Option<u8>,
     struck: bool,
 }
 
-impl<K> KeysUntil<K> {
+impl<K> InterruptibleKeys<K> {
     /// The bytes of these keys, up to one if there is one.
-    pub fn new(keys: K, key: Option<u8>) -> KeysUntil<K>
+    pub fn new(keys: K, key: Option<u8>) -> InterruptibleKeys<K>
         ensures keys { result.keys ≡ keys }
         ensures key { result.key ≡ key }
         ensures struck { result.struck ≡ false }
     {
-        KeysUntil {
+        InterruptibleKeys {
             keys,
             key,
             struck: false,
@@ -48,7 +48,7 @@ impl<K> KeysUntil<K> {
     }
 }
 
-impl<K> Leaves for KeysUntil<K> {
+impl<K> OperatorPresence for InterruptibleKeys<K> {
     ghost left = { λ k. k.struck };
 
     fn has_left(&self) -> bool {
@@ -66,7 +66,7 @@ fn is_key(key: Option<u8>, byte: u8) -> bool
     }
 }
 
-impl<K: ByteSource> ByteSource for KeysUntil<K> {
+impl<K: ByteSource> ByteSource for InterruptibleKeys<K> {
     ghost use Rattle.std.specs.Prelude.{◌||◌};
     ghost use Rattle.machine_commands.specs.Interrupted.{keys_until};
 
@@ -101,7 +101,7 @@ impl<K: ByteSource> ByteSource for KeysUntil<K> {
     }
 }
 
-impl<F, K: Leaves> Leaves for Typist<F, K> {
+impl<F, K: OperatorPresence> OperatorPresence for Typist<F, K> {
     ghost left = { λ t. K.left t.keys };
 
     fn has_left(&self) -> bool {

@@ -107,7 +107,7 @@ pub(crate) fn last_lines(text: &[u8], most: u32) -> &[u8]
 
 /// What comes of a course before its run is stopped, or all of it.
 #[derive(Clone, Copy)]
-pub(crate) struct Cut<'e> {
+pub(crate) struct CoursePrefix<'e> {
     pub(crate) course: Course<'e>,
     pub(crate) stopped: bool,
 }
@@ -119,17 +119,17 @@ pub(crate) fn cut_of<'e, A: Allocator + Copy>(
     options: &RunOptions,
     stops: &Stops,
     course: &Course<'e>,
-) -> Result<Cut<'e>, NoMemory>
+) -> Result<CoursePrefix<'e>, NoMemory>
     ensures cut { IfOk result (λ cut. IsCut stops.now options.now (ends_at_halt course.now)
         (events_in course.now) (events_in cut.course) (fresh image.now options.now.start) cut.stopped) }
     ensures ends { IfOk result (λ cut. ends_at_halt cut.course ≡ ends_at_halt course.now) }
 {
     match stop_of(alloc, image, options, stops, course) {
-        Ok(Some(count)) => Ok(Cut {
+        Ok(Some(count)) => Ok(CoursePrefix {
             course: first(course, count),
             stopped: true,
         }),
-        Ok(None) => Ok(Cut {
+        Ok(None) => Ok(CoursePrefix {
             course: *course,
             stopped: false,
         }),
@@ -207,7 +207,7 @@ fn show_last<A: Allocator + Copy, W: ByteSink>(
     stops: &Stops,
     most: u32,
     course: &Course<'_>,
-    cut: &Cut<'_>,
+    cut: &CoursePrefix<'_>,
     out: &mut W,
 ) -> Result<Status, Fault>
     requires writable { W.mark out.old ≡ false }

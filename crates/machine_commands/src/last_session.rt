@@ -8,7 +8,7 @@ ghost use Rattle.machine_commands.specs.LastSession.{IsHeldBehind, IsSessionBehi
 ghost use Rattle.machine_commands.specs.Session.{IsHeldFault, WritesAll, taken};
 ghost use Rattle.machine_commands.specs.Teletype.{IsTypedFault};
 
-use crate::interrupted::Leaves;
+use crate::interrupted::OperatorPresence;
 use crate::last::{last_lines, lines_in};
 use crate::running::status_of;
 use crate::schedule::Scheduler;
@@ -123,7 +123,13 @@ fn behind<'n>(form: &SummaryForm<'n>) -> SummaryForm<'n>
 
 /// Runs an image by a schedule up to where it is stopped, and writes what was punched in the end, also where the run
 /// broke off, the lines of the last instructions, and the summary.
-fn attend_last<A: Allocator + Copy, S: Scheduler + Leaves, W: ByteSink, T: ByteSink, P: ByteSink>(
+fn run_scheduled_with_last<
+    A: Allocator + Copy,
+    S: Scheduler + OperatorPresence,
+    W: ByteSink,
+    T: ByteSink,
+    P: ByteSink,
+>(
     alloc: A,
     image: &Image,
     schedule: &mut S,
@@ -244,7 +250,7 @@ pub fn run_session_with_last<
         options.mark,
     );
     are_few(options.run.rounds);
-    attend_last(
+    run_scheduled_with_last(
         alloc,
         &image,
         &mut operator,
@@ -266,7 +272,7 @@ pub fn teletype_with_last<
     A: Allocator + Copy,
     R: ByteSource,
     F: ByteSource,
-    K: ByteSource + Leaves,
+    K: ByteSource + OperatorPresence,
     W: ByteSink,
     T: ByteSink,
     P: ByteSink,
@@ -313,5 +319,5 @@ pub fn teletype_with_last<
     let image = tape_from(tape)?;
     let options = run_of(typist.options());
     typist.begin();
-    attend_last(alloc, &image, typist, stops, most, options, form, out)
+    run_scheduled_with_last(alloc, &image, typist, stops, most, options, form, out)
 }

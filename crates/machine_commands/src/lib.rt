@@ -16,7 +16,7 @@ pub mod refuting;
 pub mod running;
 mod schedule;
 pub mod session;
-mod shown;
+mod shown_cells;
 pub mod stopped_session;
 pub mod stopped_watch;
 pub mod stopping;

@@ -63,12 +63,12 @@ pub fn push_full_name<A: Allocator>(
 
 /// Instructions read as their names, with whole addresses.
 #[derive(Clone, Copy)]
-pub struct Named {
+pub struct MnemonicStatements {
     /// The machine that has these names.
     pub profile: Profile,
 }
 
-impl Statements for Named {
+impl Statements for MnemonicStatements {
     fn push_statement<A: Allocator>(
         &self,
         line: &mut Vec<u8, A>,

@@ -18,14 +18,14 @@ ghost use Rattle.machine_commands.specs.WatchText.{IsTold, IsToldWithCells, IsWa
 ghost use Rattle.machine_commands.specs.WatchedSession.{IsPlanWatchedSo};
 
 use crate::continuing::{continued_events_of, how_far_line};
-use crate::progress::{Offered, offered_by, progress_lines};
+use crate::progress::{AvailableInput, offered_by, progress_lines};
 use crate::schedule::events_of;
-use crate::shown::shown_of;
-use crate::violations::breach_lines;
+use crate::shown_cells::shown_of;
+use crate::violations::violation_lines;
 use bin_tape::Image;
-use command_parts::message::{Lines, Message};
+use command_parts::message::{Message, MessageWriter};
 use command_parts::options::{RefuteOptions, SessionOptions};
-use command_parts::outcome::Outcome;
+use command_parts::outcome::CommandResult;
 use command_parts::status::{Fault, Status};
 use declaration::Declaration;
 use itoa::Buffer;
@@ -58,7 +58,7 @@ pub struct RefutationMessage<A: Allocator> {
 
 /// A run that breaks a declaration, and what is told of it.
 #[derive(Drop)]
-pub(crate) struct ToldWitness<A: Allocator> {
+pub(crate) struct WitnessMessage<A: Allocator> {
     /// The text of its events.
     pub events: Vec<u8, A>,
     /// What is told.
@@ -69,12 +69,12 @@ impl<A: Allocator> RunMessage<A> {
     ghost use Rattle.command_parts.specs.Messages.{plain};
 
     /// The same as it reads without a source.
-    pub(crate) fn into_outcome(self) -> Outcome<A>
+    pub(crate) fn into_outcome(self) -> CommandResult<A>
         ensures text { result.text.items ≡ plain self.told }
         ensures status { result.status ≡ self.status }
     {
         let RunMessage { told, status } = self;
-        Outcome {
+        CommandResult {
             text: told.into_bytes(),
             status,
         }
@@ -141,7 +141,7 @@ fn why_of<A: Allocator + Copy, D: Allocator>(
     image: &Image,
     declaration: &Declaration<D>,
     events: &[Event],
-    offered: Offered,
+    offered: AvailableInput,
     watched: Watched,
     explained: bool,
 ) -> Result<Message<A>, NoMemory>
@@ -149,7 +149,7 @@ fn why_of<A: Allocator + Copy, D: Allocator>(
 {
     match watched {
         Watched::Clean if explained => progress_lines(alloc, image, declaration, events, offered),
-        _ => breach_lines(alloc, image, declaration, events, watched, explained),
+        _ => violation_lines(alloc, image, declaration, events, watched, explained),
     }
 }
 
@@ -160,7 +160,7 @@ fn seen_message<A: Allocator + Copy, D: Allocator>(
     image: &Image,
     declaration: &Declaration<D>,
     events: &[Event],
-    offered: Offered,
+    offered: AvailableInput,
     watched: Watched,
     explained: bool,
 ) -> Result<Message<A>, NoMemory>
@@ -186,7 +186,7 @@ fn seen_with_cells<A: Allocator + Copy, D: Allocator>(
     image: &Image,
     declaration: &Declaration<D>,
     events: &[Event],
-    offered: Offered,
+    offered: AvailableInput,
     watched: Watched,
     explained: bool,
     show: &WordSet,
@@ -214,7 +214,7 @@ pub(crate) fn watch_offered<A: Allocator + Copy, D: Allocator>(
     image: &Image,
     declaration: &Declaration<D>,
     events: &[Event],
-    offered: Offered,
+    offered: AvailableInput,
     explained: bool,
     show: &WordSet,
 ) -> Result<RunMessage<A>, Fault>
@@ -266,7 +266,7 @@ fn continued_lines<A: Allocator + Copy, D: Allocator>(
     image: &Image,
     declaration: &Declaration<D>,
     events: &[Event],
-    offered: Offered,
+    offered: AvailableInput,
     watched: Watched,
     continues: u32,
     explained: bool,
@@ -298,7 +298,7 @@ pub(crate) fn watch_continued<A: Allocator + Copy, D: Allocator>(
     image: &Image,
     declaration: &Declaration<D>,
     events: &[Event],
-    offered: Offered,
+    offered: AvailableInput,
     continues: u32,
     explained: bool,
     show: &WordSet,
@@ -330,7 +330,7 @@ fn watch_to_halt<A: Allocator + Copy, B: Allocator, D: Allocator>(
     declaration: &Declaration<D>,
     world: &mut World<B>,
     operator: &mut Operator<'_>,
-    offered: Offered,
+    offered: AvailableInput,
     explained: bool,
     show: &WordSet,
 ) -> Result<RunMessage<A>, Fault>
@@ -352,7 +352,7 @@ fn watch_past_pauses<A: Allocator + Copy, B: Allocator, D: Allocator>(
     declaration: &Declaration<D>,
     world: &mut World<B>,
     operator: &mut Operator<'_>,
-    offered: Offered,
+    offered: AvailableInput,
     continues: u32,
     explained: bool,
     show: &WordSet,
@@ -408,7 +408,7 @@ pub fn watch_session_message<A: Allocator + Copy, D: Allocator>(
         &Start::zero(),
         declaration.profile(),
     );
-    let offered = Offered {
+    let offered = AvailableInput {
         frames: frames.len(),
         keys: keys.len(),
     };
@@ -446,7 +446,7 @@ fn witness_message<A: Allocator + Copy, D: Allocator>(
     declaration: &Declaration<D>,
     found: Witness<A>,
     explained: bool,
-) -> Result<ToldWitness<A>, Fault>
+) -> Result<WitnessMessage<A>, Fault>
     requires broken { Breaks (image_of image.now) (meaning declaration.now) found }
     requires spelled { IsSpelled found }
     requires last { IsLast found }
@@ -471,7 +471,7 @@ fn witness_message<A: Allocator + Copy, D: Allocator>(
         watched,
         explained,
     )?;
-    Ok(ToldWitness { events: text, told })
+    Ok(WitnessMessage { events: text, told })
 }
 
 /// Looks for a run that breaks the declaration, and says what is told of it if one is found. Where none is found all
@@ -482,7 +482,7 @@ pub(crate) fn told_witness<A: Allocator + Copy, D: Allocator>(
     declaration: &Declaration<D>,
     options: &RefuteOptions,
     turns: &mut Turns,
-) -> Result<Option<ToldWitness<A>>, Fault>
+) -> Result<Option<WitnessMessage<A>>, Fault>
     ensures told { IfOk result (λ found. IfSome found (λ told. IsWitnessOf options.now.explained
         image.now (meaning declaration.now) told.events.items (plain told.told))) }
     ensures spent { IfOk result (λ found. IfNone found (turns.new.spent ≡ turns.new.limit)) }
@@ -520,7 +520,7 @@ pub fn refute_message<A: Allocator + Copy, D: Allocator>(
     let mut turns = Turns::new(options.steps);
     match told_witness(alloc, image, declaration, options, &mut turns) {
         Ok(Some(found)) => {
-            let ToldWitness { events, told } = found;
+            let WitnessMessage { events, told } = found;
             let status = Status::Refused;
             Ok(RefutationMessage {
                 events,

@@ -1,7 +1,7 @@
 //! The lines that say how far a watched run came. They are tested and not proved.
 
 use bin_tape::Image;
-use command_parts::message::{Lines, Message, push_text_and_address};
+use command_parts::message::{Message, MessageWriter, push_text_and_address};
 use declaration::Declaration;
 use instruct::target;
 use itoa::Buffer;
@@ -12,7 +12,7 @@ use word12::Word;
 
 /// What there was to come for a run.
 #[derive(Clone, Copy)]
-pub(crate) struct Offered {
+pub(crate) struct AvailableInput {
     /// The frames in the reader.
     pub frames: usize,
     /// The keys to strike.
@@ -48,8 +48,8 @@ impl Progress {
 }
 
 /// How many frames and keys a list of events has.
-pub(crate) fn offered_by(events: &[Event]) -> Offered {
-    let mut offered = Offered { frames: 0, keys: 0 };
+pub(crate) fn offered_by(events: &[Event]) -> AvailableInput {
+    let mut offered = AvailableInput { frames: 0, keys: 0 };
     for event in events {
         match event {
             Event::ReaderDone(_) => offered.frames = offered.frames.saturating_add(1),
@@ -82,7 +82,10 @@ fn awaited(panel: &Panel, word: Word) -> &'static [u8] {
 }
 
 /// Adds where a run stands: at which HLT, or where it waits and for which device, or at which address.
-fn push_standing<L: Lines, B: Allocator>(text: &mut L, world: &World<B>) -> Result<(), AllocError> {
+fn push_standing<L: MessageWriter, B: Allocator>(
+    text: &mut L,
+    world: &World<B>,
+) -> Result<(), AllocError> {
     if let Some(at) = world.halted_at() {
         push_text_and_address(text, b"halted at ", at)?;
         return text.push_text(b"\n");
@@ -104,17 +107,17 @@ fn push_standing<L: Lines, B: Allocator>(text: &mut L, world: &World<B>) -> Resu
 }
 
 /// Adds a name and a count.
-fn push_count<L: Lines>(text: &mut L, name: &[u8], count: usize) -> Result<(), AllocError> {
+fn push_count<L: MessageWriter>(text: &mut L, name: &[u8], count: usize) -> Result<(), AllocError> {
     text.push_text(name)?;
     text.push_text(Buffer::new().format(count).as_bytes())
 }
 
 /// Adds how far a run came, and where it stands.
-fn push_progress<L: Lines, B: Allocator>(
+fn push_progress<L: MessageWriter, B: Allocator>(
     text: &mut L,
     world: &World<B>,
     came: &Progress,
-    offered: Offered,
+    offered: AvailableInput,
 ) -> Result<(), AllocError> {
     push_count(text, b"steps ", came.steps)?;
     push_count(text, b", frames read ", came.frames)?;
@@ -145,7 +148,7 @@ pub(crate) fn progress_lines<A: Allocator + Copy, D: Allocator>(
     image: &Image,
     declaration: &Declaration<D>,
     events: &[Event],
-    offered: Offered,
+    offered: AvailableInput,
 ) -> Result<Message<A>, NoMemory> {
     let start = Start::zero();
     let mut world = World::load(

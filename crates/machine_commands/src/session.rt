@@ -93,7 +93,7 @@ fn character_at(bytes: &[u8], index: usize) -> [u8; 1]
 
 /// Applies one event, adds its line to the trace if one is asked for, and types what it printed.
 #[inline(always)]
-pub(crate) fn play<A: Allocator, W: ByteSink, T: ByteSink>(
+pub(crate) fn apply_event<A: Allocator, W: ByteSink, T: ByteSink>(
     world: &mut World<A>,
     report: &mut W,
     teletype: &mut T,
@@ -151,7 +151,7 @@ pub(crate) fn operate<A: Allocator, S: Scheduler, W: ByteSink, T: ByteSink>(
 {
     let mut steps = 0;
     while let Some(event) = schedule.next_event(world)? {
-        match play(world, report, teletype, trace, event)? {
+        match apply_event(world, report, teletype, trace, event)? {
             Seen::Ran => {
                 steps += 1;
                 schedule.complete_devices(world);
@@ -180,7 +180,13 @@ pub(crate) fn operate<A: Allocator, S: Scheduler, W: ByteSink, T: ByteSink>(
 
 /// Runs an image by a schedule, and writes what was punched in the end, also where the run broke
 /// off, and the summary in this form.
-pub(crate) fn attend<A: Allocator + Copy, S: Scheduler, W: ByteSink, T: ByteSink, P: ByteSink>(
+pub(crate) fn run_scheduled<
+    A: Allocator + Copy,
+    S: Scheduler,
+    W: ByteSink,
+    T: ByteSink,
+    P: ByteSink,
+>(
     alloc: A,
     image: &Image,
     schedule: &mut S,
@@ -333,5 +339,5 @@ pub fn run_session<
         options.mark,
     );
     are_few(options.run.rounds);
-    attend(alloc, &image, &mut operator, options.run, form, out)
+    run_scheduled(alloc, &image, &mut operator, options.run, form, out)
 }

@@ -14,10 +14,10 @@ ghost use Rattle.machine_commands.specs.StoppedParts.{IsPartToStop, OperatedToSt
 ghost use Rattle.machine_commands.specs.Teletype.{IsTypedFault};
 
 use crate::follow::{End, RunOutcome, end_of};
-use crate::interrupted::Leaves;
+use crate::interrupted::OperatorPresence;
 use crate::running::status_of;
 use crate::schedule::Scheduler;
-use crate::session::{Outputs, play};
+use crate::session::{Outputs, apply_event};
 use crate::stops::{stops_before, visits_with};
 use crate::summary::closing_of;
 use crate::teletype::run_of;
@@ -113,7 +113,7 @@ pub(crate) fn operate_to_stop<A: Allocator, S: Scheduler, W: ByteSink, T: ByteSi
             });
         };
         visits = more;
-        match play(world, report, teletype, trace, event)? {
+        match apply_event(world, report, teletype, trace, event)? {
             Seen::Ran => {
                 steps += 1;
                 schedule.complete_devices(world);
@@ -156,9 +156,9 @@ pub(crate) fn leaving<A: Allocator>(left: bool, ran: RunOutcome, world: &World<A
 
 /// Runs an image by a schedule up to where it is stopped, and writes what was punched in the end, also where the run
 /// broke off, and the summary in this form.
-pub(crate) fn attend_to_stop<
+pub(crate) fn run_scheduled_to_stop<
     A: Allocator + Copy,
-    S: Scheduler + Leaves,
+    S: Scheduler + OperatorPresence,
     W: ByteSink,
     T: ByteSink,
     P: ByteSink,
@@ -297,7 +297,7 @@ pub fn run_session_with_stops<
         options.mark,
     );
     are_few(options.run.rounds);
-    attend_to_stop(alloc, &image, &mut operator, stops, options.run, form, out)
+    run_scheduled_to_stop(alloc, &image, &mut operator, stops, options.run, form, out)
 }
 
 /// Runs a tape with somebody at the teletype, as [`crate::teletype::teletype`] does, up to the step before which the
@@ -312,7 +312,7 @@ pub fn teletype_with_stops<
     A: Allocator + Copy,
     R: ByteSource,
     F: ByteSource,
-    K: ByteSource + Leaves,
+    K: ByteSource + OperatorPresence,
     W: ByteSink,
     T: ByteSink,
     P: ByteSink,
@@ -367,5 +367,5 @@ pub fn teletype_with_stops<
     let image = tape_from(tape)?;
     let options = run_of(typist.options());
     typist.begin();
-    attend_to_stop(alloc, &image, typist, stops, options, form, out)
+    run_scheduled_to_stop(alloc, &image, typist, stops, options, form, out)
 }

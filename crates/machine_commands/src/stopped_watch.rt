@@ -15,10 +15,10 @@ ghost use Rattle.machine_commands.specs.StoppedWatch.{IsPlanToStop, IsWatch, IsW
 use crate::continuing::continued_events_of;
 use crate::declared_run::{declared_cut, lines_before};
 use crate::messages::{RunMessage, watch_continued, watch_offered};
-use crate::progress::{Offered, offered_by};
+use crate::progress::{AvailableInput, offered_by};
 use crate::schedule::events_of;
 use bin_tape::Image;
-use command_parts::message::{Lines, Message};
+use command_parts::message::{Message, MessageWriter};
 use command_parts::options::{SessionOptions, Stops};
 use command_parts::status::Fault;
 use declaration::Declaration;
@@ -28,7 +28,7 @@ use wordset::WordSet;
 
 /// How a watched run is told.
 #[derive(Clone, Copy)]
-pub struct Telling<'s> {
+pub struct WatchOptions<'s> {
     /// Where the run is stopped.
     pub stops: &'s Stops,
     /// How many of its last instructions are shown, if that is asked for.
@@ -46,9 +46,9 @@ fn watch_of<A: Allocator + Copy, D: Allocator>(
     image: &Image,
     declaration: &Declaration<D>,
     events: &[Event],
-    offered: Offered,
+    offered: AvailableInput,
     continues: Option<u32>,
-    telling: &Telling<'_>,
+    telling: &WatchOptions<'_>,
 ) -> Result<RunMessage<A>, Fault>
     ensures told { IfOk result (λ run. IsWatch continues telling.now.explained
         (words telling.now.show.now) image.now (meaning declaration.now) events.now run.status
@@ -90,9 +90,9 @@ fn told_to_stop<A: Allocator + Copy, D: Allocator>(
     image: &Image,
     declaration: &Declaration<D>,
     events: &[Event],
-    offered: Offered,
+    offered: AvailableInput,
     continues: Option<u32>,
-    telling: &Telling<'_>,
+    telling: &WatchOptions<'_>,
 ) -> Result<RunMessage<A>, Fault>
     ensures told { IfOk result (λ run. IsWatchToStop continues telling.now.stops.now telling.now.last
         telling.now.explained (words telling.now.show.now) image.now (meaning declaration.now) events.now
@@ -127,7 +127,7 @@ pub fn watch_message_to_stop<A: Allocator + Copy, D: Allocator>(
     image: &Image,
     declaration: &Declaration<D>,
     events: &[Event],
-    telling: &Telling<'_>,
+    telling: &WatchOptions<'_>,
 ) -> Result<RunMessage<A>, Fault>
     ensures told { IfOk result (λ run. IsWatchToStop None telling.now.stops.now telling.now.last
         telling.now.explained (words telling.now.show.now) image.now (meaning declaration.now) events.now
@@ -173,7 +173,7 @@ pub fn watch_session_message_to_stop<A: Allocator + Copy, D: Allocator>(
     keys: &[u8],
     options: &SessionOptions,
     continues: Option<u32>,
-    telling: &Telling<'_>,
+    telling: &WatchOptions<'_>,
 ) -> Result<RunMessage<A>, Fault>
     ensures told { IfOk result (λ run. IsPlanToStop continues
         (plan_for options.now frames.now keys.now) telling.now.stops.now telling.now.last
@@ -191,7 +191,7 @@ pub fn watch_session_message_to_stop<A: Allocator + Copy, D: Allocator>(
         &start,
         declaration.profile(),
     );
-    let offered = Offered {
+    let offered = AvailableInput {
         frames: frames.len(),
         keys: keys.len(),
     };

@@ -8,8 +8,8 @@ ghost use Rattle.machine_commands.specs.Session.{WritesAll, failures, taken};
 ghost use Rattle.machine_commands.specs.Teletype.{IsTyped, IsTypedFault, TypedFronts, run_of};
 
 pub use crate::session::Outputs;
-use crate::session::attend;
-pub use crate::typist::{Manner, TeletypeOptions, Typist};
+use crate::session::run_scheduled;
+pub use crate::typist::{KeyOptions, TeletypeOptions, Typist};
 use command_parts::inputs::tape_from;
 use command_parts::options::{RunOptions, SummaryForm};
 use command_parts::status::{Fault, Status};
@@ -98,5 +98,5 @@ pub fn teletype<
     let image = tape_from(tape)?;
     let options = run_of(typist.options());
     typist.begin();
-    attend(alloc, &image, typist, options, form, out)
+    run_scheduled(alloc, &image, typist, options, form, out)
 }

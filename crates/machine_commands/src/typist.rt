@@ -15,7 +15,7 @@ ghost use Rattle.machine_commands.specs.Typing.{asked_after, asks, is_read, type
 ghost use Rattle.machine_commands.specs.TypingParts.{Answered, Brought, IsLeft, rounds_left, source, typed_plan};
 
 use crate::schedule::Scheduler;
-pub use command_parts::options::{Manner, TeletypeOptions};
+pub use command_parts::options::{KeyOptions, TeletypeOptions};
 use command_parts::status::{DeviceFault, Fault};
 use peripherals::{Event, World};
 use std::alloc::Allocator;
@@ -90,7 +90,7 @@ fn struck_as(byte: u8, mark: bool) -> u8
 }
 
 /// The byte of a key.
-fn typed_as(byte: u8, manner: Manner) -> u8
+fn typed_as(byte: u8, manner: KeyOptions) -> u8
     ensures { result ≡ typed_as manner byte }
 {
     if manner.raw {

@@ -5,7 +5,7 @@ ghost use Rattle.command_parts.specs.Messages.{plain};
 
 use bin_tape::Image;
 use command_parts::message::{
-    Lines, Message, push_text_and_address, push_text_and_advised, push_text_and_word,
+    Message, MessageWriter, push_text_and_address, push_text_and_advised, push_text_and_word,
 };
 use declaration::{Assertion, Declaration, Owner, Subject};
 use instruct::{Operation, Profile};
@@ -32,7 +32,7 @@ fn asked(rule: Rule) -> &'static [u8] {
 }
 
 /// Adds the line that says what a rule asks.
-fn push_asked<L: Lines>(text: &mut L, rule: Rule) -> Result<(), AllocError> {
+fn push_asked<L: MessageWriter>(text: &mut L, rule: Rule) -> Result<(), AllocError> {
     text.push_text(b"rule ")?;
     text.push_text(Buffer::new().format(rule.number()).as_bytes())?;
     text.push_text(b": ")?;
@@ -41,7 +41,7 @@ fn push_asked<L: Lines>(text: &mut L, rule: Rule) -> Result<(), AllocError> {
 }
 
 /// Adds a line that is a text, an address and a text.
-fn push_line<L: Lines>(
+fn push_line<L: MessageWriter>(
     text: &mut L,
     before: &[u8],
     at: Word,
@@ -53,7 +53,7 @@ fn push_line<L: Lines>(
 }
 
 /// Adds the rest of a line: a text, an address within a line of a declaration that is advised, and a text.
-fn push_advice<L: Lines>(
+fn push_advice<L: MessageWriter>(
     text: &mut L,
     before: &[u8],
     at: Word,
@@ -65,7 +65,7 @@ fn push_advice<L: Lines>(
 }
 
 /// Adds the rest of a line: a text, a word that is not an address, and a text.
-fn push_word_line<L: Lines>(
+fn push_word_line<L: MessageWriter>(
     text: &mut L,
     before: &[u8],
     word: Word,
@@ -77,7 +77,7 @@ fn push_word_line<L: Lines>(
 }
 
 /// Adds the line of what a cell holds, and of the word that would take its place.
-fn push_change<L: Lines>(
+fn push_change<L: MessageWriter>(
     text: &mut L,
     cpu: &Cpu,
     cell: Word,
@@ -90,7 +90,7 @@ fn push_change<L: Lines>(
 
 /// Adds what else a cell is that is not a variable, an entry or an instruction, and what to declare if the program
 /// may write it.
-fn push_variable_advice<L: Lines, D: Allocator>(
+fn push_variable_advice<L: MessageWriter, D: Allocator>(
     text: &mut L,
     declaration: &Declaration<D>,
     cell: Word,
@@ -105,7 +105,7 @@ fn push_variable_advice<L: Lines, D: Allocator>(
 }
 
 /// Adds the line of the pointer from which an address comes, if the reference is indirect.
-fn push_pointer<L: Lines>(text: &mut L, reference: &Reference) -> Result<(), AllocError> {
+fn push_pointer<L: MessageWriter>(text: &mut L, reference: &Reference) -> Result<(), AllocError> {
     if !reference.indirect {
         return Ok(());
     }
@@ -119,7 +119,7 @@ fn push_pointer<L: Lines>(text: &mut L, reference: &Reference) -> Result<(), All
 
 /// Adds the lines of a cell that is written: the pointer that is incremented, or what is stored into; and of the
 /// words there before and after.
-fn push_write<L: Lines, D: Allocator>(
+fn push_write<L: MessageWriter, D: Allocator>(
     text: &mut L,
     declaration: &Declaration<D>,
     cpu: &Cpu,
@@ -144,13 +144,13 @@ fn push_write<L: Lines, D: Allocator>(
 }
 
 /// Adds the line of what a cell holds.
-fn push_held<L: Lines>(text: &mut L, cpu: &Cpu, cell: Word) -> Result<(), AllocError> {
+fn push_held<L: MessageWriter>(text: &mut L, cpu: &Cpu, cell: Word) -> Result<(), AllocError> {
     text.push_address(cell)?;
     push_word_line(text, b" holds ", cpu.memory.get(cell), b"")
 }
 
 /// Adds that a cell is not on the list of reads, and what to declare if it may be read.
-fn push_read_advice<L: Lines>(text: &mut L, cell: Word) -> Result<(), AllocError> {
+fn push_read_advice<L: MessageWriter>(text: &mut L, cell: Word) -> Result<(), AllocError> {
     push_advice(
         text,
         b", which is not on the list of reads; if it may be read, add `read ",
@@ -160,7 +160,7 @@ fn push_read_advice<L: Lines>(text: &mut L, cell: Word) -> Result<(), AllocError
 }
 
 /// Adds the lines of a cell that is read and is not on the list, the pointer or the operand, and of its word.
-fn push_read<L: Lines, D: Allocator>(
+fn push_read<L: MessageWriter, D: Allocator>(
     text: &mut L,
     declaration: &Declaration<D>,
     calls: &[Call],
@@ -181,7 +181,7 @@ fn push_read<L: Lines, D: Allocator>(
 
 /// Adds the line of the addresses to which a call may return: those by the offsets that are declared of its
 /// routine.
-fn push_returns<L: Lines, D: Allocator>(
+fn push_returns<L: MessageWriter, D: Allocator>(
     text: &mut L,
     declaration: &Declaration<D>,
     call: &Call,
@@ -213,7 +213,7 @@ fn push_returns<L: Lines, D: Allocator>(
 
 /// Adds what to declare of a return through the running routine's own entry, if it goes to one of the 64 addresses from the
 /// call on: with the first eight of them the `sub` line may list the offset, with the others a `skips` line may.
-fn push_offset_advice<L: Lines>(
+fn push_offset_advice<L: MessageWriter>(
     text: &mut L,
     call: &Call,
     entry: Word,
@@ -232,14 +232,18 @@ fn push_offset_advice<L: Lines>(
 }
 
 /// Adds the rest of a line: the `skips` line that lets a routine return by an offset.
-fn push_skips_advice<L: Lines>(text: &mut L, entry: Word, offset: Word) -> Result<(), AllocError> {
+fn push_skips_advice<L: MessageWriter>(
+    text: &mut L,
+    entry: Word,
+    offset: Word,
+) -> Result<(), AllocError> {
     push_text_and_advised(text, b"if it may return there, add `skips ", entry)?;
     push_word_line(text, b" ", offset, b"`")
 }
 
 /// Adds the lines of a return through an entry: where it goes, the call that it does not return from, and where that
 /// may return to.
-fn push_return<L: Lines, D: Allocator>(
+fn push_return<L: MessageWriter, D: Allocator>(
     text: &mut L,
     declaration: &Declaration<D>,
     calls: &[Call],
@@ -261,7 +265,7 @@ fn push_return<L: Lines, D: Allocator>(
 
 /// Adds the line of an address that is not in the running routine's body: what it is, or what to declare if it is
 /// code of that routine.
-fn push_outside<L: Lines, D: Allocator>(
+fn push_outside<L: MessageWriter, D: Allocator>(
     text: &mut L,
     declaration: &Declaration<D>,
     calls: &[Call],
@@ -284,7 +288,11 @@ fn push_outside<L: Lines, D: Allocator>(
 }
 
 /// Adds what to declare of an address that is in no body, if it is code of the running routine.
-fn push_body_advice<L: Lines>(text: &mut L, calls: &[Call], at: Word) -> Result<(), AllocError> {
+fn push_body_advice<L: MessageWriter>(
+    text: &mut L,
+    calls: &[Call],
+    at: Word,
+) -> Result<(), AllocError> {
     text.push_text(b"; if it belongs there, add ")?;
     match calls.last() {
         None => push_advice(text, b"`main ", at, b"`"),
@@ -293,7 +301,7 @@ fn push_body_advice<L: Lines>(text: &mut L, calls: &[Call], at: Word) -> Result<
 }
 
 /// Adds the line of a JMS to an address that is not an entry, and what to declare if a routine begins there.
-fn push_no_entry<L: Lines, D: Allocator>(
+fn push_no_entry<L: MessageWriter, D: Allocator>(
     text: &mut L,
     declaration: &Declaration<D>,
     place: Word,
@@ -312,7 +320,7 @@ fn push_no_entry<L: Lines, D: Allocator>(
 }
 
 /// Adds the line of a HLT at an address where none is declared, and what to declare if it may stand there.
-fn push_no_halt<L: Lines>(text: &mut L, at: Word) -> Result<(), AllocError> {
+fn push_no_halt<L: MessageWriter>(text: &mut L, at: Word) -> Result<(), AllocError> {
     text.push_address(at)?;
     push_text_and_advised(
         text,
@@ -328,7 +336,7 @@ fn push_no_halt<L: Lines>(text: &mut L, at: Word) -> Result<(), AllocError> {
 }
 
 /// Adds the line of a step that leaves the running routine's body, or is at no instruction.
-fn push_stray<L: Lines, D: Allocator>(
+fn push_stray<L: MessageWriter, D: Allocator>(
     text: &mut L,
     declaration: &Declaration<D>,
     calls: &[Call],
@@ -350,7 +358,7 @@ fn push_stray<L: Lines, D: Allocator>(
 }
 
 /// Adds the lines that say what a memory reference does that its rule does not allow.
-fn push_reference<L: Lines, D: Allocator>(
+fn push_reference<L: MessageWriter, D: Allocator>(
     text: &mut L,
     declaration: &Declaration<D>,
     calls: &[Call],
@@ -379,7 +387,11 @@ fn word_of(cpu: &Cpu, subject: &Subject) -> Word {
 }
 
 /// Adds the line of a subject and of the word that it has.
-fn push_subject<L: Lines>(text: &mut L, cpu: &Cpu, subject: &Subject) -> Result<(), AllocError> {
+fn push_subject<L: MessageWriter>(
+    text: &mut L,
+    cpu: &Cpu,
+    subject: &Subject,
+) -> Result<(), AllocError> {
     match subject {
         Subject::Accumulator => text.push_text(b"AC"),
         Subject::Link => text.push_text(b"the link"),
@@ -402,7 +414,7 @@ fn is_denied(cpu: &Cpu, assertion: &Assertion) -> bool {
 }
 
 /// Adds the line of the first thing that is declared to hold at the address and does not.
-fn push_unasserted<L: Lines, D: Allocator>(
+fn push_unasserted<L: MessageWriter, D: Allocator>(
     text: &mut L,
     declaration: &Declaration<D>,
     calls: &[Call],
@@ -420,7 +432,7 @@ fn push_unasserted<L: Lines, D: Allocator>(
 }
 
 /// Adds the line of the first thing that is declared to hold at the return from a call and does not.
-fn push_unasserted_return<L: Lines, D: Allocator>(
+fn push_unasserted_return<L: MessageWriter, D: Allocator>(
     text: &mut L,
     declaration: &Declaration<D>,
     call: &Call,
@@ -449,7 +461,7 @@ fn offset_of(cpu: &Cpu, call: &Call) -> Word {
 }
 
 /// Adds the lines that say what the step does that its rule does not allow.
-fn push_act<L: Lines, D: Allocator>(
+fn push_act<L: MessageWriter, D: Allocator>(
     text: &mut L,
     declaration: &Declaration<D>,
     calls: &[Call],
@@ -467,7 +479,7 @@ fn push_act<L: Lines, D: Allocator>(
 }
 
 /// Adds the line of the routine that runs, and where it was called from.
-fn push_running<L: Lines>(text: &mut L, calls: &[Call]) -> Result<(), AllocError> {
+fn push_running<L: MessageWriter>(text: &mut L, calls: &[Call]) -> Result<(), AllocError> {
     match calls.last() {
         None => text.push_text(b"the main program is running\n"),
         Some(call) => {
@@ -480,25 +492,25 @@ fn push_running<L: Lines>(text: &mut L, calls: &[Call]) -> Result<(), AllocError
 
 /// An instruction that was carried out: its address and its word.
 #[derive(Clone, Copy)]
-struct Executed {
+struct ExecutedInstruction {
     at: Word,
     word: Word,
 }
 
 /// The instruction at the program counter.
-fn next_of(cpu: &Cpu) -> Executed {
-    Executed {
+fn next_of(cpu: &Cpu) -> ExecutedInstruction {
+    ExecutedInstruction {
         at: cpu.pc,
         word: cpu.memory.get(cpu.pc),
     }
 }
 
 /// Adds the instruction from which control came, for a step that leaves the running routine's body.
-fn push_origin<L: Lines>(
+fn push_origin<L: MessageWriter>(
     text: &mut L,
     profile: Profile,
     rule: Rule,
-    last: Option<Executed>,
+    last: Option<ExecutedInstruction>,
 ) -> Result<(), AllocError> {
     let Some(executed) = last else {
         return Ok(());
@@ -517,7 +529,7 @@ fn lines_of<A: Allocator + Copy, D: Allocator, C: Allocator>(
     declaration: &Declaration<D>,
     watcher: &Watcher<C>,
     rule: Rule,
-    last: Option<Executed>,
+    last: Option<ExecutedInstruction>,
 ) -> Result<Message<A>, AllocError> {
     let cpu = watcher.world().cpu();
     let calls = watcher.calls();
@@ -533,7 +545,7 @@ fn lines_of<A: Allocator + Copy, D: Allocator, C: Allocator>(
 
 /// The lines after the verdict of a watched run: what the step is about to do that violates a rule. There are none if
 /// they are not asked for, or no rule is violated.
-pub fn breach_lines<A: Allocator + Copy, D: Allocator>(
+pub fn violation_lines<A: Allocator + Copy, D: Allocator>(
     alloc: A,
     image: &Image,
     declaration: &Declaration<D>,

@@ -9,7 +9,7 @@ ghost use Rattle.command_parts.specs.Inputs.{input};
 ghost use Rattle.machine_commands.specs.WatchText.{IsWatchOf};
 
 use crate::messages::watch_message;
-use command_parts::outcome::{Outcome, deliver};
+use command_parts::outcome::{CommandResult, deliver};
 use command_parts::programs::{ProgramRun, program_run_from};
 use command_parts::status::{Fault, Status};
 use std::alloc::Allocator;
@@ -22,7 +22,7 @@ pub fn watch_of<A: Allocator + Copy>(
     run: &ProgramRun<A>,
     explained: bool,
     show: &WordSet,
-) -> Result<Outcome<A>, Fault>
+) -> Result<CommandResult<A>, Fault>
     ensures told { IfOk result (λ told. IsWatchOf explained (words show.now) run.now.program.image
         (meaning run.now.program.declaration) run.now.events.items told.status told.text.items) }
     ensures faults { IfErr result IsMemoryFault }

@@ -14,14 +14,14 @@ use Rattle.pal_text.proofs.Rises.{part_tokens_within}
 use Rattle.pal_text.proofs.Ends.{Marks, marks_within, closing_within, stop_by, own_within}
 use Rattle.pal_text.proofs.Placed.{lines_within_by}
 use Rattle.pal_asm.specs.declared.number.Radix.{Radix}
-use Rattle.pal_asm.specs.declared.front.Front.{Front}
-use Rattle.pal_asm.specs.declared.reading.Reached.{Reached}
+use Rattle.pal_asm.specs.declared.part_text.PartText.{PartText}
+use Rattle.pal_asm.specs.declared.reading.ReadingState.{ReadingState}
 use Rattle.pal_asm.specs.declared.statement.NumberedPart.{NumberedPart}
 use Rattle.pal_acts.specs.Acts.{PlacedAct, place}
 use Rattle.pal_asm.specs.Numbers.{radix_after}
 use Rattle.pal_asm.specs.Acts.{Does, ends, goes_on}
 use Rattle.pal_asm.specs.Sources.{text_lines, part_lines}
-use Rattle.pal_asm.specs.Kept.{text_line, IsRead, lines_of_fronts}
+use Rattle.pal_asm.specs.SourceInCode.{text_line, IsRead, lines_of_fronts}
 use Rattle.pal_acts.proofs.Flat.{range_kept}
 
 -- the lines of a front of some bytes are lines of those bytes
@@ -40,7 +40,7 @@ lines_same n source stop =
     let front : List ℕ = take stop source in
     sym (lines_kept n 1 front (drop stop source) (all_lines front) (all_lines_within front)) ∙ ap (λ s. text_lines n 1 s (all_lines front)) (take-append-drop stop source)
 
-fronts_more : (fs : List Front) (f : Front) → lines_of_fronts (fs ++ f ∷ []) ≡ lines_of_fronts fs ++ text_lines f.number 1 f.bytes.now (all_lines f.bytes.now)
+fronts_more : (fs : List PartText) (f : PartText) → lines_of_fronts (fs ++ f ∷ []) ≡ lines_of_fronts fs ++ text_lines f.number 1 f.bytes.now (all_lines f.bytes.now)
 fronts_more [] f = append-nil (text_lines f.number 1 f.bytes.now (all_lines f.bytes.now))
 fronts_more (g ∷ fs) f =
     ap (λ l. text_lines g.number 1 g.bytes.now (all_lines g.bytes.now) ++ l) (fronts_more fs f)
@@ -54,14 +54,14 @@ does_within n last source r r' ps acts c marks (ends q p qs tags said d reads e)
     (closing_within (length source) (own tokens p) p.mark said.form marks.0 (own_within tokens (length source) p (part_tokens_within source))) e
 does_within n last source r r' ps acts c marks (goes_on q q' p qs tags said later d reads e h) = does_within n last source (radix_after q said.form) q' qs later d marks.1 h
 
-module _ (part : NumberedPart) (before : Radix) (old new : List PlacedAct) (reached : Reached) (is : IsRead part before old new reached) where
+module _ (part : NumberedPart) (before : Radix) (old new : List PlacedAct) (reached : ReadingState) (is : IsRead part before old new reached) where
   pub stop_inside : reached.close.stop ≤ length part.source.now
   stop_inside =
       does_within part.number part.last part.source.now before reached.radix (pieces 0 0 (part_tokens part.source.now)) is.acts reached.close
       (marks_within (length part.source.now) 0 0 (part_tokens part.source.now) (part_tokens_within part.source.now)) is.does
 
 -- the lines of one part more
-pub front_lines : (n : ℕ) (source : List ℕ) (c : Close) (fs fs' : List Front) (f : Front) → fs' ≡ fs ++ f ∷ [] → f.number ≡ n → f.bytes.now ≡ take c.stop source
+pub front_lines : (n : ℕ) (source : List ℕ) (c : Close) (fs fs' : List PartText) (f : PartText) → fs' ≡ fs ++ f ∷ [] → f.number ≡ n → f.bytes.now ≡ take c.stop source
     → lines_of_fronts fs' ≡ lines_of_fronts fs ++ part_lines n source c
 front_lines n source c fs fs' f more number bytes =
     ap lines_of_fronts more ∙ fronts_more fs f

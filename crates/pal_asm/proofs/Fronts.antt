@@ -8,7 +8,7 @@ use Rattle.pal_text.specs.declared.names.Name.{Name}
 use Rattle.pal_acts.specs.declared.act.SourcePlace.{SourcePlace}
 use Rattle.pal_acts.specs.declared.act.PlacedWord.{PlacedWord}
 use Rattle.pal_asm.specs.Listings.{is_at, line_text, words_text, word_text, symbols_text, symbol_text}
-use Rattle.pal_asm.specs.Kept.{next_at, after_those}
+use Rattle.pal_asm.specs.SourceInCode.{next_at, after_those}
 
 -- a line with text and without a word
 pub bare_line : (cs : List ℕ) → 0 < length cs → line_text [] cs ≡ codes "            " ++ cs ++ codes "\n"

@@ -7,7 +7,7 @@ use Rattle.pal_acts.specs.declared.act.SourcePlace.{SourcePlace}
 use Rattle.pal_acts.specs.declared.act.PlacedWord.{PlacedWord}
 use Rattle.pal_asm.specs.Sources.{TextLine}
 use Rattle.pal_asm.specs.Listings.{is_at, line_text, without_front, lines_text}
-use Rattle.pal_asm.specs.Kept.{is_before, skip, next_at, after_those, turns_text}
+use Rattle.pal_asm.specs.SourceInCode.{is_before, skip, next_at, after_those, turns_text}
 
 abbrev pub Upto : SourcePlace → SourcePlace → Type 0
 Upto p q = (p.part < q.part) ⊎ ((p.part ≡ q.part) × (p.line ≤ q.line))

@@ -31,7 +31,7 @@ use Rattle.pal_asm.specs.Numbers.{base, radix_after}
 use Rattle.pal_asm.specs.Acts.{statement_acts, Does, ends, goes_on}
 use Rattle.pal_asm.specs.Sources.{size_fault, TextLine, part_lines, Reads, no_part, broken, last_part, next_part, Means, HasWords, IsFault, Refuses}
 use Rattle.pal_asm.specs.Listings.{symbols_text, Lists}
-use Rattle.pal_asm.specs.Kept.{fault_of, IsFaultOf, RefusesActs, turns_text}
+use Rattle.pal_asm.specs.SourceInCode.{fault_of, IsFaultOf, RefusesActs, turns_text}
 use Rattle.pal_asm.proofs.Ordered.{lists_by}
 
 none_some : {X : Type 0} (o : Option X) (x : X) → o ≡ None → o ≡ Some x → ⊥

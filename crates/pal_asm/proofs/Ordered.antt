@@ -26,7 +26,7 @@ use Rattle.pal_asm.specs.Acts.{statement_acts, Does, ends, goes_on}
 use Rattle.pal_asm.specs.Sources.{size_fault, TextLine, text_lines, part_lines, Reads, no_part, broken, last_part, next_part}
 use Rattle.pal_acts.specs.Sources.{with_word, words, all_words}
 use Rattle.pal_asm.specs.Listings.{symbols_text, listing, Lists}
-use Rattle.pal_asm.specs.Kept.{turns_text}
+use Rattle.pal_asm.specs.SourceInCode.{turns_text}
 use Rattle.pal_asm.proofs.EachAct.{statement_holds}
 use Rattle.pal_asm.proofs.Climbs.{Marks, part_marks}
 use Rattle.pal_asm.proofs.Merged.{Upto, upto_trans, After, LinesAfter, lines_weaker, turns_are}

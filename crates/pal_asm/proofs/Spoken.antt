@@ -18,7 +18,7 @@ use Rattle.pal_acts.specs.declared.code.Code.{Code}
 use Rattle.pal_acts.specs.Acts.{PlacedAct, placed}
 use Rattle.pal_asm.specs.Expressions.{expression}
 use Rattle.pal_asm.specs.Acts.{tag_by, tag_act, said_acts, acts_with, statement_acts}
-use Rattle.pal_asm.specs.Kept.{Says, names_in, after_tags, operand_by, assign_by, body_by}
+use Rattle.pal_asm.specs.SourceInCode.{Says, names_in, after_tags, operand_by, assign_by, body_by}
 
 record Apart (ts names : List Token) (said : Said) : Type 0 where
   names_are : names_in (length names) ts ≡ names

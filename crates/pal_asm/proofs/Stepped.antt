@@ -19,7 +19,7 @@ use Rattle.pal_asm.specs.declared.statement.NumberedPart.{NumberedPart}
 use Rattle.pal_asm.specs.Numbers.{base, radix_after}
 use Rattle.pal_asm.specs.Acts.{statement_acts, Does, ends, goes_on}
 use Rattle.pal_asm.specs.Sources.{PartDoes}
-use Rattle.pal_asm.specs.Kept.{Says, IsRead, StopsPart}
+use Rattle.pal_asm.specs.SourceInCode.{Says, IsRead, StopsPart}
 
 -- the acts so far: where the part has ended so, all of them, and else those of the pieces that are left follow
 abbrev Came : NumberedPart → Radix → Radix → ℕ → Option Close → List PlacedAct → Type 0

@@ -12,24 +12,24 @@ use Rattle.pal_acts.specs.declared.code.Code.TheVariants.{IllegalCharacter}
 use Rattle.pal_acts.specs.Acts.{PlacedAct, placed, place}
 use Rattle.pal_asm.specs.declared.number.Radix.{Radix}
 use Rattle.pal_asm.specs.declared.number.Radix.TheVariants.{Octal}
-use Rattle.pal_asm.specs.declared.reading.Reached.{Reached}
-use Rattle.pal_asm.specs.declared.reading.Turn.{Turn}
-use Rattle.pal_asm.specs.declared.reading.Turn.TheVariants.{On, Ends}
+use Rattle.pal_asm.specs.declared.reading.ReadingState.{ReadingState}
+use Rattle.pal_asm.specs.declared.reading.Continuation.{Continuation}
+use Rattle.pal_asm.specs.declared.reading.Continuation.TheVariants.{NextPart, NoPart}
 use Rattle.pal_asm.specs.declared.statement.NumberedPart.{NumberedPart}
 use Rattle.pal_asm.specs.Sources.{texts, TextLine, part_lines, PartDoes, Reads, no_part, broken, last_part, next_part}
-use Rattle.pal_asm.specs.Kept.{IsRead, Follows, Turns}
+use Rattle.pal_asm.specs.SourceInCode.{IsRead, Follows, Turns}
 
 not_dollar : (e : Ending) → (e ≡ Pause) ⊎ (e ≡ Bytes) → e ≢ Dollar
 not_dollar e (inl is) same = let both : Pause ≡ Dollar = sym is ∙ same in cc
 not_dollar e (inr is) same = let both : Bytes ≡ Dollar = sym is ∙ same in cc
 
 -- a part that was read up to where it ends
-module _ (part : NumberedPart) (before : Radix) (old new : List PlacedAct) (reached : Reached) (old_lines new_lines : List TextLine) (is : IsRead part before old new reached)
+module _ (part : NumberedPart) (before : Radix) (old new : List PlacedAct) (reached : ReadingState) (old_lines new_lines : List TextLine) (is : IsRead part before old new reached)
     (lines_are : new_lines ≡ old_lines ++ part_lines part.number part.source.now reached.close) where
   does_before : (rest : List (List ℕ)) → part.last ≡ nat_eq (length rest) 0 → PartDoes part.number (nat_eq (length rest) 0) before part.source.now is.acts reached.radix reached.close
   does_before rest empty = let P : Bool → Type 0 = λ b. PartDoes part.number b before part.source.now is.acts reached.radix reached.close in subst P empty is.does
 
-  pub read_last : reached.close.ending ≡ Dollar → Turns part.number before part.last part.source.now old new old_lines new_lines Ends
+  pub read_last : reached.close.ending ≡ Dollar → Turns part.number before part.last part.source.now old new old_lines new_lines NoPart
   read_last dollar = record {
     more = is.acts;
     new_is = is.new_is;
@@ -44,7 +44,7 @@ module _ (part : NumberedPart) (before : Radix) (old new : List PlacedAct) (reac
         subst P all (subst Q all_lines (last_part part.number before reached.radix part.source.now rest is.acts reached.close (does_before rest empty) dollar)));
   }
 
-  pub read_on : (reached.close.ending ≡ Pause) ⊎ (reached.close.ending ≡ Bytes) → Turns part.number before part.last part.source.now old new old_lines new_lines (On reached.radix)
+  pub read_on : (reached.close.ending ≡ Pause) ⊎ (reached.close.ending ≡ Bytes) → Turns part.number before part.last part.source.now old new old_lines new_lines (NextPart reached.radix)
   read_on ending = record {
     more = is.acts;
     new_is = is.new_is;
@@ -56,7 +56,7 @@ module _ (part : NumberedPart) (before : Radix) (old new : List PlacedAct) (reac
 
 -- a part with a statement that has no form is that fault
 pub refused : (n : ℕ) (r : Radix) (last : Bool) (source : List ℕ) (line : ℕ) (old more kept new : List PlacedAct) (lines : List TextLine) → IsIllegal source line → kept ≡ take (length old) (old ++ more)
-    → new ≡ kept ++ placed (place n line) [] (act.Wrong IllegalCharacter) ∷ [] → Turns n r last source old new lines lines Ends
+    → new ≡ kept ++ placed (place n line) [] (act.Wrong IllegalCharacter) ∷ [] → Turns n r last source old new lines lines NoPart
 refused n r last source line old more kept new lines is cut e = record {
   more = placed (place n line) [] (act.Wrong IllegalCharacter) ∷ [];
   new_is = e ∙ ap (λ l. l ++ placed (place n line) [] (act.Wrong IllegalCharacter) ∷ []) (cut ∙ take_at old more (length old) refl);
@@ -85,7 +85,7 @@ Came parts i r acts lines = (later : List PlacedAct) (more : List TextLine) → 
 
 module _ (parts : List (Bor (List ℕ))) (i : ℕ) (d : Bor (List ℕ)) (r : Radix) (last : Bool) (old new : List PlacedAct) (old_lines new_lines : List TextLine) (h : i < length parts)
     (is_last : last ≡ nat_eq (i + 1) (length parts)) (came : Came parts i r old old_lines) where
-  came_with : (turn : Turn) (t : Turns (i + 1) r last (get_or parts i d).now old new old_lines new_lines turn) (later : List PlacedAct) (more : List TextLine) → Follows turn (i + 1 + 1) (texts (drop (i + 1) parts)) later more
+  came_with : (turn : Continuation) (t : Turns (i + 1) r last (get_or parts i d).now old new old_lines new_lines turn) (later : List PlacedAct) (more : List TextLine) → Follows turn (i + 1 + 1) (texts (drop (i + 1) parts)) later more
       → Reads 1 Octal (texts parts) (new ++ later) (new_lines ++ more)
   came_with turn t later more follows =
       let rest : List (List ℕ) = texts (drop (i + 1) parts) in
@@ -97,16 +97,16 @@ module _ (parts : List (Bor (List ℕ))) (i : ℕ) (d : Bor (List ℕ)) (r : Rad
       (subst Q (sym (append_assoc old t.more later) ∙ ap (λ l. l ++ later) (sym t.new_is))
       (came (t.more ++ later) (t.more_lines ++ more) (subst P (sym (ap texts (drop_more parts i d h))) read)))
 
-  pub ends_here : (turn : Turn) → turn ≡ Ends → Turns (i + 1) r last (get_or parts i d).now old new old_lines new_lines turn → Reads 1 Octal (texts parts) new new_lines
+  pub ends_here : (turn : Continuation) → turn ≡ NoPart → Turns (i + 1) r last (get_or parts i d).now old new old_lines new_lines turn → Reads 1 Octal (texts parts) new new_lines
   ends_here turn is t =
       let Q : List PlacedAct → Type 0 = λ l. Reads 1 Octal (texts parts) l (new_lines ++ []) in
       let S : List TextLine → Type 0 = λ l. Reads 1 Octal (texts parts) new l in
-      let P : Turn → Type 0 = λ x. Follows x (i + 1 + 1) (texts (drop (i + 1) parts)) [] [] in
+      let P : Continuation → Type 0 = λ x. Follows x (i + 1 + 1) (texts (drop (i + 1) parts)) [] [] in
       subst S (append-nil new_lines) (subst Q (append-nil new) (came_with turn t [] [] (subst P (sym is) (refl, refl))))
 
-  pub goes_on : (r' : Radix) (turn : Turn) → turn ≡ On r' → Turns (i + 1) r last (get_or parts i d).now old new old_lines new_lines turn → Came parts (i + 1) r' new new_lines
+  pub goes_on : (r' : Radix) (turn : Continuation) → turn ≡ NextPart r' → Turns (i + 1) r last (get_or parts i d).now old new old_lines new_lines turn → Came parts (i + 1) r' new new_lines
   goes_on r' turn is t later more next =
-      let P : Turn → Type 0 = λ x. Follows x (i + 1 + 1) (texts (drop (i + 1) parts)) later more in
+      let P : Continuation → Type 0 = λ x. Follows x (i + 1 + 1) (texts (drop (i + 1) parts)) later more in
       came_with turn t later more (subst P (sym is) next)
 
 -- all parts were read

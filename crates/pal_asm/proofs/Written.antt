@@ -7,10 +7,10 @@ use Rattle.pal_text.specs.declared.lines.Line.{Line}
 use Rattle.pal_text.specs.Characters.{code, is_character, characters}
 use Rattle.pal_text.specs.Lines.{all_lines}
 use Rattle.pal_acts.specs.Acts.{place}
-use Rattle.pal_asm.specs.declared.front.Front.{Front}
+use Rattle.pal_asm.specs.declared.part_text.PartText.{PartText}
 use Rattle.pal_asm.specs.declared.listing.ListedLine.{ListedLine}
 use Rattle.pal_asm.specs.Sources.{TextLine, text_lines}
-use Rattle.pal_asm.specs.Kept.{text_line, shown_line, lines_in, lines_of_fronts}
+use Rattle.pal_asm.specs.SourceInCode.{text_line, shown_line, lines_in, lines_of_fronts}
 
 character_left : (bytes : List ℕ) (i : ℕ) → i < length bytes → is_character (code (get_or bytes i 0)) ≡ true → characters (drop i bytes) ≡ code (get_or bytes i 0) ∷ characters (drop (i + 1) bytes)
 character_left bytes i h is = ap characters (drop_more bytes i 0 h) ∙ cond-true (is_character (code (get_or bytes i 0))) _ _ is
@@ -45,7 +45,7 @@ pub no_line_left : (kept : List TextLine) (n k i : ℕ) (bytes : List ℕ) (ls :
 no_line_left kept n k i bytes ls h = sym (append-nil kept) ∙ ap (λ x. kept ++ text_lines n k bytes x) (sym (drop_all i ls h))
 
 -- a part more
-pub front_left : (kept new : List TextLine) (fs : List Front) (i : ℕ) (f d : Front) (ls : List Line) → i < length fs → f ≡ get_or fs i d → ls ≡ all_lines f.bytes.now → new ≡ kept ++ text_lines f.number 1 f.bytes.now ls
+pub front_left : (kept new : List TextLine) (fs : List PartText) (i : ℕ) (f d : PartText) (ls : List Line) → i < length fs → f ≡ get_or fs i d → ls ≡ all_lines f.bytes.now → new ≡ kept ++ text_lines f.number 1 f.bytes.now ls
     → new ++ lines_of_fronts (drop (i + 1) fs) ≡ kept ++ lines_of_fronts (drop i fs)
 front_left kept new fs i f d ls h is lines e =
     let rest : List TextLine = lines_of_fronts (drop (i + 1) fs) in
@@ -55,5 +55,5 @@ front_left kept new fs i f d ls h is lines e =
     ∙ ap (λ g. kept ++ (text_lines g.number 1 g.bytes.now (all_lines g.bytes.now) ++ rest)) is
     ∙ ap (λ x. kept ++ lines_of_fronts x) (sym (drop_more fs i d h))
 
-pub no_front_left : (kept : List TextLine) (fs : List Front) (i : ℕ) → length fs ≤ i → kept ≡ kept ++ lines_of_fronts (drop i fs)
+pub no_front_left : (kept : List TextLine) (fs : List PartText) (i : ℕ) → length fs ≤ i → kept ≡ kept ++ lines_of_fronts (drop i fs)
 no_front_left kept fs i h = sym (append-nil kept) ∙ ap (λ x. kept ++ lines_of_fronts x) (sym (drop_all i fs h))

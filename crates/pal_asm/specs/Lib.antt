@@ -3,6 +3,6 @@ pub mod Expressions
 pub mod Acts
 pub mod Sources
 pub mod Listings
-pub mod Kept
+pub mod SourceInCode
 pub mod Programs
 pub mod Laws

@@ -6,7 +6,7 @@ ghost use Rattle.pal_text.specs.Names.{IsWithin};
 ghost use Rattle.pal_text.specs.Grammar.{is_joiner};
 ghost use Rattle.pal_asm.specs.Numbers.{base};
 ghost use Rattle.pal_asm.specs.Expressions.{sign_of, term, expression, name_of};
-ghost use Rattle.pal_asm.specs.Kept.{read_of};
+ghost use Rattle.pal_asm.specs.SourceInCode.{read_of};
 
 use crate::number::{Radix, number_of};
 use pal_acts::{Code, Join, Sign, Term};

@@ -27,4 +27,4 @@ pub enum AssembleFault {
 /// A write failed or took nothing.
 #[derive(Clone, Copy, PartialEq, Eq, Debug, Error)]
 #[error("WriteFault")]
-pub struct WriteFault;
+pub struct ListingWriteFault;

@@ -7,19 +7,19 @@
 
 mod expression;
 pub mod fault;
-mod front;
 pub mod laws;
 mod listing;
 pub mod map;
 pub mod number;
+mod part_text;
 pub mod program;
 mod reading;
 mod sizes;
 mod statement;
 pub mod translation;
 
-pub use fault::{AssembleFault, PalFault, WriteFault};
+pub use fault::{AssembleFault, ListingWriteFault, PalFault};
 pub use map::{MappedLine, SourceMap, map_source};
 pub use pal_acts::{Code, SymbolTable};
-pub use program::{Program, assemble};
+pub use program::{ListedProgram, assemble};
 pub use translation::{Translation, translate};

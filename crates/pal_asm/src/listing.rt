@@ -6,9 +6,9 @@ ghost use Rattle.pal_text.specs.Characters.{characters};
 ghost use Rattle.pal_text.specs.Order.{IsLineWithin};
 ghost use Rattle.pal_asm.specs.Listings.{is_no_text, is_at, without_front, word_text, words_text, line_text, symbol_text, symbols_text};
 ghost use Rattle.pal_asm.specs.Sources.{text_lines};
-ghost use Rattle.pal_asm.specs.Kept.{lines_in, lines_of_fronts, is_before, skip, next_at, after_those, turns_text};
+ghost use Rattle.pal_asm.specs.SourceInCode.{lines_in, lines_of_fronts, is_before, skip, next_at, after_those, turns_text};
 
-use crate::front::Front;
+use crate::part_text::PartText;
 use pal_acts::{Name, PlacedWord, SourcePlace, SymbolTable};
 use pal_text::characters::is_character_code;
 use pal_text::{Line, lines_of};
@@ -24,7 +24,7 @@ pub(crate) struct ListedLine<'s> {
 
 /// Keeps the lines of a part.
 fn keep_lines<'s, A: Allocator + Copy>(
-    front: &Front<'s>,
+    front: &PartText<'s>,
     lines: &[Line],
     kept: &mut Vec<ListedLine<'s>, A>,
 ) -> Result<(), AllocError>
@@ -47,7 +47,7 @@ fn keep_lines<'s, A: Allocator + Copy>(
 /// Keeps the lines of parts.
 fn keep_fronts<'s, A: Allocator + Copy>(
     alloc: A,
-    fronts: &[Front<'s>],
+    fronts: &[PartText<'s>],
     kept: &mut Vec<ListedLine<'s>, A>,
 ) -> Result<(), AllocError>
     requires { kept.old.items ≡ [] }
@@ -63,7 +63,7 @@ fn keep_fronts<'s, A: Allocator + Copy>(
 /// The lines of parts.
 fn listed_lines<'s, A: Allocator + Copy>(
     alloc: A,
-    fronts: &[Front<'s>],
+    fronts: &[PartText<'s>],
 ) -> Result<Vec<ListedLine<'s>, A>, AllocError>
     ensures { IfOk result (λ lines. lines_in lines.items ≡ lines_of_fronts fronts.now) }
 {
@@ -265,7 +265,7 @@ fn push_symbols<A: Allocator + Copy>(
 /// The listing of these parts, whose words and whose own symbols these are.
 pub(crate) fn make_listing<A: Allocator + Copy>(
     alloc: A,
-    fronts: &[Front<'_>],
+    fronts: &[PartText<'_>],
     words: &[PlacedWord],
     own: &SymbolTable<A>,
 ) -> Result<Vec<u8, A>, AllocError>

@@ -4,12 +4,12 @@ ghost use Rattle.std.specs.Prelude.{◌≡◌, None, IfOk, IfErr};
 ghost use Rattle.pal_acts.specs.Permanent.{permanent_symbols};
 ghost use Rattle.pal_acts.specs.Sources.{IsSource, all_words};
 ghost use Rattle.pal_acts.specs.Values.{known};
-ghost use Rattle.pal_asm.specs.Kept.{RefusesActs};
+ghost use Rattle.pal_asm.specs.SourceInCode.{RefusesActs};
 ghost use Rattle.pal_asm.specs.Programs.{mapped_image, mapped_symbols, mapped_words};
 ghost use Rattle.pal_asm.specs.Sources.{HasWords, Means, Refuses, texts, size_fault};
 
 use crate::fault::AssembleFault;
-use crate::front::Front;
+use crate::part_text::PartText;
 use crate::program::assemble_words;
 use crate::reading::{Reading, read_source};
 use crate::sizes::fault_of_sizes;
@@ -89,7 +89,7 @@ fn push_characters<A: Allocator>(text: &mut Vec<u8, A>, bytes: &[u8]) -> Result<
 /// Adds the lines of a part.
 fn push_part<A: Allocator + Copy>(
     alloc: A,
-    front: &Front<'_>,
+    front: &PartText<'_>,
     lines: &mut Vec<MappedLine, A>,
     texts: &mut Vec<u8, A>,
 ) -> Result<(), AllocError> {
@@ -118,7 +118,7 @@ struct MappedLines<A: Allocator> {
 /// The lines of these parts.
 fn mapped_lines<A: Allocator + Copy>(
     alloc: A,
-    fronts: &[Front<'_>],
+    fronts: &[PartText<'_>],
 ) -> Result<MappedLines<A>, AllocError> {
     let mut lines = Vec::new(alloc);
     let mut texts = Vec::new(alloc);
@@ -132,7 +132,7 @@ fn mapped_lines<A: Allocator + Copy>(
 fn map_of<A: Allocator + Copy>(
     alloc: A,
     found: AssembledWords<'_, A>,
-    fronts: &[Front<'_>],
+    fronts: &[PartText<'_>],
 ) -> Result<SourceMap<A>, AssembleFault>
     ensures image { IfOk result (λ map. mapped_image map ≡ found.entry.image) }
     ensures symbols { IfOk result (λ map. mapped_symbols map ≡ found.entry.symbols.own.entries) }

@@ -3,10 +3,10 @@
 ghost use Rattle.std.specs.Prelude.{◌≡◌, ◌≤◌, [], IfOk, OnOk, IfErr, length, None};
 ghost use Rattle.pal_asm.specs.declared.number.Radix.TheVariants.{Octal};
 ghost use Rattle.pal_asm.specs.Sources.{Reads, size_fault, texts};
-ghost use Rattle.pal_asm.specs.Kept.{lines_of_fronts, IsRead, StopsPart, Turns};
+ghost use Rattle.pal_asm.specs.SourceInCode.{lines_of_fronts, IsRead, StopsPart, Turns};
 
-use crate::front::Front;
 use crate::number::Radix;
+use crate::part_text::PartText;
 use crate::statement::{NumberedPart, keep_statement};
 use pal_acts::{Act, Acts, Code, Join, SourcePlace};
 use pal_text::{Close, Ending, Next, StatementFault, StatementReader};
@@ -14,14 +14,14 @@ use std::alloc::{AllocError, Allocator};
 
 /// What comes after a part: the next one, with numbers written so, or nothing.
 #[derive(Clone, Copy)]
-pub(crate) enum Turn {
-    On(Radix),
-    Ends,
+pub(crate) enum Continuation {
+    NextPart(Radix),
+    NoPart,
 }
 
 /// How a part was read: how numbers are written after it, and where it ended.
 #[derive(Clone, Copy)]
-pub(crate) struct Reached {
+pub(crate) struct ReadingState {
     pub(crate) radix: Radix,
     pub(crate) close: Close,
 }
@@ -34,7 +34,7 @@ fn keep_read<A: Allocator + Copy>(
     reader: &mut StatementReader<'_, A>,
     joins: &mut Vec<Join, A>,
     acts: &mut Acts<A>,
-) -> Result<Reached, StatementFault>
+) -> Result<ReadingState, StatementFault>
     requires source { reader.old.source ≡ part.now.source.now }
     requires front { (reader.old.count ≡ 0) × (reader.old.close ≡ None) }
     ensures read { IfOk result (IsRead part.now before acts.old acts.new) }
@@ -51,7 +51,7 @@ fn keep_read<A: Allocator + Copy>(
                 };
                 radix = radix.after(statement.form);
             }
-            Next::End(close) => return Ok(Reached { radix, close }),
+            Next::End(close) => return Ok(ReadingState { radix, close }),
         }
     }
 }
@@ -62,7 +62,7 @@ fn keep_statements<A: Allocator + Copy>(
     before: Radix,
     part: &NumberedPart<'_>,
     acts: &mut Acts<A>,
-) -> Result<Reached, StatementFault>
+) -> Result<ReadingState, StatementFault>
     requires { length part.now.source.now ≤ 65536 }
     ensures read { IfOk result (IsRead part.now before acts.old acts.new) }
     ensures stops { IfErr result (StopsPart part.now.source.now acts.old acts.new) }
@@ -79,8 +79,8 @@ fn read_part<'s, A: Allocator + Copy>(
     radix: Radix,
     part: &NumberedPart<'s>,
     acts: &mut Acts<A>,
-    fronts: &mut Vec<Front<'s>, A>,
-) -> Result<Turn, AllocError>
+    fronts: &mut Vec<PartText<'s>, A>,
+) -> Result<Continuation, AllocError>
     requires { length part.now.source.now ≤ 65536 }
     ensures { IfOk result (Turns part.now.number radix part.now.last part.now.source.now acts.old
         acts.new (lines_of_fronts fronts.old.items) (lines_of_fronts fronts.new.items)) }
@@ -88,13 +88,13 @@ fn read_part<'s, A: Allocator + Copy>(
     let count = acts.len();
     match keep_statements(alloc, radix, part, acts) {
         Ok(reached) => {
-            fronts.push(Front {
+            fronts.push(PartText {
                 number: part.number,
                 bytes: &part.source[..reached.close.stop],
             })?;
             match reached.close.ending {
-                Ending::Dollar => Ok(Turn::Ends),
-                Ending::Pause | Ending::Bytes => Ok(Turn::On(reached.radix)),
+                Ending::Dollar => Ok(Continuation::NoPart),
+                Ending::Pause | Ending::Bytes => Ok(Continuation::NextPart(reached.radix)),
             }
         }
         Err(StatementFault::Illegal(line)) => {
@@ -104,7 +104,7 @@ fn read_part<'s, A: Allocator + Copy>(
                 line,
             };
             acts.keep(place, Act::Wrong(Code::IllegalCharacter), &[])?;
-            Ok(Turn::Ends)
+            Ok(Continuation::NoPart)
         }
         Err(StatementFault::NoMemory) => Err(AllocError),
     }
@@ -114,7 +114,7 @@ fn read_part<'s, A: Allocator + Copy>(
 #[derive(Drop)]
 pub(crate) struct Reading<'s, A: Allocator> {
     pub(crate) acts: Acts<A>,
-    pub(crate) fronts: Vec<Front<'s>, A>,
+    pub(crate) fronts: Vec<PartText<'s>, A>,
 }
 
 /// Reads the parts of a source that aren't too many or too long, one after another.
@@ -122,7 +122,7 @@ fn read_parts<'s, A: Allocator + Copy>(
     alloc: A,
     parts: &[&'s [u8]],
     acts: &mut Acts<A>,
-    fronts: &mut Vec<Front<'s>, A>,
+    fronts: &mut Vec<PartText<'s>, A>,
 ) -> Result<(), AllocError>
     requires sizes { size_fault (texts parts.now) ≡ None }
     requires none { (acts.old ≡ []) × (fronts.old.items ≡ []) }
@@ -137,8 +137,8 @@ fn read_parts<'s, A: Allocator + Copy>(
             source,
         };
         match read_part(alloc, radix, &part, acts, fronts)? {
-            Turn::On(next) => radix = next,
-            Turn::Ends => return Ok(()),
+            Continuation::NextPart(next) => radix = next,
+            Continuation::NoPart => return Ok(()),
         }
     }
     Ok(())

@@ -6,7 +6,7 @@ ghost use Rattle.pal_text.specs.Names.{IsWithin};
 ghost use Rattle.pal_asm.specs.Numbers.{base};
 ghost use Rattle.pal_acts.specs.Acts.{place};
 ghost use Rattle.pal_asm.specs.Acts.{tag_by, tag_act, statement_acts};
-ghost use Rattle.pal_asm.specs.Kept.{Says, names_in, after_tags, operand_by, assign_acts, body_by};
+ghost use Rattle.pal_asm.specs.SourceInCode.{Says, names_in, after_tags, operand_by, assign_acts, body_by};
 
 use crate::expression::{name, read_expression};
 use crate::number::Radix;

@@ -7,7 +7,7 @@ ghost use Rattle.pal_asm.specs.declared.fault.PalFault.{PalFault as Faulty};
 ghost use Rattle.pal_acts.specs.Permanent.{permanent_symbols};
 ghost use Rattle.pal_asm.specs.Sources.{texts, size_fault, Means, IsFault, Refuses};
 ghost use Rattle.pal_asm.specs.Programs.{symbols_in, image_in};
-ghost use Rattle.pal_asm.specs.Kept.{fault_of, RefusesActs};
+ghost use Rattle.pal_asm.specs.SourceInCode.{fault_of, RefusesActs};
 
 use crate::fault::{AssembleFault, PalFault};
 use crate::reading::read_source;

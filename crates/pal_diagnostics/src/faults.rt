@@ -1,12 +1,12 @@
 //! All faults of a source that can be found, one after another.
 
+use crate::assignments::{about_assignment, about_room, about_tags};
 use crate::copies::{copies_of, first_fault, replace};
 use crate::findings::{Finding, about_text, has_order_mark};
-use crate::given::{about_assignment, about_room, about_tags};
 use crate::lines::{bytes_between, count_characters, line_at, push_marked};
 use crate::meanings::{Meanings, NOWHERE, meanings_before};
 use crate::references::{about_reference, put_undefined};
-use crate::statement::{Act, Faulty, faulty_of};
+use crate::statement::{Act, FaultyStatement, faulty_of};
 use crate::symbols::{Source, source_of};
 use instruct::Profile;
 use pal_acts::{Code, SourcePlace, permanent_table};
@@ -23,7 +23,7 @@ const MOST_STATEMENTS: usize = 60;
 /// What is said about PAUSE in the last part.
 fn about_pause<A: Allocator + Copy>(
     alloc: A,
-    faulty: &Faulty<A>,
+    faulty: &FaultyStatement<A>,
 ) -> Result<Option<Finding<A>>, AllocError> {
     let [token, ..] = faulty.body() else {
         return Ok(None);
@@ -45,7 +45,7 @@ fn finding_of<A: Allocator + Copy>(
     source: &Source<'_>,
     before: &Meanings<'_, A>,
     known: &Meanings<'_, A>,
-    faulty: &Faulty<A>,
+    faulty: &FaultyStatement<A>,
 ) -> Result<Option<Finding<A>>, AllocError> {
     match faulty.code {
         Code::IllegalCharacter | Code::NumberTooLarge => {
@@ -67,7 +67,7 @@ fn put_findings<A: Allocator + Copy>(
     source: &Source<'_>,
     before: &Meanings<'_, A>,
     known: &Meanings<'_, A>,
-    faulty: &Faulty<A>,
+    faulty: &FaultyStatement<A>,
     findings: &mut Vec<Finding<A>, A>,
 ) -> Result<(), AllocError> {
     if faulty.code == Code::Undefined {
@@ -88,7 +88,7 @@ fn findings_by<A: Allocator + Copy>(
     source: &Source<'_>,
     before: &Meanings<'_, A>,
     known: &Meanings<'_, A>,
-    faulty: &Faulty<A>,
+    faulty: &FaultyStatement<A>,
 ) -> Result<Vec<Finding<A>, A>, AllocError> {
     let mut findings = Vec::new(alloc);
     put_findings(alloc, source, before, known, faulty, &mut findings)?;
@@ -100,7 +100,7 @@ fn findings_of<A: Allocator + Copy>(
     alloc: A,
     source: &Source<'_>,
     copies: &[Vec<u8, A>],
-    faulty: &Faulty<A>,
+    faulty: &FaultyStatement<A>,
 ) -> Result<Vec<Finding<A>, A>, AllocError> {
     let permanent = permanent_table(alloc, source.profile)?;
     let before = meanings_before(alloc, &permanent, copies, faulty.place)?;
@@ -113,7 +113,7 @@ fn push_finding<A: Allocator + Copy>(
     alloc: A,
     text: &mut String<A>,
     source: &Source<'_>,
-    faulty: &Faulty<A>,
+    faulty: &FaultyStatement<A>,
     finding: &Finding<A>,
 ) -> Result<(), AllocError> {
     let bytes = source.bytes(faulty.part);
@@ -132,7 +132,7 @@ fn push_finding<A: Allocator + Copy>(
 }
 
 /// Where the tag ends that begins at this place.
-fn end_of_tag<A: Allocator>(faulty: &Faulty<A>, start: usize) -> usize {
+fn end_of_tag<A: Allocator>(faulty: &FaultyStatement<A>, start: usize) -> usize {
     for token in faulty.tags() {
         if token.kind == Kind::Comma && token.start > start {
             return token.end;
@@ -142,7 +142,7 @@ fn end_of_tag<A: Allocator>(faulty: &Faulty<A>, start: usize) -> usize {
 }
 
 /// What stands in the place of a statement's body that is left out.
-fn filler_of<A: Allocator>(bytes: &[u8], faulty: &Faulty<A>) -> u8 {
+fn placeholder_of<A: Allocator>(bytes: &[u8], faulty: &FaultyStatement<A>) -> u8 {
     match faulty.code {
         Code::PauseInLastPart => b'$',
         Code::Redefined => b' ',
@@ -153,7 +153,12 @@ fn filler_of<A: Allocator>(bytes: &[u8], faulty: &Faulty<A>) -> u8 {
 
 /// Leaves a fault out of a part: the tag at this place, or the body of the statement, in whose stead stands
 /// the word or the value 0. A body that was left out before becomes nothing, and so does a byte order mark.
-fn leave_out<A: Allocator>(bytes: &mut [u8], faulty: &Faulty<A>, marked: usize, is_again: bool) {
+fn leave_out<A: Allocator>(
+    bytes: &mut [u8],
+    faulty: &FaultyStatement<A>,
+    marked: usize,
+    is_again: bool,
+) {
     if faulty.code == Code::DuplicateTag {
         let end = end_of_tag(faulty, marked);
         return replace(bytes, marked, end, b' ');
@@ -165,7 +170,7 @@ fn leave_out<A: Allocator>(bytes: &mut [u8], faulty: &Faulty<A>, marked: usize, 
     let filler = if is_again {
         b' '
     } else {
-        filler_of(bytes, faulty)
+        placeholder_of(bytes, faulty)
     };
     match faulty.body() {
         [] => replace(bytes, faulty.start, faulty.end, b' '),
@@ -179,14 +184,18 @@ fn leave_out<A: Allocator>(bytes: &mut [u8], faulty: &Faulty<A>, marked: usize, 
 /// How far the faults of a source are told: how many are, which statements had one, and whether an origin was left
 /// out, so that locations are not known.
 #[derive(Drop)]
-struct Course<A: Allocator> {
+struct FaultProgress<A: Allocator> {
     told: usize,
     places: Vec<SourcePlace, A>,
     is_astray: bool,
 }
 
 /// Whether the fault of a statement is told: a second one only of a tag, and no page where locations are not known.
-fn is_told<A: Allocator>(course: &Course<A>, faulty: &Faulty<A>, is_again: bool) -> bool {
+fn is_told<A: Allocator>(
+    course: &FaultProgress<A>,
+    faulty: &FaultyStatement<A>,
+    is_again: bool,
+) -> bool {
     match faulty.code {
         Code::DuplicateTag => true,
         Code::IllegalReference => !is_again && !course.is_astray,
@@ -199,7 +208,7 @@ fn push_findings<A: Allocator + Copy>(
     alloc: A,
     text: &mut String<A>,
     source: &Source<'_>,
-    faulty: &Faulty<A>,
+    faulty: &FaultyStatement<A>,
     findings: &[Finding<A>],
 ) -> Result<(), AllocError> {
     for finding in findings {
@@ -214,8 +223,8 @@ fn push_fault<A: Allocator + Copy>(
     text: &mut String<A>,
     source: &Source<'_>,
     copies: &[Vec<u8, A>],
-    faulty: &Faulty<A>,
-    course: &mut Course<A>,
+    faulty: &FaultyStatement<A>,
+    course: &mut FaultProgress<A>,
 ) -> Result<usize, AllocError> {
     let is_again = course.places.contains(&faulty.place);
     let findings = findings_of(alloc, source, copies, faulty)?;
@@ -231,9 +240,9 @@ fn push_fault<A: Allocator + Copy>(
 
 /// Notes that a fault is left out of this part.
 fn note<A: Allocator>(
-    course: &mut Course<A>,
+    course: &mut FaultProgress<A>,
     bytes: &[u8],
-    faulty: &Faulty<A>,
+    faulty: &FaultyStatement<A>,
 ) -> Result<(), AllocError> {
     if faulty.loses_location(bytes) {
         course.is_astray = true;
@@ -249,7 +258,7 @@ fn push_next<A: Allocator + Copy>(
     source: &Source<'_>,
     copies: &mut [Vec<u8, A>],
     fault: PalFault,
-    course: &mut Course<A>,
+    course: &mut FaultProgress<A>,
 ) -> Result<(), AllocError> {
     let part = fault.part.saturating_sub(1);
     let faulty = match copies.get(part) {
@@ -283,7 +292,7 @@ pub fn push_faults<A: Allocator + Copy>(
 ) -> Result<(), AllocError> {
     let source = source_of(names, parts, profile);
     let mut copies = copies_of(alloc, parts)?;
-    let mut course = Course {
+    let mut course = FaultProgress {
         told: 0,
         places: Vec::new(alloc),
         is_astray: false,

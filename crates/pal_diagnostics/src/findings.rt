@@ -1,6 +1,6 @@
 //! What is wrong with a statement, and what to change.
 
-use crate::forms::{UNFINISHED, Words, about, end_of_small, misplaced};
+use crate::forms::{FaultText, UNFINISHED, about, end_of_small, misplaced};
 use crate::lines::{bytes_between, push_characters};
 use crate::meanings::number_of;
 use crate::pieces::{tokens_from, told_kind};
@@ -46,7 +46,7 @@ fn finding_by<A: Allocator + Copy>(
     bytes: &[u8],
     start: usize,
     end: usize,
-    words: Words,
+    words: FaultText,
 ) -> Result<Finding<A>, AllocError> {
     let mut wrong = String::new(alloc);
     push_named(&mut wrong, bytes, start, end)?;

@@ -5,7 +5,7 @@ use pal_text::{Kind, Token};
 
 /// What is wrong with a token, after the token's text, and what to change.
 #[derive(Clone, Copy)]
-pub(crate) struct Words {
+pub(crate) struct FaultText {
     pub(crate) wrong: &'static str,
     pub(crate) advice: &'static str,
 }
@@ -55,29 +55,29 @@ pub(crate) fn misplaced(bytes: &[u8], tokens: &[Token]) -> Option<usize> {
 }
 
 /// What is said about a character that means nothing.
-fn about_character(code: u8) -> Words {
+fn about_character(code: u8) -> FaultText {
     match code {
-        b'a'..=b'z' => Words {
+        b'a'..=b'z' => FaultText {
             wrong: "is not in upper case",
             advice: "letters must be in upper case, except in comments",
         },
-        b'(' | b')' | b'[' | b']' => Words {
+        b'(' | b')' | b'[' | b']' => FaultText {
             wrong: "is not allowed: this assembler has no literals",
             advice: "write the word on a line of its own with a tag, and refer to the tag",
         },
-        b'"' | b'\'' => Words {
+        b'"' | b'\'' => FaultText {
             wrong: "is not allowed: this assembler has no characters in quotes",
             advice: "write the code of each character as a word, such as 301 for A with channel 8",
         },
-        b'<' | b'>' => Words {
+        b'<' | b'>' => FaultText {
             wrong: "is not allowed: this assembler has no macros and no conditions",
             advice: "write out the statements",
         },
-        b'!' => Words {
+        b'!' => FaultText {
             wrong: "is not allowed",
             advice: "for an inclusive or, write a space between two terms",
         },
-        _ => Words {
+        _ => FaultText {
             wrong: "is not allowed",
             advice: "remove it; a comment begins with /",
         },
@@ -85,37 +85,37 @@ fn about_character(code: u8) -> Words {
 }
 
 /// What is said about a token of this kind that has no place; of a character by its code.
-pub(crate) fn about(kind: Kind, code: u8) -> Words {
+pub(crate) fn about(kind: Kind, code: u8) -> FaultText {
     match kind {
-        Kind::Mixed => Words {
+        Kind::Mixed => FaultText {
             wrong: "begins with a digit but contains a letter",
             advice: "a number has only digits, and a symbol begins with a letter",
         },
-        Kind::Decimal | Kind::Octal | Kind::Pause => Words {
+        Kind::Decimal | Kind::Octal | Kind::Pause => FaultText {
             wrong: "is not a term",
             advice: "make it a statement of its own, after ; or on a line of its own",
         },
-        Kind::Space => Words {
+        Kind::Space => FaultText {
             wrong: "is not allowed here",
             advice: "remove it",
         },
-        Kind::Comma => Words {
+        Kind::Comma => FaultText {
             wrong: "is not allowed here",
             advice: "a tag is a symbol and a comma, before everything else in its statement",
         },
-        Kind::Equals => Words {
+        Kind::Equals => FaultText {
             wrong: "is not allowed here",
             advice: "an assignment is a symbol, = and its value, and nothing else",
         },
-        Kind::Star => Words {
+        Kind::Star => FaultText {
             wrong: "is not allowed here",
             advice: "* sets the location, and only tags may come before it; there is no multiplication",
         },
-        Kind::Plus | Kind::Minus => Words {
+        Kind::Plus | Kind::Minus => FaultText {
             wrong: "has no term before it",
             advice: "write a term between the two signs, or remove one of them",
         },
-        Kind::Symbol | Kind::Number | Kind::Here => Words {
+        Kind::Symbol | Kind::Number | Kind::Here => FaultText {
             wrong: "is not joined to the term before it",
             advice: "write a space, + or - between two terms",
         },
@@ -124,7 +124,7 @@ pub(crate) fn about(kind: Kind, code: u8) -> Words {
 }
 
 /// What is said about a last token after which a term is missing.
-pub(crate) const UNFINISHED: Words = Words {
+pub(crate) const UNFINISHED: FaultText = FaultText {
     wrong: "has no term after it",
     advice: "write a number or a symbol there, or remove it",
 };

@@ -2,11 +2,11 @@
 //! a mark below the token, and what to change. It is tested, not proved.
 #![tactic(auto)]
 
+mod assignments;
 mod copies;
 mod faults;
 mod findings;
 mod forms;
-mod given;
 mod lines;
 mod meanings;
 mod pieces;

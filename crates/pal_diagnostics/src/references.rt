@@ -4,7 +4,7 @@ use crate::findings::Finding;
 use crate::lines::{bytes_between, push_characters};
 use crate::meanings::{Meanings, terms_of};
 use crate::pieces::{name_of, tokens_from};
-use crate::statement::{Act, Faulty};
+use crate::statement::{Act, FaultyStatement};
 use crate::symbols::{Source, push_defined, push_undefined_advice};
 use pal_text::{Kind, Token};
 use std::alloc::{AllocError, Allocator};
@@ -45,7 +45,7 @@ pub(crate) fn put_undefined<A: Allocator + Copy>(
     source: &Source<'_>,
     before: &Meanings<'_, A>,
     known: &Meanings<'_, A>,
-    faulty: &Faulty<A>,
+    faulty: &FaultyStatement<A>,
     findings: &mut Vec<Finding<A>, A>,
 ) -> Result<(), AllocError> {
     let is_word = faulty.act() == Act::Other;
@@ -195,7 +195,7 @@ pub(crate) fn about_reference<A: Allocator + Copy>(
     source: &Source<'_>,
     before: &Meanings<'_, A>,
     known: &Meanings<'_, A>,
-    faulty: &Faulty<A>,
+    faulty: &FaultyStatement<A>,
 ) -> Result<Option<Finding<A>>, AllocError> {
     let bytes = source.bytes(faulty.part);
     let reference = reference_of(bytes, tokens_from(faulty.body(), 1));

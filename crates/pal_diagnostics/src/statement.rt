@@ -11,7 +11,7 @@ use std::alloc::{AllocError, Allocator};
 /// A statement that has a fault: the fault's code, the number of its part, counted from 0, its part and its
 /// line in the copies, counted from 1, where it begins and ends in its part, and its tokens.
 #[derive(Drop)]
-pub(crate) struct Faulty<A: Allocator> {
+pub(crate) struct FaultyStatement<A: Allocator> {
     pub(crate) code: Code,
     pub(crate) part: usize,
     pub(crate) place: SourcePlace,
@@ -33,7 +33,7 @@ pub(crate) enum Act {
     Other,
 }
 
-impl<A: Allocator> Faulty<A> {
+impl<A: Allocator> FaultyStatement<A> {
     /// The tags, each a symbol and a comma.
     pub(crate) fn tags(&self) -> &[Token] {
         let count = count_tag_tokens(&self.tokens);
@@ -94,10 +94,10 @@ pub(crate) fn faulty_of<A: Allocator + Copy>(
     alloc: A,
     bytes: &[u8],
     fault: PalFault,
-) -> Result<Faulty<A>, AllocError> {
+) -> Result<FaultyStatement<A>, AllocError> {
     let line = line_of(alloc, bytes, fault.line)?;
     let end = statement_end(bytes, line);
-    Ok(Faulty {
+    Ok(FaultyStatement {
         code: fault.code,
         part: fault.part.saturating_sub(1),
         place: SourcePlace {

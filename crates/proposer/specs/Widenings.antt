@@ -9,9 +9,9 @@ use Rattle.proposer.specs.Obstacles.{IsObstacle}
 use Rattle.proposer.specs.Widths.{IsAsWide}
 use Rattle.proposer.specs.Proposals.{Fits, IsShown}
 use Rattle.proposer.specs.declared.Proposal.{Proposal}
-use Rattle.proposer.specs.declared.widening.Drafted.{Drafted}
-use Rattle.proposer.specs.declared.widening.Taught.{Taught}
-use Rattle.proposer.specs.declared.widening.Taught.TheVariants.{More}
+use Rattle.proposer.specs.declared.widening.WrittenDeclaration.{WrittenDeclaration}
+use Rattle.proposer.specs.declared.widening.RefinementResult.{RefinementResult}
+use Rattle.proposer.specs.declared.widening.RefinementResult.TheVariants.{More}
 use Rattle.proposer.specs.declared.widening.Widening.{Widening}
 use Rattle.proposer.specs.declared.widening.Widening.TheVariants.{Wider, Never, Unclear}
 
@@ -30,16 +30,16 @@ IsWidened image given events (Never o) = IsObstacle image (meaning given) events
 IsWidened image given events Unclear = ⊤
 
 -- The text is one of the declaration, with the routines in its order; it serves private contracts.
-pub record IsDrafted {A : Type 0} (d : Drafted A) : Type 0 where
+pub record IsDrafted {A : Type 0} (d : WrittenDeclaration A) : Type 0 where
   pub text : Declares d.text.items (meaning d.declaration)
   pub routines : ListsRoutines d.text.items (routines_of d.declaration)
 
 -- What is taught is such a draft, if it is more.
-abbrev pub IsTaught : {A : Type 0} → Taught A → Type 0
+abbrev pub IsTaught : {A : Type 0} → RefinementResult A → Type 0
 IsTaught (More d) = IsDrafted d
 IsTaught _ = ⊤
 
 -- And it is for this machine.
-abbrev pub HasProfile : {A : Type 0} → Profile → Taught A → Type 0
+abbrev pub HasProfile : {A : Type 0} → Profile → RefinementResult A → Type 0
 HasProfile machine (More d) = (meaning d.declaration).profile ≡ machine
 HasProfile machine _ = ⊤

@@ -4,7 +4,7 @@ use bin_tape::Image;
 use declaration::{Declaration, Owner};
 use peripherals::{Event, NoMemory};
 use policy::Watcher;
-use run_search::Sight;
+use run_search::StepRecord;
 use std::alloc::Allocator;
 use word12::Word;
 use wordset::WordSet;
@@ -85,7 +85,7 @@ impl<A: Allocator + Copy> Evidence<A> {
     }
 
     /// A step is about to be made.
-    pub(crate) fn sees(&mut self, sight: &Sight) {
+    pub(crate) fn sees(&mut self, sight: &StepRecord) {
         if let Some(owner) = self.owners.get_mut(sight.at.index()) {
             if owner.is_none() {
                 *owner = Some(sight.owner);
@@ -119,7 +119,7 @@ impl<A: Allocator + Copy> Evidence<A> {
         event: Event,
     ) {
         match (event, watcher.world().halted_at()) {
-            (Event::Step, None) => self.sees(&Sight::of(watcher)),
+            (Event::Step, None) => self.sees(&StepRecord::of(watcher)),
             (Event::Continue, Some(at)) if declaration.is_pause(at) => self.continued.insert(at),
             _ => {}
         }

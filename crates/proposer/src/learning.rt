@@ -3,13 +3,13 @@
 use crate::evidence::Evidence;
 use crate::sketch::Sketch;
 use bin_tape::Image;
-use control_flow::{Breadth, Map, Tape};
+use control_flow::{Map, Tape, VariableSelection};
 use declaration::{Declaration, DeclarationFault, Owner, Routine};
 use instruct::{Instruction, Operation, Profile, decode, halts, refers_indirectly, target};
 use peripherals::NoMemory;
 use policy::Watcher;
 use processor::{effective_address, is_auto_index};
-use run_search::Sight;
+use run_search::StepRecord;
 use std::alloc::Allocator;
 use word12::Word;
 use wordset::WordSet;
@@ -41,7 +41,7 @@ pub enum Obstacle {
 
 /// What a step teaches that breaks a declaration.
 #[derive(Clone, Copy, PartialEq, Eq)]
-pub(crate) enum Lesson {
+pub(crate) enum Refinement {
     /// Nothing.
     Nothing,
     /// What a wider declaration allows.
@@ -52,15 +52,15 @@ pub(crate) enum Lesson {
     Never(Obstacle),
 }
 
-impl Lesson {
+impl Refinement {
     /// What both teach; the first obstacle is told.
-    fn and(self, other: Lesson) -> Lesson {
+    fn and(self, other: Refinement) -> Refinement {
         match (self, other) {
-            (Lesson::Never(obstacle), _) => Lesson::Never(obstacle),
-            (_, Lesson::Never(obstacle)) => Lesson::Never(obstacle),
-            (Lesson::Unclear, _) | (_, Lesson::Unclear) => Lesson::Unclear,
-            (Lesson::Nothing, Lesson::Nothing) => Lesson::Nothing,
-            _ => Lesson::New,
+            (Refinement::Never(obstacle), _) => Refinement::Never(obstacle),
+            (_, Refinement::Never(obstacle)) => Refinement::Never(obstacle),
+            (Refinement::Unclear, _) | (_, Refinement::Unclear) => Refinement::Unclear,
+            (Refinement::Nothing, Refinement::Nothing) => Refinement::Nothing,
+            _ => Refinement::New,
         }
     }
 }
@@ -74,7 +74,11 @@ fn by_words<A: Allocator + Copy>(
 ) -> Result<Option<Declaration<A>>, NoMemory> {
     let tape = Tape::of(image);
     let map = Map::of(&tape, at, profile);
-    let text = map.text(alloc, &tape, &map.variables(image, Breadth::Stored))?;
+    let text = map.text(
+        alloc,
+        &tape,
+        &map.variables(image, VariableSelection::Stored),
+    )?;
     match Declaration::parse(alloc, &text) {
         Ok(found) => Ok(Some(found)),
         Err(DeclarationFault::NoMemory) => Err(NoMemory),
@@ -233,7 +237,7 @@ fn buffer_of<A: Allocator + Copy>(
 fn leaves_for_main<A: Allocator + Copy, D: Allocator>(
     declaration: &Declaration<D>,
     evidence: &Evidence<A>,
-    sight: &Sight,
+    sight: &StepRecord,
 ) -> bool {
     evidence.jumped == Some(sight.at)
         && declaration.in_main(sight.at)
@@ -246,33 +250,33 @@ fn lesson_of_place<A: Allocator + Copy, D: Allocator>(
     image: &Image,
     declaration: &Declaration<D>,
     evidence: &Evidence<A>,
-    sight: &Sight,
+    sight: &StepRecord,
     word: Word,
-) -> Lesson {
+) -> Refinement {
     let at = sight.at;
     if evidence.called.contains(at) {
-        return Lesson::Never(Obstacle::RunsEntry(at));
+        return Refinement::Never(Obstacle::RunsEntry(at));
     }
     if !evidence.is_set(image, at) {
-        return Lesson::Never(Obstacle::Unset(at));
+        return Refinement::Never(Obstacle::Unset(at));
     }
     if decode(word, declaration.profile()) == Instruction::Unsupported {
-        return Lesson::Never(Obstacle::Unsupported(at));
+        return Refinement::Never(Obstacle::Unsupported(at));
     }
     match evidence.owner(at) {
-        Some(owner) if owner != sight.owner => return Lesson::Unclear,
+        Some(owner) if owner != sight.owner => return Refinement::Unclear,
         _ => {}
     }
     match declaration.owner_of(at) {
-        Some(owner) if owner == sight.owner => Lesson::Nothing,
-        Some(_) => Lesson::Unclear,
-        None if declaration.is_entry(at) => Lesson::Unclear,
-        None => Lesson::New,
+        Some(owner) if owner == sight.owner => Refinement::Nothing,
+        Some(_) => Refinement::Unclear,
+        None if declaration.is_entry(at) => Refinement::Unclear,
+        None => Refinement::New,
     }
 }
 
 /// Whether a word stores in the entry of the running routine, which it names: that may be declared.
-fn moves_entry(sight: &Sight, word: Word, cell: Word) -> bool {
+fn moves_entry(sight: &StepRecord, word: Word, cell: Word) -> bool {
     sight.owner == Owner::Routine(cell)
         && Operation::of(word) == Operation::Dca
         && !refers_indirectly(word)
@@ -283,17 +287,17 @@ fn lesson_of_store<A: Allocator + Copy, D: Allocator>(
     declaration: &Declaration<D>,
     evidence: &Evidence<A>,
     cell: Word,
-) -> Lesson {
+) -> Refinement {
     if declaration.is_variable(cell) {
-        return Lesson::Nothing;
+        return Refinement::Nothing;
     }
     if evidence.called.contains(cell) {
-        return Lesson::Never(Obstacle::StoresInEntry(cell));
+        return Refinement::Never(Obstacle::StoresInEntry(cell));
     }
     if declaration.is_entry(cell) {
-        return Lesson::Unclear;
+        return Refinement::Unclear;
     }
-    Lesson::New
+    Refinement::New
 }
 
 /// What is learned of a JMS: that it goes to an entry.
@@ -302,56 +306,56 @@ fn lesson_of_call<A: Allocator + Copy, D: Allocator>(
     evidence: &Evidence<A>,
     at: Word,
     entry: Word,
-) -> Lesson {
+) -> Refinement {
     if declaration.is_entry(entry) {
-        return Lesson::Nothing;
+        return Refinement::Nothing;
     }
     if is_auto_index(entry) {
-        return Lesson::Never(Obstacle::CallsPointer(entry));
+        return Refinement::Never(Obstacle::CallsPointer(entry));
     }
     if evidence.ran.contains(entry) || entry == at || entry == declaration.start() {
-        return Lesson::Never(Obstacle::CallsBody(entry));
+        return Refinement::Never(Obstacle::CallsBody(entry));
     }
     if evidence.written.contains(entry) {
-        return Lesson::Never(Obstacle::CallsVariable(entry));
+        return Refinement::Never(Obstacle::CallsVariable(entry));
     }
     let first = entry.increment();
     if evidence.called.contains(first) {
-        return Lesson::Never(Obstacle::RunsEntry(first));
+        return Refinement::Never(Obstacle::RunsEntry(first));
     }
     if evidence.ran.contains(first) {
-        return Lesson::Never(Obstacle::Shared(first));
+        return Refinement::Never(Obstacle::Shared(first));
     }
     let is_taken = declaration.owner_of(entry).is_some() || declaration.is_variable(entry);
     if is_taken || declaration.owner_of(first).is_some() || declaration.is_entry(first) {
-        return Lesson::Unclear;
+        return Refinement::Unclear;
     }
-    Lesson::New
+    Refinement::New
 }
 
 /// What is learned of a JMP through a cell: how far after its call a routine returns.
 fn lesson_of_return<A: Allocator + Copy, D: Allocator>(
     declaration: &Declaration<D>,
     evidence: &Evidence<A>,
-    sight: &Sight,
+    sight: &StepRecord,
     named: Word,
-) -> Lesson {
+) -> Refinement {
     if !declaration.is_entry(named) {
-        return Lesson::Nothing;
+        return Refinement::Nothing;
     }
     if sight.owner == Owner::Routine(named) {
         if declaration.has_offset(named, sight.offset) {
-            return Lesson::Nothing;
+            return Refinement::Nothing;
         }
         return match sight.offset.index() {
-            0..=63 => Lesson::New,
-            _ => Lesson::Never(Obstacle::ReturnsFar(sight.at)),
+            0..=63 => Refinement::New,
+            _ => Refinement::Never(Obstacle::ReturnsFar(sight.at)),
         };
     }
     if evidence.called.contains(named) {
-        Lesson::Never(Obstacle::ReturnsForAnother(sight.at))
+        Refinement::Never(Obstacle::ReturnsForAnother(sight.at))
     } else {
-        Lesson::Unclear
+        Refinement::Unclear
     }
 }
 
@@ -361,19 +365,19 @@ fn learn_store<A: Allocator + Copy, D: Allocator>(
     declaration: &Declaration<D>,
     evidence: &Evidence<A>,
     sketch: &mut Sketch<A>,
-    sight: &Sight,
+    sight: &StepRecord,
     word: Word,
     cell: Word,
-) -> Lesson {
+) -> Refinement {
     if moves_entry(sight, word, cell) {
         if declaration.may_move(cell) {
-            return Lesson::Nothing;
+            return Refinement::Nothing;
         }
         sketch.moves.insert(cell);
-        return Lesson::New;
+        return Refinement::New;
     }
     let lesson = lesson_of_store(declaration, evidence, cell);
-    if lesson == Lesson::New {
+    if lesson == Refinement::New {
         let cells = if refers_indirectly(word) {
             buffer_of(image, sketch, cell, declaration.profile())
         } else {
@@ -390,13 +394,13 @@ fn learn_stores<A: Allocator + Copy, D: Allocator>(
     declaration: &Declaration<D>,
     evidence: &Evidence<A>,
     sketch: &mut Sketch<A>,
-    sight: &Sight,
+    sight: &StepRecord,
     word: Word,
-) -> Lesson {
-    let mut lesson = Lesson::Nothing;
+) -> Refinement {
+    let mut lesson = Refinement::Nothing;
     if let Some(cell) = sight.stepped {
         let further = lesson_of_store(declaration, evidence, cell);
-        if further == Lesson::New {
+        if further == Refinement::New {
             sketch.variables.insert(cell);
         }
         lesson = lesson.and(further);
@@ -417,9 +421,9 @@ fn learn_call<A: Allocator + Copy, D: Allocator>(
     sketch: &mut Sketch<A>,
     at: Word,
     entry: Word,
-) -> Result<Lesson, NoMemory> {
+) -> Result<Refinement, NoMemory> {
     let lesson = lesson_of_call(declaration, evidence, at, entry);
-    if lesson == Lesson::New && !sketch.entries().contains(entry) {
+    if lesson == Refinement::New && !sketch.entries().contains(entry) {
         let first = entry.increment();
         sketch.add_routine(entry, WordSet::one(first))?;
         let profile = declaration.profile();
@@ -444,9 +448,9 @@ fn learn_reference<A: Allocator + Copy, D: Allocator>(
     evidence: &Evidence<A>,
     sketch: &mut Sketch<A>,
     watcher: &Watcher<A>,
-    sight: &Sight,
+    sight: &StepRecord,
     word: Word,
-) -> Result<Lesson, NoMemory> {
+) -> Result<Refinement, NoMemory> {
     let lesson = learn_stores(image, declaration, evidence, sketch, sight, word);
     let memory = &watcher.world().cpu().memory;
     let further = match Operation::of(word) {
@@ -457,12 +461,12 @@ fn learn_reference<A: Allocator + Copy, D: Allocator>(
         Operation::Jmp if refers_indirectly(word) => {
             let named = target(word, sight.at);
             let lesson = lesson_of_return(declaration, evidence, sight, named);
-            if lesson == Lesson::New {
+            if lesson == Refinement::New {
                 sketch.add_return(named, sight.offset);
             }
             lesson
         }
-        _ => Lesson::Nothing,
+        _ => Refinement::Nothing,
     };
     Ok(lesson.and(further))
 }
@@ -472,11 +476,11 @@ fn learn_halt<A: Allocator + Copy, D: Allocator>(
     declaration: &Declaration<D>,
     evidence: &Evidence<A>,
     sketch: &mut Sketch<A>,
-    sight: &Sight,
-) -> Lesson {
+    sight: &StepRecord,
+) -> Refinement {
     let at = sight.at;
     if declaration.is_stop(at) || declaration.is_pause(at) {
-        return Lesson::Nothing;
+        return Refinement::Nothing;
     }
     if declaration.owner_of(at.increment()) == Some(sight.owner) && !evidence.stopped.contains(at) {
         sketch.pauses.insert(at);
@@ -485,7 +489,7 @@ fn learn_halt<A: Allocator + Copy, D: Allocator>(
         sketch.stops.insert(at);
         sketch.pauses.remove(at);
     }
-    Lesson::New
+    Refinement::New
 }
 
 /// Learns of the next step of a machine that is watched, which breaks the declaration; what a wider one has to allow goes
@@ -497,19 +501,19 @@ pub(crate) fn learn<A: Allocator + Copy, D: Allocator>(
     evidence: &Evidence<A>,
     sketch: &mut Sketch<A>,
     watcher: &Watcher<A>,
-) -> Result<Lesson, NoMemory> {
-    let sight = Sight::of(watcher);
+) -> Result<Refinement, NoMemory> {
+    let sight = StepRecord::of(watcher);
     let word = watcher.world().cpu().memory.get(sight.at);
     if leaves_for_main(declaration, evidence, &sight) {
         sketch.abandons.insert(sight.at);
-        return Ok(Lesson::New);
+        return Ok(Refinement::New);
     }
     let profile = declaration.profile();
     let lesson = lesson_of_place(image, declaration, evidence, &sight, word);
     match lesson {
-        Lesson::Never(_) | Lesson::Unclear => return Ok(lesson),
-        Lesson::Nothing => {}
-        Lesson::New => {
+        Refinement::Never(_) | Refinement::Unclear => return Ok(lesson),
+        Refinement::Nothing => {}
+        Refinement::New => {
             add_code(
                 alloc,
                 image,
@@ -535,7 +539,7 @@ pub(crate) fn learn<A: Allocator + Copy, D: Allocator>(
             )?
         }
         Instruction::Operate2 if halts(word) => learn_halt(declaration, evidence, sketch, &sight),
-        _ => Lesson::Nothing,
+        _ => Refinement::Nothing,
     };
     Ok(lesson.and(further))
 }

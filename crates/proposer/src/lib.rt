@@ -26,7 +26,7 @@ use analyser::guess_within;
 use bin_tape::Image;
 use certificate::Certificate;
 pub use control_flow::ObservedRuns;
-use control_flow::{Breadth, Findings, Map, Tape, push_reads, surveyed};
+use control_flow::{Findings, Map, Tape, VariableSelection, explore_runs, push_reads};
 use declaration::{Declaration, DeclarationFault};
 pub use evidence::Evidence;
 use instruct::Profile;
@@ -105,7 +105,7 @@ pub fn propose<A: Allocator + Copy>(
     if proposal.is_safe() {
         return cut_down(alloc, &tape, &map, proposal, turns);
     }
-    match surveyed(alloc, image, &map) {
+    match explore_runs(alloc, image, &map) {
         Ok(None) => Ok(proposal),
         Ok(Some(mut found)) => {
             // No run changes these, and so it needs no proof.
@@ -252,18 +252,18 @@ fn broadened<A: Allocator + Copy>(
     ensures within { turns.new.spent ≤ turns.new.limit }
 {
     if !map.stores_anywhere() {
-        let cells = map.variables(tape.image, Breadth::Stored);
+        let cells = map.variables(tape.image, VariableSelection::Stored);
         let proposal = attempt(alloc, tape, map, &cells, turns)?;
         if !proposal.is_stuck() || !map.changes_code() {
             return Ok(proposal);
         }
     }
-    let cells = map.variables(tape.image, Breadth::Tables);
+    let cells = map.variables(tape.image, VariableSelection::Tables);
     let proposal = attempt(alloc, tape, map, &cells, turns)?;
     if !proposal.is_stuck() {
         return Ok(proposal);
     }
-    let cells = map.variables(tape.image, Breadth::Data);
+    let cells = map.variables(tape.image, VariableSelection::Data);
     attempt(alloc, tape, map, &cells, turns)
 }
 

@@ -7,7 +7,7 @@ ghost use Rattle.proposer.specs.Proposals.{IsTold};
 ghost use Rattle.proposer.specs.Widenings.{HasProfile, IsDrafted, IsTaught, IsWidened, Supersedes};
 
 use crate::evidence::Evidence;
-use crate::learning::{Lesson, Obstacle, learn};
+use crate::learning::{Obstacle, Refinement, learn};
 use crate::obstacles::is_obstacle;
 use crate::sketch::Sketch;
 use crate::width::is_as_wide;
@@ -16,7 +16,7 @@ use bin_tape::Image;
 use declaration::{Declaration, DeclarationFault};
 use peripherals::{Event, NoMemory, Start};
 use policy::Watcher;
-use run_search::Sight;
+use run_search::StepRecord;
 use std::alloc::Allocator;
 use turns::{ProposeFault, Turns};
 use wordset::WordSet;
@@ -37,22 +37,22 @@ pub enum Widening<A: Allocator> {
 
 /// A declaration and its text.
 #[derive(Drop)]
-struct Drafted<A: Allocator> {
+struct WrittenDeclaration<A: Allocator> {
     declaration: Declaration<A>,
     text: Vec<u8, A>,
 }
 
 /// What is declared after a step of a run, and whether the run goes on.
 #[derive(Drop)]
-struct Advanced<A: Allocator> {
-    draft: Drafted<A>,
+struct DeclarationStep<A: Allocator> {
+    draft: WrittenDeclaration<A>,
     goes_on: bool,
 }
 
 /// What a step taught.
 #[derive(Drop)]
-enum Taught<A: Allocator> {
-    More(Drafted<A>),
+enum RefinementResult<A: Allocator> {
+    More(WrittenDeclaration<A>),
     Never(Obstacle),
     Unclear,
 }
@@ -62,12 +62,12 @@ fn draft_of<A: Allocator + Copy>(
     alloc: A,
     image: &Image,
     sketch: &Sketch<A>,
-) -> Result<Option<Drafted<A>>, NoMemory>
+) -> Result<Option<WrittenDeclaration<A>>, NoMemory>
     ensures drafted { IfOk result (λ found. IfSome found IsDrafted) }
 {
     let text = sketch.text(alloc, image)?;
     match Declaration::parse(alloc, &text) {
-        Ok(declaration) => Ok(Some(Drafted { declaration, text })),
+        Ok(declaration) => Ok(Some(WrittenDeclaration { declaration, text })),
         Err(DeclarationFault::NoMemory) => Err(NoMemory),
         Err(_) => Ok(None),
     }
@@ -80,21 +80,21 @@ fn teach<A: Allocator + Copy>(
     declaration: &Declaration<A>,
     evidence: &Evidence<A>,
     watcher: &Watcher<A>,
-) -> Result<Taught<A>, NoMemory>
+) -> Result<RefinementResult<A>, NoMemory>
     ensures drafted { IfOk result IsTaught }
     ensures profile { IfOk result (HasProfile (meaning declaration.now).profile) }
 {
     let mut sketch = Sketch::of(alloc, declaration)?;
     match learn(alloc, image, declaration, evidence, &mut sketch, watcher)? {
-        Lesson::Never(obstacle) => return Ok(Taught::Never(obstacle)),
-        Lesson::Nothing | Lesson::Unclear => return Ok(Taught::Unclear),
-        Lesson::New => {}
+        Refinement::Never(obstacle) => return Ok(RefinementResult::Never(obstacle)),
+        Refinement::Nothing | Refinement::Unclear => return Ok(RefinementResult::Unclear),
+        Refinement::New => {}
     }
     match draft_of(alloc, image, &sketch)? {
         Some(found) if found.declaration.profile() == declaration.profile() => {
-            Ok(Taught::More(found))
+            Ok(RefinementResult::More(found))
         }
-        _ => Ok(Taught::Unclear),
+        _ => Ok(RefinementResult::Unclear),
     }
 }
 
@@ -120,21 +120,21 @@ fn complete<A: Allocator + Copy>(
 fn widened_by_step<A: Allocator + Copy>(
     alloc: A,
     image: &Image,
-    current: Drafted<A>,
+    current: WrittenDeclaration<A>,
     evidence: &Evidence<A>,
     watcher: &Watcher<A>,
-) -> Result<Advanced<A>, NoMemory>
+) -> Result<DeclarationStep<A>, NoMemory>
     requires drafted { IsDrafted current }
     ensures drafted { IfOk result (λ advanced. IsDrafted advanced.draft) }
     ensures profile { IfOk result (λ advanced. (meaning advanced.draft.declaration).profile ≡
         (meaning current.declaration).profile) }
 {
     match teach(alloc, image, &current.declaration, evidence, watcher)? {
-        Taught::More(next) => Ok(Advanced {
+        RefinementResult::More(next) => Ok(DeclarationStep {
             draft: next,
             goes_on: true,
         }),
-        Taught::Never(_) | Taught::Unclear => Ok(Advanced {
+        RefinementResult::Never(_) | RefinementResult::Unclear => Ok(DeclarationStep {
             draft: current,
             goes_on: false,
         }),
@@ -145,10 +145,10 @@ fn widened_by_step<A: Allocator + Copy>(
 fn advance<A: Allocator + Copy>(
     alloc: A,
     image: &Image,
-    current: Drafted<A>,
+    current: WrittenDeclaration<A>,
     evidence: &mut Evidence<A>,
     watcher: &mut Watcher<A>,
-) -> Result<Advanced<A>, NoMemory>
+) -> Result<DeclarationStep<A>, NoMemory>
     requires drafted { IsDrafted current }
     requires profile { profile_of watcher.old.world ≡ (meaning current.declaration).profile }
     ensures drafted { IfOk result (λ advanced. IsDrafted advanced.draft) }
@@ -156,18 +156,18 @@ fn advance<A: Allocator + Copy>(
         (meaning advanced.draft.declaration).profile) }
 {
     if watcher.world().halted_at().is_some() {
-        return Ok(Advanced {
+        return Ok(DeclarationStep {
             draft: current,
             goes_on: false,
         });
     }
-    let sight = Sight::of(watcher);
+    let sight = StepRecord::of(watcher);
     if watcher.step(&current.declaration)?.is_some() {
         return widened_by_step(alloc, image, current, evidence, watcher);
     }
     evidence.sees(&sight);
     complete(watcher, &current.declaration)?;
-    Ok(Advanced {
+    Ok(DeclarationStep {
         draft: current,
         goes_on: true,
     })
@@ -177,10 +177,10 @@ fn advance<A: Allocator + Copy>(
 fn run_on<A: Allocator + Copy>(
     alloc: A,
     image: &Image,
-    first: Drafted<A>,
+    first: WrittenDeclaration<A>,
     evidence: &mut Evidence<A>,
     watcher: &mut Watcher<A>,
-) -> Result<Drafted<A>, NoMemory>
+) -> Result<WrittenDeclaration<A>, NoMemory>
     requires drafted { IsDrafted first }
     requires profile { profile_of watcher.old.world ≡ (meaning first.declaration).profile }
     ensures drafted { IfOk result IsDrafted }
@@ -203,26 +203,26 @@ fn taught_by_run<A: Allocator + Copy>(
     declaration: &Declaration<A>,
     evidence: &mut Evidence<A>,
     events: &[Event],
-) -> Result<Taught<A>, NoMemory>
+) -> Result<RefinementResult<A>, NoMemory>
     ensures drafted { IfOk result IsTaught }
 {
     let mut watcher = Watcher::new(alloc, image, declaration, &Start::zero());
     let Some((_, before)) = events.split_last() else {
-        return Ok(Taught::Unclear);
+        return Ok(RefinementResult::Unclear);
     };
     for event in before {
         if let Some(at) = evidence.unset_cell(image, &watcher, *event) {
-            return Ok(Taught::Never(Obstacle::Unset(at)));
+            return Ok(RefinementResult::Never(Obstacle::Unset(at)));
         }
         evidence.meets(&watcher, declaration, *event);
         if watcher.next(declaration, *event)?.is_some() {
-            return Ok(Taught::Unclear);
+            return Ok(RefinementResult::Unclear);
         }
     }
     evidence.runs(&watcher);
     match teach(alloc, image, declaration, evidence, &watcher)? {
-        Taught::More(first) => {
-            Ok(Taught::More(run_on(alloc, image, first, evidence, &mut watcher)?))
+        RefinementResult::More(first) => {
+            Ok(RefinementResult::More(run_on(alloc, image, first, evidence, &mut watcher)?))
         }
         taught => Ok(taught),
     }
@@ -234,7 +234,7 @@ fn stopped<A: Allocator + Copy>(
     image: &Image,
     declaration: &Declaration<A>,
     evidence: &mut Evidence<A>,
-) -> Result<Option<Drafted<A>>, NoMemory>
+) -> Result<Option<WrittenDeclaration<A>>, NoMemory>
     ensures drafted { IfOk result (λ found. IfSome found IsDrafted) }
 {
     let halts = evidence.continued.meet(declaration.pauses());
@@ -256,15 +256,15 @@ fn taught_at_last<A: Allocator + Copy>(
     declaration: &Declaration<A>,
     evidence: &mut Evidence<A>,
     events: &[Event],
-) -> Result<Taught<A>, NoMemory>
+) -> Result<RefinementResult<A>, NoMemory>
     ensures drafted { IfOk result IsTaught }
 {
     let taught = taught_by_run(alloc, image, declaration, evidence, events)?;
-    if let Taught::More(_) = &taught {
+    if let RefinementResult::More(_) = &taught {
         return Ok(taught);
     }
     match stopped(alloc, image, declaration, evidence)? {
-        Some(draft) => Ok(Taught::More(draft)),
+        Some(draft) => Ok(RefinementResult::More(draft)),
         None => Ok(taught),
     }
 }
@@ -274,7 +274,7 @@ fn proposed_after<A: Allocator + Copy>(
     alloc: A,
     image: &Image,
     given: &Proposal<A>,
-    drafted: Drafted<A>,
+    drafted: WrittenDeclaration<A>,
     turns: &mut Turns,
 ) -> Result<Option<Proposal<A>>, ProposeFault>
     requires drafted { IsDrafted drafted }
@@ -285,7 +285,7 @@ fn proposed_after<A: Allocator + Copy>(
     ensures within { turns.new.spent ≤ turns.new.limit }
 {
     turns.are_within();
-    let Drafted { declaration, text } = drafted;
+    let WrittenDeclaration { declaration, text } = drafted;
     declaration.is_declared();
     if !is_as_wide(&given.declaration, &declaration) {
         return Ok(None);
@@ -421,9 +421,9 @@ pub fn widened<A: Allocator + Copy>(
         return Err(ProposeFault::NoMemory);
     };
     let draft = match taught {
-        Taught::More(draft) => draft,
-        Taught::Unclear => return Ok(Widening::Unclear),
-        Taught::Never(obstacle) => {
+        RefinementResult::More(draft) => draft,
+        RefinementResult::Unclear => return Ok(Widening::Unclear),
+        RefinementResult::Never(obstacle) => {
             return never(alloc, image, &given.declaration, events, obstacle);
         }
     };

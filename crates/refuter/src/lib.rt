@@ -15,7 +15,7 @@ use bin_tape::Image;
 use declaration::Declaration;
 use peripherals::{Event, EventsFault, NoMemory, Start, events};
 use policy::{Rule, Watched, watch};
-use run_search::{DeclaredProgram, RunSearch, Trial};
+use run_search::{ActiveRun, DeclaredProgram, RunSearch};
 use std::alloc::Allocator;
 use turns::{GuessFault, Turns};
 
@@ -93,7 +93,7 @@ fn takes_one(before: u32, turns: &mut Turns) -> Result<bool, NoMemory>
 fn try_once<A: Allocator + Copy, D: Allocator>(
     alloc: A,
     search: &mut RunSearch<A>,
-    trial: &mut Trial<A>,
+    trial: &mut ActiveRun<A>,
     image: &Image,
     declaration: &Declaration<D>,
     turns: &mut Turns,
@@ -146,7 +146,7 @@ pub fn refute_within<A: Allocator + Copy, D: Allocator>(
     turns.are_within();
     let program = DeclaredProgram { image, declaration };
     let mut search = RunSearch::new(alloc, &program, seed)?;
-    let mut trial = Trial::new(alloc, &program);
+    let mut trial = ActiveRun::new(alloc, &program);
     while turns.spent() < turns.limit() {
         let before = turns.spent();
         if let Some(witness) = try_once(

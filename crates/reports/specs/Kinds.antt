@@ -3,8 +3,8 @@ use Rattle.std.specs.Prelude.{ℕ, ◌≡◌, true, false, List, Option, Some, N
 use Rattle.std.specs.Option.{is_some}
 use Rattle.bin_tape.specs.Image.{word_at}
 use Rattle.declaration.specs.Declaration.{Declaration, Routine}
-use Rattle.reports.specs.declared.report.Kind.{Kind}
-use Rattle.reports.specs.declared.report.Kind.TheVariants as kind
+use Rattle.reports.specs.declared.report.CellKind.{CellKind}
+use Rattle.reports.specs.declared.report.CellKind.TheVariants as kind
 
 -- The cell is no entry, and no body has it.
 abbrev pub IsOutside : Declaration → ℕ → Type 0
@@ -12,7 +12,7 @@ IsOutside d a = (d.entry a ≡ false) × ((r : Routine) → d.body r a ≡ false
 
 -- What stands at an address. The declaration decides first: an entry, a cell of main's body, or one of the body of the routine
 -- with this entry; outside of these a variable. Of the other cells the tape decides: it has a word there, or none.
-abbrev pub IsKind : List (Option ℕ) → Declaration → ℕ → Kind → Type 0
+abbrev pub IsKind : List (Option ℕ) → Declaration → ℕ → CellKind → Type 0
 IsKind image d a kind.Entry = d.entry a ≡ true
 IsKind image d a kind.Main = (d.entry a ≡ false) × (d.body None a ≡ true)
 IsKind image d a (kind.Routine e) = (d.entry a ≡ false) × (d.body (Some e) a ≡ true)

@@ -3,4 +3,4 @@ pub mod Kinds
 pub mod DraftText
 pub mod ReportText
 pub mod Shown
-pub mod Drawn
+pub mod Drawings

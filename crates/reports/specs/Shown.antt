@@ -8,12 +8,12 @@ use Rattle.judge.specs.Landing.{asked}
 use Rattle.judge.specs.Sources.{sited_one}
 use Rattle.reports.specs.declared.known_fact.KnownFact.{KnownFact}
 use Rattle.reports.specs.declared.listing.ClaimCache.{ClaimCache}
-use Rattle.reports.specs.declared.listing.Unknown.{Unknown}
-use Rattle.reports.specs.declared.listing.Unknown.TheVariants.{NeverReached, NoFact, Held, Nothing}
+use Rattle.reports.specs.declared.listing.FactAbsence.{FactAbsence}
+use Rattle.reports.specs.declared.listing.FactAbsence.TheVariants.{NeverReached, NoFact, Held, Nothing}
 use Rattle.reports.specs.declared.report.Finding.{Finding}
 use Rattle.reports.specs.declared.report.Finding.TheVariants.{Shown}
-use Rattle.reports.specs.declared.report.Kind.{Kind}
-use Rattle.reports.specs.declared.report.Kind.TheVariants as kind
+use Rattle.reports.specs.declared.report.CellKind.{CellKind}
+use Rattle.reports.specs.declared.report.CellKind.TheVariants as kind
 
 -- A fact is shown as it is claimed, with the sites that it has by the rules, and as conditions are asked of it; of a fact that no
 -- state satisfies none is asked.
@@ -36,12 +36,12 @@ fact_of true cache = cache.even
 fact_of false cache = cache.odd
 
 -- What is said of a cell of a body without a fact: after a yes that no run comes there, and otherwise that there is no fact.
-abbrev pub unknown_in_body : Finding → Unknown
+abbrev pub unknown_in_body : Finding → FactAbsence
 unknown_in_body Shown = NeverReached
 unknown_in_body _ = NoFact
 
 -- What is said of an address of this kind without a fact.
-abbrev pub unknown_of : Kind → Finding → Unknown
+abbrev pub unknown_of : CellKind → Finding → FactAbsence
 unknown_of kind.Main finding = unknown_in_body finding
 unknown_of (kind.Routine entry) finding = unknown_in_body finding
 unknown_of kind.Variable finding = Held

@@ -1,7 +1,7 @@
 //! What an instruction may read, write, call and jump to, as far as the fact at its address tells.
 
 use crate::known_fact::KnownFact;
-use crate::report::{Kind, Report};
+use crate::report::{CellKind, Report};
 use crate::writer::ReportWriter;
 use declaration::Declaration;
 use facts::{NarrowedFact, Place};
@@ -256,7 +256,7 @@ pub(crate) fn write_direct<A: Allocator, B: Allocator, D: Allocator, C: Allocato
 pub(crate) fn write_access<A: Allocator, B: Allocator, D: Allocator, C: Allocator>(
     writer: &mut ReportWriter<A>,
     report: &Report<'_, B, D, C>,
-    kind: &Kind,
+    kind: &CellKind,
     known: &KnownFact,
     at: Word,
 ) {

@@ -13,7 +13,7 @@ use wordset::WordSet;
 
 /// By what the facts at an address differ.
 #[derive(Clone, Copy)]
-pub(crate) struct Apart {
+pub(crate) struct FactDifferences {
     /// By the sites from which the routine was called.
     pub(crate) sites: bool,
     /// By how far the return word was counted up.
@@ -87,10 +87,10 @@ impl Names {
     }
 }
 
-impl Apart {
+impl FactDifferences {
     /// Nothing is to be told apart.
-    pub(crate) fn by_nothing() -> Apart {
-        Apart {
+    pub(crate) fn by_nothing() -> FactDifferences {
+        FactDifferences {
             sites: false,
             offsets: false,
             link: false,
@@ -115,10 +115,10 @@ impl Apart {
         count: usize,
         first: &mut KnownFact,
         other: &mut KnownFact,
-    ) -> Apart
+    ) -> FactDifferences
         requires { count ≡ length ((claims certificate.now).facts at) }
     {
-        let mut apart = Apart::by_nothing();
+        let mut apart = FactDifferences::by_nothing();
         if count == 0 {
             return apart;
         }

@@ -22,8 +22,8 @@ use command_parts::status::{Fault, Status};
 use command_parts::text::push_place;
 use declaration::Declaration;
 use diagnostics::bounds::push_bound;
+use diagnostics::verdicts::reason_context::reason_context_of;
 use diagnostics::verdicts::reason_text::push_why;
-use diagnostics::verdicts::telling::telling_of;
 use diagnostics::verdicts::verdict::condition_name;
 use judge::Refusal;
 use reasons::{Reason, WhyRooms, why_stuck};
@@ -49,7 +49,7 @@ fn why_lines<A: Allocator + Copy, D: Allocator, C: Allocator>(
     }
     if let Some((refusal, reason)) = told {
         let (verdict, reason) = (Err(*refusal), Some(*reason));
-        let telling = telling_of(draft, &verdict, &reason);
+        let telling = reason_context_of(draft, &verdict, &reason);
         push_why(
             &mut text,
             declaration.profile(),

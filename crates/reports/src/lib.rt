@@ -3,8 +3,8 @@
 
 mod access;
 mod cases;
+mod fact_context;
 mod graph;
-mod known;
 mod known_fact;
 mod listing;
 mod map;

@@ -10,10 +10,10 @@ ghost use Rattle.reports.specs.Kinds.{IsKind};
 ghost use Rattle.reports.specs.Shown.{ShowsFact, fact_of, is_even, unknown_of};
 
 use crate::access::{write_access, write_direct};
-use crate::cases::Apart;
-use crate::known::{write_apart, write_fact};
+use crate::cases::FactDifferences;
+use crate::fact_context::{write_apart, write_fact};
 use crate::known_fact::KnownFact;
-use crate::report::{Finding, Kind, Report, before, claimed_of, routine_of, unclaimed};
+use crate::report::{CellKind, Finding, Report, before, claimed_of, routine_of, unclaimed};
 use crate::routines::{write_exits, write_routine};
 use crate::source_notes::SourceNote;
 use crate::writer::ReportWriter;
@@ -129,7 +129,7 @@ pub(crate) fn write_variable<A: Allocator, B: Allocator, D: Allocator, C: Alloca
 
 /// What is said about an address without a fact.
 #[derive(Clone, Copy, PartialEq, Eq)]
-pub(crate) enum Unknown {
+pub(crate) enum FactAbsence {
     /// No run comes there.
     NeverReached,
     /// There is no fact.
@@ -143,17 +143,17 @@ pub(crate) enum Unknown {
 /// What is said about an address of this kind without a fact.
 fn unknown_at<B: Allocator, D: Allocator, C: Allocator>(
     report: &Report<'_, B, D, C>,
-    kind: &Kind,
-) -> Unknown
+    kind: &CellKind,
+) -> FactAbsence
     ensures { result ≡ unknown_of kind.now report.now.finding }
 {
     match kind {
-        Kind::Main | Kind::Routine(_) => match report.finding {
-            Finding::Shown => Unknown::NeverReached,
-            Finding::Refused(_) | Finding::Stuck(_) => Unknown::NoFact,
+        CellKind::Main | CellKind::Routine(_) => match report.finding {
+            Finding::Shown => FactAbsence::NeverReached,
+            Finding::Refused(_) | Finding::Stuck(_) => FactAbsence::NoFact,
         },
-        Kind::Variable => Unknown::Held,
-        Kind::Entry | Kind::Other | Kind::Unset => Unknown::Nothing,
+        CellKind::Variable => FactAbsence::Held,
+        CellKind::Entry | CellKind::Other | CellKind::Unset => FactAbsence::Nothing,
     }
 }
 
@@ -161,17 +161,17 @@ fn unknown_at<B: Allocator, D: Allocator, C: Allocator>(
 fn write_unknown<A: Allocator, B: Allocator, D: Allocator, C: Allocator>(
     writer: &mut ReportWriter<A>,
     report: &Report<'_, B, D, C>,
-    kind: &Kind,
+    kind: &CellKind,
     at: Word,
 )
     requires fact { (claims report.now.certificate.now).facts at ≡ [] }
     requires kind { IsKind report.now.image.now (meaning report.now.declaration.now) at kind.now }
 {
     match unknown_at(report, kind) {
-        Unknown::NeverReached => writer.item(b"never reached"),
-        Unknown::NoFact => writer.item(b"no fact"),
-        Unknown::Held => write_variable(writer, report, at),
-        Unknown::Nothing => {}
+        FactAbsence::NeverReached => writer.item(b"never reached"),
+        FactAbsence::NoFact => writer.item(b"no fact"),
+        FactAbsence::Held => write_variable(writer, report, at),
+        FactAbsence::Nothing => {}
     }
 }
 
@@ -240,7 +240,7 @@ impl ClaimCache {
     }
 
     /// Looks up what is claimed about the routine in whose body an address of this kind is, if it is in one.
-    fn look_up<C: Allocator>(&mut self, certificate: &Certificate<C>, kind: &Kind) {
+    fn look_up<C: Allocator>(&mut self, certificate: &Certificate<C>, kind: &CellKind) {
         let entry = routine_of(kind);
         if self.entry == entry {
             return;
@@ -288,7 +288,7 @@ fn write_shown<A: Allocator, B: Allocator, D: Allocator, C: Allocator>(
     writer: &mut ReportWriter<A>,
     report: &Report<'_, B, D, C>,
     claimed: &RoutineClaim,
-    kind: &Kind,
+    kind: &CellKind,
     known: &KnownFact,
     above: Option<&KnownFact>,
     at: Word,
@@ -297,7 +297,13 @@ fn write_shown<A: Allocator, B: Allocator, D: Allocator, C: Allocator>(
         (image_of report.now.image.now) (words claimed.now.sites) (fact_at (c.facts at) 0) known.now }
 {
     let setting = report.setting_of(claimed);
-    write_fact(writer, &setting, known, above, &Apart::by_nothing());
+    write_fact(
+        writer,
+        &setting,
+        known,
+        above,
+        &FactDifferences::by_nothing(),
+    );
     writer.end_same();
     write_access(writer, report, kind, known, at);
     write_direct(writer, report, at);
@@ -308,7 +314,7 @@ fn write_only_fact<A: Allocator, B: Allocator, D: Allocator, C: Allocator>(
     writer: &mut ReportWriter<A>,
     report: &Report<'_, B, D, C>,
     cache: &mut ClaimCache,
-    kind: &Kind,
+    kind: &CellKind,
     at: Word,
 )
     requires { length ((claims report.now.certificate.now).facts at) ≡ 1 }
@@ -355,7 +361,7 @@ fn write_known<A: Allocator, B: Allocator, D: Allocator, C: Allocator>(
 fn write_case_head<A: Allocator>(
     writer: &mut ReportWriter<A>,
     known: &KnownFact,
-    apart: &Apart,
+    apart: &FactDifferences,
     index: usize,
 ) {
     writer.mark(b"<tr><td colspan=3><td><b>");
@@ -376,7 +382,7 @@ fn write_case<A: Allocator, B: Allocator, D: Allocator, C: Allocator>(
     writer: &mut ReportWriter<A>,
     report: &Report<'_, B, D, C>,
     cache: &ClaimCache,
-    apart: &Apart,
+    apart: &FactDifferences,
     at: Word,
     index: usize,
 )
@@ -410,7 +416,7 @@ fn write_cases<A: Allocator, B: Allocator, D: Allocator, C: Allocator>(
     let image = report.image;
     let certificate = report.certificate;
     let sites = cache.routine.sites;
-    let apart = Apart::of(
+    let apart = FactDifferences::of(
         image,
         certificate,
         &sites,
@@ -503,17 +509,17 @@ fn write_heading<A: Allocator, B: Allocator, D: Allocator, C: Allocator>(
     writer.put(b"\n");
     writer.mark(b"<tr><th colspan=4>");
     match report.kind_of(at) {
-        Kind::Main => writer.put(b"main\n"),
-        Kind::Variable => writer.put(b"variables\n"),
-        Kind::Other => writer.put(b"other words of the tape\n"),
-        Kind::Unset => writer.put(b"nothing is declared here\n"),
-        Kind::Routine(entry) => {
+        CellKind::Main => writer.put(b"main\n"),
+        CellKind::Variable => writer.put(b"variables\n"),
+        CellKind::Other => writer.put(b"other words of the tape\n"),
+        CellKind::Unset => writer.put(b"nothing is declared here\n"),
+        CellKind::Routine(entry) => {
             writer.put(b"body of routine ");
             writer.word(entry);
             writer.label(report.label_at(entry));
             writer.put(b"\n");
         }
-        Kind::Entry => {
+        CellKind::Entry => {
             for routine in report.declaration.routines() {
                 if routine.entry() == at {
                     write_routine(writer, report, routine);
@@ -537,12 +543,12 @@ fn needs_heading<B: Allocator, D: Allocator, C: Allocator>(
     };
     let above = report.kind_of(*last);
     match report.kind_of(at) {
-        Kind::Entry => true,
-        Kind::Routine(entry) => above != Kind::Routine(entry) && *last != entry,
-        Kind::Main => above != Kind::Main,
-        Kind::Variable => above != Kind::Variable,
-        Kind::Other => above != Kind::Other,
-        Kind::Unset => above != Kind::Unset,
+        CellKind::Entry => true,
+        CellKind::Routine(entry) => above != CellKind::Routine(entry) && *last != entry,
+        CellKind::Main => above != CellKind::Main,
+        CellKind::Variable => above != CellKind::Variable,
+        CellKind::Other => above != CellKind::Other,
+        CellKind::Unset => above != CellKind::Unset,
     }
 }
 

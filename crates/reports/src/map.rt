@@ -1,9 +1,9 @@
 //! Memory as a map: rows of 64 cells, two for each page of memory in which something stands.
 
 ghost use Rattle.std.specs.Prelude.{◌≡◌};
-ghost use Rattle.reports.specs.Drawn.{class_is, colour_text, kind_text};
+ghost use Rattle.reports.specs.Drawings.{class_is, colour_text, kind_text};
 
-use crate::report::{Kind, Report, before};
+use crate::report::{CellKind, Report, before};
 use crate::writer::ReportWriter;
 use declaration::Declaration;
 use instruct::name;
@@ -63,7 +63,7 @@ fn is_empty_page<B: Allocator, D: Allocator, C: Allocator>(
 ) -> bool {
     for offset in 0..PAGE_WORDS {
         let at = first.add(Word::from_index(offset));
-        if report.kind_of(at) != Kind::Unset || report.is_marked(at) {
+        if report.kind_of(at) != CellKind::Unset || report.is_marked(at) {
             return false;
         }
     }
@@ -146,16 +146,16 @@ pub(crate) fn colour_of(place: usize) -> &'static [u8]
 }
 
 /// The class of a cell's colour.
-fn class_of<D: Allocator>(declaration: &Declaration<D>, kind: &Kind) -> &'static [u8]
+fn class_of<D: Allocator>(declaration: &Declaration<D>, kind: &CellKind) -> &'static [u8]
     ensures { class_is kind.now result.now }
 {
     match kind {
-        Kind::Entry => b"e",
-        Kind::Main => b"m",
-        Kind::Routine(entry) => colour_of(place_of(declaration, *entry)),
-        Kind::Variable => b"v",
-        Kind::Other => b"o",
-        Kind::Unset => b"u",
+        CellKind::Entry => b"e",
+        CellKind::Main => b"m",
+        CellKind::Routine(entry) => colour_of(place_of(declaration, *entry)),
+        CellKind::Variable => b"v",
+        CellKind::Other => b"o",
+        CellKind::Unset => b"u",
     }
 }
 
@@ -233,10 +233,10 @@ fn write_marks<A: Allocator, B: Allocator, D: Allocator, C: Allocator>(
     report: &Report<'_, B, D, C>,
     rows: &MapRows,
     at: Word,
-    kind: &Kind,
+    kind: &CellKind,
 ) {
     let declaration = report.declaration;
-    if declaration.is_variable(at) && *kind != Kind::Variable {
+    if declaration.is_variable(at) && *kind != CellKind::Variable {
         write_dot(writer, rows, at, b"w", b"2.5");
     }
     if declaration.is_stop(at) || declaration.is_pause(at) {
@@ -251,16 +251,16 @@ fn write_marks<A: Allocator, B: Allocator, D: Allocator, C: Allocator>(
 }
 
 /// What is said about a cell where a pointer rests on it; of a routine's its entry stands after it.
-fn kind_text(kind: &Kind) -> &'static [u8]
+fn kind_text(kind: &CellKind) -> &'static [u8]
     ensures { result.now ≡ kind_text kind.now }
 {
     match kind {
-        Kind::Entry => b" entry",
-        Kind::Main => b" main",
-        Kind::Routine(_) => b" routine ",
-        Kind::Variable => b" variable",
-        Kind::Other => b" other word",
-        Kind::Unset => b" unset",
+        CellKind::Entry => b" entry",
+        CellKind::Main => b" main",
+        CellKind::Routine(_) => b" routine ",
+        CellKind::Variable => b" variable",
+        CellKind::Other => b" other word",
+        CellKind::Unset => b" unset",
     }
 }
 
@@ -282,13 +282,13 @@ fn write_title<A: Allocator, B: Allocator, D: Allocator, C: Allocator>(
     writer: &mut ReportWriter<A>,
     report: &Report<'_, B, D, C>,
     at: Word,
-    kind: &Kind,
+    kind: &CellKind,
 ) {
     writer.put(b"<title>");
     writer.word(at);
     writer.label(report.label_at(at));
     writer.put(kind_text(kind));
-    if let Kind::Routine(entry) = kind {
+    if let CellKind::Routine(entry) = kind {
         writer.word(*entry);
     }
     if let Some(word) = report.image.get(at) {
@@ -327,7 +327,7 @@ fn write_cells<A: Allocator, B: Allocator, D: Allocator, C: Allocator>(
         if writer.has_line(at) {
             line = at;
         }
-        if report.kind_of(at) != Kind::Unset || report.is_marked(at) {
+        if report.kind_of(at) != CellKind::Unset || report.is_marked(at) {
             write_cell(writer, report, rows, at, line);
         }
     }

@@ -3,9 +3,9 @@
 ghost use Rattle.declaration.specs.Kept.{meaning};
 ghost use Rattle.reports.specs.Kinds.{IsKind, IsOutside};
 
-use crate::known::Setting;
+use crate::fact_context::FactContext;
 use crate::source_notes::{SourceNote, SourceNotes};
-use crate::variables::{AllHeld, Held, held_of};
+use crate::variables::{VariableSummaries, VariableSummary, held_of};
 use bin_tape::Image;
 use certificate::Certificate;
 use certificate_lines::RoutineClaim;
@@ -19,7 +19,7 @@ use wordset::WordSet;
 
 /// What stands at an address.
 #[derive(Clone, Copy, PartialEq)]
-pub(crate) enum Kind {
+pub(crate) enum CellKind {
     /// The entry of a routine.
     Entry,
     /// A cell of main's body.
@@ -63,36 +63,36 @@ pub struct Report<'a, A: Allocator, D: Allocator, C: Allocator> {
     /// The addresses with a fact.
     pub(crate) facts: WordSet,
     /// What is known about variables.
-    pub(crate) held: AllHeld<A>,
+    pub(crate) held: VariableSummaries<A>,
 }
 
 /// What stands at an address outside all bodies, which is no entry.
-fn kind_outside<D: Allocator>(image: &Image, declaration: &Declaration<D>, at: Word) -> Kind
+fn kind_outside<D: Allocator>(image: &Image, declaration: &Declaration<D>, at: Word) -> CellKind
     requires { IsOutside (meaning declaration.now) at }
     ensures { IsKind image.now (meaning declaration.now) at result }
 {
     if declaration.is_variable(at) {
-        return Kind::Variable;
+        return CellKind::Variable;
     }
     match image.get(at) {
-        Some(_) => Kind::Other,
-        None => Kind::Unset,
+        Some(_) => CellKind::Other,
+        None => CellKind::Unset,
     }
 }
 
 /// What stands at an address.
-fn kind_at<D: Allocator>(image: &Image, declaration: &Declaration<D>, at: Word) -> Kind
+fn kind_at<D: Allocator>(image: &Image, declaration: &Declaration<D>, at: Word) -> CellKind
     ensures { IsKind image.now (meaning declaration.now) at result }
 {
     if declaration.is_entry(at) {
-        return Kind::Entry;
+        return CellKind::Entry;
     }
     let Some(owner) = declaration.owner_of(at) else {
         return kind_outside(image, declaration, at);
     };
     match owner {
-        Owner::Main => Kind::Main,
-        Owner::Routine(entry) => Kind::Routine(entry),
+        Owner::Main => CellKind::Main,
+        Owner::Routine(entry) => CellKind::Routine(entry),
     }
 }
 
@@ -150,7 +150,7 @@ impl<'a, A: Allocator + Copy, D: Allocator, C: Allocator> Report<'a, A, D, C> {
 
 impl<A: Allocator, D: Allocator, C: Allocator> Report<'_, A, D, C> {
     /// What stands at an address.
-    pub(crate) fn kind_of(&self, at: Word) -> Kind
+    pub(crate) fn kind_of(&self, at: Word) -> CellKind
         ensures { IsKind self.now.image.now (meaning self.now.declaration.now) at result }
     {
         kind_at(self.image, self.declaration, at)
@@ -173,7 +173,7 @@ impl<A: Allocator, D: Allocator, C: Allocator> Report<'_, A, D, C> {
     }
 
     /// What is known about a variable, if something is.
-    pub(crate) fn held_in(&self, cell: Word) -> Option<&Held> {
+    pub(crate) fn held_in(&self, cell: Word) -> Option<&VariableSummary> {
         self.held.get(cell)
     }
 
@@ -182,13 +182,13 @@ impl<A: Allocator, D: Allocator, C: Allocator> Report<'_, A, D, C> {
         if self.image.get(at).is_some() || self.facts.contains(at) || self.is_marked(at) {
             return false;
         }
-        self.kind_of(at) == Kind::Variable && self.held_in(at).is_none()
+        self.kind_of(at) == CellKind::Variable && self.held_in(at).is_none()
     }
 
     /// Whether the listing has a line for an address: where something stands, or at the place of a no,
     /// unless it is in a row of variables of which nothing is said.
     pub(crate) fn has_line(&self, at: Word) -> bool {
-        if self.kind_of(at) == Kind::Unset {
+        if self.kind_of(at) == CellKind::Unset {
             return self.facts.contains(at) || self.is_marked(at);
         }
         at == Word::ZERO || !self.is_quiet(at) || !self.is_quiet(before(at))
@@ -209,8 +209,10 @@ impl<A: Allocator, D: Allocator, C: Allocator> Report<'_, A, D, C> {
     /// Whether the word at an address is told as an instruction: in a body, or where there is a fact.
     pub(crate) fn is_code(&self, at: Word) -> bool {
         match self.kind_of(at) {
-            Kind::Main | Kind::Routine(_) => true,
-            Kind::Entry | Kind::Variable | Kind::Other | Kind::Unset => self.facts.contains(at),
+            CellKind::Main | CellKind::Routine(_) => true,
+            CellKind::Entry | CellKind::Variable | CellKind::Other | CellKind::Unset => self
+                .facts
+                .contains(at),
         }
     }
 
@@ -229,16 +231,16 @@ pub(crate) fn before(at: Word) -> Word {
 }
 
 /// The entry of the routine in whose body an address of this kind is, if it is in one.
-pub(crate) fn routine_of(kind: &Kind) -> Option<Word> {
+pub(crate) fn routine_of(kind: &CellKind) -> Option<Word> {
     match kind {
-        Kind::Routine(entry) => Some(*entry),
+        CellKind::Routine(entry) => Some(*entry),
         _ => None,
     }
 }
 
 impl<A: Allocator, D: Allocator, C: Allocator> Report<'_, A, D, C> {
     /// The place of the facts at an address of this kind.
-    pub(crate) fn place_in(&self, kind: &Kind) -> Place<'_, D> {
+    pub(crate) fn place_in(&self, kind: &CellKind) -> Place<'_, D> {
         Place {
             image: self.image,
             declaration: self.declaration,
@@ -248,8 +250,8 @@ impl<A: Allocator, D: Allocator, C: Allocator> Report<'_, A, D, C> {
     }
 
     /// Where the facts of a routine, or of main, stand. `claimed` is what is claimed about the routine.
-    pub(crate) fn setting_of(&self, claimed: &RoutineClaim) -> Setting<'_> {
-        Setting {
+    pub(crate) fn setting_of(&self, claimed: &RoutineClaim) -> FactContext<'_> {
+        FactContext {
             image: self.image,
             rules: self.rules,
             profile: self.declaration.profile(),

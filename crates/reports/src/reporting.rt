@@ -15,12 +15,12 @@ use crate::{Finding, Report, head_of, listing_below, opening, page_below};
 pub use crate::{LinePlace, PageNames, ReportForm, SourceNote, SourceNotes};
 use bin_tape::Image;
 use certificate::Certificate;
-use command_parts::outcome::{Outcome, deliver};
+use command_parts::outcome::{CommandResult, deliver};
 use command_parts::status::{Fault, Status};
 use declaration::Declaration;
-use diagnostics::verdicts::certificates::{Certified, certified_from};
+use diagnostics::verdicts::certificates::{ProgramWithCertificate, certified_from};
+use diagnostics::verdicts::reason_context::reason_context_of;
 use diagnostics::verdicts::reason_text::push_why;
-use diagnostics::verdicts::telling::telling_of;
 use diagnostics::verdicts::verdict::{condition_name, verdict_line, verdict_status};
 use judge::{Refusal, Rooms, judge};
 use reasons::{Reason, WhyRooms, why};
@@ -54,7 +54,7 @@ fn why_lines<A: Allocator + Copy, D: Allocator, C: Allocator>(
 ) -> Result<Vec<u8, A>, AllocError> {
     let mut text = Vec::new(alloc);
     let reason = reason_of(alloc, image, declaration, certificate, verdict)?;
-    let telling = telling_of(certificate, verdict, &reason);
+    let telling = reason_context_of(certificate, verdict, &reason);
     push_why(
         &mut text,
         declaration.profile(),
@@ -142,11 +142,11 @@ fn joined<A: Allocator>(
 /// Memory was refused.
 pub fn report_of<A: Allocator + Copy>(
     alloc: A,
-    certified: &Certified<A>,
+    certified: &ProgramWithCertificate<A>,
     form: ReportForm,
     names: PageNames<'_>,
     notes: Option<&SourceNotes<A>>,
-) -> Result<Outcome<A>, Fault>
+) -> Result<CommandResult<A>, Fault>
     ensures page { IfOk result (λ page. IsReportOf form certified.now.program.image
         (meaning certified.now.program.declaration) (text_of certified.now.certificate)
         page.status page.text.items) }
@@ -170,7 +170,7 @@ pub fn report_of<A: Allocator + Copy>(
     )?;
     let text = joined(alloc, form, &verdict, &line, &rest)?;
     let status = verdict_status(&verdict);
-    Ok(Outcome { text, status })
+    Ok(CommandResult { text, status })
 }
 
 /// Writes what a certificate of a tape and a declaration says, to look at: the verdict as `check`

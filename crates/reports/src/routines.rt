@@ -5,7 +5,7 @@ ghost use Rattle.facts.specs.Landing.{fact_at};
 ghost use Rattle.certificate_lines.specs.Kept.{claims};
 ghost use Rattle.reports.specs.Shown.{ShowsExit};
 
-use crate::known::write_exit;
+use crate::fact_context::write_exit;
 use crate::known_fact::KnownFact;
 use crate::report::{Report, claimed_of};
 use crate::writer::ReportWriter;

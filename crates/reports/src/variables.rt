@@ -14,7 +14,7 @@ use wordset::WordSet;
 
 /// What is known about a variable.
 #[derive(Clone, Copy)]
-pub(crate) struct Held {
+pub(crate) struct VariableSummary {
     /// The words that it may hold wherever something is known about it.
     pub(crate) words: WordSet,
     /// The addresses at which something is known about it.
@@ -23,27 +23,27 @@ pub(crate) struct Held {
 
 /// What is known about all variables.
 #[derive(Drop)]
-pub(crate) struct AllHeld<A: Allocator> {
+pub(crate) struct VariableSummaries<A: Allocator> {
     /// For each address the place of its cell in the list, or none.
     places: Vec<Option<usize>, A>,
-    list: Vec<Held, A>,
+    list: Vec<VariableSummary, A>,
 }
 
-impl<A: Allocator + Copy> AllHeld<A> {
+impl<A: Allocator + Copy> VariableSummaries<A> {
     /// Nothing is known.
-    fn new(alloc: A) -> Result<AllHeld<A>, AllocError> {
+    fn new(alloc: A) -> Result<VariableSummaries<A>, AllocError> {
         let mut places = Vec::new(alloc);
         for _ in 0..4096 {
             places.push(None)?;
         }
-        Ok(AllHeld {
+        Ok(VariableSummaries {
             places,
             list: Vec::new(alloc),
         })
     }
 }
 
-impl<A: Allocator> AllHeld<A> {
+impl<A: Allocator> VariableSummaries<A> {
     /// The place of a cell in the list, if something is known about it.
     fn place_of(&self, cell: Word) -> Option<usize> {
         match self.places.get(cell.index()) {
@@ -53,7 +53,7 @@ impl<A: Allocator> AllHeld<A> {
     }
 
     /// What is known about a cell.
-    pub(crate) fn get(&self, cell: Word) -> Option<&Held> {
+    pub(crate) fn get(&self, cell: Word) -> Option<&VariableSummary> {
         match self.place_of(cell) {
             Some(place) => self.list.get(place),
             None => None,
@@ -63,7 +63,7 @@ impl<A: Allocator> AllHeld<A> {
     /// Adds a cell that may hold these words.
     fn push(&mut self, cell: Word, words: &WordSet) -> Result<(), AllocError> {
         let place = self.list.len();
-        self.list.push(Held {
+        self.list.push(VariableSummary {
             words: *words,
             known_at: WordSet::empty(),
         })?;
@@ -157,8 +157,8 @@ pub(crate) fn held_of<A: Allocator + Copy, D: Allocator, C: Allocator>(
     declaration: &Declaration<D>,
     certificate: &Certificate<C>,
     facts: &mut WordSet,
-) -> Result<AllHeld<A>, AllocError> {
-    let mut held = AllHeld::new(alloc)?;
+) -> Result<VariableSummaries<A>, AllocError> {
+    let mut held = VariableSummaries::new(alloc)?;
     let mut known = Box::new(alloc, KnownFact::new())?;
     for index in 0..4096 {
         let at = Word::from_index(index);

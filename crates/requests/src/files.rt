@@ -102,7 +102,7 @@ pub fn open_inputs<R: Files + Input>(
 }
 
 /// Where a result goes: standard output, or a file.
-pub type Outlet<'r, R> = Either<Printer<'r, R>, ResultFile<'r, R>>;
+pub type ResultSink<'r, R> = Either<Printer<'r, R>, ResultFile<'r, R>>;
 
 /// Opens where a result goes: `-` is standard output. The operand of `assemble`, `guess` and `migrate` is created or
 /// emptied at once; of that of another command it is checked at once that it can be written; and the file of `-o` is
@@ -115,7 +115,7 @@ pub fn open_output<'r, R: Files + Print>(
     rt: &'r R,
     alloc: Global,
     out: Destination<'r>,
-) -> Result<Outlet<'r, R>, Fault> {
+) -> Result<ResultSink<'r, R>, Fault> {
     let name = out.name();
     if name == "-" {
         return Ok(Either::Left(io::writer(rt)));
@@ -138,7 +138,10 @@ pub fn open_output<'r, R: Files + Print>(
 /// # Errors
 ///
 /// `Device` if it cannot be put there.
-pub fn finish<R: Files + Print>(out: &mut Outlet<'_, R>, status: Status) -> Result<Status, Fault> {
+pub fn finish<R: Files + Print>(
+    out: &mut ResultSink<'_, R>,
+    status: Status,
+) -> Result<Status, Fault> {
     if let Either::Right(file) = out {
         if file.finish().is_err() {
             return Err(Fault::Device(DeviceFault::Write));

@@ -1,7 +1,7 @@
 //! Outputs that are inputs under another name: files are compared, not their names. It is tested, not proved.
 
 use crate::files::has_bytes;
-use command_line::{Misuse, Request, Save, is_source_name};
+use command_line::{Misuse, Request, SaveOptions, is_source_name};
 use std::alloc::{AllocError, Global};
 use std::fs;
 use std::io::Read;
@@ -100,7 +100,7 @@ fn misused_output<R: Files>(rt: &R, request: &Request<'_>) -> Option<Misuse> {
 }
 
 /// The files that a request saves, if it does.
-fn save_of<'a>(request: &Request<'a>) -> Option<Save<'a>> {
+fn save_of<'a>(request: &Request<'a>) -> Option<SaveOptions<'a>> {
     match request {
         Request::Program(asked) => asked.task.save(),
         _ => None,

@@ -2,8 +2,8 @@
 //! `verify --save` writes. It is tested, not proved.
 #![tactic(auto)]
 
-pub mod drafted;
 pub mod faults;
+pub mod file_kinds;
 pub mod files;
 pub mod inputs;
 mod named_files;
@@ -11,10 +11,10 @@ pub mod of_files;
 pub mod of_machine;
 pub mod of_programs;
 mod of_sources;
-pub mod recognised;
 pub mod replacing;
 pub mod saving;
 pub mod source_faults;
+pub mod standard_error;
 pub mod stuck;
-pub mod tellers;
+pub mod stuck_reports;
 pub mod telling;

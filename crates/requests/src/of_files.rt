@@ -2,6 +2,6 @@
 //! opened, and in which order. It is tested and not proved.
 
 pub mod certificates;
-pub mod joined;
+pub mod session_files;
 pub mod sources;
 pub mod tapes;

@@ -5,20 +5,22 @@ pub(crate) mod places;
 mod words;
 
 use crate::faults::UNSUPPORTED;
-use crate::of_files::joined::{hold_session_on, hold_teletype_session_on};
+use crate::file_kinds::source_hint;
+use crate::of_files::session_files::{hold_session_on, hold_teletype_session_on};
 use crate::of_files::tapes::run_on;
-use crate::of_machine::places::{Named, named_in};
+use crate::of_machine::places::{ResolvedPlaces, named_in};
 use crate::of_machine::words::{SourceStatements, words_of};
 use crate::of_sources::assembled::{AssembledSource, described};
-use crate::of_sources::numbering::{Given, Promise, lend, machine_line, read_parts};
-use crate::of_sources::told::tell_unread;
-use crate::recognised::source_hint;
+use crate::of_sources::numbering::{
+    DeclarationOrigin, SourceInput, byte_slices, machine_line, read_parts,
+};
+use crate::of_sources::source_messages::tell_unread;
 use crate::source_faults::{tell_of, tell_source, unopened};
 use crate::telling::{tell_lines, tell_misuse};
-use command_line::{MachineTask, RunRequest, Session, SourcedRequest, TeletypeSession};
+use command_line::{MachineTask, RunRequest, Session, SourceProgramRequest, TeletypeSession};
 use command_parts::options::{RunOptions, SessionOptions, TeletypeOptions};
 use command_parts::status::{Fault, Status};
-use labels::{Numbered, NumberingFault, number};
+use labels::{NumberedProgram, NumberingFault, number};
 use pal_asm::PalFault;
 use std::alloc::Global;
 use std::io;
@@ -28,15 +30,18 @@ use streams::standard::{Reads, Writes};
 
 /// The tape of a source that was read, and its lines.
 #[inline(never)]
-fn numbered_of(alloc: Global, given: &Given) -> Result<Numbered<Global>, NumberingFault> {
-    match lend(alloc, &given.parts) {
+fn numbered_of(
+    alloc: Global,
+    given: &SourceInput,
+) -> Result<NumberedProgram<Global>, NumberingFault> {
+    match byte_slices(alloc, &given.parts) {
         Ok(parts) => number(alloc, &parts, &given.text),
         Err(_) => Err(NumberingFault::NoMemory),
     }
 }
 
 /// Runs a program with these cells shown and these stops.
-fn run_of<'a>(run: &RunRequest<'a>, named: &Named) -> RunRequest<'a> {
+fn run_of<'a>(run: &RunRequest<'a>, named: &ResolvedPlaces) -> RunRequest<'a> {
     RunRequest {
         tape: run.tape,
         events: run.events,
@@ -50,7 +55,7 @@ fn run_of<'a>(run: &RunRequest<'a>, named: &Named) -> RunRequest<'a> {
 }
 
 /// A run with an operator with these cells shown and these stops.
-fn session_of<'a>(session: &Session<'a>, named: &Named) -> Session<'a> {
+fn session_of<'a>(session: &Session<'a>, named: &ResolvedPlaces) -> Session<'a> {
     Session {
         tape: session.tape,
         joined: session.joined,
@@ -67,7 +72,7 @@ fn session_of<'a>(session: &Session<'a>, named: &Named) -> Session<'a> {
 }
 
 /// A session at the teletype with these cells shown and these stops.
-fn teletype_of<'a>(session: &TeletypeSession<'a>, named: &Named) -> TeletypeSession<'a> {
+fn teletype_of<'a>(session: &TeletypeSession<'a>, named: &ResolvedPlaces) -> TeletypeSession<'a> {
     TeletypeSession {
         tape: session.tape,
         reader: session.reader,
@@ -88,7 +93,7 @@ fn carry_out<R: Files + Input + Print + Eprint>(
     rt: &R,
     alloc: Global,
     source: &AssembledSource,
-    asked: &SourcedRequest<'_>,
+    asked: &SourceProgramRequest<'_>,
     at_terminal: bool,
 ) -> Result<Status, Fault> {
     let named = match named_in(source.numbered.map.symbols(), &asked.places) {
@@ -125,7 +130,7 @@ fn tell_refused<R: Eprint>(
     alloc: Global,
     fault: PalFault,
     parts: &[&[u8]],
-    asked: &SourcedRequest<'_>,
+    asked: &SourceProgramRequest<'_>,
 ) -> Status {
     let names = &asked.parts;
     let profile = asked.task.profile();
@@ -141,14 +146,14 @@ fn tell_refused<R: Eprint>(
 fn answer_given<R: Files + Input + Print + Eprint>(
     rt: &R,
     alloc: Global,
-    given: Given,
-    asked: &SourcedRequest<'_>,
+    given: SourceInput,
+    asked: &SourceProgramRequest<'_>,
     at_terminal: bool,
 ) -> Result<Status, Fault> {
     let numbered = match numbered_of(alloc, &given) {
         Ok(numbered) => numbered,
         Err(NumberingFault::Source(fault)) => {
-            let parts = lend(alloc, &given.parts)?;
+            let parts = byte_slices(alloc, &given.parts)?;
             return Ok(tell_refused(rt, alloc, fault, &parts, asked));
         }
         Err(NumberingFault::EmptyImage) => return Err(Fault::EmptyImage),
@@ -159,7 +164,12 @@ fn answer_given<R: Files + Input + Print + Eprint>(
     if asked.explained && status == Status::Refused {
         tell_lines(rt, UNSUPPORTED);
     }
-    tell_unread(rt, alloc, &asked.parts, &lend(alloc, &source.given.parts)?)?;
+    tell_unread(
+        rt,
+        alloc,
+        &asked.parts,
+        &byte_slices(alloc, &source.given.parts)?,
+    )?;
     Ok(status)
 }
 
@@ -173,7 +183,7 @@ fn answer_given<R: Files + Input + Print + Eprint>(
 pub fn answer_sourced<R: Files + Input + Print + Eprint>(
     rt: &R,
     alloc: Global,
-    asked: &SourcedRequest<'_>,
+    asked: &SourceProgramRequest<'_>,
     at_terminal: bool,
 ) -> Result<Status, Fault> {
     let mut parts = Vec::new(alloc);
@@ -186,10 +196,10 @@ pub fn answer_sourced<R: Files + Input + Print + Eprint>(
     }
     let mut text = Vec::new(alloc);
     text.extend_from_slice(machine_line(asked.task.profile()))?;
-    let given = Given {
+    let given = SourceInput {
         parts,
         text,
-        promise: Promise::Proposed,
+        promise: DeclarationOrigin::Proposed,
     };
     answer_given(rt, alloc, given, asked, at_terminal)
 }

@@ -6,12 +6,14 @@ mod searches;
 mod tasks;
 mod verified;
 
-use crate::drafted::need_rereading;
 use crate::of_programs::open::{OpenProgram, open_tape};
 use crate::of_programs::tasks::carry_out;
 use crate::of_sources::assembled::{AssembledSource, described, numbered_from};
-use crate::of_sources::numbering::{Given, Prepared, lend, read_all, tell_refused};
-use crate::of_sources::told::{tell_command, tell_unread};
+use crate::of_sources::numbering::{
+    SourceInput, SourceInputResult, byte_slices, read_all, tell_refused,
+};
+use crate::of_sources::source_messages::{tell_command, tell_unread};
+use crate::stuck_reports::need_rereading;
 use command_line::{ProgramNames, ProgramRequest, Task};
 use command_parts::status::{Fault, Status};
 use either::Either;
@@ -49,7 +51,7 @@ fn answer_assembled<R: Files + Input + Print + Eprint>(
 ) -> Result<Status, Fault> {
     let mut program = OpenProgram::of_source(source, &asked.task);
     let answer = carry_out::<R, Either<R::Reader, R::File>>(rt, alloc, &mut program, asked);
-    let parts = lend(alloc, &source.given.parts)?;
+    let parts = byte_slices(alloc, &source.given.parts)?;
     match answer {
         Ok(status) => {
             tell_unread(rt, alloc, asked.program.parts(), &parts)?;
@@ -65,7 +67,7 @@ fn answer_assembled<R: Files + Input + Print + Eprint>(
 fn answer_given<R: Files + Input + Print + Eprint>(
     rt: &R,
     alloc: Global,
-    given: Given,
+    given: SourceInput,
     asked: &ProgramRequest<'_>,
 ) -> Result<Status, Fault> {
     let numbered = match numbered_from(alloc, &given, &asked.task) {
@@ -92,7 +94,7 @@ pub fn answer_program<R: Files + Input + Print + Eprint>(
         return answer_tape(rt, alloc, tape, asked);
     }
     match read_all(rt, alloc, asked)? {
-        Prepared::Told(status) => Ok(status),
-        Prepared::Read(given) => answer_given(rt, alloc, given, asked),
+        SourceInputResult::Told(status) => Ok(status),
+        SourceInputResult::Read(given) => answer_given(rt, alloc, given, asked),
     }
 }

@@ -6,4 +6,4 @@ pub(crate) mod numbering;
 mod part_lines;
 pub(crate) mod proposed;
 pub(crate) mod source_lines;
-pub(crate) mod told;
+pub(crate) mod source_messages;

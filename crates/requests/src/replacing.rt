@@ -18,18 +18,18 @@ const MOST_LINKS: u32 = 40;
 static LIMITS: &str = "/proc/self/limits";
 
 /// A file beside another one, which is removed unless it has taken the place of that one.
-struct Beside<'r, R: Files> {
+struct TemporaryFile<'r, R: Files> {
     rt: &'r R,
     /// Its name, which is empty when it has taken its place.
     name: String,
 }
 
-impl<R: Files> Drop for Beside<'_, R> {
+impl<R: Files> Drop for TemporaryFile<'_, R> {
     fn drop(self) {
         if !self.name.is_empty() {
             let _ = fs::remove_file(self.rt, &self.name);
         }
-        let Beside { rt: _, name: _ } = self;
+        let TemporaryFile { rt: _, name: _ } = self;
     }
 }
 
@@ -62,7 +62,7 @@ fn make_beside<'r, R: Files>(
     rt: &'r R,
     alloc: Global,
     path: &str,
-) -> io::Result<(R::File, Beside<'r, R>)> {
+) -> io::Result<(R::File, TemporaryFile<'r, R>)> {
     for number in 0..MOST_NAMES {
         let name = name_beside(alloc, path, number).map_err(no_memory)?;
         let made = OpenOptions::new()
@@ -70,7 +70,7 @@ fn make_beside<'r, R: Files>(
             .create_new(true)
             .open(rt, &name);
         match made {
-            Ok(file) => return Ok((file, Beside { rt, name })),
+            Ok(file) => return Ok((file, TemporaryFile { rt, name })),
             Err(error) if error.kind() == io::ErrorKind::AlreadyExists => {}
             Err(error) => return Err(error),
         }
@@ -122,7 +122,7 @@ fn is_forbidden(kind: io::ErrorKind) -> bool {
 }
 
 /// Gives a file beside another one the owner and the permissions of that one.
-fn dress<R: Files>(rt: &R, beside: &str, found: &Metadata) -> io::Result<()> {
+fn copy_permissions<R: Files>(rt: &R, beside: &str, found: &Metadata) -> io::Result<()> {
     let made = fs::metadata(rt, beside)?;
     if made.uid() != found.uid() || made.gid() != found.gid() {
         chown(rt, beside, Some(found.uid()), Some(found.gid()))?;
@@ -165,7 +165,7 @@ pub struct ResultFile<'r, R: Files> {
     /// Where it lies, if a file beside it may take its place.
     path: Option<String>,
     /// The file beside it, when that is open.
-    beside: Option<Beside<'r, R>>,
+    beside: Option<TemporaryFile<'r, R>>,
     /// What is written to, when it is open.
     file: Option<R::File>,
     /// How many bytes may still be written.
@@ -236,7 +236,7 @@ impl<'r, R: Files> ResultFile<'r, R> {
                 let _file = OpenOptions::new().write(true).open(self.rt, path)?;
                 match make_beside(self.rt, self.alloc, path) {
                     Ok((file, beside)) => {
-                        if dress(self.rt, &beside.name, &found).is_err() {
+                        if copy_permissions(self.rt, &beside.name, &found).is_err() {
                             return self.open_in_place();
                         }
                         (file, beside)

@@ -3,10 +3,10 @@
 use crate::files::{has_bytes, open_input};
 use crate::replacing::ResultFile;
 use crate::source_faults::tell_of;
-use command_line::{CERTIFICATE_ENDING, DECLARATION_ENDING, EVENTS_ENDING, Save};
+use command_line::{CERTIFICATE_ENDING, DECLARATION_ENDING, EVENTS_ENDING, SaveOptions};
 use command_parts::status::{DeviceFault, Fault, Status};
 use command_parts::visible::visible_text;
-use search_commands::verifying::{Answer, Proposed, answer_status};
+use search_commands::verifying::{Answer, ProposalAnswer, answer_status};
 use std::alloc::Global;
 use std::io;
 use std::rt::Files;
@@ -21,19 +21,19 @@ const MOST: usize = 1_048_576;
 
 /// A text that is to be saved.
 #[derive(Drop)]
-struct Saved {
+struct NamedText {
     /// The name of its file.
     path: String,
     text: Vec<u8>,
 }
 
-impl Saved {
+impl NamedText {
     /// A text for the file with this name and ending.
-    fn new(alloc: Global, name: &str, ending: &str, text: Vec<u8>) -> Result<Saved, Fault> {
+    fn new(alloc: Global, name: &str, ending: &str, text: Vec<u8>) -> Result<NamedText, Fault> {
         let mut path = String::new(alloc);
         path.push_str(name)?;
         path.push_str(ending)?;
-        Ok(Saved { path, text })
+        Ok(NamedText { path, text })
     }
 
     /// Whether its file is there and was not made by this program, as far as its bytes show: it is neither empty nor
@@ -80,8 +80,8 @@ fn tell_kept<R: Eprint>(rt: &R, alloc: Global, path: &str) -> Status {
 fn save_all<R: Files + Input + Eprint>(
     rt: &R,
     alloc: Global,
-    save: &Option<Save<'_>>,
-    saved: &[Saved],
+    save: &Option<SaveOptions<'_>>,
+    saved: &[NamedText],
     status: Status,
 ) -> Status {
     let forced = save.is_some_and(|asked| asked.forced);
@@ -109,8 +109,8 @@ fn tell_answer<R: Print>(rt: &R, told: &[u8]) -> Result<(), Fault> {
 fn tell_and_save<R: Files + Input + Print + Eprint>(
     rt: &R,
     alloc: Global,
-    save: &Option<Save<'_>>,
-    saved: &[Saved],
+    save: &Option<SaveOptions<'_>>,
+    saved: &[NamedText],
     status: Status,
     told: &[u8],
 ) -> Result<Status, Fault> {
@@ -126,7 +126,7 @@ fn tell_and_save<R: Files + Input + Print + Eprint>(
 }
 
 /// Adds a text that is to be saved.
-fn push_saved(saved: &mut Vec<Saved>, it: Saved) -> Result<(), Fault> {
+fn push_saved(saved: &mut Vec<NamedText>, it: NamedText) -> Result<(), Fault> {
     match saved.push(it) {
         Ok(()) => Ok(()),
         Err(_) => Err(Fault::NoMemory),
@@ -138,17 +138,20 @@ fn push_answer(
     alloc: Global,
     name: &str,
     answer: &Answer<Global>,
-    saved: &mut Vec<Saved>,
+    saved: &mut Vec<NamedText>,
 ) -> Result<(), Fault> {
     let mut text = Vec::new(alloc);
     match answer {
         Answer::Yes(certificate) => {
             certificate.write(&mut Writes::new(&mut text))?;
-            push_saved(saved, Saved::new(alloc, name, CERTIFICATE_ENDING, text)?)?;
+            push_saved(
+                saved,
+                NamedText::new(alloc, name, CERTIFICATE_ENDING, text)?,
+            )?;
         }
         Answer::No(found) => {
             text.extend_from_slice(&found.text)?;
-            push_saved(saved, Saved::new(alloc, name, EVENTS_ENDING, text)?)?;
+            push_saved(saved, NamedText::new(alloc, name, EVENTS_ENDING, text)?)?;
         }
         Answer::NotKnown(_) => {}
     }
@@ -165,7 +168,7 @@ fn push_answer(
 pub fn tell_answer_and_save<R: Files + Input + Print + Eprint>(
     rt: &R,
     alloc: Global,
-    save: &Option<Save<'_>>,
+    save: &Option<SaveOptions<'_>>,
     answer: &Answer<Global>,
     told: &[u8],
 ) -> Result<Status, Fault> {
@@ -184,8 +187,8 @@ pub fn tell_answer_and_save<R: Files + Input + Print + Eprint>(
 pub fn tell_proposed_and_save<R: Files + Input + Print + Eprint>(
     rt: &R,
     alloc: Global,
-    save: &Option<Save<'_>>,
-    proposed: &Proposed<Global>,
+    save: &Option<SaveOptions<'_>>,
+    proposed: &ProposalAnswer<Global>,
     told: &[u8],
 ) -> Result<Status, Fault> {
     let mut saved = Vec::new(alloc);
@@ -194,7 +197,7 @@ pub fn tell_proposed_and_save<R: Files + Input + Print + Eprint>(
         text.extend_from_slice(&proposed.text)?;
         push_saved(
             &mut saved,
-            Saved::new(alloc, asked.name, DECLARATION_ENDING, text)?,
+            NamedText::new(alloc, asked.name, DECLARATION_ENDING, text)?,
         )?;
         push_answer(alloc, asked.name, &proposed.answer, &mut saved)?;
     }

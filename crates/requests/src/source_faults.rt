@@ -31,7 +31,7 @@ pub fn visible_names(alloc: Global, names: &[&str]) -> Result<Vec<String>, Alloc
 /// # Errors
 ///
 /// Memory was refused.
-pub fn lend_names<'n>(alloc: Global, names: &'n [String]) -> Result<Vec<&'n str>, AllocError> {
+pub fn name_slices<'n>(alloc: Global, names: &'n [String]) -> Result<Vec<&'n str>, AllocError> {
     let mut lent = Vec::new(alloc);
     for name in names {
         lent.push(name.as_str())?;
@@ -102,7 +102,7 @@ fn push_source_faults(
     profile: Profile,
 ) -> Result<(), AllocError> {
     let shown = visible_names(alloc, names)?;
-    push_faults(alloc, told, &lend_names(alloc, &shown)?, parts, profile)
+    push_faults(alloc, told, &name_slices(alloc, &shown)?, parts, profile)
 }
 
 /// Writes the line of a source's fault to standard error, and below it what is wrong, if that is asked

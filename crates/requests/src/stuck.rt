@@ -6,14 +6,14 @@ ghost use Rattle.command_parts.specs.Messages.{BeginsWith, plain};
 
 use bin_tape::Image;
 use certificate::Certificate;
-use command_parts::message::{Lines, Message};
+use command_parts::message::{Message, MessageWriter};
 use command_parts::status::Fault;
 use declaration::Declaration;
 use diagnostics::bounds::push_bound;
 use diagnostics::inputs::{push_omissions, push_stuck_remedy};
 use search_commands::messages::AnswerMessage;
 use search_commands::stuck::draft_message;
-use search_commands::verifying::{Answer, Lack};
+use search_commands::verifying::{Answer, InconclusiveReason};
 use std::alloc::{AllocError, Global};
 use std::fmt::Write;
 use turns::GuessFault;
@@ -21,7 +21,7 @@ use word12::Word;
 
 /// A search that is stuck: the program, where it is stuck, and what it had found.
 #[derive(Clone, Copy)]
-pub struct Stuck<'x> {
+pub struct StuckSearch<'x> {
     /// The words of the program.
     pub image: &'x Image,
     /// Its declaration.
@@ -38,7 +38,7 @@ pub struct Stuck<'x> {
 pub fn push_stuck(
     alloc: Global,
     told: &mut Message<Global>,
-    stuck: &Stuck<'_>,
+    stuck: &StuckSearch<'_>,
     why: &Message<Global>,
 ) -> Result<(), AllocError> {
     let (image, declaration, at) = (stuck.image, stuck.declaration, stuck.at);
@@ -63,7 +63,7 @@ fn stuck_line(alloc: Global, at: Word) -> Result<Message<Global>, AllocError> {
 
 /// What is said about a search that is stuck, after its line: why it is stuck, and what to do.
 #[inline(never)]
-fn stuck_reasons(alloc: Global, stuck: &Stuck<'_>) -> Result<Message<Global>, AllocError> {
+fn stuck_reasons(alloc: Global, stuck: &StuckSearch<'_>) -> Result<Message<Global>, AllocError> {
     let mut told = Message::new(alloc);
     let why = draft_message(alloc, stuck.image, stuck.declaration, stuck.draft, stuck.at)?;
     push_stuck(alloc, &mut told, stuck, &why)?;
@@ -72,7 +72,7 @@ fn stuck_reasons(alloc: Global, stuck: &Stuck<'_>) -> Result<Message<Global>, Al
 
 /// Why a search is stuck, as its report says it.
 #[inline(never)]
-pub fn stuck_why(alloc: Global, stuck: &Stuck<'_>) -> Result<Message<Global>, AllocError> {
+pub fn stuck_why(alloc: Global, stuck: &StuckSearch<'_>) -> Result<Message<Global>, AllocError> {
     let (image, declaration, at) = (stuck.image, stuck.declaration, stuck.at);
     let mut told = draft_message(alloc, image, declaration, stuck.draft, at)?;
     push_bound(alloc, &mut told, image, declaration, stuck.draft, at)?;
@@ -81,7 +81,10 @@ pub fn stuck_why(alloc: Global, stuck: &Stuck<'_>) -> Result<Message<Global>, Al
 
 /// What is said about a search that is stuck: its line, and behind it why it is stuck, and what to do.
 #[inline(never)]
-pub fn stuck_message(alloc: Global, stuck: &Stuck<'_>) -> Result<Message<Global>, AllocError> {
+pub fn stuck_message(
+    alloc: Global,
+    stuck: &StuckSearch<'_>,
+) -> Result<Message<Global>, AllocError> {
     let mut told = stuck_line(alloc, stuck.at)?;
     told.push_message(&stuck_reasons(alloc, stuck)?)?;
     Ok(told)
@@ -97,8 +100,8 @@ fn answer_reasons(
 ) -> Result<Message<Global>, AllocError> {
     let mut told = Message::new(alloc);
     match (&found.answer, &found.draft) {
-        (Answer::NotKnown(Lack::Stuck(at)), Some(draft)) => {
-            let stuck = Stuck {
+        (Answer::NotKnown(InconclusiveReason::Stuck(at)), Some(draft)) => {
+            let stuck = StuckSearch {
                 image,
                 declaration,
                 at: *at,

@@ -4,14 +4,16 @@
 //! rule. Nothing is promised of what is found: who uses it watches it once more.
 #![tactic(auto)]
 
-mod aiming;
-mod alphabet;
-mod asking;
 mod assertions;
 mod bits;
+mod candidates;
+mod corpus;
+mod coverage;
+mod dictionary;
+mod failed_tests;
+mod feedback;
 mod hints;
-mod looks;
-mod pace;
+mod input_request;
 mod plan;
 mod planning;
 mod random;
@@ -19,11 +21,9 @@ mod record;
 mod running;
 mod script;
 mod search;
-mod seen;
 mod shorten;
 mod stepping;
-mod tree;
-mod votes;
+mod timing;
 
-pub use record::{Record, Sight};
-pub use search::{DeclaredProgram, RunSearch, Trial};
+pub use record::{Record, StepRecord};
+pub use search::{ActiveRun, DeclaredProgram, RunSearch};

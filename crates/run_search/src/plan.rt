@@ -1,8 +1,8 @@
 //! Which inputs a run gets.
 
-use crate::alphabet::Alphabet;
-use crate::asking::Ask;
+use crate::dictionary::Dictionary;
 use crate::hints::{Goal, Hint};
+use crate::input_request::InputRequest;
 use crate::random::Random;
 use std::alloc::Allocator;
 
@@ -18,9 +18,9 @@ pub(crate) enum Purpose {
     /// A long run from the start in which no key is struck.
     Plain,
     /// A long run by chance.
-    Roam,
+    Explore,
     /// To find something new, from a kept state on.
-    Grow,
+    Extend,
     /// To break a rule once more with other inputs; nothing is kept and nothing learned.
     Repeat,
 }
@@ -46,13 +46,13 @@ impl Purpose {
     pub(crate) fn most_steps(self) -> u32 {
         match self {
             Purpose::Plain => MOST_PLAIN_STEPS,
-            Purpose::Roam | Purpose::Grow | Purpose::Repeat => MOST_STEPS,
+            Purpose::Explore | Purpose::Extend | Purpose::Repeat => MOST_STEPS,
         }
     }
 
     /// Whether a run for this purpose is a long one, which goes on while nothing new is seen.
     pub(crate) fn is_long(self) -> bool {
-        matches!(self, Purpose::Plain | Purpose::Roam)
+        matches!(self, Purpose::Plain | Purpose::Explore)
     }
 }
 
@@ -78,7 +78,7 @@ impl<A: Allocator + Copy> Plan<A> {
             goal,
             ..
         } = hint;
-        let mut plan = Plan::of(alloc, Purpose::Grow, base, inputs);
+        let mut plan = Plan::of(alloc, Purpose::Extend, base, inputs);
         plan.goal = Some(goal);
         plan.more = more;
         plan
@@ -88,8 +88,8 @@ impl<A: Allocator + Copy> Plan<A> {
     pub(crate) fn input(
         &self,
         number: usize,
-        ask: Ask,
-        alphabet: &Alphabet<A>,
+        ask: InputRequest,
+        dictionary: &Dictionary<A>,
         random: &mut Random,
     ) -> Option<u16> {
         if let Some(value) = self.given.get(number) {
@@ -104,7 +104,7 @@ impl<A: Allocator + Copy> Plan<A> {
         }
         match random.pick(&self.few) {
             Some(value) => Some(value),
-            None => Some(alphabet.value(random, ask)),
+            None => Some(dictionary.value(random, ask)),
         }
     }
 }

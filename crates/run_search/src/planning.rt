@@ -1,6 +1,6 @@
 //! What to run next: a run without a key, a long run, a hint, or a run from a kept state with other inputs.
 
-use crate::asking::Ask;
+use crate::input_request::InputRequest;
 use crate::plan::{Plan, Purpose};
 use crate::running::Input;
 use crate::search::RunSearch;
@@ -35,7 +35,7 @@ impl<A: Allocator + Copy> RunSearch<A> {
         }
         if self.clock > self.lesson {
             self.lesson = self.clock.saturating_add(self.clock / 4);
-            self.aims.votes.teach(&mut self.alphabet)?;
+            self.failed_tests.candidates.teach(&mut self.dictionary)?;
         }
         self.plan()
     }
@@ -68,7 +68,7 @@ impl<A: Allocator + Copy> RunSearch<A> {
         if !self.random.once_in(4) {
             return self.plan_roaming(0);
         }
-        let state = self.tree.pick(&mut self.random);
+        let state = self.corpus.pick(&mut self.random);
         if self.clock > FIRST_PLAIN_FROM_STATES && self.random.once_in(4) {
             return self.plan_plain(state, None);
         }
@@ -78,10 +78,10 @@ impl<A: Allocator + Copy> RunSearch<A> {
     /// A long run from a kept state, mostly with the same few inputs.
     fn plan_roaming(&mut self, state: usize) -> Result<Plan<A>, NoMemory> {
         let given = Vec::new(self.alloc);
-        let mut plan = Plan::of(self.alloc, Purpose::Roam, state, given);
+        let mut plan = Plan::of(self.alloc, Purpose::Explore, state, given);
         plan.more = 20usize << (self.random.below(8) & 7);
         if !self.random.once_in(3) {
-            plan.few = self.alphabet.few(self.alloc, &mut self.random)?;
+            plan.few = self.dictionary.few(self.alloc, &mut self.random)?;
         }
         Ok(plan)
     }
@@ -89,12 +89,12 @@ impl<A: Allocator + Copy> RunSearch<A> {
     /// What to try next: a hint that came nearer, another hint, or a run from a kept state.
     fn plan(&mut self) -> Result<Plan<A>, NoMemory> {
         if !self.random.once_in(4) {
-            if let Some(hint) = self.aims.hints.pop_nearer() {
+            if let Some(hint) = self.failed_tests.hints.pop_nearer() {
                 return Ok(Plan::by_hint(self.alloc, hint, 1));
             }
         }
         if self.random.once_in(2) {
-            if let Some(hint) = self.aims.hints.pop(&mut self.random) {
+            if let Some(hint) = self.failed_tests.hints.pop(&mut self.random) {
                 let more = self.random.below(3);
                 return Ok(Plan::by_hint(self.alloc, hint, more));
             }
@@ -104,7 +104,7 @@ impl<A: Allocator + Copy> RunSearch<A> {
 
     /// A run from a kept state.
     fn plan_growing(&mut self) -> Result<Plan<A>, NoMemory> {
-        let state = self.tree.pick(&mut self.random);
+        let state = self.corpus.pick(&mut self.random);
         let mut plan = match self.random.below(8) {
             0 => self.plan_again(state)?,
             1 => self.plan_repeated(state)?,
@@ -141,17 +141,17 @@ impl<A: Allocator + Copy> RunSearch<A> {
     /// The same, and what follows are a few values.
     fn plan_few(&mut self, state: usize) -> Result<Plan<A>, NoMemory> {
         let mut plan = self.plan_other(state)?;
-        plan.few = self.alphabet.few(self.alloc, &mut self.random)?;
+        plan.few = self.dictionary.few(self.alloc, &mut self.random)?;
         Ok(plan)
     }
 
     /// A run from a kept state with one input: each byte in turn, and every other time one by chance.
     fn plan_next(&mut self, state: usize) -> Result<Plan<A>, NoMemory> {
-        let tries = self.tree.tries(state);
-        let ask = self.tree.ask(state);
+        let tries = self.corpus.tries(state);
+        let ask = self.corpus.ask(state);
         let mask: usize = match ask {
-            Ask::Key | Ask::Frame => 0o377,
-            Ask::Switches => 0o7777,
+            InputRequest::Key | InputRequest::Frame => 0o377,
+            InputRequest::Switches => 0o7777,
         };
         let value = if tries & 1 == 0 && tries / 2 <= mask {
             let turn = (tries / 2)
@@ -159,32 +159,32 @@ impl<A: Allocator + Copy> RunSearch<A> {
                 .wrapping_add(state.wrapping_mul(61));
             (turn & mask & 0o7777) as u16
         } else {
-            self.alphabet.value(&mut self.random, ask)
+            self.dictionary.value(&mut self.random, ask)
         };
         let mut given = Vec::new(self.alloc);
         given.push(value).map_err(|_| NoMemory)?;
-        Ok(Plan::of(self.alloc, Purpose::Grow, state, given))
+        Ok(Plan::of(self.alloc, Purpose::Extend, state, given))
     }
 
     /// A run in which some of the last inputs before a kept state are others.
     fn plan_changed(&mut self, state: usize) -> Result<Plan<A>, NoMemory> {
         let least = 1 + self.random.below(12);
-        let tail = self.tree.tail(state, least)?;
+        let tail = self.corpus.tail(state, least)?;
         if tail.inputs.len() >= MOST_CHANGED {
             return self.plan_next(state);
         }
-        let ask = self.tree.ask(state);
+        let ask = self.corpus.ask(state);
         let mut given = values(self.alloc, &tail.inputs)?;
         self.change(&mut given, ask)?;
         if self.random.once_in(2) {
             self.change(&mut given, ask)?;
         }
-        Ok(Plan::of(self.alloc, Purpose::Grow, tail.base, given))
+        Ok(Plan::of(self.alloc, Purpose::Extend, tail.base, given))
     }
 
     /// Changes one of some inputs, takes it out, or puts one in.
-    fn change(&mut self, inputs: &mut Vec<u16, A>, ask: Ask) -> Result<(), NoMemory> {
-        let value = self.alphabet.value(&mut self.random, ask);
+    fn change(&mut self, inputs: &mut Vec<u16, A>, ask: InputRequest) -> Result<(), NoMemory> {
+        let value = self.dictionary.value(&mut self.random, ask);
         let place = self.random.below(inputs.len().saturating_add(1));
         let kind = self.random.below(5);
         if kind == 2 && place < inputs.len() {
@@ -211,8 +211,8 @@ impl<A: Allocator + Copy> RunSearch<A> {
     /// The same as another run, and what follows is one value again and again.
     fn plan_repeated(&mut self, state: usize) -> Result<Plan<A>, NoMemory> {
         let mut plan = self.plan_other(state)?;
-        let ask = self.tree.ask(state);
-        let any = self.alphabet.value(&mut self.random, ask);
+        let ask = self.corpus.ask(state);
+        let any = self.dictionary.value(&mut self.random, ask);
         let last = plan.given.last().copied();
         let value = if self.random.once_in(2) {
             any
@@ -227,9 +227,9 @@ impl<A: Allocator + Copy> RunSearch<A> {
     /// A run from a kept state with the last few inputs before it again and again; any where none led to it.
     fn plan_again(&mut self, state: usize) -> Result<Plan<A>, NoMemory> {
         let count = 1 + self.random.below(5);
-        let tail = self.tree.tail(state, count)?;
+        let tail = self.corpus.tail(state, count)?;
         let skipped = tail.inputs.len().saturating_sub(count);
-        let mut plan = Plan::of(self.alloc, Purpose::Grow, state, Vec::new(self.alloc));
+        let mut plan = Plan::of(self.alloc, Purpose::Extend, state, Vec::new(self.alloc));
         plan.few = values(self.alloc, tail.inputs.get(skipped..).unwrap_or(&[]))?;
         plan.in_turn = true;
         Ok(plan)

@@ -30,7 +30,7 @@ pub struct Record<A: Allocator> {
 
 /// What a step is about to do, as far as it is recorded.
 #[derive(Clone, Copy)]
-pub struct Sight {
+pub struct StepRecord {
     /// The address of the instruction.
     pub at: Word,
     /// The routine that runs.
@@ -55,11 +55,11 @@ fn goes_through(reference: &Reference, own: Option<Word>) -> bool {
     reference.indirect && own == Some(reference.named)
 }
 
-impl Sight {
+impl StepRecord {
     /// What the next step of a machine that is watched is about to do.
-    pub fn of<A: Allocator>(watcher: &Watcher<A>) -> Sight {
+    pub fn of<A: Allocator>(watcher: &Watcher<A>) -> StepRecord {
         let cpu = watcher.world().cpu();
-        let mut sight = Sight {
+        let mut step_record = StepRecord {
             at: cpu.pc,
             owner: Owner::Main,
             offset: Word::ZERO,
@@ -69,25 +69,25 @@ impl Sight {
         };
         let mut own = None;
         if let Some(call) = watcher.calls().last() {
-            sight.owner = Owner::Routine(call.entry);
+            step_record.owner = Owner::Routine(call.entry);
             own = Some(call.entry);
-            sight.offset = distance(cpu.memory.get(call.entry), call.after);
+            step_record.offset = distance(cpu.memory.get(call.entry), call.after);
         }
         if let DecodedInstruction::Refers(reference) = cpu.fetch() {
             if reference.steps_pointer() {
-                sight.stepped = Some(reference.named);
+                step_record.stepped = Some(reference.named);
             }
             let place = reference.place;
             match reference.operation {
-                Operation::Dca => sight.stored = Some(place),
-                Operation::Isz if own != Some(place) => sight.stored = Some(place),
+                Operation::Dca => step_record.stored = Some(place),
+                Operation::Isz if own != Some(place) => step_record.stored = Some(place),
                 Operation::Jmp if own.is_some() && !goes_through(&reference, own) => {
-                    sight.jumped = Some(place);
+                    step_record.jumped = Some(place);
                 }
                 _ => {}
             }
         }
-        sight
+        step_record
     }
 }
 
@@ -111,10 +111,10 @@ impl<A: Allocator + Copy> Record<A> {
     }
 
     /// A step is made.
-    pub(crate) fn makes(&mut self, sight: &Sight) {
+    pub(crate) fn makes(&mut self, step_record: &StepRecord) {
         self.steps = self.steps.saturating_add(1);
-        self.jumped = sight.jumped;
-        self.sees(sight);
+        self.jumped = step_record.jumped;
+        self.sees(step_record);
     }
 
     /// The routine that ran when a step was first made from an address, if one was.
@@ -123,21 +123,21 @@ impl<A: Allocator + Copy> Record<A> {
     }
 
     /// Records what a step does, or is about to do.
-    pub fn sees(&mut self, sight: &Sight) {
-        if let Some(owner) = self.owners.get_mut(sight.at.index()) {
+    pub fn sees(&mut self, step_record: &StepRecord) {
+        if let Some(owner) = self.owners.get_mut(step_record.at.index()) {
             if owner.is_none() {
-                *owner = Some(sight.owner);
+                *owner = Some(step_record.owner);
             }
         }
-        let offset = sight.offset.index();
+        let offset = step_record.offset.index();
         let place = if offset < 8 { offset } else { 0 };
         if let Some(places) = self.places.get_mut(place) {
-            places.insert(sight.at);
+            places.insert(step_record.at);
         }
-        if let Some(cell) = sight.stored {
+        if let Some(cell) = step_record.stored {
             self.written.insert(cell);
         }
-        if let Some(cell) = sight.stepped {
+        if let Some(cell) = step_record.stepped {
             self.written.insert(cell);
         }
     }

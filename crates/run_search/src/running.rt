@@ -5,11 +5,11 @@ ghost use Rattle.std.specs.Prelude.{◌≡◌, ◌≤◌};
 ghost use Rattle.declaration.specs.Kept.{meaning};
 ghost use Rattle.peripherals.specs.World.{profile_of};
 
-use crate::asking::Ask;
-use crate::pace::Pace;
+use crate::input_request::InputRequest;
 use crate::plan::{Plan, Purpose};
 use crate::random::Random;
-use crate::script::{Extent, Script};
+use crate::script::{Script, ScriptLength};
+use crate::timing::Timing;
 use declaration::Declaration;
 use peripherals::{Event, NoMemory};
 use policy::Watcher;
@@ -27,7 +27,7 @@ const MOST_QUIET: u32 = 30_000;
 /// An input that was given.
 #[derive(Clone, Copy)]
 pub(crate) struct Input {
-    pub(crate) ask: Ask,
+    pub(crate) ask: InputRequest,
     pub(crate) value: u16,
 }
 
@@ -44,7 +44,7 @@ pub(crate) enum Progress {
 
 /// What is new in a run since the program asked for an input.
 #[derive(Clone, Copy)]
-pub(crate) struct News {
+pub(crate) struct Novelty {
     /// Whether anything is.
     pub(crate) is_any: bool,
     /// Whether a step is new.
@@ -53,9 +53,9 @@ pub(crate) struct News {
     pub(crate) place: Word,
 }
 
-impl News {
+impl Novelty {
     /// Nothing is new.
-    pub(crate) const NONE: News = News {
+    pub(crate) const NONE: Novelty = Novelty {
         is_any: false,
         is_step: false,
         place: Word::ZERO,
@@ -72,12 +72,12 @@ pub(crate) struct Run<A: Allocator> {
     pub(crate) script: Script<A>,
     written: u32,
     /// How long all is from the start.
-    pub(crate) extent: Extent,
+    pub(crate) extent: ScriptLength,
     /// The inputs that were given, and how many of them came before the kept state.
     pub(crate) inputs: Vec<Input, A>,
     pub(crate) before_base: usize,
-    pub(crate) pace: Pace,
-    pub(crate) news: News,
+    pub(crate) timing: Timing,
+    pub(crate) novelty: Novelty,
     /// Whether the state in which the program asks next may be kept: not that from which the run goes on.
     pub(crate) has_asked: bool,
     /// How many events there were when something last happened, when something was last new or asked for,
@@ -105,27 +105,32 @@ fn patience(random: &mut Random) -> u32 {
 
 impl<A: Allocator + Copy> Run<A> {
     /// A run that has not begun.
-    pub(crate) fn new(alloc: A, plan: &Plan<A>, extent: Extent, random: &mut Random) -> Run<A> {
-        let pace = match plan.purpose {
-            Purpose::Plain | Purpose::Repeat => Pace::prompt(),
-            Purpose::Roam => Pace::by_chance(random, true),
-            Purpose::Grow => {
+    pub(crate) fn new(
+        alloc: A,
+        plan: &Plan<A>,
+        extent: ScriptLength,
+        random: &mut Random,
+    ) -> Run<A> {
+        let timing = match plan.purpose {
+            Purpose::Plain | Purpose::Repeat => Timing::prompt(),
+            Purpose::Explore => Timing::by_chance(random, true),
+            Purpose::Extend => {
                 let jitter = random.once_in(4);
-                Pace::by_chance(random, jitter)
+                Timing::by_chance(random, jitter)
             }
         };
         let most_stale = match plan.purpose {
-            Purpose::Grow => patience(random),
-            Purpose::Plain | Purpose::Roam | Purpose::Repeat => u32::MAX,
+            Purpose::Extend => patience(random),
+            Purpose::Plain | Purpose::Explore | Purpose::Repeat => u32::MAX,
         };
         Run {
             most_stale,
-            ..Run::of(alloc, plan, extent, pace)
+            ..Run::of(alloc, plan, extent, timing)
         }
     }
 
     /// A run of a pace that has not begun, and is as long as it gets inputs.
-    pub(crate) fn of(alloc: A, plan: &Plan<A>, extent: Extent, pace: Pace) -> Run<A> {
+    pub(crate) fn of(alloc: A, plan: &Plan<A>, extent: ScriptLength, timing: Timing) -> Run<A> {
         Run {
             purpose: plan.purpose,
             base: plan.base,
@@ -134,8 +139,8 @@ impl<A: Allocator + Copy> Run<A> {
             extent,
             inputs: Vec::new(alloc),
             before_base: 0,
-            pace,
-            news: News::NONE,
+            timing,
+            novelty: Novelty::NONE,
             has_asked: plan.base == 0,
             stirred: extent.events,
             last_asked: extent.events,
@@ -160,7 +165,7 @@ impl<A: Allocator + Copy> Run<A> {
     }
 
     /// Something happened.
-    pub(crate) fn stirs(&mut self) {
+    pub(crate) fn note_activity(&mut self) {
         self.stirred = self.extent.events;
     }
 
@@ -173,10 +178,10 @@ impl<A: Allocator + Copy> Run<A> {
     /// The program asks for an input. False where the run is over, since nothing was new for long.
     pub(crate) fn is_asked(&mut self) -> bool {
         self.has_asked = true;
-        if self.news.is_any {
+        if self.novelty.is_any {
             self.last_new = self.extent.events;
         }
-        self.news = News::NONE;
+        self.novelty = Novelty::NONE;
         self.since(self.last_new) <= self.most_stale && self.extent.is_short()
     }
 
@@ -195,7 +200,7 @@ impl<A: Allocator + Copy> Run<A> {
         self.script.add(&event)?;
         self.extent.add(steps, &event);
         self.written = self.extent.events;
-        self.stirs();
+        self.note_activity();
         watcher.next(declaration, event)?;
         Ok(())
     }
@@ -214,11 +219,11 @@ impl<A: Allocator + Copy> Run<A> {
         self.sees_new();
         let word = Word::from_index((input.value & 0o7777) as usize);
         let event = match input.ask {
-            Ask::Key => Event::Key(word.low_byte()),
-            Ask::Frame => Event::ReaderDone(word.low_byte()),
-            Ask::Switches => Event::Switches(word),
+            InputRequest::Key => Event::Key(word.low_byte()),
+            InputRequest::Frame => Event::ReaderDone(word.low_byte()),
+            InputRequest::Switches => Event::Switches(word),
         };
-        if matches!(input.ask, Ask::Switches) && watcher.world().panel().switches == word {
+        if matches!(input.ask, InputRequest::Switches) && watcher.world().panel().switches == word {
             return Ok(());
         }
         self.give(watcher, declaration, event)
@@ -236,10 +241,10 @@ impl<A: Allocator + Copy> Run<A> {
         ensures profile { profile_of watcher.new.world ≡ (meaning declaration.now).profile }
     {
         let panel = watcher.world().panel();
-        if panel.printer.busy && self.pace.ends_printing(random) {
+        if panel.printer.busy && self.timing.ends_printing(random) {
             self.give(watcher, declaration, Event::PrinterDone)?;
         }
-        if panel.punch.busy && self.pace.ends_punching(random) {
+        if panel.punch.busy && self.timing.ends_punching(random) {
             self.give(watcher, declaration, Event::PunchDone)?;
         }
         Ok(())
@@ -318,7 +323,7 @@ impl<A: Allocator + Copy> Run<A> {
     fn last_notable(&self) -> u32 {
         match self.purpose {
             Purpose::Plain => self.stirred,
-            Purpose::Roam | Purpose::Grow | Purpose::Repeat => self.last_asked,
+            Purpose::Explore | Purpose::Extend | Purpose::Repeat => self.last_asked,
         }
     }
 
@@ -328,6 +333,6 @@ impl<A: Allocator + Copy> Run<A> {
             return false;
         }
         let panel = watcher.world().panel();
-        !(self.pace.gets_done() && (panel.printer.busy || panel.punch.busy))
+        !(self.timing.gets_done() && (panel.printer.busy || panel.punch.busy))
     }
 }

@@ -6,7 +6,7 @@ use std::fmt::Write;
 
 /// Some steps, and then an event that is no step.
 #[derive(Clone, Copy)]
-pub(crate) struct Part {
+pub(crate) struct ScriptPart {
     pub(crate) steps: u32,
     pub(crate) event: Event,
 }
@@ -14,23 +14,23 @@ pub(crate) struct Part {
 /// Events in order, in which steps in a row are counted.
 #[derive(Drop)]
 pub(crate) struct Script<A: Allocator> {
-    parts: Vec<Part, A>,
+    parts: Vec<ScriptPart, A>,
     /// The steps behind all parts.
     steps: u32,
 }
 
 /// How much a script has.
 #[derive(Clone, Copy)]
-pub(crate) struct Extent {
+pub(crate) struct ScriptLength {
     /// Its events.
     pub(crate) events: u32,
     /// The bytes of its text without the steps behind the last other event, or a few more.
     pub(crate) bytes: u32,
 }
 
-impl Extent {
+impl ScriptLength {
     /// Nothing.
-    pub(crate) const NONE: Extent = Extent {
+    pub(crate) const NONE: ScriptLength = ScriptLength {
         events: 0,
         bytes: 0,
     };
@@ -92,7 +92,7 @@ impl<A: Allocator> Script<A> {
     }
 
     /// All parts, without the steps behind them.
-    pub(crate) fn parts(&self) -> &[Part] {
+    pub(crate) fn parts(&self) -> &[ScriptPart] {
         &self.parts
     }
 
@@ -113,7 +113,7 @@ impl<A: Allocator> Script<A> {
 
     /// Adds an event that is no step.
     pub(crate) fn add(&mut self, event: &Event) -> Result<(), NoMemory> {
-        let part = Part {
+        let part = ScriptPart {
             steps: self.steps,
             event: *event,
         };
@@ -129,7 +129,7 @@ impl<A: Allocator> Script<A> {
         for part in &more.parts {
             let steps = self.steps.saturating_add(part.steps);
             let event = part.event;
-            let Ok(()) = self.parts.push(Part { steps, event }) else {
+            let Ok(()) = self.parts.push(ScriptPart { steps, event }) else {
                 return Err(NoMemory);
             };
             self.steps = 0;

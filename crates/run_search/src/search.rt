@@ -4,19 +4,19 @@ ghost use Rattle.std.specs.Prelude.{◌≡◌, ◌≤◌, IfOk, OnOk};
 ghost use Rattle.declaration.specs.Kept.{meaning};
 ghost use Rattle.peripherals.specs.World.{profile_of};
 
-use crate::aiming::Aims;
-use crate::alphabet::Alphabet;
 use crate::assertions::asserted_places;
-use crate::looks::{Look, looks};
-use crate::pace::Pace;
+use crate::corpus::{Corpus, InputSuffix, start_of};
+use crate::coverage::Coverage;
+use crate::dictionary::Dictionary;
+use crate::failed_tests::FailedTests;
+use crate::feedback::{Feedback, looks};
 use crate::plan::{Plan, Purpose};
 use crate::random::Random;
-use crate::record::{Record, Sight};
+use crate::record::{Record, StepRecord};
 use crate::running::{Input, Progress, Run};
-use crate::script::{Extent, Script};
-use crate::seen::Seen;
+use crate::script::{Script, ScriptLength};
 use crate::shorten::shortened;
-use crate::tree::{Tail, Tree, start_of};
+use crate::timing::Timing;
 use bin_tape::Image;
 use declaration::Declaration;
 use peripherals::NoMemory;
@@ -42,14 +42,14 @@ pub struct DeclaredProgram<'a, D: Allocator> {
 pub struct RunSearch<A: Allocator> {
     pub(crate) alloc: A,
     pub(crate) random: Random,
-    pub(crate) alphabet: Alphabet<A>,
+    pub(crate) dictionary: Dictionary<A>,
     /// What is worth a look at each of the 4096 words.
-    pub(crate) looks: [Look; 4096],
+    pub(crate) looks: [Feedback; 4096],
     /// The places at which something is declared to hold.
     pub(crate) asserted: WordSet,
-    pub(crate) seen: Seen<A>,
-    pub(crate) tree: Tree<A>,
-    pub(crate) aims: Aims<A>,
+    pub(crate) seen: Coverage<A>,
+    pub(crate) corpus: Corpus<A>,
+    pub(crate) failed_tests: FailedTests<A>,
     pub(crate) record: Record<A>,
     /// Whether what steps do is recorded: that takes time.
     pub(crate) records: bool,
@@ -69,14 +69,14 @@ pub struct RunSearch<A: Allocator> {
 
 /// A run that broke a rule: its events, and its inputs.
 #[derive(Drop)]
-pub(crate) struct Found<A: Allocator> {
+pub(crate) struct ViolatingRun<A: Allocator> {
     pub(crate) script: Script<A>,
     pub(crate) inputs: Vec<Input, A>,
 }
 
 /// A run that can go on.
 #[derive(Drop)]
-pub struct Trial<A: Allocator> {
+pub struct ActiveRun<A: Allocator> {
     /// The machine, and the calls that haven't returned.
     pub watcher: Watcher<A>,
     pub(crate) run: Run<A>,
@@ -87,16 +87,16 @@ pub struct Trial<A: Allocator> {
     left: u32,
 }
 
-impl<A: Allocator + Copy> Trial<A> {
+impl<A: Allocator + Copy> ActiveRun<A> {
     /// A run that makes no step: to be lent to a search, which begins it anew.
-    pub fn new<D: Allocator>(alloc: A, program: &DeclaredProgram<'_, D>) -> Trial<A>
+    pub fn new<D: Allocator>(alloc: A, program: &DeclaredProgram<'_, D>) -> ActiveRun<A>
         ensures profile { profile_of result.watcher.world
             ≡ (meaning program.now.declaration.now).profile }
     {
         let plan = Plan::of(alloc, Purpose::Repeat, 0, Vec::new(alloc));
-        Trial {
+        ActiveRun {
             watcher: start_of(alloc, program),
-            run: Run::of(alloc, &plan, Extent::NONE, Pace::prompt()),
+            run: Run::of(alloc, &plan, ScriptLength::NONE, Timing::prompt()),
             plan,
             is_tried: false,
             left: 0,
@@ -118,12 +118,12 @@ impl<A: Allocator + Copy> RunSearch<A> {
         Ok(RunSearch {
             alloc,
             random: Random::new(seed),
-            alphabet: Alphabet::of(alloc, program.image)?,
+            dictionary: Dictionary::of(alloc, program.image)?,
             looks: looks(program.declaration.profile()),
             asserted: asserted_places(program.declaration),
-            seen: Seen::nothing(alloc)?,
-            tree: Tree::new(alloc, program)?,
-            aims: Aims::none(alloc)?,
+            seen: Coverage::nothing(alloc)?,
+            corpus: Corpus::new(alloc, program)?,
+            failed_tests: FailedTests::none(alloc)?,
             record: Record::nothing(alloc)?,
             records: false,
             clock: 0,
@@ -160,7 +160,7 @@ impl<A: Allocator + Copy> RunSearch<A> {
     pub fn try_run<D: Allocator>(
         &mut self,
         program: &DeclaredProgram<'_, D>,
-        trial: &mut Trial<A>,
+        trial: &mut ActiveRun<A>,
         turns: &mut Turns,
     ) -> Result<Option<Vec<u8, A>>, NoMemory>
         ensures limit { turns.new.limit ≡ turns.old.limit }
@@ -178,9 +178,9 @@ impl<A: Allocator + Copy> RunSearch<A> {
     fn round<D: Allocator>(
         &mut self,
         program: &DeclaredProgram<'_, D>,
-        trial: &mut Trial<A>,
+        trial: &mut ActiveRun<A>,
         turns: &mut Turns,
-    ) -> Result<Option<Found<A>>, NoMemory>
+    ) -> Result<Option<ViolatingRun<A>>, NoMemory>
         ensures limit { turns.new.limit ≡ turns.old.limit }
         ensures rises { turns.old.spent ≤ turns.new.spent }
         ensures within { turns.new.spent ≤ turns.new.limit }
@@ -199,12 +199,12 @@ impl<A: Allocator + Copy> RunSearch<A> {
     pub fn begin<D: Allocator>(
         &mut self,
         program: &DeclaredProgram<'_, D>,
-    ) -> Result<Trial<A>, NoMemory>
+    ) -> Result<ActiveRun<A>, NoMemory>
         ensures profile { IfOk result (λ trial. profile_of trial.watcher.world
             ≡ (meaning program.now.declaration.now).profile) }
     {
         let plan = self.next_plan()?;
-        let mut trial = Trial::new(self.alloc, program);
+        let mut trial = ActiveRun::new(self.alloc, program);
         self.restart(program, plan, &mut trial)?;
         Ok(trial)
     }
@@ -214,13 +214,13 @@ impl<A: Allocator + Copy> RunSearch<A> {
         &mut self,
         program: &DeclaredProgram<'_, D>,
         plan: Plan<A>,
-        trial: &mut Trial<A>,
+        trial: &mut ActiveRun<A>,
     ) -> Result<(), NoMemory>
         ensures profile { OnOk result (profile_of trial.new.watcher.world
             ≡ (meaning program.now.declaration.now).profile) }
     {
-        self.tree.restore(program, plan.base, &mut trial.watcher)?;
-        let extent = self.tree.extent(plan.base);
+        self.corpus.restore(program, plan.base, &mut trial.watcher)?;
+        let extent = self.corpus.extent(plan.base);
         trial.run = Run::new(self.alloc, &plan, extent, &mut self.random);
         trial.plan = plan;
         trial.is_tried = false;
@@ -233,9 +233,9 @@ impl<A: Allocator + Copy> RunSearch<A> {
         &mut self,
         program: &DeclaredProgram<'_, D>,
         plan: Plan<A>,
-        trial: &mut Trial<A>,
+        trial: &mut ActiveRun<A>,
         turns: &mut Turns,
-    ) -> Result<Option<Found<A>>, NoMemory>
+    ) -> Result<Option<ViolatingRun<A>>, NoMemory>
         ensures limit { turns.new.limit ≡ turns.old.limit }
         ensures rises { turns.old.spent ≤ turns.new.spent }
         ensures within { turns.new.spent ≤ turns.new.limit }
@@ -258,7 +258,7 @@ impl<A: Allocator + Copy> RunSearch<A> {
     pub fn go_on<D: Allocator>(
         &mut self,
         program: &DeclaredProgram<'_, D>,
-        trial: &mut Trial<A>,
+        trial: &mut ActiveRun<A>,
         turns: &mut Turns,
     ) -> Result<bool, NoMemory>
         requires profile { profile_of trial.old.watcher.world
@@ -294,7 +294,7 @@ impl<A: Allocator + Copy> RunSearch<A> {
     fn make_steps<D: Allocator>(
         &mut self,
         program: &DeclaredProgram<'_, D>,
-        trial: &mut Trial<A>,
+        trial: &mut ActiveRun<A>,
         turns: &mut Turns,
     ) -> Result<bool, NoMemory>
         requires profile { profile_of trial.old.watcher.world
@@ -325,18 +325,18 @@ impl<A: Allocator + Copy> RunSearch<A> {
     }
 
     /// Records a step that is about to be made.
-    pub fn sees(&mut self, sight: &Sight) {
-        self.record.sees(sight);
+    pub fn sees(&mut self, step_record: &StepRecord) {
+        self.record.sees(step_record);
     }
 
     /// The whole of a run that broke a rule, from the start.
-    fn found(&self, run: &mut Run<A>) -> Result<Found<A>, NoMemory> {
+    fn found(&self, run: &mut Run<A>) -> Result<ViolatingRun<A>, NoMemory> {
         run.write_steps();
-        let mut script = self.tree.script(run.base)?;
+        let mut script = self.corpus.script(run.base)?;
         script.append(&run.script)?;
         script.add_step();
-        let Tail { mut inputs, .. } = self.tree.tail(run.base, usize::MAX)?;
+        let InputSuffix { mut inputs, .. } = self.corpus.tail(run.base, usize::MAX)?;
         run.add_inputs(&mut inputs)?;
-        Ok(Found { script, inputs })
+        Ok(ViolatingRun { script, inputs })
     }
 }

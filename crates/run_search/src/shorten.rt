@@ -5,11 +5,11 @@ ghost use Rattle.std.specs.Prelude.{◌≡◌, ◌≤◌};
 ghost use Rattle.declaration.specs.Kept.{meaning};
 ghost use Rattle.peripherals.specs.World.{profile_of};
 
+use crate::corpus::start_of;
 use crate::plan::{Plan, Purpose};
 use crate::running::Input;
-use crate::script::{Part, Script};
-use crate::search::{DeclaredProgram, Found, RunSearch, Trial};
-use crate::tree::start_of;
+use crate::script::{Script, ScriptPart};
+use crate::search::{ActiveRun, DeclaredProgram, RunSearch, ViolatingRun};
 use declaration::Declaration;
 use peripherals::NoMemory;
 use policy::Watcher;
@@ -27,8 +27,8 @@ pub(crate) fn shortened<A: Allocator + Copy, D: Allocator>(
     alloc: A,
     search: &mut RunSearch<A>,
     program: &DeclaredProgram<'_, D>,
-    trial: &mut Trial<A>,
-    found: Found<A>,
+    trial: &mut ActiveRun<A>,
+    found: ViolatingRun<A>,
     turns: &mut Turns,
 ) -> Result<Script<A>, NoMemory>
     ensures limit { turns.new.limit ≡ turns.old.limit }
@@ -48,7 +48,7 @@ pub(crate) fn shortened<A: Allocator + Copy, D: Allocator>(
         best = prompt;
         halve_inputs(alloc, search, program, trial, &mut best, last, turns)?;
     }
-    let Found { mut script, .. } = best;
+    let ViolatingRun { mut script, .. } = best;
     halve_events(alloc, program, &mut script, last, turns)?;
     Ok(script)
 }
@@ -74,8 +74,8 @@ fn halve_inputs<A: Allocator + Copy, D: Allocator>(
     alloc: A,
     search: &mut RunSearch<A>,
     program: &DeclaredProgram<'_, D>,
-    trial: &mut Trial<A>,
-    found: &mut Found<A>,
+    trial: &mut ActiveRun<A>,
+    found: &mut ViolatingRun<A>,
     last: u32,
     turns: &mut Turns,
 ) -> Result<(), NoMemory>
@@ -100,8 +100,8 @@ fn take_out_inputs<A: Allocator + Copy, D: Allocator>(
     alloc: A,
     search: &mut RunSearch<A>,
     program: &DeclaredProgram<'_, D>,
-    trial: &mut Trial<A>,
-    found: &mut Found<A>,
+    trial: &mut ActiveRun<A>,
+    found: &mut ViolatingRun<A>,
     size: usize,
     last: u32,
     turns: &mut Turns,
@@ -196,7 +196,7 @@ fn replayed<A: Allocator + Copy, D: Allocator>(
     let mut played = Script::new(alloc);
     let parts = script.parts();
     for index in 0..parts.len() {
-        let Part { steps, event } = parts[index];
+        let ScriptPart { steps, event } = parts[index];
         if breaks(&mut watcher, declaration, steps, &mut played, turns)? {
             return Ok(Some(played));
         }

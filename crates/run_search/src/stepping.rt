@@ -4,15 +4,15 @@ ghost use Rattle.std.specs.Prelude.{◌≡◌, ◌≤◌};
 ghost use Rattle.declaration.specs.Kept.{meaning};
 ghost use Rattle.peripherals.specs.World.{profile_of};
 
-use crate::aiming::Miss;
-use crate::asking::Ask;
 use crate::assertions::{asserted_word, beyond_assertion};
-use crate::looks::Look;
+use crate::corpus::InputSuffix;
+use crate::failed_tests::FailedTest;
+use crate::feedback::Feedback;
+use crate::input_request::InputRequest;
 use crate::plan::{Plan, Purpose};
-use crate::record::Sight;
+use crate::record::StepRecord;
 use crate::running::{Input, Progress, Run};
-use crate::search::{DeclaredProgram, RunSearch, Trial};
-use crate::tree::Tail;
+use crate::search::{ActiveRun, DeclaredProgram, RunSearch};
 use declaration::{Assertion, Declaration};
 use instruct::target;
 use peripherals::NoMemory;
@@ -24,10 +24,10 @@ use word12::Word;
 
 /// What is seen before a step.
 #[derive(Clone, Copy)]
-struct Glance {
+struct StepObservation {
     at: Word,
     ac: Word,
-    look: Look,
+    look: Feedback,
     /// The address that an indirect reference uses, or the cell that a direct one stores in.
     place: Word,
 }
@@ -38,7 +38,7 @@ impl<A: Allocator + Copy> RunSearch<A> {
     pub(crate) fn advance<D: Allocator>(
         &mut self,
         program: &DeclaredProgram<'_, D>,
-        trial: &mut Trial<A>,
+        trial: &mut ActiveRun<A>,
         is_prepared: bool,
         turns: &mut Turns,
     ) -> Result<Progress, NoMemory>
@@ -51,14 +51,14 @@ impl<A: Allocator + Copy> RunSearch<A> {
         ensures within { turns.new.spent ≤ turns.new.limit }
     {
         turns.are_within();
-        let glance = self.glance(&trial.watcher);
-        if !is_prepared && !self.prepare(program, trial, glance.look)? {
+        let observation = self.glance(&trial.watcher);
+        if !is_prepared && !self.prepare(program, trial, observation.look)? {
             return Ok(Progress::Over);
         }
         if self.records {
             return self.step_recorded(program, trial, turns);
         }
-        self.step(program, trial, &glance, turns)
+        self.step(program, trial, &observation, turns)
     }
 
     /// Gives what the next step asks for, and lets devices get done. False where the run is over.
@@ -66,20 +66,20 @@ impl<A: Allocator + Copy> RunSearch<A> {
     fn prepare<D: Allocator>(
         &mut self,
         program: &DeclaredProgram<'_, D>,
-        trial: &mut Trial<A>,
-        look: Look,
+        trial: &mut ActiveRun<A>,
+        look: Feedback,
     ) -> Result<bool, NoMemory>
         requires profile { profile_of trial.old.watcher.world
             ≡ (meaning program.now.declaration.now).profile }
         ensures profile { profile_of trial.new.watcher.world
             ≡ (meaning program.now.declaration.now).profile }
     {
-        if let Look::Asks(ask) = look {
+        if let Feedback::Asks(ask) = look {
             if !self.answer(program, trial, ask)? {
                 return Ok(false);
             }
         }
-        let Trial { watcher, run, .. } = trial;
+        let ActiveRun { watcher, run, .. } = trial;
         run.complete(watcher, program.declaration, &mut self.random)?;
         Ok(true)
     }
@@ -89,15 +89,15 @@ impl<A: Allocator + Copy> RunSearch<A> {
     fn answer<D: Allocator>(
         &mut self,
         program: &DeclaredProgram<'_, D>,
-        trial: &mut Trial<A>,
-        ask: Ask,
+        trial: &mut ActiveRun<A>,
+        ask: InputRequest,
     ) -> Result<bool, NoMemory>
         requires profile { profile_of trial.old.watcher.world
             ≡ (meaning program.now.declaration.now).profile }
         ensures profile { profile_of trial.new.watcher.world
             ≡ (meaning program.now.declaration.now).profile }
     {
-        let Trial {
+        let ActiveRun {
             watcher,
             run,
             plan,
@@ -111,47 +111,62 @@ impl<A: Allocator + Copy> RunSearch<A> {
             return Ok(false);
         }
         let number = run.inputs.len();
-        let Some(value) = plan.input(number, ask, &self.alphabet, &mut self.random) else {
+        let Some(value) = plan.input(number, ask, &self.dictionary, &mut self.random) else {
             return Ok(false);
         };
-        run.pace.gave_input(&mut self.random);
+        run.timing.gave_input(&mut self.random);
         run.answer(watcher, program.declaration, Input { ask, value })?;
         Ok(true)
     }
 
     /// Whether an input that the next step asks for comes now.
-    fn comes(&mut self, watcher: &Watcher<A>, run: &mut Run<A>, plan: &Plan<A>, ask: Ask) -> bool {
+    fn comes(
+        &mut self,
+        watcher: &Watcher<A>,
+        run: &mut Run<A>,
+        plan: &Plan<A>,
+        ask: InputRequest,
+    ) -> bool {
         if !ask.is_wanted(&watcher.world().panel()) {
             return false;
         }
         if plan.purpose == Purpose::Plain {
             return self.comes_without_keys(ask);
         }
-        if matches!(ask, Ask::Switches) {
+        if matches!(ask, InputRequest::Switches) {
             return true;
         }
-        let looks_away = plan.purpose == Purpose::Roam && self.random.once_in(8);
-        run.pace.gives_input() && !looks_away
+        let looks_away = plan.purpose == Purpose::Explore && self.random.once_in(8);
+        run.timing.gives_input() && !looks_away
     }
 
     /// Whether an input comes in a run in which no key is struck.
-    fn comes_without_keys(&mut self, ask: Ask) -> bool {
-        let comes = !matches!(ask, Ask::Key);
+    fn comes_without_keys(&mut self, ask: InputRequest) -> bool {
+        let comes = !matches!(ask, InputRequest::Key);
         self.asks_without_keys |= comes;
         comes
     }
 
     /// Keeps the state in which an input is asked for, if something new was seen.
-    fn keep(&mut self, watcher: &Watcher<A>, run: &mut Run<A>, ask: Ask) -> Result<(), NoMemory> {
-        if !run.news.is_any || !run.has_asked || !self.tree.has_room() || !run.extent.is_short() {
+    fn keep(
+        &mut self,
+        watcher: &Watcher<A>,
+        run: &mut Run<A>,
+        ask: InputRequest,
+    ) -> Result<(), NoMemory> {
+        if !run.novelty.is_any
+            || !run.has_asked
+            || !self.corpus.has_room()
+            || !run.extent.is_short()
+        {
             return Ok(());
         }
-        let place = if run.news.is_step {
+        let place = if run.novelty.is_step {
             None
         } else {
-            Some(run.news.place)
+            Some(run.novelty.place)
         };
-        let mut tail = Tail {
+        let mut tail = InputSuffix {
             base: run.base,
             inputs: Vec::new(self.alloc),
         };
@@ -159,25 +174,25 @@ impl<A: Allocator + Copy> RunSearch<A> {
         let script = run.take_script(self.alloc);
         run.before_base = run.inputs.len();
         run.base = self
-            .tree
+            .corpus
             .keep(watcher, tail, script, run.extent, ask, place)?;
         Ok(())
     }
 
     /// What is to be seen before the next step of a machine that is watched.
     #[inline(always)]
-    fn glance(&self, watcher: &Watcher<A>) -> Glance {
+    fn glance(&self, watcher: &Watcher<A>) -> StepObservation {
         let cpu = watcher.world().cpu();
         let word = cpu.memory.get(cpu.pc);
         let look = self.looks[word.index()];
         let place = match look {
-            Look::Address | Look::StoredIndirectly => {
+            Feedback::Address | Feedback::StoredIndirectly => {
                 effective_address(&cpu.memory, word, cpu.pc)
             }
-            Look::Stored => target(word, cpu.pc),
+            Feedback::Stored => target(word, cpu.pc),
             _ => Word::ZERO,
         };
-        Glance {
+        StepObservation {
             at: cpu.pc,
             ac: cpu.ac,
             look,
@@ -190,8 +205,8 @@ impl<A: Allocator + Copy> RunSearch<A> {
     fn step<D: Allocator>(
         &mut self,
         program: &DeclaredProgram<'_, D>,
-        trial: &mut Trial<A>,
-        glance: &Glance,
+        trial: &mut ActiveRun<A>,
+        observation: &StepObservation,
         turns: &mut Turns,
     ) -> Result<Progress, NoMemory>
         requires profile { profile_of trial.old.watcher.world
@@ -208,13 +223,13 @@ impl<A: Allocator + Copy> RunSearch<A> {
         if progress != Progress::GoesOn {
             return Ok(progress);
         }
-        if glance.look.is_store() {
-            trial.run.stirs();
+        if observation.look.is_store() {
+            trial.run.note_activity();
         }
         if trial.plan.purpose != Purpose::Repeat {
-            self.note(&trial.watcher, &mut trial.run, &trial.plan, glance)?;
+            self.note(&trial.watcher, &mut trial.run, &trial.plan, observation)?;
             if self.asserted.contains(trial.watcher.world().cpu().pc) {
-                let Trial {
+                let ActiveRun {
                     watcher,
                     run,
                     plan,
@@ -231,7 +246,7 @@ impl<A: Allocator + Copy> RunSearch<A> {
     fn step_recorded<D: Allocator>(
         &mut self,
         program: &DeclaredProgram<'_, D>,
-        trial: &mut Trial<A>,
+        trial: &mut ActiveRun<A>,
         turns: &mut Turns,
     ) -> Result<Progress, NoMemory>
         requires profile { profile_of trial.old.watcher.world
@@ -242,13 +257,13 @@ impl<A: Allocator + Copy> RunSearch<A> {
         ensures rises { turns.old.spent ≤ turns.new.spent }
         ensures within { turns.new.spent ≤ turns.new.limit }
     {
-        let sight = Sight::of(&trial.watcher);
-        let glance = self.glance(&trial.watcher);
+        let step_record = StepRecord::of(&trial.watcher);
+        let observation = self.glance(&trial.watcher);
         let before = turns.spent();
-        let progress = self.step(program, trial, &glance, turns)?;
+        let progress = self.step(program, trial, &observation, turns)?;
         let is_made = turns.spent() != before && progress != Progress::Broken;
         if is_made && trial.plan.purpose != Purpose::Repeat {
-            self.record.makes(&sight);
+            self.record.makes(&step_record);
         }
         Ok(progress)
     }
@@ -260,26 +275,30 @@ impl<A: Allocator + Copy> RunSearch<A> {
         watcher: &Watcher<A>,
         run: &mut Run<A>,
         plan: &Plan<A>,
-        glance: &Glance,
+        observation: &StepObservation,
     ) -> Result<(), NoMemory> {
         let cpu = watcher.world().cpu();
-        if self.seen.sees_step(glance.at, cpu.pc) {
-            run.news.is_any = true;
-            run.news.is_step = true;
+        if self.seen.sees_step(observation.at, cpu.pc) {
+            run.novelty.is_any = true;
+            run.novelty.is_step = true;
             run.sees_new();
         }
-        match glance.look {
-            Look::Nothing | Look::Asks(_) => {}
-            Look::Address | Look::StoredIndirectly => {
-                self.note_value(run, glance.at, glance.place);
+        match observation.look {
+            Feedback::Nothing | Feedback::Asks(_) => {}
+            Feedback::Address | Feedback::StoredIndirectly => {
+                self.note_value(run, observation.at, observation.place);
             }
-            Look::Stored => self.note_value(run, glance.at, cpu.memory.get(glance.place)),
-            Look::Zero | Look::Sign => {
-                if glance.ac != Word::ZERO {
-                    let miss = Miss {
-                        at: glance.at,
-                        ac: glance.ac.value(),
-                        is_for_zero: glance.look == Look::Zero,
+            Feedback::Stored => self.note_value(
+                run,
+                observation.at,
+                cpu.memory.get(observation.place),
+            ),
+            Feedback::Zero | Feedback::Sign => {
+                if observation.ac != Word::ZERO {
+                    let miss = FailedTest {
+                        at: observation.at,
+                        ac: observation.ac.value(),
+                        is_for_zero: observation.look == Feedback::Zero,
                     };
                     self.note_miss(run, plan, miss)?;
                 }
@@ -322,7 +341,7 @@ impl<A: Allocator + Copy> RunSearch<A> {
         let Some(beyond) = beyond_assertion(assertion, word) else {
             return Ok(());
         };
-        let miss = Miss {
+        let miss = FailedTest {
             at: cpu.pc,
             ac: beyond,
             is_for_zero: true,
@@ -333,33 +352,38 @@ impl<A: Allocator + Copy> RunSearch<A> {
     /// Notes an address that was used or a word that was stored.
     fn note_value(&mut self, run: &mut Run<A>, at: Word, value: Word) {
         if self.seen.sees_value(at, value) {
-            if !run.news.is_any || self.seen.count(at) < self.seen.count(run.news.place) {
-                run.news.place = at;
+            if !run.novelty.is_any || self.seen.count(at) < self.seen.count(run.novelty.place) {
+                run.novelty.place = at;
             }
-            run.news.is_any = true;
+            run.novelty.is_any = true;
             run.sees_new();
         }
     }
 
     /// Notes a test that failed.
     #[inline(never)]
-    fn note_miss(&mut self, run: &mut Run<A>, plan: &Plan<A>, miss: Miss) -> Result<(), NoMemory> {
+    fn note_miss(
+        &mut self,
+        run: &mut Run<A>,
+        plan: &Plan<A>,
+        miss: FailedTest,
+    ) -> Result<(), NoMemory> {
         if self.seen.sees_distance(miss.at, miss.distance()) {
-            if !run.news.is_any {
-                run.news.place = miss.at;
+            if !run.novelty.is_any {
+                run.novelty.place = miss.at;
             }
-            run.news.is_any = true;
+            run.novelty.is_any = true;
         }
         if !miss.hints() {
             return Ok(());
         }
         let goal = plan.goal;
-        self.aims.miss(
-            &self.tree,
+        self.failed_tests.miss(
+            &self.corpus,
             run,
             miss,
             goal,
-            &mut self.alphabet,
+            &mut self.dictionary,
             &mut self.random,
         )
     }

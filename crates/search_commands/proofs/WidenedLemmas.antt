@@ -8,9 +8,9 @@ use Rattle.refuter.specs.declared.Witness.{Witness}
 use Rattle.search_commands.specs.VerifyText.{IsAnswer}
 use Rattle.search_commands.specs.WidenedSearch.{IsBroken, IsSettled}
 use Rattle.search_commands.specs.declared.verifying.Answer.TheVariants.{No}
-use Rattle.search_commands.specs.declared.widening.Settled.{Settled}
+use Rattle.search_commands.specs.declared.widening.FinalProposal.{FinalProposal}
 
-pub settled_before : {A : Type 0} (image : List (Option ℕ)) (first given : Kept) (s : Settled A) → (meaning given).start ≡ (meaning first).start → (meaning given).profile ≡ (meaning first).profile →
+pub settled_before : {A : Type 0} (image : List (Option ℕ)) (first given : Kept) (s : FinalProposal A) → (meaning given).start ≡ (meaning first).start → (meaning given).profile ≡ (meaning first).profile →
     IsSettled image given s → IsSettled image first s
 settled_before image first given s start profile settled = record {
   start_is = settled.start_is ∙ start;

@@ -3,8 +3,8 @@ use Rattle.std.specs.Prelude.{ℕ, ◌≡◌, ◌<◌, ◌||◌, true, false, Bo
 use Rattle.wordset.specs.Words.{Words}
 use Rattle.declaration.specs.Declaration.{Declaration, Routine}
 use Rattle.declaration.specs.Text.{Declares}
-use Rattle.search_commands.specs.declared.completing.Trial.{Trial}
-use Rattle.search_commands.specs.declared.completing.Trial.TheVariants.{Shown, Lacking, Unfit}
+use Rattle.search_commands.specs.declared.completing.CompletionResult.{CompletionResult}
+use Rattle.search_commands.specs.declared.completing.CompletionResult.TheVariants.{Shown, Lacking, Unfit}
 
 -- The cell is on the list of reads, if there is one.
 abbrev pub lists : Option Words → ℕ → Bool
@@ -37,7 +37,7 @@ pub record IsAddition (given proposed : Declaration) (text : List ℕ) : Type 0 
   pub adds : AddsOnly given proposed declaration
 
 -- Of a text that is found fit, nothing that it declares is neither given nor proposed. Of a text that is unfit nothing is said.
-abbrev pub AddsIfFit : Declaration → Declaration → List ℕ → Trial → Type 0
+abbrev pub AddsIfFit : Declaration → Declaration → List ℕ → CompletionResult → Type 0
 AddsIfFit given proposed text Shown = IsAddition given proposed text
 AddsIfFit given proposed text (Lacking lack) = IsAddition given proposed text
 AddsIfFit given proposed text Unfit = ⊤

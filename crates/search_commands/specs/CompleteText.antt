@@ -6,8 +6,8 @@ use Rattle.declaration.specs.Text.{Declares}
 use Rattle.policy.specs.Runs.{IsSafe}
 use Rattle.command_parts.specs.declared.status.Status.{Status}
 use Rattle.command_parts.specs.declared.status.Status.TheVariants.{Done, Refused}
-use Rattle.search_commands.specs.declared.completing.Trial.{Trial}
-use Rattle.search_commands.specs.declared.completing.Trial.TheVariants.{Shown, Lacking, Unfit}
+use Rattle.search_commands.specs.declared.completing.CompletionResult.{CompletionResult}
+use Rattle.search_commands.specs.declared.completing.CompletionResult.TheVariants.{Shown, Lacking, Unfit}
 use Rattle.search_commands.specs.Extending.{Extends}
 use Rattle.search_commands.specs.Keeping.{KeepsLines}
 
@@ -28,7 +28,7 @@ pub record Completes (source : Option (List ℕ)) (image : List (Option ℕ)) (g
 
 -- What is found of a text is true: it extends the declaration that is given by these bytes, and if it is shown no run of the
 -- program with these words breaks what it declares. Of a text that is unfit nothing is said.
-abbrev pub IsTried : List (Option ℕ) → List ℕ → Declaration → List ℕ → Trial → Type 0
+abbrev pub IsTried : List (Option ℕ) → List ℕ → Declaration → List ℕ → CompletionResult → Type 0
 IsTried image bytes given text Shown = Completes (Some bytes) image given Done text
 IsTried image bytes given text (Lacking lack) = IsExtension (Some bytes) given text
 IsTried image bytes given text Unfit = ⊤

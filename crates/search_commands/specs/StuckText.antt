@@ -13,13 +13,13 @@ use Rattle.reasons.specs.Reasons.{Explains}
 use Rattle.reasons.specs.Stuck.{EachFailsByLinesAlone, IsToldOf, NoneFailsBefore}
 use Rattle.reasons.specs.declared.reason.Reason.{Reason}
 use Rattle.diagnostics.specs.CheckText.{checked_case}
-use Rattle.diagnostics.specs.Telling.{IsTellingOf}
+use Rattle.diagnostics.specs.ReasonContexts.{IsTellingOf}
 use Rattle.command_parts.specs.Inputs.{HasDeclaration, HasImage}
 use Rattle.diagnostics.specs.WhyText.{why_text}
-use Rattle.diagnostics.specs.declared.verdicts.telling.Telling.{Telling}
+use Rattle.diagnostics.specs.declared.verdicts.reason_context.ReasonContext.{ReasonContext}
 
 -- The lines of the condition that is told, if one is.
-abbrev pub told_text : Profile → List (Option ℕ) → Option (Refusal × Reason × Telling) → List ℕ
+abbrev pub told_text : Profile → List (Option ℕ) → Option (Refusal × Reason × ReasonContext) → List ℕ
 told_text profile image None = []
 told_text profile image (Some found) = why_text profile image (Err found.0) (Some found.1) found.2
 
@@ -30,7 +30,7 @@ stuck_text at lines = (codes "pdp8: guess: Stuck " ++ octal_text at) ++ codes "\
 -- This is told of an address at which a search is stuck, by a draft of a certificate. The condition fails by the draft at that
 -- address, since what is told is so, and not because a line is missing or too narrow; none that is asked before it fails there but
 -- for that. Where none is told, each that fails there does so for that alone.
-pub record IsTold (j : Case) (at : ℕ) (told : Option (Refusal × Reason × Telling)) : Type 0 where
+pub record IsTold (j : Case) (at : ℕ) (told : Option (Refusal × Reason × ReasonContext)) : Type 0 where
   pub why : IfSome told (λ found. Explains j found.0.condition found.0.address found.1)
   pub place : IfSome told (λ found. IsToldOf at found.0 found.1)
   pub telling : IfSome told (λ found. IsTellingOf j.certificate (Err found.0) (Some found.1) found.2)
@@ -39,7 +39,7 @@ pub record IsTold (j : Case) (at : ℕ) (told : Option (Refusal × Reason × Tel
 
 -- These lines say why a search is stuck at an address, by a draft of a certificate.
 pub record IsToldOfDraft (image : List (Option ℕ)) (d : Declaration) (draft : Text) (at : ℕ) (lines : List ℕ) : Type 0 where
-  pub told : Option (Refusal × Reason × Telling)
+  pub told : Option (Refusal × Reason × ReasonContext)
   pub is : IsTold (checked_case image d draft) at told
   pub lines_are : lines ≡ told_text d.profile image told
 

@@ -15,11 +15,11 @@ use Rattle.command_parts.specs.declared.status.Status.{Status}
 use Rattle.command_parts.specs.declared.status.Status.TheVariants.{Done, Refused}
 use Rattle.command_parts.specs.Answers.{OfProgram}
 use Rattle.command_parts.specs.Inputs.{HasImage}
-use Rattle.search_commands.specs.declared.verifying.Lack.{Lack}
-use Rattle.search_commands.specs.declared.verifying.Lack.TheVariants.{Stuck, TurnsSpent}
+use Rattle.search_commands.specs.declared.verifying.InconclusiveReason.{InconclusiveReason}
+use Rattle.search_commands.specs.declared.verifying.InconclusiveReason.TheVariants.{Stuck, TurnsSpent}
 use Rattle.search_commands.specs.declared.verifying.Answer.{Answer}
 use Rattle.search_commands.specs.declared.verifying.Answer.TheVariants.{Yes, No, NotKnown}
-use Rattle.search_commands.specs.declared.verifying.Proposed.{Proposed}
+use Rattle.search_commands.specs.declared.verifying.ProposalAnswer.{ProposalAnswer}
 use Rattle.search_commands.specs.WidenedText.{HasReason, reason_text}
 
 -- The answer is true of a tape's words and a declaration. After a yes every condition holds of the certificate, and so no
@@ -35,7 +35,7 @@ abbrev pub no_text : ℕ → Rule → List ℕ
 no_text n r = codes "no: event " ++ decimal n ++ codes " rule " ++ decimal (number_of r) ++ codes "\n"
 
 -- The line that says why it isn't known.
-abbrev pub lack_text : Lack → List ℕ
+abbrev pub lack_text : InconclusiveReason → List ℕ
 lack_text (Stuck at) = (codes "not known: stuck at " ++ octal_text at) ++ codes "\n"
 lack_text TurnsSpent = codes "not known: turns spent" ++ codes "\n"
 
@@ -76,7 +76,7 @@ IsVerified frames text explained answer told = OfProgram frames text (IsVerified
 -- The text that is proposed declares a program that starts where it was asked to, on the machine that was asked for; the answer
 -- is true of the words and of what is declared. Its line is told, behind a no why no declaration allows what the run does, and
 -- behind that, only where it is to be explained, some lines more, of which nothing is said here.
-pub record IsProposedAnswerOf {A : Type 0} (options : VerifyOptions) (image : List (Option ℕ)) (p : Proposed A) (told : List ℕ) : Type 0 where
+pub record IsProposedAnswerOf {A : Type 0} (options : VerifyOptions) (image : List (Option ℕ)) (p : ProposalAnswer A) (told : List ℕ) : Type 0 where
   pub declaration : Declaration
   pub declares : Declares p.text.items declaration
   pub start_is : declaration.start ≡ options.start
@@ -86,7 +86,7 @@ pub record IsProposedAnswerOf {A : Type 0} (options : VerifyOptions) (image : Li
   pub is : IsTold (proposed_text p.answer (answer_text declaration p.answer) ++ reason_text p.obstacle) options.search.explained told
 
 -- The frames are a tape, and this is told of such an answer for it.
-pub record IsProposedAnswer {A : Type 0} (options : VerifyOptions) (frames : Option (List ℕ)) (p : Proposed A) (told : List ℕ) : Type 0 where
+pub record IsProposedAnswer {A : Type 0} (options : VerifyOptions) (frames : Option (List ℕ)) (p : ProposalAnswer A) (told : List ℕ) : Type 0 where
   pub image : List (Option ℕ)
   pub tape : HasImage frames image
   pub is : IsProposedAnswerOf options image p told

@@ -11,9 +11,9 @@ use Rattle.search_commands.specs.WidenedText.{HasReason}
 use Rattle.search_commands.specs.declared.verifying.Answer.TheVariants.{No}
 use Rattle.search_commands.specs.declared.widening.Ending.{Ending}
 use Rattle.search_commands.specs.declared.widening.Ending.TheVariants.{Open, Broken}
-use Rattle.search_commands.specs.declared.widening.Next.{Next}
-use Rattle.search_commands.specs.declared.widening.Next.TheVariants.{Wider, Ended}
-use Rattle.search_commands.specs.declared.widening.Settled.{Settled}
+use Rattle.search_commands.specs.declared.widening.WideningStep.{WideningStep}
+use Rattle.search_commands.specs.declared.widening.WideningStep.TheVariants.{Wider, Ended}
+use Rattle.search_commands.specs.declared.widening.FinalProposal.{FinalProposal}
 
 -- The run that is told breaks the declaration, and what is told of it is so.
 pub record IsBroken {A : Type 0} (image : List (Option ℕ)) (given : Kept) (w : Witness A) (o : Obstacle) : Type 0 where
@@ -26,13 +26,13 @@ IsEnded image given Open = ⊤
 IsEnded image given (Broken w o) = IsBroken image given w o
 
 -- What comes next takes the place of the declaration, or what is told of it is true.
-abbrev pub IsNext : {A : Type 0} → List (Option ℕ) → Kept → Next A → Type 0
+abbrev pub IsNext : {A : Type 0} → List (Option ℕ) → Kept → WideningStep A → Type 0
 IsNext image given (Wider p) = Supersedes image given p
 IsNext image given (Ended e) = IsEnded image given e
 
 -- What is proposed in the end is for the same start and machine, the text is one of its texts, the answer is true of it, and
 -- it has a reason if it is a no.
-pub record IsSettled {A : Type 0} (image : List (Option ℕ)) (given : Kept) (s : Settled A) : Type 0 where
+pub record IsSettled {A : Type 0} (image : List (Option ℕ)) (given : Kept) (s : FinalProposal A) : Type 0 where
   pub start_is : (meaning s.declaration).start ≡ (meaning given).start
   pub profile_is : (meaning s.declaration).profile ≡ (meaning given).profile
   pub text : Declares s.text.items (meaning s.declaration)

@@ -10,9 +10,9 @@ ghost use Rattle.diagnostics.specs.CertificateFaults.{ReadsCertified};
 ghost use Rattle.diagnostics.specs.CertificateInputs.{OfCertified};
 ghost use Rattle.diagnostics.specs.CheckText.{IsVerdictOf};
 
-use command_parts::outcome::{Outcome, deliver};
+use command_parts::outcome::{CommandResult, deliver};
 use command_parts::status::{Fault, Status};
-use diagnostics::verdicts::certificates::{Certified, certified_from};
+use diagnostics::verdicts::certificates::{ProgramWithCertificate, certified_from};
 use diagnostics::verdicts::verdict::{verdict_line, verdict_status};
 use judge::{Rooms, judge};
 use std::alloc::Allocator;
@@ -21,8 +21,8 @@ use streams::{ByteSink, ByteSource};
 /// The verdict on a certificate of a program: its line, and its status.
 pub fn verdict_of<A: Allocator + Copy>(
     alloc: A,
-    certified: &Certified<A>,
-) -> Result<Outcome<A>, Fault>
+    certified: &ProgramWithCertificate<A>,
+) -> Result<CommandResult<A>, Fault>
     ensures verdict { IfOk result (λ verdict. IsVerdictOf certified.now.program.image
         (meaning certified.now.program.declaration) (lines_of certified.now.certificate)
         verdict.status verdict.text.items) }
@@ -39,7 +39,7 @@ pub fn verdict_of<A: Allocator + Copy>(
     );
     let text = verdict_line(alloc, &program.declaration, &verdict)?;
     let status = verdict_status(&verdict);
-    Ok(Outcome { text, status })
+    Ok(CommandResult { text, status })
 }
 
 /// Checks a certificate of a tape and a declaration, and writes the verdict: yes, with the numbers of

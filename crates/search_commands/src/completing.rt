@@ -17,16 +17,18 @@ ghost use Rattle.proposer.specs.Proposals.{IsTold};
 ghost use Rattle.policy.specs.Runs.{IsSafe};
 
 use crate::adding::adds_only;
-use crate::declaring::{MOST_TURNS, copy_of, proposal_for, push_lack, push_seen, push_unfollowed};
+use crate::declaring::{
+    MOST_TURNS, copy_of, proposal_for, push_inconclusive_reason, push_seen, push_unfollowed,
+};
 use crate::extending::extends;
 use crate::keeping::keeps_lines;
 use crate::merging::merged;
-use crate::verifying::{Lack, lack_of};
+use crate::verifying::{InconclusiveReason, inconclusive_reason_of};
 use analyser::guess;
 use bin_tape::Image;
 use command_parts::inputs::tape_from;
 use command_parts::options::DeclareOptions;
-use command_parts::outcome::{Outcome, deliver};
+use command_parts::outcome::{CommandResult, deliver};
 use command_parts::status::{Fault, Status};
 use declaration::{Declaration, DeclarationFault};
 use proposer::{ObservedRuns, Proposal};
@@ -41,25 +43,25 @@ const MOST_BYTES: usize = 16_385;
 
 /// A declaration and its text.
 #[derive(Drop)]
-struct Given<A: Allocator> {
+struct ParsedDeclaration<A: Allocator> {
     text: Vec<u8, A>,
     declaration: Declaration<A>,
 }
 
 /// The words of a tape, and a declaration with its text.
 #[derive(Drop)]
-struct GivenProgram<A: Allocator> {
+struct ParsedProgram<A: Allocator> {
     image: Image,
-    given: Given<A>,
+    given: ParsedDeclaration<A>,
 }
 
 /// What is found of a text that may complete a declaration.
 #[derive(Clone, Copy, PartialEq, Eq, Debug)]
-pub(crate) enum Trial {
+pub(crate) enum CompletionResult {
     /// It extends the declaration, and the program complies with it.
     Shown,
     /// It extends the declaration, and no certificate is found.
-    Lacking(Lack),
+    Lacking(InconclusiveReason),
     /// It is not text that extends the declaration.
     Unfit,
 }
@@ -68,7 +70,7 @@ pub(crate) enum Trial {
 fn given_from<A: Allocator + Copy, R: ByteSource>(
     alloc: A,
     source: &mut R,
-) -> Result<Given<A>, Fault>
+) -> Result<ParsedDeclaration<A>, Fault>
     requires { R.mark source.old ≡ false }
     ensures declares { IfOk result (λ given.
         HasDeclaration (R.remaining source.old) (meaning given.declaration)) }
@@ -83,7 +85,7 @@ fn given_from<A: Allocator + Copy, R: ByteSource>(
 {
     let text = read_at_most(alloc, source, MOST_BYTES)?;
     match Declaration::parse(alloc, &text) {
-        Ok(declaration) => Ok(Given { text, declaration }),
+        Ok(declaration) => Ok(ParsedDeclaration { text, declaration }),
         Err(fault) => Err(Fault::from(fault)),
     }
 }
@@ -93,7 +95,7 @@ fn given_program_from<A: Allocator + Copy, R: ByteSource, D: ByteSource>(
     alloc: A,
     tape: &mut R,
     declaration: &mut D,
-) -> Result<GivenProgram<A>, Fault>
+) -> Result<ParsedProgram<A>, Fault>
     requires readable { R.mark tape.old ≡ false }
     requires declaration_readable { D.mark declaration.old ≡ false }
     ensures image { IfOk result (λ program. HasImage (R.remaining tape.old) program.image) }
@@ -111,7 +113,7 @@ fn given_program_from<A: Allocator + Copy, R: ByteSource, D: ByteSource>(
 {
     let image = tape_from(tape)?;
     let given = given_from(alloc, declaration)?;
-    Ok(GivenProgram { image, given })
+    Ok(ParsedProgram { image, given })
 }
 
 /// Why no certificate is found for a declaration, if none is.
@@ -119,14 +121,14 @@ fn lack_in<A: Allocator + Copy, D: Allocator>(
     alloc: A,
     image: &Image,
     declaration: &Declaration<D>,
-) -> Result<Option<Lack>, Fault>
+) -> Result<Option<InconclusiveReason>, Fault>
     ensures shown { IfOk result (λ lack. lack ≡ None →
         IsSafe (image_of image.now) (meaning declaration.now)) }
     ensures faults { IfErr result IsMemoryFault }
 {
     match guess(alloc, image, declaration) {
         Ok(_certificate) => Ok(None),
-        Err(fault) => match lack_of(fault) {
+        Err(fault) => match inconclusive_reason_of(fault) {
             Ok(lack) => Ok(Some(lack)),
             Err(fault) => Err(fault),
         },
@@ -176,17 +178,17 @@ fn tried<A: Allocator + Copy, D: Allocator>(
     given: &Declaration<D>,
     proposed: &Declaration<D>,
     text: &[u8],
-) -> Result<Trial, Fault>
+) -> Result<CompletionResult, Fault>
     ensures tried { IfOk result (IsTried image.now bytes.now (meaning given.now) text.now) }
     ensures adds { IfOk result (AddsIfFit (meaning given.now) (meaning proposed.now) text.now) }
     ensures faults { IfErr result IsMemoryFault }
 {
     let Some(more) = extension(alloc, bytes, given, proposed, text)? else {
-        return Ok(Trial::Unfit);
+        return Ok(CompletionResult::Unfit);
     };
     match lack_in(alloc, image, &more)? {
-        None => Ok(Trial::Shown),
-        Some(lack) => Ok(Trial::Lacking(lack)),
+        None => Ok(CompletionResult::Shown),
+        Some(lack) => Ok(CompletionResult::Lacking(lack)),
     }
 }
 
@@ -203,13 +205,13 @@ fn end_text<A: Allocator>(text: &mut Vec<u8, A>) -> Result<(), AllocError> {
 fn with_remarks<A: Allocator + Copy>(
     alloc: A,
     text: &[u8],
-    lack: Lack,
+    lack: InconclusiveReason,
     seen: Option<ObservedRuns>,
     unfollowed: &WordSet,
 ) -> Result<Vec<u8, A>, AllocError> {
     let mut more = copy_of(alloc, text)?;
     end_text(&mut more)?;
-    push_lack(&mut more, lack)?;
+    push_inconclusive_reason(&mut more, lack)?;
     push_seen(&mut more, seen)?;
     push_unfollowed(&mut more, unfollowed)?;
     Ok(more)
@@ -222,7 +224,7 @@ fn remarked<A: Allocator + Copy, D: Allocator>(
     given: &Declaration<D>,
     proposed: &Declaration<D>,
     text: &[u8],
-    lack: Lack,
+    lack: InconclusiveReason,
     seen: Option<ObservedRuns>,
     unfollowed: &WordSet,
 ) -> Result<Vec<u8, A>, Fault>
@@ -266,10 +268,10 @@ fn lacking<A: Allocator + Copy, D: Allocator>(
     given: &Declaration<D>,
     proposed: &Declaration<D>,
     text: &[u8],
-    lack: Lack,
+    lack: InconclusiveReason,
     seen: Option<ObservedRuns>,
     unfollowed: &WordSet,
-) -> Result<Outcome<A>, Fault>
+) -> Result<CommandResult<A>, Fault>
     requires extends { IsExtension (Some bytes.now) (meaning given.now) text.now }
     requires adds { IsAddition (meaning given.now) (meaning proposed.now) text.now }
     ensures completes { (image : List (Option ℕ)) → IfOk result (λ c.
@@ -279,7 +281,7 @@ fn lacking<A: Allocator + Copy, D: Allocator>(
     ensures faults { IfErr result IsMemoryFault }
 {
     let more = remarked(alloc, bytes, given, proposed, text, lack, seen, unfollowed)?;
-    Ok(Outcome {
+    Ok(CommandResult {
         text: more,
         status: Status::Refused,
     })
@@ -290,10 +292,10 @@ fn lacking<A: Allocator + Copy, D: Allocator>(
 fn completed<A: Allocator + Copy>(
     alloc: A,
     image: &Image,
-    given: &Given<A>,
-    lack: Lack,
+    given: &ParsedDeclaration<A>,
+    lack: InconclusiveReason,
     proposal: &Proposal<A>,
-) -> Result<Outcome<A>, Fault>
+) -> Result<CommandResult<A>, Fault>
     requires { Declares given.now.text.items (meaning given.now.declaration) }
     ensures completes { IfOk result (λ c. Completes (Some given.now.text.items) image.now
         (meaning given.now.declaration) c.status c.text.items) }
@@ -306,29 +308,29 @@ fn completed<A: Allocator + Copy>(
     let proposed = &proposal.declaration;
     let text = merged(alloc, bytes, promised, proposed)?;
     match tried(alloc, image, bytes, promised, proposed, &text)? {
-        Trial::Shown => Ok(Outcome {
+        CompletionResult::Shown => Ok(CommandResult {
             text,
             status: Status::Done,
         }),
-        Trial::Lacking(lack) => {
+        CompletionResult::Lacking(lack) => {
             let seen = proposal.seen;
             let unfollowed = &proposal.unfollowed;
             lacking(
                 alloc, bytes, promised, proposed, &text, lack, seen, unfollowed,
             )
         }
-        Trial::Unfit => as_given(alloc, given, proposed, lack, &proposal.unfollowed),
+        CompletionResult::Unfit => as_given(alloc, given, proposed, lack, &proposal.unfollowed),
     }
 }
 
 /// What is written where nothing is added to the text that is given, so that nothing is by what runs did.
 fn as_given<A: Allocator + Copy>(
     alloc: A,
-    given: &Given<A>,
+    given: &ParsedDeclaration<A>,
     proposed: &Declaration<A>,
-    lack: Lack,
+    lack: InconclusiveReason,
     unfollowed: &WordSet,
-) -> Result<Outcome<A>, Fault>
+) -> Result<CommandResult<A>, Fault>
     requires { Declares given.now.text.items (meaning given.now.declaration) }
     ensures completes { (image : List (Option ℕ)) → IfOk result (λ c. Completes
         (Some given.now.text.items) image (meaning given.now.declaration) c.status c.text.items) }
@@ -346,20 +348,20 @@ fn as_given<A: Allocator + Copy>(
 /// The text that completes a declaration, and whether compliance with it is shown.
 fn completion_of<A: Allocator + Copy>(
     alloc: A,
-    program: GivenProgram<A>,
+    program: ParsedProgram<A>,
     reads: bool,
-) -> Result<Outcome<A>, Fault>
+) -> Result<CommandResult<A>, Fault>
     requires { Declares program.given.text.items (meaning program.given.declaration) }
     ensures completes { IfOk result (λ told. Completes (Some program.given.text.items)
         program.image (meaning program.given.declaration) told.status told.text.items) }
     ensures faults { IfErr result IsProposeFault }
     ensures unwritten { fails_to_write result ≡ false }
 {
-    let GivenProgram { image, given } = program;
+    let ParsedProgram { image, given } = program;
     let Some(lack) = lack_in(alloc, &image, &given.declaration)? else {
-        let Given { text, .. } = given;
+        let ParsedDeclaration { text, .. } = given;
         let status = Status::Done;
-        return Ok(Outcome { text, status });
+        return Ok(CommandResult { text, status });
     };
     let proposal = proposal_by(alloc, &image, &given.declaration, reads)?;
     completed(alloc, &image, &given, lack, &proposal)

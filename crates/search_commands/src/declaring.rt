@@ -10,11 +10,11 @@ ghost use Rattle.declaration.specs.Kept.{meaning};
 ghost use Rattle.declaration.specs.Text.{Declares};
 ghost use Rattle.proposer.specs.Proposals.{AreNeeded, Fits, IsListed, IsShown, IsTold};
 
-use crate::verifying::Lack;
+use crate::verifying::InconclusiveReason;
 use bin_tape::Image;
 use command_parts::inputs::tape_from;
 pub use command_parts::options::DeclareOptions;
-use command_parts::outcome::{Outcome, deliver};
+use command_parts::outcome::{CommandResult, deliver};
 use command_parts::status::{Fault, Status};
 use command_parts::text::push_place;
 use declaration::{Declaration, DeclarationFault};
@@ -41,10 +41,17 @@ pub(crate) fn push_unfollowed<A: Allocator>(
 }
 
 /// Adds a comment that says why no certificate is found.
-pub(crate) fn push_lack<A: Allocator>(text: &mut Vec<u8, A>, lack: Lack) -> Result<(), AllocError> {
+pub(crate) fn push_inconclusive_reason<A: Allocator>(
+    text: &mut Vec<u8, A>,
+    lack: InconclusiveReason,
+) -> Result<(), AllocError> {
     match lack {
-        Lack::Stuck(at) => push_place(text, b"/ No certificate is found: stuck at ", at)?,
-        Lack::TurnsSpent => {
+        InconclusiveReason::Stuck(at) => push_place(
+            text,
+            b"/ No certificate is found: stuck at ",
+            at,
+        )?,
+        InconclusiveReason::TurnsSpent => {
             text.extend_from_slice(b"/ No certificate is found within the limit of turns")?
         }
     }
@@ -58,8 +65,8 @@ fn push_verdict<A: Allocator, B: Allocator>(
 ) -> Result<(), AllocError> {
     match verdict {
         Verdict::Safe(_) => Ok(()),
-        Verdict::Stuck(at) => push_lack(text, Lack::Stuck(*at)),
-        Verdict::TurnsSpent => push_lack(text, Lack::TurnsSpent),
+        Verdict::Stuck(at) => push_inconclusive_reason(text, InconclusiveReason::Stuck(*at)),
+        Verdict::TurnsSpent => push_inconclusive_reason(text, InconclusiveReason::TurnsSpent),
     }
 }
 
@@ -182,7 +189,7 @@ pub fn proposed<A: Allocator + Copy>(
     alloc: A,
     image: &Image,
     options: &DeclareOptions,
-) -> Result<Outcome<A>, Fault>
+) -> Result<CommandResult<A>, Fault>
     ensures proposal { IfOk result (λ told.
         IsProposalOf options.now image.now told.status told.text.items) }
     ensures faults { IfErr result IsProposeFault }
@@ -193,11 +200,11 @@ pub fn proposed<A: Allocator + Copy>(
     if let Verdict::Safe(_) = &proposal.verdict {
         let text = text_of(proposal);
         let status = Status::Done;
-        return Ok(Outcome { text, status });
+        return Ok(CommandResult { text, status });
     }
     let text = remarked(alloc, &proposal, options)?;
     let status = Status::Refused;
-    Ok(Outcome { text, status })
+    Ok(CommandResult { text, status })
 }
 
 /// Proposes what the program of a tape may do, by the tape, its start and the machine alone, and writes the text of

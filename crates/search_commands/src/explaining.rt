@@ -11,20 +11,20 @@ ghost use Rattle.diagnostics.specs.CertificateFaults.{ReadsCertified};
 ghost use Rattle.diagnostics.specs.CertificateInputs.{OfCertified};
 ghost use Rattle.diagnostics.specs.WhyText.{IsExplanationOf};
 
-use command_parts::outcome::{Outcome, deliver};
+use command_parts::outcome::{CommandResult, deliver};
 use command_parts::status::{Fault, Status};
-use diagnostics::verdicts::certificates::{Certified, certified_from};
+use diagnostics::verdicts::certificates::{ProgramWithCertificate, certified_from};
 use diagnostics::verdicts::messages::{VerdictMessage, check_message};
 use std::alloc::Allocator;
 use streams::{ByteSink, ByteSource};
 
 /// What is told, as it reads without a source.
-fn outcome_of<A: Allocator>(message: VerdictMessage<A>) -> Outcome<A>
+fn outcome_of<A: Allocator>(message: VerdictMessage<A>) -> CommandResult<A>
     ensures text { result.text.items ≡ plain message.told }
     ensures status { result.status ≡ message.status }
 {
     let VerdictMessage { told, status } = message;
-    Outcome {
+    CommandResult {
         text: told.into_bytes(),
         status,
     }
@@ -33,15 +33,15 @@ fn outcome_of<A: Allocator>(message: VerdictMessage<A>) -> Outcome<A>
 /// The verdict on a certificate of a program with why it is no, or with what a yes leaves to say, and its status.
 fn explanation_of<A: Allocator + Copy>(
     alloc: A,
-    certified: &Certified<A>,
-) -> Result<Outcome<A>, Fault>
+    certified: &ProgramWithCertificate<A>,
+) -> Result<CommandResult<A>, Fault>
     ensures explained { IfOk result (λ told. IsExplanationOf certified.now.program.image
         (meaning certified.now.program.declaration) (lines_of certified.now.certificate)
         told.status told.text.items) }
     ensures faults { IfErr result IsMemoryFault }
     ensures unwritten { fails_to_write result ≡ false }
 {
-    let Certified {
+    let ProgramWithCertificate {
         program,
         certificate,
     } = certified;

@@ -14,20 +14,20 @@ const RETURNS: &[u8] = b"returns";
 
 /// The first line of a text, and what follows it.
 #[derive(Clone, Copy)]
-struct FrontLine<'a> {
+struct FirstLine<'a> {
     line: &'a [u8],
     rest: &'a [u8],
 }
 
 /// The first line of a text, if a line feed ends it, and what follows the line feed.
-fn front_line<'a>(text: &'a [u8]) -> Option<FrontLine<'a>>
+fn front_line<'a>(text: &'a [u8]) -> Option<FirstLine<'a>>
     ensures has { IfSome result (λ it. HasLine text.now) }
     ensures line { IfSome result (λ it. it.line.now ≡ first_line text.now) }
     ensures rest { IfSome result (λ it. it.rest.now ≡ other_lines text.now) }
     ensures shorter { IfSome result (λ it. length it.rest.now < length text.now) }
 {
     let end = feed_in(text)?;
-    Some(FrontLine {
+    Some(FirstLine {
         line: &text[..end],
         rest: &text[end + 1..],
     })

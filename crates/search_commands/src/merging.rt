@@ -12,7 +12,7 @@ const MOST_RANGES: usize = 7;
 
 /// What a declaration says about cells, as far as it tells what may be added.
 #[derive(Clone, Copy)]
-struct Held {
+struct DeclaredCells {
     bodies: WordSet,
     entries: WordSet,
     variables: WordSet,
@@ -44,7 +44,7 @@ fn entries(routines: &[Routine]) -> WordSet {
 }
 
 /// The cells that are added to bodies.
-fn added_bodies(held: &Held, main: &WordSet, routines: &[Routine]) -> WordSet {
+fn added_bodies(held: &DeclaredCells, main: &WordSet, routines: &[Routine]) -> WordSet {
     let mut cells = held.free(main);
     for routine in routines {
         if held.entries.contains(routine.entry()) || held.admits(routine) {
@@ -83,10 +83,10 @@ fn offsets_of<A: Allocator>(declaration: &Declaration<A>, entry: Word) -> WordSe
     set
 }
 
-impl Held {
+impl DeclaredCells {
     /// What a declaration says.
-    fn by<A: Allocator>(declaration: &Declaration<A>) -> Held {
-        Held {
+    fn by<A: Allocator>(declaration: &Declaration<A>) -> DeclaredCells {
+        DeclaredCells {
             bodies: bodies(declaration.main(), declaration.routines()),
             entries: entries(declaration.routines()),
             variables: *declaration.variables(),
@@ -133,7 +133,7 @@ fn addition_to<A: Allocator, B: Allocator>(
     line: &[u8],
     given: &Declaration<A>,
     proposed: &Declaration<B>,
-    held: &Held,
+    held: &DeclaredCells,
 ) -> Option<Addition> {
     let entry = entry_on(line)?;
     if !given.is_entry(entry) {
@@ -222,7 +222,7 @@ fn push_halts<A: Allocator>(
 /// Adds the line of a routine, with those cells of its body that are free.
 fn push_routine<A: Allocator>(
     text: &mut Vec<u8, A>,
-    held: &Held,
+    held: &DeclaredCells,
     routine: &Routine,
 ) -> Result<(), AllocError> {
     text.extend_from_slice(b"sub")?;
@@ -237,7 +237,7 @@ fn push_routine<A: Allocator>(
 /// Adds the lines of the routines that may be added.
 fn push_routines<A: Allocator>(
     text: &mut Vec<u8, A>,
-    held: &Held,
+    held: &DeclaredCells,
     routines: &[Routine],
 ) -> Result<(), AllocError> {
     for routine in routines {
@@ -321,7 +321,7 @@ fn take_byte<A: Allocator, B: Allocator>(
     byte: u8,
     given: &Declaration<B>,
     proposed: &Declaration<B>,
-    held: &Held,
+    held: &DeclaredCells,
 ) -> Result<(), AllocError> {
     if byte != b'\n' {
         return line.extend_from_slice(&[byte]);
@@ -338,7 +338,7 @@ fn push_given<A: Allocator, B: Allocator>(
     bytes: &[u8],
     given: &Declaration<B>,
     proposed: &Declaration<B>,
-    held: &Held,
+    held: &DeclaredCells,
 ) -> Result<(), AllocError> {
     for byte in bytes {
         take_byte(text, line, *byte, given, proposed, held)?;
@@ -354,7 +354,7 @@ fn push_all_halts<A: Allocator, B: Allocator>(
     text: &mut Vec<u8, A>,
     given: &Declaration<B>,
     proposed: &Declaration<B>,
-    held: &Held,
+    held: &DeclaredCells,
 ) -> Result<(), AllocError> {
     let inside = added_bodies(held, proposed.main(), proposed.routines()).union(&held.bodies);
     let open = inside.minus(given.stops()).minus(given.pauses());
@@ -391,7 +391,7 @@ fn push_all_skips<A: Allocator, B: Allocator>(
 }
 
 /// The entries of the routines that are there when all are added that may be.
-fn all_entries<A: Allocator>(held: &Held, proposed: &Declaration<A>) -> WordSet {
+fn all_entries<A: Allocator>(held: &DeclaredCells, proposed: &Declaration<A>) -> WordSet {
     let mut entries = held.entries;
     for routine in proposed.routines() {
         if held.admits(routine) {
@@ -407,7 +407,7 @@ fn push_permissions<A: Allocator, B: Allocator>(
     text: &mut Vec<u8, A>,
     given: &Declaration<B>,
     proposed: &Declaration<B>,
-    held: &Held,
+    held: &DeclaredCells,
 ) -> Result<(), AllocError> {
     let entries = all_entries(held, proposed);
     push_all_skips(text, given, proposed, &entries)?;
@@ -441,7 +441,7 @@ pub(crate) fn merged<A: Allocator + Copy, B: Allocator>(
     given: &Declaration<B>,
     proposed: &Declaration<B>,
 ) -> Result<Vec<u8, A>, AllocError> {
-    let held = Held::by(given);
+    let held = DeclaredCells::by(given);
     let mut text = Vec::new(alloc);
     let mut line = Vec::new(alloc);
     push_given(&mut text, &mut line, bytes, given, proposed, &held)?;

@@ -13,8 +13,11 @@ ghost use Rattle.search_commands.specs.SearchFaults.{IsProposeFault};
 ghost use Rattle.search_commands.specs.VerifyText.{IsAnswer, IsProposedAnswerOf, IsVerifiedOf, answer_text, lack_text, no_text, proposed_text};
 
 use crate::stuck::draft_message;
-use crate::verifying::{Answer, Lack, MOST_TURNS, Proposed, RefuteOptions, VerifyOptions, lack_of};
-use crate::widening::{Settled, settle, with_reason};
+use crate::verifying::{
+    Answer, InconclusiveReason, MOST_TURNS, ProposalAnswer, RefuteOptions, VerifyOptions,
+    inconclusive_reason_of,
+};
+use crate::widening::{FinalProposal, settle, with_reason};
 use analyser::{Attempt, GuessFault, guess, guess_or_draft};
 use bin_tape::Image;
 use certificate::Certificate;
@@ -25,7 +28,7 @@ use declaration::Declaration;
 use diagnostics::verdicts::surplus_text::surplus_message;
 use diagnostics::verdicts::verdict::verdict_line;
 use itoa::Buffer;
-use machine_commands::violations::breach_lines;
+use machine_commands::violations::violation_lines;
 use policy::{Rule, Watched};
 use proposer::propose;
 use refuter::{Witness, refute_within};
@@ -35,7 +38,7 @@ use word12::Word;
 
 /// An answer, and what the search for a certificate had found where it was stuck, if that is known.
 #[derive(Drop)]
-struct Searched<A: Allocator> {
+struct AnswerWithDraft<A: Allocator> {
     answer: Answer<A>,
     draft: Option<Certificate<A>>,
 }
@@ -57,7 +60,7 @@ pub struct AnswerMessage<A: Allocator> {
 #[derive(Drop)]
 pub struct ProposalMessage<A: Allocator> {
     /// The declaration, and whether the program complies with it.
-    pub proposed: Proposed<A>,
+    pub proposed: ProposalAnswer<A>,
     /// The line of the answer.
     pub line: Vec<u8, A>,
     /// The lines that say why, if that is asked for.
@@ -70,7 +73,7 @@ fn refuted<A: Allocator + Copy, D: Allocator>(
     image: &Image,
     declaration: &Declaration<D>,
     options: &RefuteOptions,
-    lack: Lack,
+    lack: InconclusiveReason,
 ) -> Result<Answer<A>, Fault>
     ensures answer { IfOk result (IsAnswer image.now (meaning declaration.now)) }
     ensures faults { IfErr result IsMemoryFault }
@@ -94,15 +97,15 @@ fn answer_on<A: Allocator + Copy, D: Allocator>(
     image: &Image,
     declaration: &Declaration<D>,
     options: &RefuteOptions,
-    lack: Lack,
+    lack: InconclusiveReason,
     draft: Option<Certificate<A>>,
-) -> Result<Searched<A>, Fault>
+) -> Result<AnswerWithDraft<A>, Fault>
     ensures answer { IfOk result (λ found.
         IsAnswer image.now (meaning declaration.now) found.answer) }
     ensures faults { IfErr result IsMemoryFault }
 {
     match refuted(alloc, image, declaration, options, lack) {
-        Ok(answer) => Ok(Searched { answer, draft }),
+        Ok(answer) => Ok(AnswerWithDraft { answer, draft }),
         Err(fault) => Err(fault),
     }
 }
@@ -114,12 +117,12 @@ fn answer_after<A: Allocator + Copy, D: Allocator>(
     declaration: &Declaration<D>,
     options: &RefuteOptions,
     fault: GuessFault,
-) -> Result<Searched<A>, Fault>
+) -> Result<AnswerWithDraft<A>, Fault>
     ensures answer { IfOk result (λ found.
         IsAnswer image.now (meaning declaration.now) found.answer) }
     ensures faults { IfErr result IsMemoryFault }
 {
-    match lack_of(fault) {
+    match inconclusive_reason_of(fault) {
         Ok(lack) => answer_on(alloc, image, declaration, options, lack, None),
         Err(fault) => Err(fault),
     }
@@ -131,13 +134,13 @@ fn answer_of<A: Allocator + Copy, D: Allocator>(
     image: &Image,
     declaration: &Declaration<D>,
     options: &RefuteOptions,
-) -> Result<Searched<A>, Fault>
+) -> Result<AnswerWithDraft<A>, Fault>
     ensures answer { IfOk result (λ found.
         IsAnswer image.now (meaning declaration.now) found.answer) }
     ensures faults { IfErr result IsMemoryFault }
 {
     match guess(alloc, image, declaration) {
-        Ok(certificate) => Ok(Searched {
+        Ok(certificate) => Ok(AnswerWithDraft {
             answer: Answer::Yes(certificate),
             draft: None,
         }),
@@ -152,7 +155,7 @@ fn answer_by_attempt<A: Allocator + Copy, D: Allocator>(
     declaration: &Declaration<D>,
     options: &RefuteOptions,
     attempt: Attempt<A>,
-) -> Result<Searched<A>, Fault>
+) -> Result<AnswerWithDraft<A>, Fault>
     requires accepted { IsAcceptedIfFound image.now declaration.now attempt }
     requires lines { AreLines (lines_of (claimed_by attempt)) }
     ensures answer { IfOk result (λ found.
@@ -160,12 +163,12 @@ fn answer_by_attempt<A: Allocator + Copy, D: Allocator>(
     ensures faults { IfErr result IsMemoryFault }
 {
     match attempt {
-        Attempt::Found(certificate) => Ok(Searched {
+        Attempt::Found(certificate) => Ok(AnswerWithDraft {
             answer: Answer::Yes(certificate),
             draft: None,
         }),
         Attempt::Stuck(at, draft) => {
-            let lack = Lack::Stuck(at);
+            let lack = InconclusiveReason::Stuck(at);
             answer_on(alloc, image, declaration, options, lack, Some(draft))
         }
     }
@@ -178,7 +181,7 @@ fn answer_with_draft<A: Allocator + Copy, D: Allocator>(
     image: &Image,
     declaration: &Declaration<D>,
     options: &RefuteOptions,
-) -> Result<Searched<A>, Fault>
+) -> Result<AnswerWithDraft<A>, Fault>
     ensures answer { IfOk result (λ found.
         IsAnswer image.now (meaning declaration.now) found.answer) }
     ensures faults { IfErr result IsMemoryFault }
@@ -190,13 +193,13 @@ fn answer_with_draft<A: Allocator + Copy, D: Allocator>(
 }
 
 /// The line that says why it is not known.
-fn lack_line<A: Allocator>(alloc: A, lack: Lack) -> Result<Vec<u8, A>, AllocError>
+fn lack_line<A: Allocator>(alloc: A, lack: InconclusiveReason) -> Result<Vec<u8, A>, AllocError>
     ensures { IfOk result (λ text. text.items ≡ lack_text lack) }
 {
     let mut text = Vec::new(alloc);
     match lack {
-        Lack::Stuck(at) => push_place(&mut text, b"not known: stuck at ", at)?,
-        Lack::TurnsSpent => text.extend_from_slice(b"not known: turns spent")?,
+        InconclusiveReason::Stuck(at) => push_place(&mut text, b"not known: stuck at ", at)?,
+        InconclusiveReason::TurnsSpent => text.extend_from_slice(b"not known: turns spent")?,
     }
     text.extend_from_slice(b"\n")?;
     Ok(text)
@@ -282,7 +285,7 @@ fn stuck_message<A: Allocator + Copy, D: Allocator>(
 }
 
 /// What the last step of a run is about to do that violates a rule.
-fn breach_message<A: Allocator + Copy, D: Allocator>(
+fn violation_message<A: Allocator + Copy, D: Allocator>(
     alloc: A,
     image: &Image,
     declaration: &Declaration<D>,
@@ -293,7 +296,7 @@ fn breach_message<A: Allocator + Copy, D: Allocator>(
     let (event, rule) = (found.event, found.rule);
     let watched = Watched::Broken { event, rule };
     let events = &found.events;
-    Ok(breach_lines(alloc, image, declaration, events, watched, true)?)
+    Ok(violation_lines(alloc, image, declaration, events, watched, true)?)
 }
 
 /// The lines after an answer that say why: after a yes what of the declaration is wider than the certificate needs, and what routines
@@ -303,7 +306,7 @@ fn why_message<A: Allocator + Copy, D: Allocator>(
     alloc: A,
     image: &Image,
     declaration: &Declaration<D>,
-    found: &Searched<A>,
+    found: &AnswerWithDraft<A>,
     explained: bool,
 ) -> Result<Message<A>, Fault>
     ensures plain { IfOk result (λ text. explained ≡ false → plain text ≡ []) }
@@ -314,11 +317,11 @@ fn why_message<A: Allocator + Copy, D: Allocator>(
     }
     match &found.answer {
         Answer::Yes(certificate) => Ok(surplus_message(alloc, image, declaration, certificate)?),
-        Answer::NotKnown(Lack::TurnsSpent) => Ok(Message::new(alloc)),
-        Answer::NotKnown(Lack::Stuck(at)) => {
+        Answer::NotKnown(InconclusiveReason::TurnsSpent) => Ok(Message::new(alloc)),
+        Answer::NotKnown(InconclusiveReason::Stuck(at)) => {
             Ok(stuck_message(alloc, image, declaration, &found.draft, *at)?)
         }
-        Answer::No(witness) => breach_message(alloc, image, declaration, witness),
+        Answer::No(witness) => violation_message(alloc, image, declaration, witness),
     }
 }
 
@@ -327,7 +330,7 @@ fn message_of<A: Allocator + Copy, D: Allocator>(
     alloc: A,
     image: &Image,
     declaration: &Declaration<D>,
-    found: Searched<A>,
+    found: AnswerWithDraft<A>,
     explained: bool,
 ) -> Result<AnswerMessage<A>, Fault>
     requires { IsAnswer image.now (meaning declaration.now) found.answer }
@@ -341,7 +344,7 @@ fn message_of<A: Allocator + Copy, D: Allocator>(
 {
     let line = answer_line(alloc, declaration, &found.answer)?;
     let why = why_message(alloc, image, declaration, &found, explained)?;
-    let Searched { answer, draft } = found;
+    let AnswerWithDraft { answer, draft } = found;
     Ok(AnswerMessage {
         answer,
         line,
@@ -398,13 +401,13 @@ pub fn verify_proposed_message<A: Allocator + Copy>(
     let mut turns = Turns::new(MOST_TURNS);
     let proposal = propose(alloc, image, options.start, options.profile, &mut turns)?;
     let last = settle(alloc, image, proposal, &options.search, &mut turns)?;
-    let Settled {
+    let FinalProposal {
         declaration,
         text,
         answer,
         obstacle,
     } = last;
-    let found = Searched {
+    let found = AnswerWithDraft {
         answer,
         draft: None,
     };
@@ -418,7 +421,7 @@ pub fn verify_proposed_message<A: Allocator + Copy>(
     let line = proposed_line(alloc, &answer, &line)?;
     let lines = with_reason(alloc, line, &obstacle)?;
     Ok(ProposalMessage {
-        proposed: Proposed {
+        proposed: ProposalAnswer {
             text,
             answer,
             obstacle,

@@ -18,13 +18,13 @@ ghost use Rattle.command_parts.specs.declared.status.Status.TheVariants.{Done, R
 use analyser::{Attempt, guess_or_draft};
 use bin_tape::Image;
 use certificate::Certificate;
-use command_parts::message::{Lines, Message};
+use command_parts::message::{Message, MessageWriter};
 use command_parts::programs::program_from;
 use command_parts::status::{Fault, Status};
 use command_parts::text::push_place;
 use declaration::Declaration;
+use diagnostics::verdicts::reason_context::{ReasonContext, reason_context_of};
 use diagnostics::verdicts::reason_text::push_why;
-use diagnostics::verdicts::telling::{Telling, telling_of};
 use instruct::Profile;
 use judge::Refusal;
 use reasons::{Reason, WhyRooms, why_stuck};
@@ -33,11 +33,11 @@ use streams::{ByteSink, ByteSource, put};
 use word12::Word;
 
 /// Adds the lines of the condition that is told, if one is.
-fn push_told<L: Lines>(
+fn push_told<L: MessageWriter>(
     text: &mut L,
     profile: Profile,
     image: &Image,
-    told: &Option<(Refusal, Reason, Telling)>,
+    told: &Option<(Refusal, Reason, ReasonContext)>,
 ) -> Result<(), AllocError>
     ensures { OnOk result (L.text text.new ≡ L.text text.old ++ told_text profile image.now told.now) }
 {
@@ -63,7 +63,7 @@ fn told_of<D: Allocator, C: Allocator, M: Allocator>(
     draft: &Certificate<C>,
     at: Word,
     rooms: &mut WhyRooms<M>,
-) -> Option<(Refusal, Reason, Telling)>
+) -> Option<(Refusal, Reason, ReasonContext)>
     ensures { IsTold
         (checked_case image.now (meaning declaration.now) (lines_of draft.now)) at result }
 {
@@ -71,7 +71,7 @@ fn told_of<D: Allocator, C: Allocator, M: Allocator>(
     match &found {
         None => None,
         Some((refusal, reason)) => {
-            let telling = telling_of(draft, &Err(*refusal), &Some(*reason));
+            let telling = reason_context_of(draft, &Err(*refusal), &Some(*reason));
             Some((*refusal, *reason, telling))
         }
     }

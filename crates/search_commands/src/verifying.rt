@@ -27,7 +27,7 @@ pub(crate) const MOST_TURNS: u32 = 2_000_000;
 
 /// Why it is not known whether a program complies with its declaration.
 #[derive(Clone, Copy, PartialEq, Eq, Debug)]
-pub enum Lack {
+pub enum InconclusiveReason {
     /// The search for a certificate is stuck at an instruction that the judge would refuse.
     Stuck(Word),
     /// The limit of turns of the search for a certificate was reached.
@@ -42,12 +42,12 @@ pub enum Answer<A: Allocator> {
     /// It does not: this run violates the declaration.
     No(Witness<A>),
     /// Neither was found.
-    NotKnown(Lack),
+    NotKnown(InconclusiveReason),
 }
 
 /// An answer, and the text of the declaration that was proposed for the tape.
 #[derive(Drop)]
-pub struct Proposed<A: Allocator> {
+pub struct ProposalAnswer<A: Allocator> {
     /// The declaration's text.
     pub text: Vec<u8, A>,
     /// Whether the program complies with it.
@@ -67,12 +67,12 @@ pub fn answer_status<A: Allocator>(answer: &Answer<A>) -> Status
 }
 
 /// Why it is not known, where no certificate was found; a want of memory is told as one.
-pub(crate) fn lack_of(fault: GuessFault) -> Result<Lack, Fault>
+pub(crate) fn inconclusive_reason_of(fault: GuessFault) -> Result<InconclusiveReason, Fault>
     ensures { IfErr result IsMemoryFault }
 {
     match fault {
-        GuessFault::Stuck(at) => Ok(Lack::Stuck(at)),
-        GuessFault::TurnsSpent => Ok(Lack::TurnsSpent),
+        GuessFault::Stuck(at) => Ok(InconclusiveReason::Stuck(at)),
+        GuessFault::TurnsSpent => Ok(InconclusiveReason::TurnsSpent),
         GuessFault::NoMemory => Err(Fault::NoMemory),
     }
 }
@@ -132,7 +132,7 @@ pub fn verify_proposed<A: Allocator + Copy, R: ByteSource, W: ByteSink>(
     tape: &mut R,
     options: VerifyOptions,
     out: &mut W,
-) -> Result<Proposed<A>, Fault>
+) -> Result<ProposalAnswer<A>, Fault>
     requires readable { R.mark tape.old ≡ false }
     requires writable { W.mark out.old ≡ false }
     // The text declares a program from that start, on that machine, the answer is true of it, and what

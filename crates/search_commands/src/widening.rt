@@ -11,7 +11,7 @@ ghost use Rattle.search_commands.specs.VerifyText.{IsAnswer};
 ghost use Rattle.search_commands.specs.WidenedSearch.{IsEnded, IsNext, IsSettled};
 ghost use Rattle.search_commands.specs.WidenedText.{HasReason, obstacle_place, obstacle_text, obstacle_words, reason_text};
 
-use crate::verifying::{Answer, Lack, RefuteOptions};
+use crate::verifying::{Answer, InconclusiveReason, RefuteOptions};
 use bin_tape::Image;
 use command_parts::status::Fault;
 use command_parts::text::push_place;
@@ -28,7 +28,7 @@ const MOST_WIDENINGS: usize = 256;
 /// The declaration that is proposed in the end, its text, whether the program keeps it, and after a no why no declaration
 /// allows what the run does.
 #[derive(Drop)]
-pub(crate) struct Settled<A: Allocator> {
+pub(crate) struct FinalProposal<A: Allocator> {
     pub(crate) declaration: Declaration<A>,
     pub(crate) text: Vec<u8, A>,
     pub(crate) answer: Answer<A>,
@@ -46,7 +46,7 @@ enum Ending<A: Allocator> {
 
 /// What comes after a proposal.
 #[derive(Drop)]
-enum Next<A: Allocator> {
+enum WideningStep<A: Allocator> {
     Wider(Proposal<A>),
     Ended(Ending<A>),
 }
@@ -64,13 +64,17 @@ fn answer_by<A: Allocator>(
     let (_image, _declaration) = (image, declaration);
     match verdict {
         Verdict::Safe(certificate) => Answer::Yes(certificate),
-        Verdict::Stuck(at) => Answer::NotKnown(Lack::Stuck(at)),
-        Verdict::TurnsSpent => Answer::NotKnown(Lack::TurnsSpent),
+        Verdict::Stuck(at) => Answer::NotKnown(InconclusiveReason::Stuck(at)),
+        Verdict::TurnsSpent => Answer::NotKnown(InconclusiveReason::TurnsSpent),
     }
 }
 
 /// What is said of a proposal in the end.
-fn conclude<A: Allocator>(image: &Image, proposal: Proposal<A>, ending: Ending<A>) -> Settled<A>
+fn conclude<A: Allocator>(
+    image: &Image,
+    proposal: Proposal<A>,
+    ending: Ending<A>,
+) -> FinalProposal<A>
     requires shown { IsShown image.now proposal.declaration proposal.verdict }
     requires text { Declares proposal.text.items (meaning proposal.declaration) }
     requires ended { IsEnded image.now proposal.declaration ending }
@@ -85,14 +89,14 @@ fn conclude<A: Allocator>(image: &Image, proposal: Proposal<A>, ending: Ending<A
     match ending {
         Ending::Open => {
             let answer = answer_by(image, &declaration, verdict);
-            Settled {
+            FinalProposal {
                 declaration,
                 text,
                 answer,
                 obstacle: None,
             }
         }
-        Ending::Broken(witness, obstacle) => Settled {
+        Ending::Broken(witness, obstacle) => FinalProposal {
             declaration,
             text,
             answer: Answer::No(witness),
@@ -109,16 +113,16 @@ fn after_run<A: Allocator + Copy>(
     evidence: &mut Evidence<A>,
     witness: Witness<A>,
     turns: &mut Turns,
-) -> Result<Next<A>, Fault>
+) -> Result<WideningStep<A>, Fault>
     requires { IsAnswer image.now (meaning proposal.now.declaration) (Answer.No witness) }
     ensures next { IfOk result (IsNext image.now proposal.now.declaration) }
     ensures faults { IfErr result IsProposeFault }
     ensures unwritten { fails_to_write result ≡ false }
 {
     match widened(alloc, image, proposal, evidence, &witness.events, turns)? {
-        Widening::Wider(wider) => Ok(Next::Wider(wider)),
-        Widening::Never(obstacle) => Ok(Next::Ended(Ending::Broken(witness, obstacle))),
-        Widening::Unclear => Ok(Next::Ended(Ending::Open)),
+        Widening::Wider(wider) => Ok(WideningStep::Wider(wider)),
+        Widening::Never(obstacle) => Ok(WideningStep::Ended(Ending::Broken(witness, obstacle))),
+        Widening::Unclear => Ok(WideningStep::Ended(Ending::Open)),
     }
 }
 
@@ -131,17 +135,17 @@ fn next_after<A: Allocator + Copy>(
     seed: u64,
     steps: &mut Turns,
     turns: &mut Turns,
-) -> Result<Next<A>, Fault>
+) -> Result<WideningStep<A>, Fault>
     ensures next { IfOk result (IsNext image.now proposal.now.declaration) }
     ensures faults { IfErr result IsProposeFault }
     ensures unwritten { fails_to_write result ≡ false }
 {
     if let Verdict::Safe(_) = &proposal.verdict {
-        return Ok(Next::Ended(Ending::Open));
+        return Ok(WideningStep::Ended(Ending::Open));
     }
     match refute_within(alloc, image, &proposal.declaration, seed, steps)? {
         Some(witness) => after_run(alloc, image, proposal, evidence, witness, turns),
-        None => Ok(Next::Ended(Ending::Open)),
+        None => Ok(WideningStep::Ended(Ending::Open)),
     }
 }
 
@@ -153,7 +157,7 @@ pub(crate) fn settle<A: Allocator + Copy>(
     proposal: Proposal<A>,
     options: &RefuteOptions,
     turns: &mut Turns,
-) -> Result<Settled<A>, Fault>
+) -> Result<FinalProposal<A>, Fault>
     requires shown { IsShown image.now proposal.declaration proposal.verdict }
     requires text { Declares proposal.text.items (meaning proposal.declaration) }
     ensures settled { IfOk result (IsSettled image.now proposal.declaration) }
@@ -175,8 +179,8 @@ pub(crate) fn settle<A: Allocator + Copy>(
             turns,
         )?;
         match next {
-            Next::Wider(wider) => proposal = wider,
-            Next::Ended(ending) => return Ok(conclude(image, proposal, ending)),
+            WideningStep::Wider(wider) => proposal = wider,
+            WideningStep::Ended(ending) => return Ok(conclude(image, proposal, ending)),
         }
     }
     Ok(conclude(image, proposal, Ending::Open))

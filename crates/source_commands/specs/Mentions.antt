@@ -15,7 +15,7 @@ use Rattle.source_commands.specs.declared.mentions.Role.{Role}
 use Rattle.source_commands.specs.declared.mentions.Role.TheVariants.{Defines, Calls, JumpsTo, Points, Sets, Counts, Reads, Holds, Computes}
 use Rattle.source_commands.specs.declared.mentions.Mention.{Mention}
 use Rattle.source_commands.specs.declared.mentions.Site.{Site}
-use Rattle.source_commands.specs.declared.mentions.Standing.{Standing}
+use Rattle.source_commands.specs.declared.mentions.StatementSites.{StatementSites}
 
 -- A token of this kind is an ordinary symbol.
 abbrev pub is_symbol : Kind → Bool
@@ -85,13 +85,13 @@ abbrev pub word_uses : List (Name × ℕ) → List ℕ → Site → List Token �
 word_uses own source word body = uses own source word (word_role source body) Holds body
 
 -- What a statement does behind its tags, by its form. An origin computes.
-abbrev pub body_uses : List (Name × ℕ) → List ℕ → Standing → Form → List Token → List Mention
+abbrev pub body_uses : List (Name × ℕ) → List ℕ → StatementSites → Form → List Token → List Mention
 body_uses own source standing form.Assign body = assignment_uses own source standing.line body
 body_uses own source standing form.Origin body = uses own source standing.line Computes Computes body
 body_uses own source standing form.Word body = word_uses own source standing.word body
 body_uses own source standing _ body = []
 
 -- What a statement does with the source's own symbols, of whose tokens so many are its tags: it defines these.
-abbrev pub statement_uses : List (Name × ℕ) → List ℕ → Standing → ℕ → Form → List Token → List Mention
+abbrev pub statement_uses : List (Name × ℕ) → List ℕ → StatementSites → ℕ → Form → List Token → List Mention
 statement_uses own source standing tags form tokens =
     uses own source standing.line Defines Defines (take tags tokens) ++ body_uses own source standing form (drop tags tokens)

@@ -14,12 +14,12 @@ ghost use Rattle.command_parts.specs.Writes.{FrontOf, Writes};
 ghost use Rattle.command_parts.specs.declared.status.Fault.TheVariants.{Source};
 ghost use Rattle.command_parts.specs.declared.status.Status.TheVariants.{Done};
 
-use crate::sources::{lend, read_parts};
+use crate::sources::{byte_slices, read_parts};
 use bin_tape::laws::written_tapes_read_back;
 use bin_tape::{WriteTapeFault, write_tape};
 use command_parts::status::{DeviceFault, Fault, Status};
 use instruct::Profile;
-use pal_asm::{AssembleFault, Program, Translation, WriteFault};
+use pal_asm::{AssembleFault, ListedProgram, ListingWriteFault, Translation};
 use pal_diagnostics::push_faults;
 use std::alloc::{AllocError, Allocator};
 use streams::{ByteSink, ByteSource};
@@ -71,7 +71,7 @@ pub(crate) fn program_of<A: Allocator + Copy>(
     profile: Profile,
     names: Option<&[&str]>,
     told: &mut String<A>,
-) -> Result<Program<A>, Fault>
+) -> Result<ListedProgram<A>, Fault>
     ensures found { IfOk result (λ program. Means (permanent_symbols profile) (texts parts.now)
         (symbols_of program) (image_of program)) }
     ensures listed { IfOk result (λ program. Lists (permanent_symbols profile) (texts parts.now)
@@ -147,7 +147,7 @@ pub fn assemble<A: Allocator + Copy, R: ByteSource, W: ByteSink>(
     ensures unasked { names.entry ≡ None → told.new ≡ told.old }
 {
     let parts = read_parts(alloc, sources)?;
-    let slices = lend(alloc, &parts)?;
+    let slices = byte_slices(alloc, &parts)?;
     let translation = translation_of(alloc, &slices, profile, names, told)?;
     written_tapes_read_back(translation.image());
     match write_tape(translation.image(), out) {
@@ -198,10 +198,10 @@ pub fn list<A: Allocator + Copy, R: ByteSource, W: ByteSink>(
     ensures unasked { names.entry ≡ None → told.new ≡ told.old }
 {
     let parts = read_parts(alloc, sources)?;
-    let slices = lend(alloc, &parts)?;
+    let slices = byte_slices(alloc, &parts)?;
     let program = program_of(alloc, &slices, profile, names, told)?;
     match program.write_listing(out) {
         Ok(()) => Ok(Status::Done),
-        Err(WriteFault) => Err(Fault::Device(DeviceFault::Write)),
+        Err(ListingWriteFault) => Err(Fault::Device(DeviceFault::Write)),
     }
 }

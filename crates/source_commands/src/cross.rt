@@ -35,7 +35,7 @@ const ROLES: [(Role, &str); 9] = [
 
 /// What places are told by: the source's own symbols, its tags, and how many parts it has.
 #[derive(Clone, Copy)]
-pub struct Places<'s, A: Allocator + Copy> {
+pub struct PlaceNames<'s, A: Allocator + Copy> {
     /// The symbols.
     pub own: &'s SymbolTable<A>,
     /// The tags.
@@ -54,7 +54,7 @@ fn push_number<A: Allocator>(text: &mut Vec<u8, A>, number: usize) -> Result<(),
 /// by its tag.
 fn push_site<A: Allocator + Copy>(
     alloc: A,
-    places: &Places<'_, A>,
+    places: &PlaceNames<'_, A>,
     site: Site,
     text: &mut Vec<u8, A>,
 ) -> Result<(), AllocError> {
@@ -74,7 +74,7 @@ fn push_site<A: Allocator + Copy>(
 /// Adds where one thing is done with a symbol, each place once; nothing where it is done nowhere.
 fn push_role<A: Allocator + Copy>(
     alloc: A,
-    places: &Places<'_, A>,
+    places: &PlaceNames<'_, A>,
     role: Role,
     title: &str,
     mentions: &[Mention],
@@ -111,7 +111,7 @@ fn mentions_with<A: Allocator + Copy>(
 /// What is told of a symbol behind its value.
 fn told_of<A: Allocator + Copy>(
     alloc: A,
-    places: &Places<'_, A>,
+    places: &PlaceNames<'_, A>,
     name: Name,
     mentions: &[Mention],
 ) -> Result<Vec<u8, A>, AllocError> {
@@ -135,7 +135,7 @@ fn push_head<A: Allocator>(text: &mut Vec<u8, A>, entry: Entry) -> Result<(), Al
 /// Adds the lines of the table.
 fn push_lines<A: Allocator + Copy>(
     alloc: A,
-    places: &Places<'_, A>,
+    places: &PlaceNames<'_, A>,
     entries: &[Entry],
     mentions: &[Mention],
     text: &mut Vec<u8, A>,
@@ -177,7 +177,7 @@ fn entries_of<A: Allocator + Copy>(
 /// Memory was refused.
 pub fn table_of<A: Allocator + Copy>(
     alloc: A,
-    places: &Places<'_, A>,
+    places: &PlaceNames<'_, A>,
     mentions: &[Mention],
 ) -> Result<Vec<u8, A>, AllocError>
     // Each symbol has a line with its value, and there is no other line. The order of the lines, and what is told

@@ -15,13 +15,13 @@ ghost use Rattle.command_parts.specs.declared.status.Fault.TheVariants.{Source};
 ghost use Rattle.command_parts.specs.declared.status.Status.TheVariants.{Done};
 
 use crate::assembling::program_of;
-use crate::cross::{Places, table_of};
+use crate::cross::{PlaceNames, table_of};
 use crate::mentions::mentions_of;
-use crate::sources::{lend, read_parts};
+use crate::sources::{byte_slices, read_parts};
 use command_parts::status::{DeviceFault, Fault, Status};
 use instruct::Profile;
 use labels::Tags;
-use pal_asm::{AssembleFault, Program, SourceMap, map_source};
+use pal_asm::{AssembleFault, ListedProgram, SourceMap, map_source};
 use std::alloc::{AllocError, Allocator};
 use streams::{ByteSink, ByteSource, Failed, put};
 
@@ -53,7 +53,10 @@ impl<A: Allocator> ByteSink for TextSink<A> {
 }
 
 /// The listing of a program.
-fn listing_of<A: Allocator + Copy>(alloc: A, program: &Program<A>) -> Result<Vec<u8, A>, AllocError>
+fn listing_of<A: Allocator + Copy>(
+    alloc: A,
+    program: &ListedProgram<A>,
+) -> Result<Vec<u8, A>, AllocError>
     ensures { IfOk result (λ text. text.items ≡ listing_of program.now) }
 {
     let mut sink = TextSink {
@@ -88,7 +91,7 @@ fn map_of<A: Allocator + Copy>(
 fn program_table<A: Allocator + Copy>(
     alloc: A,
     parts: &[&[u8]],
-    program: &Program<A>,
+    program: &ListedProgram<A>,
     map: &SourceMap<A>,
 ) -> Result<Vec<u8, A>, AllocError>
     ensures { IfOk result (λ text. IsTable (symbols_of program.now) text.items) }
@@ -96,7 +99,7 @@ fn program_table<A: Allocator + Copy>(
     let own = program.symbols();
     let mentions = mentions_of(alloc, own, parts, map.words())?;
     let tags = Tags::of(alloc, own, parts)?;
-    let places = Places {
+    let places = PlaceNames {
         own,
         tags: &tags,
         parts: parts.len(),
@@ -108,7 +111,7 @@ fn program_table<A: Allocator + Copy>(
 fn with_table<A: Allocator + Copy>(
     alloc: A,
     parts: &[&[u8]],
-    program: &Program<A>,
+    program: &ListedProgram<A>,
     map: &SourceMap<A>,
 ) -> Result<Vec<u8, A>, AllocError>
     ensures { IfOk result (λ text. HasTable (symbols_of program.now) (listing_of program.now)
@@ -126,7 +129,7 @@ fn crossed<A: Allocator + Copy>(
     alloc: A,
     parts: &[&[u8]],
     profile: Profile,
-    program: &Program<A>,
+    program: &ListedProgram<A>,
 ) -> Result<Vec<u8, A>, Fault>
     ensures crossed { IfOk result (λ text. HasTable (symbols_of program.now)
         (listing_of program.now) text.items) }
@@ -180,7 +183,7 @@ pub fn list_crossed<A: Allocator + Copy, R: ByteSource, W: ByteSink>(
     ensures unasked { names.entry ≡ None → told.new ≡ told.old }
 {
     let parts = read_parts(alloc, sources)?;
-    let slices = lend(alloc, &parts)?;
+    let slices = byte_slices(alloc, &parts)?;
     let program = program_of(alloc, &slices, profile, names, told)?;
     let text = crossed(alloc, &slices, profile, &program)?;
     match put(out, &text) {

@@ -58,7 +58,7 @@ pub struct Mention {
 
 /// Where a statement is found: by its line, and if it is a word by the address of that.
 #[derive(Clone, Copy)]
-pub struct Standing {
+pub struct StatementSites {
     /// Its line.
     pub line: Site,
     /// Its word.
@@ -334,7 +334,7 @@ fn push_word_uses<A: Allocator, S: Allocator + Copy>(
 fn push_body<A: Allocator, S: Allocator + Copy>(
     own: &SymbolTable<S>,
     source: &[u8],
-    standing: &Standing,
+    standing: &StatementSites,
     form: Form,
     body: &[Token],
     mentions: &mut Vec<Mention, A>,
@@ -366,7 +366,7 @@ fn push_body<A: Allocator, S: Allocator + Copy>(
 fn push_statement<A: Allocator, S: Allocator + Copy>(
     own: &SymbolTable<S>,
     source: &[u8],
-    standing: &Standing,
+    standing: &StatementSites,
     tags: usize,
     form: Form,
     tokens: &[Token],
@@ -426,7 +426,7 @@ fn push_placed<A: Allocator + Copy, S: Allocator + Copy>(
     requires placed { IsPlaced part.now.tokens.items statement }
 {
     let tokens = part.tokens_of(statement);
-    let standing = Standing {
+    let standing = StatementSites {
         line: Site::Line(SourcePlace {
             part: number,
             line: statement.line,

@@ -112,7 +112,7 @@ pub(crate) fn read_parts<A: Allocator + Copy, R: ByteSource>(
 }
 
 /// The bytes of parts, lent.
-pub(crate) fn lend<'t, A: Allocator + Copy>(
+pub(crate) fn byte_slices<'t, A: Allocator + Copy>(
     alloc: A,
     parts: &'t [Vec<u8, A>],
 ) -> Result<Vec<&'t [u8], A>, AllocError>

@@ -57,7 +57,7 @@ const STEPS: [Step; 5] = [
 
 /// The bodies, variables and halts of a declaration.
 #[derive(Clone, Copy)]
-pub(crate) struct Declared {
+pub(crate) struct DeclaredCells {
     pub(crate) main: WordSet,
     pub(crate) variables: WordSet,
     pub(crate) stops: WordSet,
@@ -82,7 +82,7 @@ pub(crate) struct Outline {
     /// Cells whose address such a word is, and cells of tables of entries, which begin there.
     pointed: WordSet,
     tables: WordSet,
-    pub(crate) declared: Option<Declared>,
+    pub(crate) declared: Option<DeclaredCells>,
 }
 
 impl Outline {
@@ -110,7 +110,7 @@ impl Outline {
             outline.code = outline.code.union(routine.body());
             outline.entries.insert(routine.entry());
         }
-        outline.declared = Some(Declared {
+        outline.declared = Some(DeclaredCells {
             main: *declaration.main(),
             variables: *declaration.variables(),
             stops: *declaration.stops(),

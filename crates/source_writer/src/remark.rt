@@ -1,6 +1,6 @@
 //! The comment of a cell.
 
-use crate::outline::{Datum, Declared, Outline, previous};
+use crate::outline::{Datum, DeclaredCells, Outline, previous};
 use bin_tape::Image;
 use instruct::{Instruction, Operation, decode, name};
 use std::alloc::{AllocError, Allocator};
@@ -70,7 +70,7 @@ fn push_if<A: Allocator>(
 /// Adds what a declaration says of a cell.
 fn push_declared<A: Allocator>(
     remark: &mut Vec<u8, A>,
-    declared: &Declared,
+    declared: &DeclaredCells,
     at: Word,
 ) -> Result<(), AllocError> {
     push_if(remark, declared.stops.contains(at), b"stop")?;

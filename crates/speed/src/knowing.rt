@@ -19,19 +19,19 @@ const START: usize = 0o200;
 
 /// Room for both facts, for what is asked of the first one and for its outcomes.
 #[derive(Drop)]
-pub struct Rooms {
+pub struct EntailmentWorkspace {
     fact: Fact,
     asked: NarrowedFact,
     next: Fact,
     outcomes: Outcomes,
 }
 
-impl Rooms {
+impl EntailmentWorkspace {
     /// Room that nothing stands in, kept by an allocator.
-    pub fn boxed<A: Allocator>(alloc: A) -> Result<Box<Rooms, A>, AllocError> {
+    pub fn boxed<A: Allocator>(alloc: A) -> Result<Box<EntailmentWorkspace, A>, AllocError> {
         Ok(Box::new(
             alloc,
-            Rooms {
+            EntailmentWorkspace {
                 fact: Fact::any(),
                 asked: NarrowedFact::any(),
                 next: Fact::any(),
@@ -91,9 +91,9 @@ pub fn entailed<A: Allocator, B: Allocator>(
     declaration: &Declaration<A>,
     certificate: &Certificate<B>,
     times: u32,
-    rooms: &mut Rooms,
+    rooms: &mut EntailmentWorkspace,
 ) -> Option<u64> {
-    let Rooms {
+    let EntailmentWorkspace {
         fact,
         asked,
         next,

@@ -189,7 +189,7 @@ fn time_facts(rt: &HostRuntime, times: u16) -> anyhow::Result<()> {
     let certificate = Certificate::parse(rt.alloc(), &bytes)?;
     let rounds = u32::from(times).wrapping_mul(1000);
     let image = Image::empty();
-    let mut rooms = knowing::Rooms::boxed(rt.alloc())?;
+    let mut rooms = knowing::EntailmentWorkspace::boxed(rt.alloc())?;
     match knowing::entailed(&image, &declared, &certificate, rounds, &mut rooms) {
         Some(hits) => println!(rt; "facts outcomes {rounds} entailed {hits}")?,
         None => println!(rt; "facts without one at 0200 or 0201")?,

@@ -5,18 +5,18 @@ ghost use Rattle.std.specs.Prelude.{◌≤◌};
 use clap::Error;
 use command_line::explanations::{push_codes, push_explanations};
 use command_line::tips::is_wrong_tip;
-use command_line::{CommandLine, Misuse, Refused, Request, parse_arguments};
+use command_line::{CommandLine, CommandLineFault, Misuse, Request, parse_arguments};
 use command_parts::status::{DeviceFault, Fault, Status};
 use command_parts::visible::visible_text;
 use requests::faults::{fault_lines, refusal_lines};
+use requests::file_kinds::hint_line;
 use requests::inputs::misused_files;
 use requests::of_files::certificates::migrate_from;
-use requests::of_files::joined::{hold_session, hold_teletype_session};
+use requests::of_files::session_files::{hold_session, hold_teletype_session};
 use requests::of_files::sources::{assemble_to, list_from};
 use requests::of_files::tapes::{dump_from, run_from, source_from};
 use requests::of_machine::answer_sourced;
 use requests::of_programs::answer_program;
-use requests::recognised::hint_line;
 use requests::telling::{tell, tell_lines, tell_misuse};
 use std::alloc::{AllocError, Global};
 use std::fmt::Write;
@@ -104,24 +104,26 @@ fn carry_out<R: Files + Input + Print + Eprint>(
 }
 
 /// Why the arguments weren't copied: one is no text, or memory was refused.
-fn refusal_of(kind: ErrorKind) -> Refused {
+fn refusal_of(kind: ErrorKind) -> CommandLineFault {
     match kind {
-        ErrorKind::InvalidData => Refused::Misuse(Misuse::NotText),
-        _ => Refused::Memory,
+        ErrorKind::InvalidData => CommandLineFault::Misuse(Misuse::NotText),
+        _ => CommandLineFault::Memory,
     }
 }
 
 /// Says why the command line is bad, or gives the help that it asks for.
 #[inline(never)]
-fn refuse<R: Print + Eprint>(rt: &R, alloc: Global, refused: Refused) -> Status {
+fn refuse<R: Print + Eprint>(rt: &R, alloc: Global, refused: CommandLineFault) -> Status {
     let told = match refused {
-        Refused::Memory => return tell(rt, Fault::NoMemory),
-        Refused::CommandLine(error) => return say(rt, alloc, &error),
-        Refused::Misuse(misuse) => return tell_misuse(rt, &misuse),
-        Refused::Start(fault) => eprintln!(rt; "error: bad value for '--start': {fault}"),
-        Refused::Switches(fault) => { eprintln!(rt; "error: bad value for '--switches': {fault}") }
-        Refused::NoOperand(name) => eprintln!(rt; "error: the operand {name} is missing"),
-        Refused::Steps(most) => eprintln!(rt;
+        CommandLineFault::Memory => return tell(rt, Fault::NoMemory),
+        CommandLineFault::CommandLine(error) => return say(rt, alloc, &error),
+        CommandLineFault::Misuse(misuse) => return tell_misuse(rt, &misuse),
+        CommandLineFault::Start(fault) => eprintln!(rt; "error: bad value for '--start': {fault}"),
+        CommandLineFault::Switches(fault) => {
+            eprintln!(rt; "error: bad value for '--switches': {fault}")
+        }
+        CommandLineFault::NoOperand(name) => eprintln!(rt; "error: the operand {name} is missing"),
+        CommandLineFault::Steps(most) => eprintln!(rt;
             "error: bad value for '--steps': expected a number from 1 to {most}"
         ),
     };

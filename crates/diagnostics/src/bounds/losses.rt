@@ -1,6 +1,6 @@
 //! Why less is known about a pointer after an instruction than before it.
 
-use crate::bounds::known::Known;
+use crate::bounds::draft_facts::DraftFacts;
 use declaration::Declaration;
 use domain::Location;
 use instruct::{Operation, halts, refers_indirectly, target};
@@ -10,7 +10,7 @@ use wordset::WordSet;
 
 /// Why less is known about a pointer after an instruction.
 #[derive(Clone, Copy, PartialEq, Eq)]
-pub(crate) enum Loss {
+pub(crate) enum PrecisionLoss {
     /// The accumulator was compared, and the skip clears it.
     ClearingSkip,
     /// The accumulator had the pointer, and is complemented.
@@ -23,15 +23,16 @@ pub(crate) enum Loss {
     Meeting,
 }
 
-impl Loss {
+impl PrecisionLoss {
     /// What is said about it.
     pub(crate) fn told(self) -> &'static [u8] {
         match self {
-            Loss::ClearingSkip => b"a skip that also clears shows nothing about it",
-            Loss::Complement => b"a complement before a test loses what is known about it",
-            Loss::Call => b"the routine may write it",
-            Loss::Store => b"the store through a pointer may reach it",
-            Loss::Meeting => b"on another path to the next address it may hold other words",
+            PrecisionLoss::ClearingSkip => b"a skip that also clears shows nothing about it",
+            PrecisionLoss::Complement => b"a complement before a test loses what is known about it",
+            PrecisionLoss::Call => b"the routine may write it",
+            PrecisionLoss::Store => b"the store through a pointer may reach it",
+            PrecisionLoss::Meeting =>
+                b"on another path to the next address it may hold other words",
         }
     }
 }
@@ -129,7 +130,7 @@ pub(crate) fn may_go_on<D: Allocator>(
 
 /// The words that a pointer may hold after an instruction, as far as the instruction itself tells.
 fn words_behind<C: Allocator>(
-    known: &mut Known<'_, C>,
+    known: &mut DraftFacts<'_, C>,
     at: Word,
     word: Word,
     pointer: Word,
@@ -143,22 +144,22 @@ fn words_behind<C: Allocator>(
 
 /// Why it is no longer known behind an instruction how far the accumulator is from a pointer, if the instruction is a test or a
 /// complement.
-fn loss_of_tie(word: Word) -> Option<Loss> {
+fn loss_of_tie(word: Word) -> Option<PrecisionLoss> {
     let bits = word.value();
     if is_test(word) && bits & 0o200 != 0 {
-        return Some(Loss::ClearingSkip);
+        return Some(PrecisionLoss::ClearingSkip);
     }
-    (bits & 0o7640 == 0o7040).then_some(Loss::Complement)
+    (bits & 0o7640 == 0o7040).then_some(PrecisionLoss::Complement)
 }
 
 /// Why less is known about a pointer at the place where a run goes on from an instruction, if it is so.
 pub(crate) fn loss_at<C: Allocator>(
-    known: &mut Known<'_, C>,
+    known: &mut DraftFacts<'_, C>,
     at: Word,
     word: Word,
     to: Word,
     pointer: Word,
-) -> Option<Loss> {
+) -> Option<PrecisionLoss> {
     if known.ties_accumulator(at, pointer) && !known.ties_accumulator(to, pointer) {
         let loss = loss_of_tie(word);
         if loss.is_some() {
@@ -170,8 +171,10 @@ pub(crate) fn loss_at<C: Allocator>(
         return None;
     }
     match operation(word) {
-        Some(Operation::Jms) if target(word, at).increment() != to => Some(Loss::Call),
-        Some(Operation::Dca | Operation::Isz) if refers_indirectly(word) => Some(Loss::Store),
-        _ => Some(Loss::Meeting),
+        Some(Operation::Jms) if target(word, at).increment() != to => Some(PrecisionLoss::Call),
+        Some(Operation::Dca | Operation::Isz) if refers_indirectly(word) => Some(
+            PrecisionLoss::Store,
+        ),
+        _ => Some(PrecisionLoss::Meeting),
     }
 }

@@ -5,7 +5,7 @@ ghost use Rattle.certificate_lines.specs.Kept.{claims};
 ghost use Rattle.domain.specs.FactInCode.{fact_in_code};
 ghost use Rattle.judge.specs.Shapes.{HasShape};
 
-use crate::bounds::known::is_difference_of;
+use crate::bounds::draft_facts::is_difference_of;
 use crate::bounds::losses::{stores_through_pointer, successors_of_call};
 use bin_tape::Image;
 use certificate::Certificate;
@@ -66,17 +66,17 @@ fn distance_in(image: &Image, fact: &NextFact, pointer: Word, cell: Word) -> Opt
 
 /// Room for a fact as a draft has it, for the same fact as it is asked, for its body, and for what comes of a word.
 #[derive(Drop)]
-struct WalkRooms {
+struct LoopWorkspace {
     claimed: Fact,
     asked: NarrowedFact,
     body: Body,
     outcomes: Outcomes,
 }
 
-impl WalkRooms {
+impl LoopWorkspace {
     /// Room that nothing stands in.
-    fn new() -> WalkRooms {
-        WalkRooms {
+    fn new() -> LoopWorkspace {
+        LoopWorkspace {
             claimed: Fact::any(),
             asked: NarrowedFact::any(),
             body: Body::main(),
@@ -87,7 +87,7 @@ impl WalkRooms {
 
 /// Where a walk is, and what it knows there.
 #[derive(Clone, Copy)]
-struct Stand {
+struct LoopState {
     /// The address.
     at: Word,
     /// The distance, if it is known.
@@ -100,24 +100,24 @@ struct Stand {
 
 /// A walk through a loop, from its head and back to it.
 #[derive(Drop)]
-struct Walk<A: Allocator> {
+struct LoopTraversal<A: Allocator> {
     relation: Relation,
     head: Word,
-    stands: Vec<Stand, A>,
+    stands: Vec<LoopState, A>,
     /// Whether a way through the loop changes the distance and restores it.
     is_kept: bool,
     /// The instruction at which another way loses it.
     lost_at: Option<Word>,
 }
 
-impl<A: Allocator> Walk<A> {
+impl<A: Allocator> LoopTraversal<A> {
     /// One of the places that were found, by its number.
-    fn stand_at(&self, index: usize) -> Option<Stand> {
+    fn stand_at(&self, index: usize) -> Option<LoopState> {
         self.stands.get(index).copied()
     }
 
     /// Goes on at an address.
-    fn arrive(&mut self, next: Stand) -> Result<(), AllocError> {
+    fn continue_at(&mut self, next: LoopState) -> Result<(), AllocError> {
         if next.at == self.head {
             self.is_kept = self.is_kept || (next.restored && next.lost_at.is_none());
             if self.lost_at.is_none() {
@@ -137,14 +137,14 @@ impl<A: Allocator> Walk<A> {
     }
 
     /// What is known behind an instruction, by the distance there.
-    fn behind(&self, from: &Stand, distance: &Option<Word>, to: Word) -> Stand {
+    fn behind(&self, from: &LoopState, distance: &Option<Word>, to: Word) -> LoopState {
         let holds = *distance == Some(self.relation.more);
         let lost_at = match (holds, from.lost_at) {
             (true, _) => None,
             (false, None) => Some(from.at),
             (false, lost_at) => lost_at,
         };
-        Stand {
+        LoopState {
             at: to,
             distance: *distance,
             lost_at,
@@ -156,14 +156,14 @@ impl<A: Allocator> Walk<A> {
     fn step<D: Allocator, C: Allocator>(
         &mut self,
         case: &Case<'_, D, Certificate<C>>,
-        from: &Stand,
-        rooms: &mut WalkRooms,
+        from: &LoopState,
+        rooms: &mut LoopWorkspace,
     ) -> Result<(), AllocError> {
         let Some(word) = case.image.get(from.at) else {
             return Ok(());
         };
         for index in 0..case.claims.count_facts(from.at, 0) {
-            let known = Known {
+            let known = KnownDistance {
                 relation: &self.relation,
                 distance: &from.distance,
             };
@@ -178,7 +178,7 @@ impl<A: Allocator> Walk<A> {
     fn follow_each<D: Allocator, C: Allocator>(
         &mut self,
         case: &Case<'_, D, Certificate<C>>,
-        from: &Stand,
+        from: &LoopState,
         word: Word,
         outcomes: &Outcomes,
     ) -> Result<(), AllocError> {
@@ -192,7 +192,7 @@ impl<A: Allocator> Walk<A> {
     fn follow<D: Allocator, C: Allocator>(
         &mut self,
         case: &Case<'_, D, Certificate<C>>,
-        from: &Stand,
+        from: &LoopState,
         word: Word,
         outcome: &Outcome,
     ) -> Result<(), AllocError> {
@@ -215,13 +215,13 @@ impl<A: Allocator> Walk<A> {
     /// Goes on at each of these addresses.
     fn spread(
         &mut self,
-        from: &Stand,
+        from: &LoopState,
         distance: &Option<Word>,
         targets: &WordSet,
     ) -> Result<(), AllocError> {
         for to in targets.iter() {
             let next = self.behind(from, distance, to);
-            self.arrive(next)?;
+            self.continue_at(next)?;
         }
         Ok(())
     }
@@ -231,7 +231,7 @@ impl<A: Allocator> Walk<A> {
         &mut self,
         declaration: &Declaration<D>,
         draft: &Certificate<C>,
-        from: &Stand,
+        from: &LoopState,
         entries: &WordSet,
     ) -> Result<(), AllocError> {
         for entry in entries.iter() {
@@ -245,7 +245,7 @@ impl<A: Allocator> Walk<A> {
         &mut self,
         declaration: &Declaration<D>,
         draft: &Certificate<C>,
-        from: &Stand,
+        from: &LoopState,
         entry: Word,
     ) -> Result<(), AllocError> {
         let Some(routine) = draft.routine(entry) else {
@@ -264,13 +264,13 @@ impl<A: Allocator> Walk<A> {
 
 /// A relation, and the distance that is known of it.
 #[derive(Clone, Copy)]
-struct Known<'x> {
+struct KnownDistance<'x> {
     relation: &'x Relation,
     distance: &'x Option<Word>,
 }
 
 /// Adds the distance that is known to a fact, if there is room.
-fn relate(fact: &mut Fact, known: &Known<'_>)
+fn relate(fact: &mut Fact, known: &KnownDistance<'_>)
     ensures { HasShape (fact_in_code fact.old) → HasShape (fact_in_code fact.new) }
 {
     let Some(more) = known.distance else {
@@ -293,12 +293,12 @@ fn put_outcomes<D: Allocator, C: Allocator>(
     at: Word,
     word: Word,
     index: usize,
-    known: &Known<'_>,
-    rooms: &mut WalkRooms,
+    known: &KnownDistance<'_>,
+    rooms: &mut LoopWorkspace,
 ) -> bool
     requires { index < length ((claims case.now.claims.now).facts at) }
 {
-    let WalkRooms {
+    let LoopWorkspace {
         claimed,
         asked,
         body,
@@ -327,16 +327,16 @@ fn lost_in_loop<A: Allocator + Copy, D: Allocator, C: Allocator>(
     case: &Case<'_, D, Certificate<C>>,
     head: Word,
     relation: &Relation,
-    rooms: &mut WalkRooms,
+    rooms: &mut LoopWorkspace,
 ) -> Result<Option<Word>, AllocError> {
-    let mut walk = Walk {
+    let mut walk = LoopTraversal {
         relation: *relation,
         head,
         stands: Vec::new(alloc),
         is_kept: false,
         lost_at: None,
     };
-    let first = Stand {
+    let first = LoopState {
         at: head,
         distance: Some(relation.more),
         lost_at: None,
@@ -404,14 +404,14 @@ fn relations_entering<A: Allocator, D: Allocator, C: Allocator>(
     pointer: Word,
     from: Word,
     head: Word,
-    rooms: &mut WalkRooms,
+    rooms: &mut LoopWorkspace,
 ) -> Result<Vec<Relation, A>, AllocError> {
     let relation = Relation {
         pointer,
         cell: pointer,
         more: Word::ZERO,
     };
-    let known = Known {
+    let known = KnownDistance {
         relation: &relation,
         distance: &None,
     };
@@ -439,7 +439,7 @@ pub(crate) fn lost_relation<A: Allocator + Copy, D: Allocator, C: Allocator>(
     from: Word,
     head: Word,
 ) -> Result<Option<(Relation, Word)>, AllocError> {
-    let mut rooms = Box::new(alloc, WalkRooms::new())?;
+    let mut rooms = Box::new(alloc, LoopWorkspace::new())?;
     let case = Case {
         image,
         declaration,

@@ -1,6 +1,6 @@
 //! Sets of words, in the form in which certificates write them.
 
-use command_parts::message::Lines;
+use command_parts::message::MessageWriter;
 use std::alloc::AllocError;
 use wordset::WordSet;
 
@@ -8,7 +8,7 @@ use wordset::WordSet;
 const MOST_ROWS: usize = 8;
 
 /// Adds a set, row by row: `0000,0231-0240`. Of more than eight rows the others are left out.
-pub(crate) fn push_set<L: Lines>(text: &mut L, set: &WordSet) -> Result<(), AllocError> {
+pub(crate) fn push_set<L: MessageWriter>(text: &mut L, set: &WordSet) -> Result<(), AllocError> {
     let mut rows = set.ranges();
     for count in 0..MOST_ROWS {
         let Some((first, last)) = rows.next() else {

@@ -2,7 +2,7 @@
 //! certificate can fix it, if a run comes there.
 
 use bin_tape::Image;
-use command_parts::message::{Lines, push_text_and_advised};
+use command_parts::message::{MessageWriter, push_text_and_advised};
 use declaration::{Declaration, Owner};
 use instruct::{Instruction, Operation, Profile, decode, halts, refers_indirectly, target};
 use processor::is_auto_index;
@@ -175,7 +175,7 @@ fn omitted_at<D: Allocator>(
 }
 
 /// Adds an address within a line of a declaration that is advised, with what stands before it and after it.
-fn push_advice<L: Lines>(
+fn push_advice<L: MessageWriter>(
     text: &mut L,
     before: &[u8],
     place: Word,
@@ -198,7 +198,7 @@ fn around_place(before: &'static [u8], after: &'static [u8]) -> Words {
 }
 
 /// What an instruction would violate, in words.
-fn breach_words(omission: &Omission) -> Words {
+fn violation_words(omission: &Omission) -> Words {
     match omission {
         Omission::NoWord => around_place(b"", b" is in a body, but the tape has no word there"),
         Omission::Unsupported => around_place(b"the machine does not implement this word", b""),
@@ -228,7 +228,7 @@ fn breach_words(omission: &Omission) -> Words {
 }
 
 /// The address that is named, if one is, of what the instruction at an address would violate.
-fn breach_place(at: Word, omission: &Omission) -> Option<Word> {
+fn violation_place(at: Word, omission: &Omission) -> Option<Word> {
     match omission {
         Omission::NoWord => Some(at),
         Omission::Unsupported | Omission::OfThe8e | Omission::Halts => None,
@@ -248,10 +248,14 @@ fn breach_place(at: Word, omission: &Omission) -> Option<Word> {
 }
 
 /// Adds what the instruction at an address would violate.
-fn push_breach<L: Lines>(text: &mut L, at: Word, omission: &Omission) -> Result<(), AllocError> {
-    let Words { before, after } = breach_words(omission);
+fn push_violation<L: MessageWriter>(
+    text: &mut L,
+    at: Word,
+    omission: &Omission,
+) -> Result<(), AllocError> {
+    let Words { before, after } = violation_words(omission);
     text.push_text(before)?;
-    if let Some(place) = breach_place(at, omission) {
+    if let Some(place) = violation_place(at, omission) {
         text.push_address(place)?;
     }
     text.push_text(after)
@@ -274,7 +278,11 @@ fn fixed_remedy(omission: &Omission) -> Option<&'static [u8]> {
 }
 
 /// Adds what to do about what is omitted at an address.
-fn push_remedy<L: Lines>(text: &mut L, at: Word, omission: &Omission) -> Result<(), AllocError> {
+fn push_remedy<L: MessageWriter>(
+    text: &mut L,
+    at: Word,
+    omission: &Omission,
+) -> Result<(), AllocError> {
     match omission {
         Omission::Stores(cell) | Omission::Steps(cell) => {
             push_advice(text, b"add `var ", *cell, b"`")
@@ -315,8 +323,12 @@ fn push_remedy<L: Lines>(text: &mut L, at: Word, omission: &Omission) -> Result<
 }
 
 /// Adds the line of what the instruction at an address would violate, and what to do about it.
-fn push_omission<L: Lines>(text: &mut L, at: Word, omission: &Omission) -> Result<(), AllocError> {
-    push_breach(text, at, omission)?;
+fn push_omission<L: MessageWriter>(
+    text: &mut L,
+    at: Word,
+    omission: &Omission,
+) -> Result<(), AllocError> {
+    push_violation(text, at, omission)?;
     text.push_text(b": ")?;
     push_remedy(text, at, omission)?;
     text.push_text(b"\n")
@@ -329,7 +341,7 @@ fn push_omission<L: Lines>(text: &mut L, at: Word, omission: &Omission) -> Resul
 /// # Errors
 ///
 /// `AllocError` if memory was refused.
-pub fn push_stuck_remedy<L: Lines, D: Allocator>(
+pub fn push_stuck_remedy<L: MessageWriter, D: Allocator>(
     text: &mut L,
     image: &Image,
     declaration: &Declaration<D>,
@@ -366,7 +378,7 @@ pub fn push_stuck_remedy<L: Lines, D: Allocator>(
 /// # Errors
 ///
 /// `AllocError` if memory was refused.
-pub fn push_omissions<L: Lines, D: Allocator>(
+pub fn push_omissions<L: MessageWriter, D: Allocator>(
     text: &mut L,
     image: &Image,
     declaration: &Declaration<D>,

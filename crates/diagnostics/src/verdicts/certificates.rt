@@ -19,7 +19,7 @@ use streams::{ByteSink, ByteSource};
 
 /// A program with its declaration, and a certificate for it.
 #[derive(Drop)]
-pub struct Certified<A: Allocator> {
+pub struct ProgramWithCertificate<A: Allocator> {
     /// The program with its declaration.
     pub program: Program<A>,
     /// The certificate.
@@ -50,7 +50,7 @@ pub fn certified_from<A: Allocator + Copy, R: ByteSource, D: ByteSource, C: Byte
     tape: &mut R,
     declaration: &mut D,
     certificate: &mut C,
-) -> Result<Certified<A>, Fault>
+) -> Result<ProgramWithCertificate<A>, Fault>
     requires readable { R.mark tape.old ≡ false }
     requires declaration_readable { D.mark declaration.old ≡ false }
     requires certificate_readable { C.mark certificate.old ≡ false }
@@ -69,7 +69,7 @@ pub fn certified_from<A: Allocator + Copy, R: ByteSource, D: ByteSource, C: Byte
 {
     let program = program_from(alloc, tape, declaration)?;
     let certificate = certificate_from(alloc, certificate)?;
-    Ok(Certified {
+    Ok(ProgramWithCertificate {
         program,
         certificate,
     })

@@ -5,16 +5,16 @@ ghost use Rattle.certificate_lines.specs.Kept.{claims, meaning as text_of};
 ghost use Rattle.declaration.specs.Kept.{meaning};
 ghost use Rattle.diagnostics.specs.CheckText.{checked_case, verdict_text};
 ghost use Rattle.certificate_lines.specs.Written.{fact_text_at};
-ghost use Rattle.diagnostics.specs.Telling.{IsTellingOf};
+ghost use Rattle.diagnostics.specs.ReasonContexts.{IsTellingOf};
 ghost use Rattle.diagnostics.specs.WhyText.{AddsExplanation, IsReason, fact_shown, place_shown, shown_text, why_text};
 
-use crate::verdicts::gathered::Gathered;
+use crate::verdicts::reason_context::{ReasonContext, place_of, reason_context_of};
 use crate::verdicts::reason_text::push_why;
-use crate::verdicts::telling::{Telling, place_of, telling_of};
+use crate::verdicts::vector_sink::VectorSink;
 use crate::verdicts::verdict::verdict_line;
 use bin_tape::Image;
 use certificate::Certificate;
-use command_parts::message::Lines;
+use command_parts::message::MessageWriter;
 use declaration::Declaration;
 use judge::{Claims, Refusal};
 use reasons::{Reason, WhyRooms, why};
@@ -40,14 +40,14 @@ fn reason_of<D: Allocator, C: Allocator, M: Allocator>(
 }
 
 /// Adds the line of a verdict, and why it is, for this reason, which is told so.
-fn push_verdict<L: Lines, A: Allocator, D: Allocator>(
+fn push_verdict<L: MessageWriter, A: Allocator, D: Allocator>(
     alloc: A,
     text: &mut L,
     image: &Image,
     declaration: &Declaration<D>,
     verdict: &Result<(), Refusal>,
     reason: &Option<Reason>,
-    telling: &Telling,
+    telling: &ReasonContext,
 ) -> Result<(), AllocError>
     ensures { OnOk result (L.text text.new ≡ L.text text.old
         ++ (verdict_text (meaning declaration.now) verdict.now
@@ -69,7 +69,7 @@ fn fact_lines<A: Allocator, C: Allocator>(
     ensures { IfOk result (λ bytes.
         bytes.items ≡ fact_text_at (text_of certificate.now) at index) }
 {
-    let mut sink = Gathered::new(alloc);
+    let mut sink = VectorSink::new(alloc);
     match certificate.write_fact(at, index, &mut sink) {
         Ok(()) => Ok(sink.into_bytes()),
         Err(_) => Err(AllocError),
@@ -87,7 +87,7 @@ fn place_shown(place: &Option<usize>, count: usize) -> Option<usize>
 }
 
 /// Adds the lines of the fact at this place of those at an address, if one is shown.
-fn push_shown<L: Lines, A: Allocator, C: Allocator>(
+fn push_shown<L: MessageWriter, A: Allocator, C: Allocator>(
     alloc: A,
     text: &mut L,
     certificate: &Certificate<C>,
@@ -105,7 +105,7 @@ fn push_shown<L: Lines, A: Allocator, C: Allocator>(
 }
 
 /// Adds the lines of the fact by which a verdict is no, as the certificate has them, or of the only one at the address of a refusal.
-fn push_fact<L: Lines, A: Allocator, C: Allocator>(
+fn push_fact<L: MessageWriter, A: Allocator, C: Allocator>(
     alloc: A,
     text: &mut L,
     certificate: &Certificate<C>,
@@ -128,7 +128,7 @@ fn push_fact<L: Lines, A: Allocator, C: Allocator>(
 /// # Errors
 ///
 /// Memory was refused.
-pub fn push_explanation<L: Lines, A: Allocator + Copy, D: Allocator, C: Allocator>(
+pub fn push_explanation<L: MessageWriter, A: Allocator + Copy, D: Allocator, C: Allocator>(
     alloc: A,
     text: &mut L,
     image: &Image,
@@ -141,7 +141,7 @@ pub fn push_explanation<L: Lines, A: Allocator + Copy, D: Allocator, C: Allocato
 {
     let mut rooms = WhyRooms::boxed(alloc)?;
     let reason = reason_of(image, declaration, certificate, verdict, &mut rooms);
-    let telling = telling_of(certificate, verdict, &reason);
+    let telling = reason_context_of(certificate, verdict, &reason);
     push_verdict(alloc, text, image, declaration, verdict, &reason, &telling)?;
     push_fact(alloc, text, certificate, verdict, &reason)?;
     Ok(())

@@ -5,21 +5,21 @@ ghost use Rattle.diagnostics.specs.CheckText.{condition_text};
 ghost use Rattle.diagnostics.specs.WhyText.{asked_by, reason_line, reason_text, which_text, why_text, word_shown};
 
 mod asked;
-mod breach;
 mod landing;
 mod marks;
 mod pieces;
 mod sums;
+mod violation;
 
+use crate::verdicts::reason_context::ReasonContext;
 use crate::verdicts::reason_text::asked::asked_of;
-use crate::verdicts::reason_text::breach::{push_breach, push_denied, push_exit_named};
 use crate::verdicts::reason_text::landing::push_start;
 use crate::verdicts::reason_text::marks::push_which;
 use crate::verdicts::reason_text::pieces::{push_around, push_around_number, push_around_offset};
-use crate::verdicts::telling::Telling;
+use crate::verdicts::reason_text::violation::{push_denied, push_exit_named, push_violation};
 use crate::verdicts::verdict::condition_name;
 use bin_tape::Image;
-use command_parts::message::Lines;
+use command_parts::message::MessageWriter;
 use domain::Rules;
 use instruct::Profile;
 use judge::{Condition, Refusal};
@@ -28,7 +28,11 @@ use std::alloc::AllocError;
 use word12::Word;
 
 /// Adds why a condition fails.
-fn push_reason<L: Lines>(text: &mut L, rules: &Rules, reason: &Reason) -> Result<(), AllocError>
+fn push_reason<L: MessageWriter>(
+    text: &mut L,
+    rules: &Rules,
+    reason: &Reason,
+) -> Result<(), AllocError>
     ensures { OnOk result (L.text text.new ≡ L.text text.old ++ reason_text rules.now reason.now) }
 {
     match reason {
@@ -67,7 +71,7 @@ fn push_reason<L: Lines>(text: &mut L, rules: &Rules, reason: &Reason) -> Result
         Reason::TooManyWords(_, count) => {
             push_around_number(text, b"", *count, b" words are possible")
         }
-        Reason::ByWord(_, _, breach) => push_breach(text, rules, breach),
+        Reason::ByWord(_, _, breach) => push_violation(text, rules, breach),
         Reason::ExitDeniesAssertion(offset, index, subject, word) => {
             push_exit_named(text, rules, *offset, *index)?;
             push_denied(text, subject, *word, b"returns")
@@ -76,9 +80,9 @@ fn push_reason<L: Lines>(text: &mut L, rules: &Rules, reason: &Reason) -> Result
 }
 
 /// Adds by which fact a condition fails, and why.
-fn push_told_reason<L: Lines>(
+fn push_told_reason<L: MessageWriter>(
     text: &mut L,
-    telling: &Telling,
+    telling: &ReasonContext,
     reason: &Reason,
 ) -> Result<(), AllocError>
     ensures { OnOk result (L.text text.new ≡ L.text text.old ++
@@ -90,9 +94,9 @@ fn push_told_reason<L: Lines>(
 }
 
 /// Adds the line of a reason, if there is one.
-fn push_reason_line<L: Lines>(
+fn push_reason_line<L: MessageWriter>(
     text: &mut L,
-    telling: &Telling,
+    telling: &ReasonContext,
     reason: &Option<Reason>,
 ) -> Result<(), AllocError>
     ensures { OnOk result (L.text text.new ≡
@@ -116,7 +120,11 @@ fn word_shown(image: &Image, at: Word, reason: &Option<Reason>) -> Option<Word>
 }
 
 /// Adds the line of what a condition asks, by the rules.
-fn push_asked<L: Lines>(text: &mut L, rules: &Rules, condition: Condition) -> Result<(), AllocError>
+fn push_asked<L: MessageWriter>(
+    text: &mut L,
+    rules: &Rules,
+    condition: Condition,
+) -> Result<(), AllocError>
     ensures { OnOk result (L.text text.new ≡ L.text text.old
         ++ (condition_text condition ++ codes " asks: " ++ asked_by rules.now condition ++ codes "\n")) }
 {
@@ -128,13 +136,13 @@ fn push_asked<L: Lines>(text: &mut L, rules: &Rules, condition: Condition) -> Re
 
 /// Adds why a verdict is no: the address with its word and its name, what the condition asks, and
 /// the reason, if one is given, told as it is said. To a yes it adds nothing.
-pub fn push_why<L: Lines>(
+pub fn push_why<L: MessageWriter>(
     text: &mut L,
     profile: Profile,
     image: &Image,
     verdict: &Result<(), Refusal>,
     reason: &Option<Reason>,
-    telling: &Telling,
+    telling: &ReasonContext,
 ) -> Result<(), AllocError>
     ensures { OnOk result
         (L.text text.new ≡ L.text text.old

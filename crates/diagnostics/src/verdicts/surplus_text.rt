@@ -6,7 +6,7 @@ ghost use Rattle.diagnostics.specs.WhyText.{IsOnlyAfterYes};
 
 use bin_tape::Image;
 use certificate::Certificate;
-use command_parts::message::{Lines, Message};
+use command_parts::message::{Message, MessageWriter};
 use declaration::Declaration;
 use judge::Refusal;
 use std::alloc::{AllocError, Allocator};
@@ -99,7 +99,7 @@ impl<D: Allocator, C: Allocator> Shown<'_, D, C> {
 }
 
 /// Adds the ranges of a set of addresses.
-fn push_addresses<L: Lines>(text: &mut L, cells: &WordSet) -> Result<(), AllocError> {
+fn push_addresses<L: MessageWriter>(text: &mut L, cells: &WordSet) -> Result<(), AllocError> {
     for (first, last) in cells.ranges() {
         text.push_text(b" ")?;
         text.push_address(first)?;
@@ -112,7 +112,7 @@ fn push_addresses<L: Lines>(text: &mut L, cells: &WordSet) -> Result<(), AllocEr
 }
 
 /// Adds the ranges of a set of words that are no addresses.
-fn push_words<L: Lines>(text: &mut L, set: &WordSet) -> Result<(), AllocError> {
+fn push_words<L: MessageWriter>(text: &mut L, set: &WordSet) -> Result<(), AllocError> {
     for (first, last) in set.ranges() {
         text.push_text(b" ")?;
         text.push_text(&first.to_octal())?;
@@ -125,7 +125,7 @@ fn push_words<L: Lines>(text: &mut L, set: &WordSet) -> Result<(), AllocError> {
 }
 
 /// The digits of an offset.
-fn push_offset<L: Lines>(text: &mut L, offset: Word) -> Result<(), AllocError> {
+fn push_offset<L: MessageWriter>(text: &mut L, offset: Word) -> Result<(), AllocError> {
     let digits = offset.to_octal();
     if offset.index() < 8 {
         text.push_text(&digits[3..])
@@ -135,7 +135,7 @@ fn push_offset<L: Lines>(text: &mut L, offset: Word) -> Result<(), AllocError> {
 }
 
 /// Adds the ranges of a set of offsets.
-fn push_offsets<L: Lines>(text: &mut L, offsets: &WordSet) -> Result<(), AllocError> {
+fn push_offsets<L: MessageWriter>(text: &mut L, offsets: &WordSet) -> Result<(), AllocError> {
     for (first, last) in offsets.ranges() {
         text.push_text(b" ")?;
         push_offset(text, first)?;
@@ -148,7 +148,11 @@ fn push_offsets<L: Lines>(text: &mut L, offsets: &WordSet) -> Result<(), AllocEr
 }
 
 /// Adds a line that names some cells, if there are any.
-fn push_cells<L: Lines>(text: &mut L, name: &[u8], cells: &WordSet) -> Result<(), AllocError> {
+fn push_cells<L: MessageWriter>(
+    text: &mut L,
+    name: &[u8],
+    cells: &WordSet,
+) -> Result<(), AllocError> {
     if cells.is_empty() {
         return Ok(());
     }
@@ -159,7 +163,7 @@ fn push_cells<L: Lines>(text: &mut L, name: &[u8], cells: &WordSet) -> Result<()
 }
 
 /// Adds a line that names some offsets of a routine, if there are any.
-fn push_routine_offsets<L: Lines>(
+fn push_routine_offsets<L: MessageWriter>(
     text: &mut L,
     name: &[u8],
     entry: Word,
@@ -188,7 +192,7 @@ fn cells_of(image: &Image) -> WordSet {
 }
 
 /// Adds the cells of bodies that no run reaches.
-fn push_unexecuted<L: Lines>(
+fn push_unexecuted<L: MessageWriter>(
     text: &mut L,
     image: &Image,
     surplus: &Surplus,
@@ -207,7 +211,7 @@ fn push_unexecuted<L: Lines>(
 }
 
 /// Adds the cells that are declared to be used in some other way and are not.
-fn push_unused<L: Lines>(text: &mut L, surplus: &Surplus) -> Result<(), AllocError> {
+fn push_unused<L: MessageWriter>(text: &mut L, surplus: &Surplus) -> Result<(), AllocError> {
     push_cells(
         text,
         b"Variables that no instruction writes",
@@ -234,7 +238,7 @@ fn push_unused<L: Lines>(text: &mut L, surplus: &Surplus) -> Result<(), AllocErr
 
 /// Adds the offsets by which the routine of an entry is declared to return and never does, and those of which a `returns` line
 /// speaks in vain.
-fn push_idle_offsets<L: Lines, D: Allocator, C: Allocator>(
+fn push_idle_offsets<L: MessageWriter, D: Allocator, C: Allocator>(
     text: &mut L,
     shown: &Shown<'_, D, C>,
     entry: Word,
@@ -258,7 +262,7 @@ fn push_idle_offsets<L: Lines, D: Allocator, C: Allocator>(
 }
 
 /// Adds the offsets by which routines are declared to return and never do. Of a routine that is never called this is not told.
-fn push_all_idle_offsets<L: Lines, D: Allocator, C: Allocator>(
+fn push_all_idle_offsets<L: MessageWriter, D: Allocator, C: Allocator>(
     text: &mut L,
     shown: &Shown<'_, D, C>,
     surplus: &Surplus,
@@ -273,7 +277,7 @@ fn push_all_idle_offsets<L: Lines, D: Allocator, C: Allocator>(
 }
 
 /// Adds what the accumulator may hold.
-fn push_accumulator<L: Lines>(text: &mut L, set: &WordSet) -> Result<(), AllocError> {
+fn push_accumulator<L: MessageWriter>(text: &mut L, set: &WordSet) -> Result<(), AllocError> {
     if set.is_all() {
         return text.push_text(b" with any AC");
     }
@@ -282,7 +286,7 @@ fn push_accumulator<L: Lines>(text: &mut L, set: &WordSet) -> Result<(), AllocEr
 }
 
 /// Adds what the link may be.
-fn push_link<L: Lines>(text: &mut L, set: &WordSet) -> Result<(), AllocError> {
+fn push_link<L: MessageWriter>(text: &mut L, set: &WordSet) -> Result<(), AllocError> {
     let is_clear = set.contains(Word::from_index(0));
     let is_set = set.contains(Word::from_index(1));
     if is_clear && is_set {
@@ -295,7 +299,7 @@ fn push_link<L: Lines>(text: &mut L, set: &WordSet) -> Result<(), AllocError> {
 }
 
 /// Adds with what the routine of an entry returns by an offset, if it does.
-fn push_return<L: Lines, D: Allocator, C: Allocator>(
+fn push_return<L: MessageWriter, D: Allocator, C: Allocator>(
     text: &mut L,
     shown: &Shown<'_, D, C>,
     entry: Word,
@@ -317,7 +321,7 @@ fn push_return<L: Lines, D: Allocator, C: Allocator>(
 }
 
 /// Adds with what the routine of an entry returns.
-fn push_returns<L: Lines, D: Allocator, C: Allocator>(
+fn push_returns<L: MessageWriter, D: Allocator, C: Allocator>(
     text: &mut L,
     shown: &Shown<'_, D, C>,
     entry: Word,
@@ -329,7 +333,7 @@ fn push_returns<L: Lines, D: Allocator, C: Allocator>(
 }
 
 /// Adds with what the routines return, each in the order of its line.
-fn push_all_returns<L: Lines, D: Allocator, C: Allocator>(
+fn push_all_returns<L: MessageWriter, D: Allocator, C: Allocator>(
     text: &mut L,
     shown: &Shown<'_, D, C>,
 ) -> Result<(), AllocError> {

@@ -3,10 +3,10 @@
 ghost use Rattle.std.specs.Prelude.{◌≡◌, false};
 ghost use Rattle.std.specs.List.{AllByRecursion};
 
-use crate::files::{Outlet, finish, open_inputs, open_output, open_parts};
-use crate::recognised::part_hint;
+use crate::file_kinds::part_hint;
+use crate::files::{ResultSink, finish, open_inputs, open_output, open_parts};
 use crate::source_faults::{
-    NO_WORD, input_name, lend_names, output_name, tell_of, tell_size, unopened, visible_names,
+    NO_WORD, input_name, name_slices, output_name, tell_of, tell_size, unopened, visible_names,
 };
 use crate::telling::{tell, tell_lines, tell_with};
 use command_line::{AssembleRequest, ListRequest};
@@ -115,7 +115,7 @@ fn list_or_tell<R: Files + Input + Print + Eprint>(
 
 /// Puts a tape that was written in its place.
 fn finish_tape<R: Files + Print>(
-    file: &mut Outlet<'_, R>,
+    file: &mut ResultSink<'_, R>,
     assembled: Result<Status, Fault>,
 ) -> Result<Status, Fault> {
     finish(file, assembled?)
@@ -172,7 +172,7 @@ pub fn list_from<R: Files + Input + Print + Eprint>(
 ) -> Result<Status, Fault> {
     if asked.explained {
         let shown = visible_names(alloc, &asked.sources)?;
-        let lent = lend_names(alloc, &shown)?;
+        let lent = name_slices(alloc, &shown)?;
         return Ok(list_or_tell(rt, alloc, asked, &lent));
     }
     let mut parts = open_inputs(rt, alloc, &asked.sources)?;
@@ -190,7 +190,7 @@ pub fn assemble_to<R: Files + Input + Print + Eprint>(
 ) -> Result<Status, Fault> {
     if asked.explained {
         let shown = visible_names(alloc, &asked.sources)?;
-        return Ok(assemble_or_tell(rt, alloc, asked, &lend_names(alloc, &shown)?));
+        return Ok(assemble_or_tell(rt, alloc, asked, &name_slices(alloc, &shown)?));
     }
     let mut file = open_output(rt, alloc, asked.out)?;
     let mut parts = open_inputs(rt, alloc, &asked.sources)?;

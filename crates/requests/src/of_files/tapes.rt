@@ -4,7 +4,7 @@ ghost use Rattle.std.specs.Prelude.{◌≡◌, false};
 
 use crate::files::{finish, open_input, open_output};
 use bin_tape::Image;
-use command_line::{DumpRequest, RunRequest, SourceRequest, Stopping};
+use command_line::{DumpRequest, RunRequest, SourceRequest, StopOptions};
 use command_parts::inputs::tape_from;
 use command_parts::options::Stops;
 use command_parts::status::{Fault, Status};
@@ -12,7 +12,7 @@ use command_parts::text::push_place;
 use instruct::Profile;
 use machine_commands::last::{run_events_with_last, run_with_last};
 use machine_commands::long_trace::{
-    Named, Statements, push_full_name, run_events_with_long_trace, run_with_long_trace,
+    MnemonicStatements, Statements, push_full_name, run_events_with_long_trace, run_with_long_trace,
 };
 use machine_commands::running::{dump, run, run_events};
 use machine_commands::stopped_session::no_stops;
@@ -108,7 +108,7 @@ fn run_rounds_until<R: Print, S: ByteSource>(
     alloc: Global,
     asked: &RunRequest<'_>,
     frames: &mut S,
-    stopping: &Stopping,
+    stopping: &StopOptions,
 ) -> Result<Status, Fault>
     requires { S.mark frames.old ≡ false }
 {
@@ -127,7 +127,7 @@ fn run_events_until<R: Files + Input + Print, S: ByteSource>(
     asked: &RunRequest<'_>,
     frames: &mut S,
     events: &str,
-    stopping: &Stopping,
+    stopping: &StopOptions,
 ) -> Result<Status, Fault>
     requires { S.mark frames.old ≡ false }
 {
@@ -183,7 +183,7 @@ pub fn run_from<R: Files + Input + Print>(
     asked: &RunRequest<'_>,
 ) -> Result<Status, Fault> {
     let mut frames = open_input(rt, asked.tape.unwrap_or("-"))?;
-    let statements = Named {
+    let statements = MnemonicStatements {
         profile: asked.options.profile,
     };
     run_on(rt, alloc, asked, &mut frames, &statements)

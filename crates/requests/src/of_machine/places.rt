@@ -1,6 +1,6 @@
 //! The cells and places that options name with the symbols of a source.
 
-use command_line::{Misuse, Places, ReadCells, Stopping};
+use command_line::{AddressReader, Misuse, PlaceOptions, StopOptions};
 use labels::address::{Cells, cells_of};
 use pal_acts::SymbolTable;
 use std::alloc::Global;
@@ -9,7 +9,7 @@ use wordset::WordSet;
 
 /// Reads addresses as a declaration of a source does that has these symbols.
 #[derive(Clone, Copy)]
-pub(crate) struct Symbolic<'s> {
+pub(crate) struct SymbolicAddresses<'s> {
     pub(crate) own: &'s SymbolTable<Global>,
 }
 
@@ -29,7 +29,7 @@ fn one_of(cells: Cells) -> Option<Word> {
     }
 }
 
-impl ReadCells for Symbolic<'_> {
+impl AddressReader for SymbolicAddresses<'_> {
     fn cells(&self, word: &[u8]) -> Option<WordSet> {
         match cells_of(self.own, word) {
             Ok(cells) => Some(set_of(cells)),
@@ -47,17 +47,20 @@ impl ReadCells for Symbolic<'_> {
 
 /// What the options of a request name.
 #[derive(Clone, Copy)]
-pub(crate) struct Named {
+pub(crate) struct ResolvedPlaces {
     /// The cells that are shown.
     pub(crate) show: WordSet,
     /// How the run is followed, if it may be stopped.
-    pub(crate) stopping: Option<Stopping>,
+    pub(crate) stopping: Option<StopOptions>,
 }
 
 /// What these options name, where the source has these symbols of its own.
-pub(crate) fn named_in(own: &SymbolTable<Global>, places: &Places<'_>) -> Result<Named, Misuse> {
-    let reader = Symbolic { own };
-    Ok(Named {
+pub(crate) fn named_in(
+    own: &SymbolTable<Global>,
+    places: &PlaceOptions<'_>,
+) -> Result<ResolvedPlaces, Misuse> {
+    let reader = SymbolicAddresses { own };
+    Ok(ResolvedPlaces {
         show: places.shown(&reader)?,
         stopping: places.stopping(&reader)?,
     })

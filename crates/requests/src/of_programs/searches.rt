@@ -1,13 +1,13 @@
 //! Searches about a program that is open: for a certificate, for a run that violates its declaration, and for a
 //! declaration.
 
-use crate::drafted::report_stuck;
-use crate::files::{Outlet, finish, open_output};
+use crate::files::{ResultSink, finish, open_output};
 use crate::of_programs::open::OpenProgram;
 use crate::of_sources::assembled::AssembledSource;
 use crate::of_sources::source_lines::lines_of;
-use crate::stuck::{Stuck, stuck_message};
-use crate::tellers::{report_to, tell_to};
+use crate::standard_error::{report_to, tell_to};
+use crate::stuck::{StuckSearch, stuck_message};
+use crate::stuck_reports::report_stuck;
 use crate::telling::tell_lines;
 use analyser::{Attempt, guess, guess_or_draft, guess_version, guess_version_or_draft};
 use bin_tape::Image;
@@ -31,7 +31,7 @@ use turns::GuessFault;
 
 /// Writes a certificate that was found.
 fn write_found<R: Files + Print>(
-    file: &mut Outlet<'_, R>,
+    file: &mut ResultSink<'_, R>,
     found: &Certificate<Global>,
 ) -> Result<Status, Fault> {
     let status = write_certificate(found, &mut Writes::new(&mut *file))?;
@@ -45,7 +45,7 @@ fn tell_stuck<R: Files + Print + Eprint>(
     alloc: Global,
     asked: &ProgramRequest<'_>,
     source: Option<&AssembledSource>,
-    stuck: &Stuck<'_>,
+    stuck: &StuckSearch<'_>,
     report: Option<&str>,
 ) -> Result<Status, Fault> {
     if asked.explained {
@@ -108,7 +108,7 @@ pub(crate) fn guessed<R: Files + Print + Eprint, I: Read + Drop>(
     match &attempt_for(alloc, &image, &declaration, version)? {
         Attempt::Found(found) => write_found(&mut file, found),
         Attempt::Stuck(at, draft) => {
-            let stuck = Stuck {
+            let stuck = StuckSearch {
                 image: &image,
                 declaration: &declaration,
                 at: *at,

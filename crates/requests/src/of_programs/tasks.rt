@@ -2,26 +2,26 @@
 
 use crate::files::{finish, open_input, open_output};
 use crate::named_files::NamedFiles;
-use crate::of_machine::places::{Named, named_in};
+use crate::of_machine::places::{ResolvedPlaces, named_in};
 use crate::of_programs::open::OpenProgram;
 use crate::of_programs::searches::{declared, guessed, refuted};
 use crate::of_programs::verified::verified;
 use crate::of_sources::assembled::AssembledSource;
 use crate::of_sources::source_lines::lines_of;
-use crate::tellers::open_input_if;
+use crate::standard_error::open_input_if;
 use crate::telling::tell_misuse;
-use command_line::{Destination, Misuse, ProgramRequest, Stopping, Task, WatchedSession};
+use command_line::{Destination, Misuse, ProgramRequest, StopOptions, Task, WatchedSession};
 use command_parts::inputs::{bytes_from, events_from};
 use command_parts::message::Message;
 use command_parts::options::{RunOptions, SessionOptions};
 use command_parts::outcome::deliver;
 use command_parts::programs::Program;
 use command_parts::status::{Fault, Status};
-use diagnostics::verdicts::certificates::{Certified, certificate_from};
+use diagnostics::verdicts::certificates::{ProgramWithCertificate, certificate_from};
 use diagnostics::verdicts::messages::check_message;
 use machine_commands::messages::{watch_message, watch_session_message};
 use machine_commands::stopped_watch::{
-    Telling, watch_message_to_stop, watch_session_message_to_stop,
+    WatchOptions, watch_message_to_stop, watch_session_message_to_stop,
 };
 use reports::reporting::{ReportForm, report_of};
 use search_commands::checking::verdict_of;
@@ -56,7 +56,7 @@ fn checked<R: Files + Input + Print, I: Read + Drop>(
     let source = opened.source;
     let program = opened.read(alloc)?;
     let certificate = certificate_from(alloc, &mut claims)?;
-    let certified = Certified {
+    let certified = ProgramWithCertificate {
         program,
         certificate,
     };
@@ -86,7 +86,7 @@ fn reported<R: Files + Input + Print, I: Read + Drop>(
     let notes = opened.source.map(|source| &source.notes);
     let program = opened.read(alloc)?;
     let found = certificate_from(alloc, &mut claims)?;
-    let certified = Certified {
+    let certified = ProgramWithCertificate {
         program,
         certificate: found,
     };
@@ -97,8 +97,12 @@ fn reported<R: Files + Input + Print, I: Read + Drop>(
 }
 
 /// How a watched run is told that may be stopped.
-fn telling_of<'s>(stopping: &'s Stopping, explained: bool, show: &'s WordSet) -> Telling<'s> {
-    Telling {
+fn watch_options_of<'s>(
+    stopping: &'s StopOptions,
+    explained: bool,
+    show: &'s WordSet,
+) -> WatchOptions<'s> {
+    WatchOptions {
         stops: &stopping.stops,
         last: stopping.last,
         explained,
@@ -113,7 +117,7 @@ fn watched<R: Files + Input + Print, I: Read + Drop>(
     alloc: Global,
     opened: &mut OpenProgram<'_, I>,
     events: &str,
-    named: &Named,
+    named: &ResolvedPlaces,
     explained: bool,
 ) -> Result<Status, Fault> {
     let mut list = open_input(rt, events)?;
@@ -124,7 +128,7 @@ fn watched<R: Files + Input + Print, I: Read + Drop>(
     let run = match &named.stopping {
         None => watch_message(alloc, &image, &declaration, &events, explained, show)?,
         Some(stopping) => {
-            let telling = telling_of(stopping, explained, show);
+            let telling = watch_options_of(stopping, explained, show);
             watch_message_to_stop(alloc, &image, &declaration, &events, &telling)?
         }
     };
@@ -139,7 +143,7 @@ fn session_watched<R: Files + Input + Print, I: Read + Drop>(
     alloc: Global,
     opened: &mut OpenProgram<'_, I>,
     session: &WatchedSession<'_>,
-    named: &Named,
+    named: &ResolvedPlaces,
 ) -> Result<Status, Fault> {
     let mut reader = open_input_if(rt, session.reader)?;
     let mut keys = open_input_if(rt, session.keys)?;
@@ -175,7 +179,7 @@ fn session_watched<R: Files + Input + Print, I: Read + Drop>(
             &struck,
             options,
             continues,
-            &telling_of(stopping, explained, &named.show),
+            &watch_options_of(stopping, explained, &named.show),
         )?,
     };
     tell_lines(rt, alloc, source, &run.told)?;
@@ -209,8 +213,8 @@ fn report_form(text: bool) -> ReportForm {
 fn named_of(
     source: Option<&AssembledSource>,
     asked: &ProgramRequest<'_>,
-    named: Named,
-) -> Result<Named, Misuse> {
+    named: ResolvedPlaces,
+) -> Result<ResolvedPlaces, Misuse> {
     match source {
         None => Ok(named),
         Some(source) => named_in(source.numbered.map.symbols(), &asked.places),
@@ -251,7 +255,7 @@ pub(crate) fn carry_out<R: Files + Input + Print + Eprint, I: Read + Drop>(
             show,
             stopping,
         } => {
-            let named = Named {
+            let named = ResolvedPlaces {
                 show: *show,
                 stopping: *stopping,
             };
@@ -261,7 +265,7 @@ pub(crate) fn carry_out<R: Files + Input + Print + Eprint, I: Read + Drop>(
             }
         }
         Task::WatchSession(session) => {
-            let named = Named {
+            let named = ResolvedPlaces {
                 show: session.options.run.show,
                 stopping: session.stopping,
             };

@@ -5,7 +5,7 @@ use crate::of_sources::proposed::tell_proposed;
 use crate::of_sources::source_lines::lines_of;
 use crate::saving::{tell_answer_and_save, tell_proposed_and_save};
 use crate::stuck::answer_message;
-use command_line::Save;
+use command_line::SaveOptions;
 use command_parts::message::Message;
 use command_parts::options::VerifyOptions;
 use command_parts::programs::Program;
@@ -21,7 +21,7 @@ fn verified_as_declared<R: Files + Input + Print + Eprint, I: Read + Drop>(
     rt: &R,
     alloc: Global,
     opened: &mut OpenProgram<'_, I>,
-    save: &Option<Save<'_>>,
+    save: &Option<SaveOptions<'_>>,
     options: &VerifyOptions,
 ) -> Result<Status, Fault> {
     let source = opened.labels(options.search.explained);
@@ -38,7 +38,7 @@ fn verified_as_proposed<R: Files + Input + Print + Eprint, I: Read + Drop>(
     rt: &R,
     alloc: Global,
     opened: &mut OpenProgram<'_, I>,
-    save: &Option<Save<'_>>,
+    save: &Option<SaveOptions<'_>>,
     options: &VerifyOptions,
 ) -> Result<Status, Fault> {
     let source = opened.source;
@@ -67,7 +67,7 @@ pub(crate) fn verified<R: Files + Input + Print + Eprint, I: Read + Drop>(
     rt: &R,
     alloc: Global,
     opened: &mut OpenProgram<'_, I>,
-    save: Option<Save<'_>>,
+    save: Option<SaveOptions<'_>>,
     options: &VerifyOptions,
 ) -> Result<Status, Fault> {
     if opened.is_declared {

@@ -1,14 +1,14 @@
 //! A source that was assembled, and its declaration in numbers. What the source says about its addresses comes with
 //! it.
 
-use crate::of_sources::numbering::{Given, Promise, lend, says_something};
+use crate::of_sources::numbering::{DeclarationOrigin, SourceInput, byte_slices, says_something};
 use crate::source_faults::visible_names;
 use command_line::Task;
 use command_parts::status::Fault;
 use command_parts::visible::visible_bytes;
 use labels::{
-    Numbered, NumberingFault, PlaceFault, declared_lines, machine_of, name_declaration, number,
-    place,
+    NumberedProgram, NumberingFault, PlaceFault, declared_lines, machine_of, name_declaration,
+    number, place,
 };
 use pal_acts::{PlacedWord, SourcePlace};
 use pal_asm::{SourceMap, map_source};
@@ -19,11 +19,11 @@ use std::alloc::{AllocError, Global};
 #[derive(Drop)]
 pub struct AssembledSource {
     /// The tape that it means, its declaration in numbers, and its lines.
-    pub numbered: Numbered<Global>,
+    pub numbered: NumberedProgram<Global>,
     /// What it says about each address.
     pub notes: SourceNotes<Global>,
     /// Its parts and its declaration with symbols, as they were read.
-    pub given: Given,
+    pub given: SourceInput,
     /// The names of its parts, as they are shown.
     pub names: Vec<String>,
     /// Its declaration with symbols, as it is written for people.
@@ -35,7 +35,7 @@ pub struct AssembledSource {
 impl AssembledSource {
     /// Whether there is a declaration; otherwise one is to be proposed.
     pub fn is_declared(&self) -> bool {
-        self.given.promise != Promise::Proposed
+        self.given.promise != DeclarationOrigin::Proposed
     }
 
     /// A declaration in numbers with the symbols of the source, and of a declaration that was given as it was given.
@@ -49,7 +49,7 @@ impl AssembledSource {
         } else {
             &[]
         };
-        let parts = lend(alloc, &self.given.parts)?;
+        let parts = byte_slices(alloc, &self.given.parts)?;
         match name_declaration(alloc, &parts, numbers, kept) {
             Ok(text) => Ok(text),
             Err(NumberingFault::Source(fault)) => Err(Fault::Source(fault)),
@@ -103,8 +103,12 @@ fn without_empty_lines(alloc: Global, text: &[u8]) -> Result<Vec<u8>, AllocError
 
 /// The text of a declaration as it is written for people: that of lines within a source has an empty line for
 /// each other line of the source, and those are left out.
-fn as_written(alloc: Global, text: &[u8], promise: Promise) -> Result<Vec<u8>, AllocError> {
-    if promise == Promise::Within {
+fn as_written(
+    alloc: Global,
+    text: &[u8],
+    promise: DeclarationOrigin,
+) -> Result<Vec<u8>, AllocError> {
+    if promise == DeclarationOrigin::Within {
         return without_empty_lines(alloc, text);
     }
     let mut whole = Vec::new(alloc);
@@ -114,9 +118,9 @@ fn as_written(alloc: Global, text: &[u8], promise: Promise) -> Result<Vec<u8>, A
 
 /// The declaration with symbols as it is written for people. A line within a source that leaves out its address still
 /// does so here.
-fn written_by_people(alloc: Global, given: &Given) -> Result<Vec<u8>, AllocError> {
-    if given.promise == Promise::Within {
-        let parts = lend(alloc, &given.parts)?;
+fn written_by_people(alloc: Global, given: &SourceInput) -> Result<Vec<u8>, AllocError> {
+    if given.promise == DeclarationOrigin::Within {
+        let parts = byte_slices(alloc, &given.parts)?;
         return without_empty_lines(alloc, &declared_lines(alloc, &parts)?);
     }
     as_written(alloc, &given.text, given.promise)
@@ -128,12 +132,12 @@ fn wordless(
     alloc: Global,
     parts: &[&[u8]],
     declaration: &[u8],
-) -> Result<Numbered<Global>, NumberingFault> {
+) -> Result<NumberedProgram<Global>, NumberingFault> {
     let Ok(map) = map_source(alloc, parts, machine_of(declaration)) else {
         return Err(NumberingFault::NoMemory);
     };
     match place(alloc, declaration, map.symbols()) {
-        Ok(declaration) => Ok(Numbered {
+        Ok(declaration) => Ok(NumberedProgram {
             tape: Vec::new(alloc),
             declaration,
             map,
@@ -150,7 +154,7 @@ fn number_for(
     parts: &[&[u8]],
     declaration: &[u8],
     task: &Task<'_>,
-) -> Result<Numbered<Global>, NumberingFault> {
+) -> Result<NumberedProgram<Global>, NumberingFault> {
     match (number(alloc, parts, declaration), task) {
         (Err(NumberingFault::EmptyImage), Task::Place { .. }) if says_something(declaration) => {
             wordless(alloc, parts, declaration)
@@ -167,10 +171,10 @@ fn number_for(
 #[inline(never)]
 pub fn numbered_from(
     alloc: Global,
-    given: &Given,
+    given: &SourceInput,
     task: &Task<'_>,
-) -> Result<Numbered<Global>, NumberingFault> {
-    match lend(alloc, &given.parts) {
+) -> Result<NumberedProgram<Global>, NumberingFault> {
+    match byte_slices(alloc, &given.parts) {
         Ok(parts) => number_for(alloc, &parts, &given.text, task),
         Err(_) => Err(NumberingFault::NoMemory),
     }
@@ -183,8 +187,8 @@ pub fn numbered_from(
 /// Memory was refused.
 pub fn described(
     alloc: Global,
-    given: Given,
-    numbered: Numbered<Global>,
+    given: SourceInput,
+    numbered: NumberedProgram<Global>,
     names: &[&str],
 ) -> Result<AssembledSource, AllocError> {
     let notes = notes_of(alloc, &numbered.map)?;

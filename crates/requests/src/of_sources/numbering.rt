@@ -1,8 +1,8 @@
 //! Sources and their declarations, read and written in numbers, and what is said about their faults.
 
+use crate::file_kinds::{declaration_hint, source_hint};
 use crate::files::open_input;
 use crate::of_sources::part_lines::{PartLine, behind_lines, line_counts, part_line_of};
-use crate::recognised::{declaration_hint, source_hint};
 use crate::source_faults::{tell_of, tell_source, unopened};
 use crate::telling::{tell_lines, tell_misuse};
 use command_line::{Misuse, ProgramRequest, Task};
@@ -25,7 +25,7 @@ const MOST_DECLARATION: usize = 16_385;
 
 /// Where a declaration comes from.
 #[derive(Clone, Copy, PartialEq, Eq, Debug)]
-pub enum Promise {
+pub enum DeclarationOrigin {
     /// From a file.
     File,
     /// From lines within the source.
@@ -36,22 +36,22 @@ pub enum Promise {
 
 /// A source and its declaration with symbols, as they were read.
 #[derive(Drop)]
-pub struct Given {
+pub struct SourceInput {
     /// The parts of the source.
     pub parts: Vec<Vec<u8>>,
     /// The declaration with its symbols.
     pub text: Vec<u8>,
     /// Where it comes from.
-    pub promise: Promise,
+    pub promise: DeclarationOrigin,
 }
 
 /// What became of the files of a source and its declaration.
 #[derive(Drop)]
-pub enum Prepared {
+pub enum SourceInputResult {
     /// They cannot be taken, which has been told, and this is the status.
     Told(Status),
     /// They were read.
-    Read(Given),
+    Read(SourceInput),
 }
 
 /// Reads the parts of a source in order, up to the first that cannot be read, and puts them after those that were
@@ -73,7 +73,7 @@ pub(crate) fn read_parts<R: Files + Input>(
 }
 
 /// The bytes of parts, lent.
-pub fn lend<'t>(alloc: Global, parts: &'t [Vec<u8>]) -> Result<Vec<&'t [u8]>, AllocError> {
+pub fn byte_slices<'t>(alloc: Global, parts: &'t [Vec<u8>]) -> Result<Vec<&'t [u8]>, AllocError> {
     let mut slices = Vec::new(alloc);
     for part in parts {
         slices.push(part.as_slice())?;
@@ -112,9 +112,9 @@ fn unknown_declaration(alloc: Global, task: &Task<'_>) -> Result<Vec<u8>, AllocE
 
 /// A declaration with its symbols, and where it comes from.
 #[derive(Drop)]
-struct Promised {
+struct DeclarationInput {
     text: Vec<u8>,
-    promise: Promise,
+    promise: DeclarationOrigin,
 }
 
 /// Whether a declaration is proposed where no file is named, by what the source says about one.
@@ -131,25 +131,25 @@ fn given_declaration<R: Files + Input>(
     alloc: Global,
     asked: &ProgramRequest<'_>,
     parts: &[Vec<u8>],
-) -> Result<Promised, Fault> {
+) -> Result<DeclarationInput, Fault> {
     if let Some(name) = asked.declaration {
         let mut input = open_input(rt, name)?;
-        return Ok(Promised {
+        return Ok(DeclarationInput {
             text: read_at_most(alloc, &mut input, MOST_DECLARATION)?,
-            promise: Promise::File,
+            promise: DeclarationOrigin::File,
         });
     }
-    let slices = lend(alloc, parts)?;
+    let slices = byte_slices(alloc, parts)?;
     let text = declaration_within(alloc, &slices)?;
     if is_proposed(&asked.task, &text) {
-        return Ok(Promised {
+        return Ok(DeclarationInput {
             text: unknown_declaration(alloc, &asked.task)?,
-            promise: Promise::Proposed,
+            promise: DeclarationOrigin::Proposed,
         });
     }
-    Ok(Promised {
+    Ok(DeclarationInput {
         text,
-        promise: Promise::Within,
+        promise: DeclarationOrigin::Within,
     })
 }
 
@@ -249,9 +249,9 @@ pub fn tell_refused<R: Eprint>(
     alloc: Global,
     fault: NumberingFault,
     asked: &ProgramRequest<'_>,
-    given: &Given,
+    given: &SourceInput,
 ) -> Result<Status, Fault> {
-    let parts = lend(alloc, &given.parts)?;
+    let parts = byte_slices(alloc, &given.parts)?;
     let text = given.text.as_slice();
     let explained = asked.explained;
     match fault {
@@ -288,20 +288,26 @@ pub fn read_all<R: Files + Input + Eprint>(
     rt: &R,
     alloc: Global,
     asked: &ProgramRequest<'_>,
-) -> Result<Prepared, Fault> {
+) -> Result<SourceInputResult, Fault> {
     let mut parts = Vec::new(alloc);
     if let Err(fault) = read_parts(rt, alloc, asked.program.parts(), &mut parts) {
         if !asked.explained {
             return Err(fault);
         }
         let name = unopened(asked.program.parts(), parts.len());
-        return Ok(Prepared::Told(tell_of(rt, alloc, fault, name, "cannot be opened or read")));
+        return Ok(SourceInputResult::Told(tell_of(
+            rt,
+            alloc,
+            fault,
+            name,
+            "cannot be opened or read",
+        )));
     }
-    let Promised { text, promise } = given_declaration(rt, alloc, asked, &parts)?;
-    if asked.asked && promise == Promise::Within {
-        return Ok(Prepared::Told(tell_misuse(rt, &Misuse::DeclarationAndStart)));
+    let DeclarationInput { text, promise } = given_declaration(rt, alloc, asked, &parts)?;
+    if asked.asked && promise == DeclarationOrigin::Within {
+        return Ok(SourceInputResult::Told(tell_misuse(rt, &Misuse::DeclarationAndStart)));
     }
-    Ok(Prepared::Read(Given {
+    Ok(SourceInputResult::Read(SourceInput {
         parts,
         text,
         promise,

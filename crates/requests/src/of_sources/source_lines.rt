@@ -4,10 +4,10 @@
 ghost use Rattle.std.specs.Prelude.{◌≡◌, IfOk};
 ghost use Rattle.std.specs.List.{position};
 ghost use Rattle.command_parts.specs.Messages.{BeginsWith, plain};
-ghost use Rattle.requests.specs.Told.{first_line, is_line_end};
+ghost use Rattle.requests.specs.Messages.{first_line, is_line_end};
 
 use crate::of_sources::assembled::AssembledSource;
-use command_parts::message::{Mark, Message};
+use command_parts::message::{AddressMark, Message};
 use itoa::Buffer;
 use reports::reporting::{LinePlace, SourceNote};
 use std::alloc::{AllocError, Global};
@@ -81,19 +81,19 @@ fn push_piece(
     alloc: Global,
     text: &mut Vec<u8>,
     piece: &[u8],
-    mark: Mark,
+    mark: AddressMark,
     source: &AssembledSource,
 ) -> Result<(), AllocError> {
     match mark {
-        Mark::Address(at) => {
+        AddressMark::Address(at) => {
             text.extend_from_slice(piece)?;
             push_label_in_brackets(text, source.notes.at(at))
         }
-        Mark::AdvisedAddress(at) => {
+        AddressMark::AdvisedAddress(at) => {
             text.extend_from_slice(piece.get(..piece.len().saturating_sub(4)).unwrap_or(b""))?;
             push_label(text, at, source.notes.at(at))
         }
-        Mark::Instruction(at) => {
+        AddressMark::Instruction(at) => {
             text.extend_from_slice(piece)?;
             push_source_line(alloc, text, at, source)
         }

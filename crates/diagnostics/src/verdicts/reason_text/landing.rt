@@ -8,21 +8,21 @@ ghost use Rattle.diagnostics.specs.WhyText.{exit_text, gap_text, is_without_fact
 
 use crate::verdicts::reason_text::pieces::push_around_offset;
 use crate::verdicts::reason_text::sums::{push_sum_may_be, push_told};
-use command_parts::message::{Lines, push_text_and_address, push_text_and_word};
+use command_parts::message::{MessageWriter, push_text_and_address, push_text_and_word};
 use domain::Location;
 use reasons::{Counterexample, Landing};
 use std::alloc::AllocError;
 use word12::{Link, Word};
 
 /// Adds the digit of a link.
-fn push_link_digit<L: Lines>(text: &mut L, link: Link) -> Result<(), AllocError>
+fn push_link_digit<L: MessageWriter>(text: &mut L, link: Link) -> Result<(), AllocError>
     ensures { OnOk result (L.text text.new ≡ L.text text.old ++ link_text link) }
 {
     text.push_text(if link.is_set() { b"1" } else { b"0" })
 }
 
 /// Adds what the link may be.
-fn push_link<L: Lines>(text: &mut L, link: Link) -> Result<(), AllocError>
+fn push_link<L: MessageWriter>(text: &mut L, link: Link) -> Result<(), AllocError>
     ensures { OnOk result
         (L.text text.new ≡ L.text text.old ++ (codes "the link may be " ++ link_text link)) }
 {
@@ -32,7 +32,7 @@ fn push_link<L: Lines>(text: &mut L, link: Link) -> Result<(), AllocError>
 }
 
 /// Adds what a cell may hold.
-fn push_cell<L: Lines>(text: &mut L, cell: Word, word: Word) -> Result<(), AllocError>
+fn push_cell<L: MessageWriter>(text: &mut L, cell: Word, word: Word) -> Result<(), AllocError>
     ensures { OnOk result (L.text text.new ≡ L.text text.old ++
         ((codes "the cell " ++ octal_text cell) ++ (codes " may hold " ++ octal_text word))) }
 {
@@ -42,7 +42,7 @@ fn push_cell<L: Lines>(text: &mut L, cell: Word, word: Word) -> Result<(), Alloc
 }
 
 /// Adds what is possible while a cell holds a word.
-fn push_while<L: Lines>(
+fn push_while<L: MessageWriter>(
     text: &mut L,
     cell: Word,
     word: Word,
@@ -62,7 +62,7 @@ fn push_while<L: Lines>(
 }
 
 /// Adds what is possible.
-fn push_gap<L: Lines>(text: &mut L, gap: &Counterexample) -> Result<(), AllocError>
+fn push_gap<L: MessageWriter>(text: &mut L, gap: &Counterexample) -> Result<(), AllocError>
     ensures { OnOk result (L.text text.new ≡ L.text text.old ++ gap_text gap.now) }
 {
     match gap {
@@ -92,7 +92,7 @@ fn push_gap<L: Lines>(text: &mut L, gap: &Counterexample) -> Result<(), AllocErr
 }
 
 /// Adds what is possible, and a text behind it.
-fn push_excluded<L: Lines>(
+fn push_excluded<L: MessageWriter>(
     text: &mut L,
     gap: &Counterexample,
     behind: &[u8],
@@ -105,7 +105,7 @@ fn push_excluded<L: Lines>(
 }
 
 /// Adds the link with which something is possible.
-fn push_with_link<L: Lines>(text: &mut L, link: Link) -> Result<(), AllocError>
+fn push_with_link<L: MessageWriter>(text: &mut L, link: Link) -> Result<(), AllocError>
     ensures { OnOk result (L.text text.new ≡ L.text text.old ++ with_link_text link) }
 {
     text.push_text(b"with the link ")?;
@@ -115,7 +115,11 @@ fn push_with_link<L: Lines>(text: &mut L, link: Link) -> Result<(), AllocError>
 }
 
 /// Adds a word that a name may hold.
-fn push_may_hold<L: Lines>(text: &mut L, name: &Location, word: Word) -> Result<(), AllocError>
+fn push_may_hold<L: MessageWriter>(
+    text: &mut L,
+    name: &Location,
+    word: Word,
+) -> Result<(), AllocError>
     ensures { OnOk result (L.text text.new ≡
         L.text text.old ++ name_may_hold (location_of name.now) word) }
 {
@@ -126,7 +130,7 @@ fn push_may_hold<L: Lines>(text: &mut L, name: &Location, word: Word) -> Result<
 }
 
 /// Adds a word that a name may hold with a link.
-fn push_left<L: Lines>(
+fn push_left<L: MessageWriter>(
     text: &mut L,
     link: Link,
     name: &Location,
@@ -141,7 +145,7 @@ fn push_left<L: Lines>(
 }
 
 /// Adds a word that a name may hold with a link, and a text behind it.
-fn push_left_and<L: Lines>(
+fn push_left_and<L: MessageWriter>(
     text: &mut L,
     link: Link,
     name: &Location,
@@ -157,7 +161,7 @@ fn push_left_and<L: Lines>(
 }
 
 /// Adds why a run does not land.
-pub fn push_landing<L: Lines>(text: &mut L, landing: &Landing) -> Result<(), AllocError>
+pub fn push_landing<L: MessageWriter>(text: &mut L, landing: &Landing) -> Result<(), AllocError>
     ensures { OnOk result (L.text text.new ≡ L.text text.old ++ landing_text landing.now) }
 {
     match landing {
@@ -183,7 +187,7 @@ pub fn push_landing<L: Lines>(text: &mut L, landing: &Landing) -> Result<(), All
 }
 
 /// Adds a text, and why a run does not land.
-pub fn push_before_landing<L: Lines>(
+pub fn push_before_landing<L: MessageWriter>(
     text: &mut L,
     before: &[u8],
     landing: &Landing,
@@ -197,7 +201,7 @@ pub fn push_before_landing<L: Lines>(
 }
 
 /// Adds a colon, and a link with which something is possible.
-fn push_colon_and_link<L: Lines>(text: &mut L, link: Link) -> Result<(), AllocError>
+fn push_colon_and_link<L: MessageWriter>(text: &mut L, link: Link) -> Result<(), AllocError>
     ensures { OnOk result (L.text text.new ≡
         L.text text.old ++ (codes ": " ++ with_link_text link)) }
 {
@@ -207,7 +211,7 @@ fn push_colon_and_link<L: Lines>(text: &mut L, link: Link) -> Result<(), AllocEr
 }
 
 /// Adds why what is possible at a return is not among what the exit lines allow.
-pub fn push_exit<L: Lines>(text: &mut L, landing: &Landing) -> Result<(), AllocError>
+pub fn push_exit<L: MessageWriter>(text: &mut L, landing: &Landing) -> Result<(), AllocError>
     ensures { OnOk result (L.text text.new ≡ L.text text.old ++ exit_text landing.now) }
 {
     match landing {
@@ -255,7 +259,7 @@ fn is_without_fact(landing: &Landing) -> bool
 }
 
 /// Adds why the facts at the start do not allow every start.
-pub fn push_start<L: Lines>(text: &mut L, landing: &Landing) -> Result<(), AllocError>
+pub fn push_start<L: MessageWriter>(text: &mut L, landing: &Landing) -> Result<(), AllocError>
     ensures { OnOk result (L.text text.new ≡ L.text text.old ++ start_text landing.now) }
 {
     if is_without_fact(landing) {

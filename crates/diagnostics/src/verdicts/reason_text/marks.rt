@@ -4,14 +4,14 @@ ghost use Rattle.std.specs.Prelude.{◌≡◌, ◌++◌, codes, OnOk};
 ghost use Rattle.word12.specs.Words.{octal_text};
 ghost use Rattle.diagnostics.specs.WhyText.{around_number, from_one, mark_text, marks_text, told_mark, which_text};
 
+use crate::verdicts::reason_context::{Distinction, ReasonContext};
 use crate::verdicts::reason_text::pieces::push_around_number;
-use crate::verdicts::telling::{Mark, Telling};
-use command_parts::message::{Lines, push_text_and_address, push_text_and_word};
+use command_parts::message::{MessageWriter, push_text_and_address, push_text_and_word};
 use std::alloc::AllocError;
 use word12::Word;
 
 /// Adds what a cell holds.
-fn push_held<L: Lines>(text: &mut L, cell: Word, word: Word) -> Result<(), AllocError>
+fn push_held<L: MessageWriter>(text: &mut L, cell: Word, word: Word) -> Result<(), AllocError>
     ensures { OnOk result (L.text text.new ≡ L.text text.old ++
         ((codes ", " ++ octal_text cell) ++ (codes " = " ++ octal_text word))) }
 {
@@ -21,20 +21,23 @@ fn push_held<L: Lines>(text: &mut L, cell: Word, word: Word) -> Result<(), Alloc
 }
 
 /// Adds what tells a fact from another at its address.
-fn push_mark<L: Lines>(text: &mut L, mark: &Mark) -> Result<(), AllocError>
+fn push_mark<L: MessageWriter>(text: &mut L, mark: &Distinction) -> Result<(), AllocError>
     ensures { OnOk result (L.text text.new ≡ L.text text.old ++ mark_text mark.now) }
 {
     match mark {
-        Mark::CalledFrom(site) => push_text_and_address(text, b", called from ", *site),
-        Mark::LinkClear => text.push_text(b", link 0"),
-        Mark::LinkSet => text.push_text(b", link 1"),
-        Mark::Accumulator(word) => push_text_and_word(text, b", AC = ", *word),
-        Mark::Cell(cell, word) => push_held(text, *cell, *word),
+        Distinction::CalledFrom(site) => push_text_and_address(text, b", called from ", *site),
+        Distinction::LinkClear => text.push_text(b", link 0"),
+        Distinction::LinkSet => text.push_text(b", link 1"),
+        Distinction::Accumulator(word) => push_text_and_word(text, b", AC = ", *word),
+        Distinction::Cell(cell, word) => push_held(text, *cell, *word),
     }
 }
 
 /// Adds what tells a fact from another at its address, if something does.
-fn push_if_marked<L: Lines>(text: &mut L, mark: &Option<Mark>) -> Result<(), AllocError>
+fn push_if_marked<L: MessageWriter>(
+    text: &mut L,
+    mark: &Option<Distinction>,
+) -> Result<(), AllocError>
     ensures { OnOk result (L.text text.new ≡ L.text text.old ++ told_mark mark.now) }
 {
     match mark {
@@ -44,7 +47,7 @@ fn push_if_marked<L: Lines>(text: &mut L, mark: &Option<Mark>) -> Result<(), All
 }
 
 /// Adds all that tells a fact from others at its address.
-fn push_marks<L: Lines>(text: &mut L, telling: &Telling) -> Result<(), AllocError>
+fn push_marks<L: MessageWriter>(text: &mut L, telling: &ReasonContext) -> Result<(), AllocError>
     ensures { OnOk result (L.text text.new ≡ L.text text.old ++ marks_text telling.now) }
 {
     push_if_marked(text, &telling.site)?;
@@ -55,7 +58,7 @@ fn push_marks<L: Lines>(text: &mut L, telling: &Telling) -> Result<(), AllocErro
 }
 
 /// Adds the place of a fact, counted from 1.
-fn push_number<L: Lines>(text: &mut L, index: usize) -> Result<(), AllocError>
+fn push_number<L: MessageWriter>(text: &mut L, index: usize) -> Result<(), AllocError>
     ensures { OnOk result (L.text text.new ≡
         L.text text.old ++ around_number (codes "fact ") (from_one index) (codes " of ")) }
 {
@@ -63,7 +66,7 @@ fn push_number<L: Lines>(text: &mut L, index: usize) -> Result<(), AllocError>
 }
 
 /// Adds how many facts there are.
-fn push_count<L: Lines>(text: &mut L, count: usize) -> Result<(), AllocError>
+fn push_count<L: MessageWriter>(text: &mut L, count: usize) -> Result<(), AllocError>
     ensures { OnOk result (L.text text.new ≡
         L.text text.old ++ around_number (codes "") count (codes " there")) }
 {
@@ -71,7 +74,7 @@ fn push_count<L: Lines>(text: &mut L, count: usize) -> Result<(), AllocError>
 }
 
 /// Adds the place of a fact among so many.
-fn push_place<L: Lines>(text: &mut L, index: usize, count: usize) -> Result<(), AllocError>
+fn push_place<L: MessageWriter>(text: &mut L, index: usize, count: usize) -> Result<(), AllocError>
     ensures { OnOk result (L.text text.new ≡ L.text text.old ++
         (around_number (codes "fact ") (from_one index) (codes " of ") ++ around_number (codes "") count (codes " there"))) }
 {
@@ -81,7 +84,10 @@ fn push_place<L: Lines>(text: &mut L, index: usize, count: usize) -> Result<(), 
 }
 
 /// Adds all that tells a fact from others at its address, and a colon.
-fn push_marks_and_colon<L: Lines>(text: &mut L, telling: &Telling) -> Result<(), AllocError>
+fn push_marks_and_colon<L: MessageWriter>(
+    text: &mut L,
+    telling: &ReasonContext,
+) -> Result<(), AllocError>
     ensures { OnOk result (L.text text.new ≡
         L.text text.old ++ (marks_text telling.now ++ codes ": ")) }
 {
@@ -91,7 +97,11 @@ fn push_marks_and_colon<L: Lines>(text: &mut L, telling: &Telling) -> Result<(),
 }
 
 /// Adds which fact it is of several at an address.
-fn push_several<L: Lines>(text: &mut L, telling: &Telling, index: usize) -> Result<(), AllocError>
+fn push_several<L: MessageWriter>(
+    text: &mut L,
+    telling: &ReasonContext,
+    index: usize,
+) -> Result<(), AllocError>
     ensures { OnOk result (L.text text.new ≡ L.text text.old ++
         ((around_number (codes "fact ") (from_one index) (codes " of ") ++ around_number (codes "") telling.now.count (codes " there"))
         ++ (marks_text telling.now ++ codes ": "))) }
@@ -102,9 +112,9 @@ fn push_several<L: Lines>(text: &mut L, telling: &Telling, index: usize) -> Resu
 }
 
 /// Adds which fact it is, where several stand at the address.
-pub fn push_which<L: Lines>(
+pub fn push_which<L: MessageWriter>(
     text: &mut L,
-    telling: &Telling,
+    telling: &ReasonContext,
     place: &Option<usize>,
 ) -> Result<(), AllocError>
     ensures { OnOk result (L.text text.new ≡

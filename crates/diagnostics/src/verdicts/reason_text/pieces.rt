@@ -3,13 +3,13 @@
 ghost use Rattle.std.specs.Prelude.{◌≡◌, ◌++◌, OnOk};
 ghost use Rattle.diagnostics.specs.WhyText.{around, around_number, around_offset, offset_text};
 
-use command_parts::message::Lines;
+use command_parts::message::MessageWriter;
 use itoa::Buffer;
 use std::alloc::AllocError;
 use word12::Word;
 
 /// Adds a text, an address and a text.
-pub fn push_around<L: Lines>(
+pub fn push_around<L: MessageWriter>(
     text: &mut L,
     before: &[u8],
     at: Word,
@@ -24,7 +24,7 @@ pub fn push_around<L: Lines>(
 }
 
 /// Adds an offset in octal digits.
-fn push_offset<L: Lines>(text: &mut L, offset: usize) -> Result<(), AllocError>
+fn push_offset<L: MessageWriter>(text: &mut L, offset: usize) -> Result<(), AllocError>
     ensures { OnOk result (L.text text.new ≡ L.text text.old ++ offset_text offset) }
 {
     let mut digits = Buffer::new();
@@ -35,7 +35,7 @@ fn push_offset<L: Lines>(text: &mut L, offset: usize) -> Result<(), AllocError>
 }
 
 /// Adds a text, an offset and a text.
-pub fn push_around_offset<L: Lines>(
+pub fn push_around_offset<L: MessageWriter>(
     text: &mut L,
     before: &[u8],
     offset: usize,
@@ -50,7 +50,7 @@ pub fn push_around_offset<L: Lines>(
 }
 
 /// Adds a text, a number and a text.
-pub fn push_around_number<L: Lines>(
+pub fn push_around_number<L: MessageWriter>(
     text: &mut L,
     before: &[u8],
     number: usize,

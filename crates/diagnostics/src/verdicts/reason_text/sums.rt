@@ -7,13 +7,13 @@ ghost use Rattle.domain.specs.LocationsInCode.{location_of};
 ghost use Rattle.domain.specs.InCode.{sum_of, summand_of, term_of};
 ghost use Rattle.diagnostics.specs.WhyText.{added_text, coefficient_text, difference_may_be, equation_text, further_text, is_minus, more_text, name_text, sum_is, sum_may_be, sum_text, summand_text, term_text, word_told};
 
-use command_parts::message::{Lines, push_text_and_address, push_text_and_word};
+use command_parts::message::{MessageWriter, push_text_and_address, push_text_and_word};
 use domain::{Location, Sum, Summand, Term, negated};
 use std::alloc::AllocError;
 use word12::Word;
 
 /// Adds AC, or the address of a cell.
-fn push_name<L: Lines>(text: &mut L, name: &Location) -> Result<(), AllocError>
+fn push_name<L: MessageWriter>(text: &mut L, name: &Location) -> Result<(), AllocError>
     ensures { OnOk result (L.text text.new ≡ L.text text.old ++ name_text (location_of name.now)) }
 {
     match name {
@@ -23,7 +23,7 @@ fn push_name<L: Lines>(text: &mut L, name: &Location) -> Result<(), AllocError>
 }
 
 /// Adds a number that is added to an address, or taken away from it.
-fn push_added<L: Lines>(text: &mut L, more: Word) -> Result<(), AllocError>
+fn push_added<L: MessageWriter>(text: &mut L, more: Word) -> Result<(), AllocError>
     ensures { OnOk result (L.text text.new ≡ L.text text.old ++ added_text more) }
 {
     if more.index() == 0 {
@@ -36,7 +36,7 @@ fn push_added<L: Lines>(text: &mut L, more: Word) -> Result<(), AllocError>
 }
 
 /// Adds a term.
-fn push_term<L: Lines>(text: &mut L, term: &Term) -> Result<(), AllocError>
+fn push_term<L: MessageWriter>(text: &mut L, term: &Term) -> Result<(), AllocError>
     ensures { OnOk result (L.text text.new ≡ L.text text.old ++ term_text (term_of term.now)) }
 {
     match term {
@@ -50,7 +50,7 @@ fn push_term<L: Lines>(text: &mut L, term: &Term) -> Result<(), AllocError>
 }
 
 /// Adds the sign of a term that is added: of the first term nothing.
-fn push_plus<L: Lines>(text: &mut L, first: bool) -> Result<(), AllocError>
+fn push_plus<L: MessageWriter>(text: &mut L, first: bool) -> Result<(), AllocError>
     ensures { OnOk result (L.text text.new ≡
         L.text text.old ++ (if first then [] else codes " + ")) }
 {
@@ -58,7 +58,7 @@ fn push_plus<L: Lines>(text: &mut L, first: bool) -> Result<(), AllocError>
 }
 
 /// Adds the sign of a term that is taken away.
-fn push_minus<L: Lines>(text: &mut L, first: bool) -> Result<(), AllocError>
+fn push_minus<L: MessageWriter>(text: &mut L, first: bool) -> Result<(), AllocError>
     ensures { OnOk result (L.text text.new ≡
         L.text text.old ++ (if first then codes "-" else codes " - ")) }
 {
@@ -66,7 +66,11 @@ fn push_minus<L: Lines>(text: &mut L, first: bool) -> Result<(), AllocError>
 }
 
 /// Adds a coefficient that is no sign.
-fn push_factor<L: Lines>(text: &mut L, first: bool, coefficient: Word) -> Result<(), AllocError>
+fn push_factor<L: MessageWriter>(
+    text: &mut L,
+    first: bool,
+    coefficient: Word,
+) -> Result<(), AllocError>
     ensures { OnOk result (L.text text.new ≡ L.text text.old ++
         (((if first then [] else codes " + ") ++ octal_text coefficient) ++ codes " * ")) }
 {
@@ -77,7 +81,7 @@ fn push_factor<L: Lines>(text: &mut L, first: bool, coefficient: Word) -> Result
 }
 
 /// Adds what stands before a term.
-fn push_coefficient<L: Lines>(
+fn push_coefficient<L: MessageWriter>(
     text: &mut L,
     first: bool,
     coefficient: Word,
@@ -94,7 +98,11 @@ fn push_coefficient<L: Lines>(
 }
 
 /// Adds a term with what stands before it.
-fn push_summand<L: Lines>(text: &mut L, first: bool, summand: &Summand) -> Result<(), AllocError>
+fn push_summand<L: MessageWriter>(
+    text: &mut L,
+    first: bool,
+    summand: &Summand,
+) -> Result<(), AllocError>
     ensures { OnOk result (L.text text.new ≡
         L.text text.old ++ summand_text first (summand_of summand.now)) }
 {
@@ -104,7 +112,7 @@ fn push_summand<L: Lines>(text: &mut L, first: bool, summand: &Summand) -> Resul
 }
 
 /// Adds the terms of a sum behind the first one.
-fn push_further<L: Lines>(text: &mut L, summands: &[Summand]) -> Result<(), AllocError>
+fn push_further<L: MessageWriter>(text: &mut L, summands: &[Summand]) -> Result<(), AllocError>
     ensures { OnOk result (L.text text.new ≡
         L.text text.old ++ further_text (map summand_of summands.now)) }
 {
@@ -115,7 +123,7 @@ fn push_further<L: Lines>(text: &mut L, summands: &[Summand]) -> Result<(), Allo
 }
 
 /// Adds a sum.
-fn push_sum<L: Lines>(text: &mut L, sum: &Sum) -> Result<(), AllocError>
+fn push_sum<L: MessageWriter>(text: &mut L, sum: &Sum) -> Result<(), AllocError>
     ensures { OnOk result (L.text text.new ≡ L.text text.old ++ sum_text (sum_of sum.now)) }
 {
     match sum.summands().split_first() {
@@ -139,7 +147,11 @@ fn is_difference(sum: &Sum) -> bool
 }
 
 /// Adds that one word may be so much more than another.
-fn push_more_or_less<L: Lines>(text: &mut L, word: Word, behind: &[u8]) -> Result<(), AllocError>
+fn push_more_or_less<L: MessageWriter>(
+    text: &mut L,
+    word: Word,
+    behind: &[u8],
+) -> Result<(), AllocError>
     ensures { OnOk result (L.text text.new ≡
         L.text text.old ++ ((codes " may be " ++ octal_text word) ++ behind.now)) }
 {
@@ -149,7 +161,7 @@ fn push_more_or_less<L: Lines>(text: &mut L, word: Word, behind: &[u8]) -> Resul
 }
 
 /// Adds that one word may be so much less than another as this one takes back.
-fn push_less<L: Lines>(text: &mut L, word: Word) -> Result<(), AllocError>
+fn push_less<L: MessageWriter>(text: &mut L, word: Word) -> Result<(), AllocError>
     ensures { OnOk result (L.text text.new ≡ L.text text.old
         ++ ((codes " may be " ++ octal_text (minus 0 word)) ++ codes " less than ")) }
 {
@@ -157,7 +169,7 @@ fn push_less<L: Lines>(text: &mut L, word: Word) -> Result<(), AllocError>
 }
 
 /// Adds that one word may be more or less than another, or equal it.
-fn push_more<L: Lines>(text: &mut L, word: Word) -> Result<(), AllocError>
+fn push_more<L: MessageWriter>(text: &mut L, word: Word) -> Result<(), AllocError>
     ensures { OnOk result (L.text text.new ≡ L.text text.old ++ more_text word) }
 {
     if word.index() == 0 {
@@ -170,7 +182,7 @@ fn push_more<L: Lines>(text: &mut L, word: Word) -> Result<(), AllocError>
 }
 
 /// Adds that a term may be a word more than another one.
-fn push_difference<L: Lines>(
+fn push_difference<L: MessageWriter>(
     text: &mut L,
     first: &Term,
     second: &Term,
@@ -186,7 +198,11 @@ fn push_difference<L: Lines>(
 }
 
 /// Adds that a sum may be a word.
-pub fn push_sum_may_be<L: Lines>(text: &mut L, sum: &Sum, word: Word) -> Result<(), AllocError>
+pub fn push_sum_may_be<L: MessageWriter>(
+    text: &mut L,
+    sum: &Sum,
+    word: Word,
+) -> Result<(), AllocError>
     ensures { OnOk result (L.text text.new ≡ L.text text.old ++ sum_may_be (sum_of sum.now) word) }
 {
     if is_difference(sum) {
@@ -198,7 +214,7 @@ pub fn push_sum_may_be<L: Lines>(text: &mut L, sum: &Sum, word: Word) -> Result<
 }
 
 /// Adds an equals sign and a term.
-fn push_equals<L: Lines>(text: &mut L, term: &Term) -> Result<(), AllocError>
+fn push_equals<L: MessageWriter>(text: &mut L, term: &Term) -> Result<(), AllocError>
     ensures { OnOk result (L.text text.new ≡
         L.text text.old ++ (codes " = " ++ term_text (term_of term.now))) }
 {
@@ -208,7 +224,7 @@ fn push_equals<L: Lines>(text: &mut L, term: &Term) -> Result<(), AllocError>
 }
 
 /// Adds that a term is a word more than another one.
-fn push_equation<L: Lines>(
+fn push_equation<L: MessageWriter>(
     text: &mut L,
     first: &Term,
     second: &Term,
@@ -223,7 +239,7 @@ fn push_equation<L: Lines>(
 }
 
 /// Adds that a sum is a word.
-fn push_sum_is<L: Lines>(text: &mut L, sum: &Sum, word: Word) -> Result<(), AllocError>
+fn push_sum_is<L: MessageWriter>(text: &mut L, sum: &Sum, word: Word) -> Result<(), AllocError>
     ensures { OnOk result (L.text text.new ≡ L.text text.old ++ sum_is (sum_of sum.now) word) }
 {
     if is_difference(sum) {
@@ -235,7 +251,11 @@ fn push_sum_is<L: Lines>(text: &mut L, sum: &Sum, word: Word) -> Result<(), Allo
 }
 
 /// Adds what is said of a sum, if it is told which word it is.
-pub fn push_told<L: Lines>(text: &mut L, sum: &Sum, word: &Option<Word>) -> Result<(), AllocError>
+pub fn push_told<L: MessageWriter>(
+    text: &mut L,
+    sum: &Sum,
+    word: &Option<Word>,
+) -> Result<(), AllocError>
     ensures { OnOk result (L.text text.new ≡ L.text text.old ++ word_told (sum_of sum.now) word.now) }
 {
     match word {

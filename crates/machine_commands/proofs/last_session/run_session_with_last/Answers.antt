@@ -5,22 +5,22 @@ use Rattle.machine_commands.proofs.HeldLemmas.{held_no_tape, none_failed, not_re
 use Rattle.machine_commands.proofs.LastSessionLemmas.{session_behind}
 use Rattle.machine_commands.proofs.last_session.run_session_with_last.Goals as goal
 
-pub attend_last-requires-clause-few : goal.attend_last-requires-clause-few
-attend_last-requires-clause-few g c = rw (ap (λ (q : Plan). q.rounds) c.new-operator.ensures.plan) c.are_few.ensures
+pub run_scheduled_with_last-requires-clause-few : goal.run_scheduled_with_last-requires-clause-few
+run_scheduled_with_last-requires-clause-few g c = rw (ap (λ (q : Plan). q.rounds) c.new-operator.ensures.plan) c.are_few.ensures
 
 pub returns-clause-run : goal.returns-clause-run
 returns-clause-run g c =
     let is : plan_of c.new-operator.result ≡ plan_for c.args.options c.in_ok-frames.frames.items c.in_ok-struck.struck.items = search rules in
-    session_behind c.args.options c.args.stops.now c.args.form _ _ _ c.in_ok-image.image c.in_ok-frames.frames.items c.in_ok-struck.struck.items c.new-operator.result c.attend_last.result _ _ c.in_ok-image.ensures.tape c.in_ok-frames.ensures.bytes c.in_ok-struck.ensures.bytes is c.new-operator.ensures.first c.attend_last.ensures.run
+    session_behind c.args.options c.args.stops.now c.args.form _ _ _ c.in_ok-image.image c.in_ok-frames.frames.items c.in_ok-struck.struck.items c.new-operator.result c.run_scheduled_with_last.result _ _ c.in_ok-image.ensures.tape c.in_ok-frames.ensures.bytes c.in_ok-struck.ensures.bytes is c.new-operator.ensures.first c.run_scheduled_with_last.ensures.run
 
 pub returns-clause-faults : goal.returns-clause-faults
-returns-clause-faults g c = session_faults _ _ _ _ c.in_ok-image.image c.attend_last.result c.in_ok-image.ensures.tape c.attend_last.ensures.reads c.attend_last.ensures.faults
+returns-clause-faults g c = session_faults _ _ _ _ c.in_ok-image.image c.run_scheduled_with_last.result c.in_ok-image.ensures.tape c.run_scheduled_with_last.ensures.reads c.run_scheduled_with_last.ensures.faults
 
 pub returns-clause-nothing : goal.returns-clause-nothing
-returns-clause-nothing g c = held_no_tape c.attend_last.result _ c.attend_last.ensures.faults
+returns-clause-nothing g c = held_no_tape c.run_scheduled_with_last.result _ c.run_scheduled_with_last.ensures.faults
 
 pub returns-clause-nothing_after_failure : goal.returns-clause-nothing_after_failure
-returns-clause-nothing_after_failure g c = λ yes. absurd (true≢false (sym (c.attend_last.ensures.reads yes)))
+returns-clause-nothing_after_failure g c = λ yes. absurd (true≢false (sym (c.run_scheduled_with_last.ensures.reads yes)))
 
 pub returns-clause-reads : goal.returns-clause-reads
-returns-clause-reads g c = none_failed _ _ _ _ c.in_ok-image.ensures.marks c.in_ok-frames.ensures.marks c.in_ok-struck.ensures.marks (not_read c.attend_last.result c.attend_last.ensures.reads)
+returns-clause-reads g c = none_failed _ _ _ _ c.in_ok-image.ensures.marks c.in_ok-frames.ensures.marks c.in_ok-struck.ensures.marks (not_read c.run_scheduled_with_last.result c.run_scheduled_with_last.ensures.reads)

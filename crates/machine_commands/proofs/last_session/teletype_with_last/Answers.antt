@@ -7,8 +7,8 @@ use Rattle.machine_commands.proofs.TeletypeLemmas.{typed_faults}
 use Rattle.machine_commands.proofs.TypistLemmas.{either_first, either_second, first_failed}
 use Rattle.machine_commands.proofs.last_session.teletype_with_last.Goals as goal
 
-pub attend_last-requires : goal.attend_last-requires
-attend_last-requires g c = record {
+pub run_scheduled_with_last-requires : goal.run_scheduled_with_last-requires
+run_scheduled_with_last-requires g c = record {
   writable = c.requires.writable;
   typable = c.requires.typable;
   punchable = c.requires.punchable;
@@ -19,20 +19,20 @@ attend_last-requires g c = record {
 pub returns-clause-run : goal.returns-clause-run
 returns-clause-run g c =
     let t = c.args.typist.now in
-    let run = rw (c.begin.ensures, c.run_of-options.ensures, c.options.ensures) at c.attend_last.ensures.run in
-    typed_behind t.options c.args.stops.now c.args.form _ (g.R.ByteSource.remaining c.args.tape.now) (source (g.F.ByteSource.remaining t.reader) (g.F.ByteSource.ended t.reader)) (source (g.K.ByteSource.remaining t.keys) (g.K.ByteSource.ended t.keys)) c.in_ok-image.image c.attend_last.result _ _ c.in_ok-image.ensures.tape run
+    let run = rw (c.begin.ensures, c.run_of-options.ensures, c.options.ensures) at c.run_scheduled_with_last.ensures.run in
+    typed_behind t.options c.args.stops.now c.args.form _ (g.R.ByteSource.remaining c.args.tape.now) (source (g.F.ByteSource.remaining t.reader) (g.F.ByteSource.ended t.reader)) (source (g.K.ByteSource.remaining t.keys) (g.K.ByteSource.ended t.keys)) c.in_ok-image.image c.run_scheduled_with_last.result _ _ c.in_ok-image.ensures.tape run
 
 pub returns-clause-faults : goal.returns-clause-faults
-returns-clause-faults g c = typed_faults _ c.in_ok-image.image c.attend_last.result c.in_ok-image.ensures.tape c.attend_last.ensures.faults
+returns-clause-faults g c = typed_faults _ c.in_ok-image.image c.run_scheduled_with_last.result c.in_ok-image.ensures.tape c.run_scheduled_with_last.ensures.faults
 
 pub returns-clause-nothing : goal.returns-clause-nothing
-returns-clause-nothing g c = held_no_tape c.attend_last.result _ c.attend_last.ensures.faults
+returns-clause-nothing g c = held_no_tape c.run_scheduled_with_last.result _ c.run_scheduled_with_last.ensures.faults
 
 pub returns-clause-unread : goal.returns-clause-unread
-returns-clause-unread g c = held_no_tape c.attend_last.result _ c.attend_last.ensures.faults
+returns-clause-unread g c = held_no_tape c.run_scheduled_with_last.result _ c.run_scheduled_with_last.ensures.faults
 
 pub returns-clause-reads : goal.returns-clause-reads
-returns-clause-reads g c = λ yes. either_second _ _ (c.attend_last.ensures.reads yes)
+returns-clause-reads g c = λ yes. either_second _ _ (c.run_scheduled_with_last.ensures.reads yes)
 
 pub returns-in_err-image-clause-reads : goal.returns-in_err-image-clause-reads
 returns-in_err-image-clause-reads g c = λ yes.
@@ -41,7 +41,7 @@ returns-in_err-image-clause-reads g c = λ yes.
     either_first _ _ (c.in_err-image.ensures.marks ∙ read)
 
 pub returns-clause-read_told : goal.returns-clause-read_told
-returns-clause-read_told g c = λ yes. c.attend_last.ensures.read_told (rw c.in_ok-image.ensures.marks at yes)
+returns-clause-read_told g c = λ yes. c.run_scheduled_with_last.ensures.read_told (rw c.in_ok-image.ensures.marks at yes)
 
 pub returns-in_err-image-clause-read_told : goal.returns-in_err-image-clause-read_told
 returns-in_err-image-clause-read_told g c = λ yes.

@@ -25,20 +25,20 @@ returns-in_err-event-clause-broke g c =
     let failed : g.S.Scheduler.unread c.next_event.new.self ≡ true = c.in_err-event.ensures.marks in
     search (rules, sat_to_unread g.S.Scheduler.brings p c.args.trace c.args.schedule.now c.loop-event.schedule (view c.args.world.now) (view c.loop-event.world) c.loop-event.steps _ _ _ _ _ _ _ inv.sat inv.unmarked inv.untyped failed cut)
 
-pub returns-in_err-play-clause-broke : goal.returns-in_err-play-clause-broke
-returns-in_err-play-clause-broke g c =
+pub returns-in_err-apply_event-clause-broke : goal.returns-in_err-apply_event-clause-broke
+returns-in_err-apply_event-clause-broke g c =
     let inv = c.loop-event.invariant in
     let p = profile_of c.args.world.now in
     let next : IsNext g.S.Scheduler.brings c.loop-event.schedule c.next_event.new.self (view c.loop-event.world) c.in-Some.event = rw c.in-Some.is at c.in_ok-event.ensures.due in
     let readable : g.S.Scheduler.unread c.next_event.new.self ≡ false = c.in_ok-event.ensures.marks in
-    let front : PlayedFront p c.args.trace (view c.loop-event.world) c.in-Some.event (view c.play.new.world) (g.W.ByteSink.mark c.play.new.report) (g.T.ByteSink.mark c.play.new.teletype) (g.W.ByteSink.taken c.loop-event.report) (g.W.ByteSink.taken c.play.new.report) (g.T.ByteSink.taken c.loop-event.teletype) (g.T.ByteSink.taken c.play.new.teletype) = rw inv.profile at c.in_err-play.ensures.front in
-    search (rules, sat_to_fault g.S.Scheduler.brings p c.args.trace c.args.schedule.now c.loop-event.schedule c.next_event.new.self c.in-Some.event (view c.args.world.now) (view c.loop-event.world) (view c.play.new.world) c.loop-event.steps _ _ _ _ _ _ _ _ _ inv.sat next g.met.S.Scheduler.anywhere readable front)
+    let front : PlayedFront p c.args.trace (view c.loop-event.world) c.in-Some.event (view c.apply_event.new.world) (g.W.ByteSink.mark c.apply_event.new.report) (g.T.ByteSink.mark c.apply_event.new.teletype) (g.W.ByteSink.taken c.loop-event.report) (g.W.ByteSink.taken c.apply_event.new.report) (g.T.ByteSink.taken c.loop-event.teletype) (g.T.ByteSink.taken c.apply_event.new.teletype) = rw inv.profile at c.in_err-apply_event.ensures.front in
+    search (rules, sat_to_fault g.S.Scheduler.brings p c.args.trace c.args.schedule.now c.loop-event.schedule c.next_event.new.self c.in-Some.event (view c.args.world.now) (view c.loop-event.world) (view c.apply_event.new.world) c.loop-event.steps _ _ _ _ _ _ _ _ _ inv.sat next g.met.S.Scheduler.anywhere readable front)
 
 pub overflow_add-steps : goal.overflow_add-steps
 overflow_add-steps g c =
     let inv = c.loop-event.invariant in
     let p = profile_of c.args.world.now in
-    let played : Played p c.args.trace (view c.loop-event.world) c.in-Some.event Ran (view c.play.new.world) (g.W.ByteSink.taken c.loop-event.report) (g.W.ByteSink.taken c.play.new.report) (g.T.ByteSink.taken c.loop-event.teletype) (g.T.ByteSink.taken c.play.new.teletype) = rw (inv.profile, c.in-Ran.is) at c.in_ok-play.ensures.played in
+    let played : Played p c.args.trace (view c.loop-event.world) c.in-Some.event Ran (view c.apply_event.new.world) (g.W.ByteSink.taken c.loop-event.report) (g.W.ByteSink.taken c.apply_event.new.report) (g.T.ByteSink.taken c.loop-event.teletype) (g.T.ByteSink.taken c.apply_event.new.teletype) = rw (inv.profile, c.in-Ran.is) at c.in_ok-apply_event.ensures.played in
     let one : steps_in c.in-Some.event ≡ 1 = ran_counts p (view c.loop-event.world) c.in-Some.event played.sees in
     let taken : steps_in c.in-Some.event + g.S.Scheduler.steps_to_come c.next_event.new.self ≤ g.S.Scheduler.steps_to_come c.loop-event.schedule = rw c.in-Some.is at c.in_ok-event.ensures.steps in
     let few : g.S.Scheduler.steps_to_come c.args.schedule.now < 18446744073709551616 = c.requires.few in
@@ -50,7 +50,7 @@ pub overflow_add-result : goal.overflow_add-result
 overflow_add-result g c =
     let inv = c.loop-event.invariant in
     let p = profile_of c.args.world.now in
-    let played : Played p c.args.trace (view c.loop-event.world) c.in-Some.event Halted (view c.play.new.world) (g.W.ByteSink.taken c.loop-event.report) (g.W.ByteSink.taken c.play.new.report) (g.T.ByteSink.taken c.loop-event.teletype) (g.T.ByteSink.taken c.play.new.teletype) = rw (inv.profile, c.in-Halted.is) at c.in_ok-play.ensures.played in
+    let played : Played p c.args.trace (view c.loop-event.world) c.in-Some.event Halted (view c.apply_event.new.world) (g.W.ByteSink.taken c.loop-event.report) (g.W.ByteSink.taken c.apply_event.new.report) (g.T.ByteSink.taken c.loop-event.teletype) (g.T.ByteSink.taken c.apply_event.new.teletype) = rw (inv.profile, c.in-Halted.is) at c.in_ok-apply_event.ensures.played in
     let one : steps_in c.in-Some.event ≡ 1 = halted_is_step p (view c.loop-event.world) c.in-Some.event played.sees in
     let taken : steps_in c.in-Some.event + g.S.Scheduler.steps_to_come c.next_event.new.self ≤ g.S.Scheduler.steps_to_come c.loop-event.schedule = rw c.in-Some.is at c.in_ok-event.ensures.steps in
     let few : g.S.Scheduler.steps_to_come c.args.schedule.now < 18446744073709551616 = c.requires.few in
@@ -62,7 +62,7 @@ pub complete_devices-requires : goal.complete_devices-requires
 complete_devices-requires g c =
     let inv = c.loop-event.invariant in
     let p = profile_of c.args.world.now in
-    let played : Played p c.args.trace (view c.loop-event.world) c.in-Some.event Ran (view c.play.new.world) (g.W.ByteSink.taken c.loop-event.report) (g.W.ByteSink.taken c.play.new.report) (g.T.ByteSink.taken c.loop-event.teletype) (g.T.ByteSink.taken c.play.new.teletype) = rw (inv.profile, c.in-Ran.is) at c.in_ok-play.ensures.played in
+    let played : Played p c.args.trace (view c.loop-event.world) c.in-Some.event Ran (view c.apply_event.new.world) (g.W.ByteSink.taken c.loop-event.report) (g.W.ByteSink.taken c.apply_event.new.report) (g.T.ByteSink.taken c.loop-event.teletype) (g.T.ByteSink.taken c.apply_event.new.teletype) = rw (inv.profile, c.in-Ran.is) at c.in_ok-apply_event.ensures.played in
     let stepped : c.in-Some.event ≡ Step → g.S.Scheduler.stepped c.next_event.new.self ≡ true = rw c.in-Some.is at c.in_ok-event.ensures.stepped in
     record { stepped = stepped (ran_is_step p (view c.loop-event.world) c.in-Some.event played.sees) }
 
@@ -71,20 +71,20 @@ loop-event-preserved-in-Ran g c =
     let inv = c.loop-event.invariant in
     let p = profile_of c.args.world.now in
     let next : IsNext g.S.Scheduler.brings c.loop-event.schedule c.next_event.new.self (view c.loop-event.world) c.in-Some.event = rw c.in-Some.is at c.in_ok-event.ensures.due in
-    let played : Played p c.args.trace (view c.loop-event.world) c.in-Some.event Ran (view c.play.new.world) (g.W.ByteSink.taken c.loop-event.report) (g.W.ByteSink.taken c.play.new.report) (g.T.ByteSink.taken c.loop-event.teletype) (g.T.ByteSink.taken c.play.new.teletype) = rw (inv.profile, c.in-Ran.is) at c.in_ok-play.ensures.played in
-    let ran = sat_more g.S.Scheduler.brings p c.args.trace c.args.schedule.now c.loop-event.schedule c.next_event.new.self c.in-Some.event (view c.args.world.now) (view c.loop-event.world) (view c.play.new.world) c.loop-event.steps Ran _ _ _ _ _ _ inv.sat next played refl in
+    let played : Played p c.args.trace (view c.loop-event.world) c.in-Some.event Ran (view c.apply_event.new.world) (g.W.ByteSink.taken c.loop-event.report) (g.W.ByteSink.taken c.apply_event.new.report) (g.T.ByteSink.taken c.loop-event.teletype) (g.T.ByteSink.taken c.apply_event.new.teletype) = rw (inv.profile, c.in-Ran.is) at c.in_ok-apply_event.ensures.played in
+    let ran = sat_more g.S.Scheduler.brings p c.args.trace c.args.schedule.now c.loop-event.schedule c.next_event.new.self c.in-Some.event (view c.args.world.now) (view c.loop-event.world) (view c.apply_event.new.world) c.loop-event.steps Ran _ _ _ _ _ _ inv.sat next played refl in
     let one : steps_in c.in-Some.event ≡ 1 = ran_counts p (view c.loop-event.world) c.in-Some.event played.sees in
     let taken : steps_in c.in-Some.event + g.S.Scheduler.steps_to_come c.next_event.new.self ≤ g.S.Scheduler.steps_to_come c.loop-event.schedule = rw c.in-Some.is at c.in_ok-event.ensures.steps in
     let same : g.S.Scheduler.steps_to_come c.complete_devices.new.self ≡ g.S.Scheduler.steps_to_come c.next_event.new.self = c.complete_devices.ensures.steps in
     let was : c.loop-event.steps + g.S.Scheduler.steps_to_come c.loop-event.schedule ≤ g.S.Scheduler.steps_to_come c.args.schedule.now = inv.steps in
     let unread : g.S.Scheduler.unread c.next_event.new.self ≡ false = c.in_ok-event.ensures.marks in
     record {
-      sat = rw c.complete_devices.ensures.done (sat_completed g.S.Scheduler.brings p c.args.trace c.args.schedule.now c.next_event.new.self c.complete_devices.new.self (view c.args.world.now) (view c.play.new.world) _ _ _ _ _ ran c.complete_devices.ensures.brings);
-      profile = c.complete_devices.ensures.profile ∙ c.play.ensures.profile ∙ inv.profile;
+      sat = rw c.complete_devices.ensures.done (sat_completed g.S.Scheduler.brings p c.args.trace c.args.schedule.now c.next_event.new.self c.complete_devices.new.self (view c.args.world.now) (view c.apply_event.new.world) _ _ _ _ _ ran c.complete_devices.ensures.brings);
+      profile = c.complete_devices.ensures.profile ∙ c.apply_event.ensures.profile ∙ inv.profile;
       steps = omega (arith, one, taken, same, was);
       readable = c.complete_devices.ensures.marks ∙ unread;
-      unmarked = or_left _ _ c.in_ok-play.ensures.marks;
-      untyped = or_right _ _ c.in_ok-play.ensures.marks;
+      unmarked = or_left _ _ c.in_ok-apply_event.ensures.marks;
+      untyped = or_right _ _ c.in_ok-apply_event.ensures.marks;
     }
 
 pub loop-event-preserved-in-NotEnabled : goal.loop-event-preserved-in-NotEnabled
@@ -92,17 +92,17 @@ loop-event-preserved-in-NotEnabled g c =
     let inv = c.loop-event.invariant in
     let p = profile_of c.args.world.now in
     let next : IsNext g.S.Scheduler.brings c.loop-event.schedule c.next_event.new.self (view c.loop-event.world) c.in-Some.event = rw c.in-Some.is at c.in_ok-event.ensures.due in
-    let played : Played p c.args.trace (view c.loop-event.world) c.in-Some.event NotEnabled (view c.play.new.world) (g.W.ByteSink.taken c.loop-event.report) (g.W.ByteSink.taken c.play.new.report) (g.T.ByteSink.taken c.loop-event.teletype) (g.T.ByteSink.taken c.play.new.teletype) = rw (inv.profile, c.in-NotEnabled.is) at c.in_ok-play.ensures.played in
+    let played : Played p c.args.trace (view c.loop-event.world) c.in-Some.event NotEnabled (view c.apply_event.new.world) (g.W.ByteSink.taken c.loop-event.report) (g.W.ByteSink.taken c.apply_event.new.report) (g.T.ByteSink.taken c.loop-event.teletype) (g.T.ByteSink.taken c.apply_event.new.teletype) = rw (inv.profile, c.in-NotEnabled.is) at c.in_ok-apply_event.ensures.played in
     let taken : steps_in c.in-Some.event + g.S.Scheduler.steps_to_come c.next_event.new.self ≤ g.S.Scheduler.steps_to_come c.loop-event.schedule = rw c.in-Some.is at c.in_ok-event.ensures.steps in
     let was : c.loop-event.steps + g.S.Scheduler.steps_to_come c.loop-event.schedule ≤ g.S.Scheduler.steps_to_come c.args.schedule.now = inv.steps in
     let unread : g.S.Scheduler.unread c.next_event.new.self ≡ false = c.in_ok-event.ensures.marks in
     record {
-      sat = sat_still g.S.Scheduler.brings p c.args.trace c.args.schedule.now c.loop-event.schedule c.next_event.new.self c.in-Some.event (view c.args.world.now) (view c.loop-event.world) (view c.play.new.world) c.loop-event.steps NotEnabled _ _ _ _ _ _ inv.sat next played refl refl;
-      profile = c.play.ensures.profile ∙ inv.profile;
+      sat = sat_still g.S.Scheduler.brings p c.args.trace c.args.schedule.now c.loop-event.schedule c.next_event.new.self c.in-Some.event (view c.args.world.now) (view c.loop-event.world) (view c.apply_event.new.world) c.loop-event.steps NotEnabled _ _ _ _ _ _ inv.sat next played refl refl;
+      profile = c.apply_event.ensures.profile ∙ inv.profile;
       steps = omega (arith, taken, was);
       readable = unread;
-      unmarked = or_left _ _ c.in_ok-play.ensures.marks;
-      untyped = or_right _ _ c.in_ok-play.ensures.marks;
+      unmarked = or_left _ _ c.in_ok-apply_event.ensures.marks;
+      untyped = or_right _ _ c.in_ok-apply_event.ensures.marks;
     }
 
 pub loop-event-preserved : goal.loop-event-preserved
@@ -110,17 +110,17 @@ loop-event-preserved g c =
     let inv = c.loop-event.invariant in
     let p = profile_of c.args.world.now in
     let next : IsNext g.S.Scheduler.brings c.loop-event.schedule c.next_event.new.self (view c.loop-event.world) c.in-Some.event = rw c.in-Some.is at c.in_ok-event.ensures.due in
-    let played : Played p c.args.trace (view c.loop-event.world) c.in-Some.event Changed (view c.play.new.world) (g.W.ByteSink.taken c.loop-event.report) (g.W.ByteSink.taken c.play.new.report) (g.T.ByteSink.taken c.loop-event.teletype) (g.T.ByteSink.taken c.play.new.teletype) = rw (inv.profile, c.in-Changed.is) at c.in_ok-play.ensures.played in
+    let played : Played p c.args.trace (view c.loop-event.world) c.in-Some.event Changed (view c.apply_event.new.world) (g.W.ByteSink.taken c.loop-event.report) (g.W.ByteSink.taken c.apply_event.new.report) (g.T.ByteSink.taken c.loop-event.teletype) (g.T.ByteSink.taken c.apply_event.new.teletype) = rw (inv.profile, c.in-Changed.is) at c.in_ok-apply_event.ensures.played in
     let taken : steps_in c.in-Some.event + g.S.Scheduler.steps_to_come c.next_event.new.self ≤ g.S.Scheduler.steps_to_come c.loop-event.schedule = rw c.in-Some.is at c.in_ok-event.ensures.steps in
     let was : c.loop-event.steps + g.S.Scheduler.steps_to_come c.loop-event.schedule ≤ g.S.Scheduler.steps_to_come c.args.schedule.now = inv.steps in
     let unread : g.S.Scheduler.unread c.next_event.new.self ≡ false = c.in_ok-event.ensures.marks in
     record {
-      sat = sat_still g.S.Scheduler.brings p c.args.trace c.args.schedule.now c.loop-event.schedule c.next_event.new.self c.in-Some.event (view c.args.world.now) (view c.loop-event.world) (view c.play.new.world) c.loop-event.steps Changed _ _ _ _ _ _ inv.sat next played refl refl;
-      profile = c.play.ensures.profile ∙ inv.profile;
+      sat = sat_still g.S.Scheduler.brings p c.args.trace c.args.schedule.now c.loop-event.schedule c.next_event.new.self c.in-Some.event (view c.args.world.now) (view c.loop-event.world) (view c.apply_event.new.world) c.loop-event.steps Changed _ _ _ _ _ _ inv.sat next played refl refl;
+      profile = c.apply_event.ensures.profile ∙ inv.profile;
       steps = omega (arith, taken, was);
       readable = unread;
-      unmarked = or_left _ _ c.in_ok-play.ensures.marks;
-      untyped = or_right _ _ c.in_ok-play.ensures.marks;
+      unmarked = or_left _ _ c.in_ok-apply_event.ensures.marks;
+      untyped = or_right _ _ c.in_ok-apply_event.ensures.marks;
     }
 
 pub returns-in-Halted-clause-ran : goal.returns-in-Halted-clause-ran
@@ -128,8 +128,8 @@ returns-in-Halted-clause-ran g c =
     let inv = c.loop-event.invariant in
     let p = profile_of c.args.world.now in
     let next : IsNext g.S.Scheduler.brings c.loop-event.schedule c.next_event.new.self (view c.loop-event.world) c.in-Some.event = rw c.in-Some.is at c.in_ok-event.ensures.due in
-    let played : Played p c.args.trace (view c.loop-event.world) c.in-Some.event Halted (view c.play.new.world) (g.W.ByteSink.taken c.loop-event.report) (g.W.ByteSink.taken c.play.new.report) (g.T.ByteSink.taken c.loop-event.teletype) (g.T.ByteSink.taken c.play.new.teletype) = rw (inv.profile, c.in-Halted.is) at c.in_ok-play.ensures.played in
-    sat_to_halt g.S.Scheduler.brings p c.args.trace c.args.schedule.now c.loop-event.schedule c.next_event.new.self c.in-Some.event (view c.args.world.now) (view c.loop-event.world) (view c.play.new.world) c.loop-event.steps _ _ _ _ _ _ _
+    let played : Played p c.args.trace (view c.loop-event.world) c.in-Some.event Halted (view c.apply_event.new.world) (g.W.ByteSink.taken c.loop-event.report) (g.W.ByteSink.taken c.apply_event.new.report) (g.T.ByteSink.taken c.loop-event.teletype) (g.T.ByteSink.taken c.apply_event.new.teletype) = rw (inv.profile, c.in-Halted.is) at c.in_ok-apply_event.ensures.played in
+    sat_to_halt g.S.Scheduler.brings p c.args.trace c.args.schedule.now c.loop-event.schedule c.next_event.new.self c.in-Some.event (view c.args.world.now) (view c.loop-event.world) (view c.apply_event.new.world) c.loop-event.steps _ _ _ _ _ _ _
     inv.sat next played refl c.end_of.ensures
 
 pub returns-in-Unsupported-clause-ran : goal.returns-in-Unsupported-clause-ran
@@ -137,8 +137,8 @@ returns-in-Unsupported-clause-ran g c =
     let inv = c.loop-event.invariant in
     let p = profile_of c.args.world.now in
     let next : IsNext g.S.Scheduler.brings c.loop-event.schedule c.next_event.new.self (view c.loop-event.world) c.in-Some.event = rw c.in-Some.is at c.in_ok-event.ensures.due in
-    let played : Played p c.args.trace (view c.loop-event.world) c.in-Some.event (Unsupported c.in-Unsupported.field-0) (view c.play.new.world) (g.W.ByteSink.taken c.loop-event.report) (g.W.ByteSink.taken c.play.new.report) (g.T.ByteSink.taken c.loop-event.teletype) (g.T.ByteSink.taken c.play.new.teletype) = rw (inv.profile, c.in-Unsupported.is) at c.in_ok-play.ensures.played in
-    sat_to_stuck g.S.Scheduler.brings p c.args.trace c.args.schedule.now c.loop-event.schedule c.next_event.new.self c.in-Some.event (view c.args.world.now) (view c.loop-event.world) (view c.play.new.world) c.loop-event.steps c.in-Unsupported.field-0 _ _ _ _ _ _ _
+    let played : Played p c.args.trace (view c.loop-event.world) c.in-Some.event (Unsupported c.in-Unsupported.field-0) (view c.apply_event.new.world) (g.W.ByteSink.taken c.loop-event.report) (g.W.ByteSink.taken c.apply_event.new.report) (g.T.ByteSink.taken c.loop-event.teletype) (g.T.ByteSink.taken c.apply_event.new.teletype) = rw (inv.profile, c.in-Unsupported.is) at c.in_ok-apply_event.ensures.played in
+    sat_to_stuck g.S.Scheduler.brings p c.args.trace c.args.schedule.now c.loop-event.schedule c.next_event.new.self c.in-Some.event (view c.args.world.now) (view c.loop-event.world) (view c.apply_event.new.world) c.loop-event.steps c.in-Unsupported.field-0 _ _ _ _ _ _ _
     inv.sat next played refl (search rules)
 
 pub returns-clause-ran : goal.returns-clause-ran

@@ -7,26 +7,26 @@ use Rattle.machine_commands.proofs.RunLemmas.{tape_wants_none}
 use Rattle.machine_commands.proofs.SessionLemmas.{bytes_came, came_whole, of_failure, of_refusal, session_fronts}
 use Rattle.machine_commands.proofs.session.run_session.Goals as goal
 
-pub attend-requires-clause-few : goal.attend-requires-clause-few
-attend-requires-clause-few g c = rw (ap (λ (q : Plan). q.rounds) c.new-operator.ensures.plan) c.are_few.ensures
+pub run_scheduled-requires-clause-few : goal.run_scheduled-requires-clause-few
+run_scheduled-requires-clause-few g c = rw (ap (λ (q : Plan). q.rounds) c.new-operator.ensures.plan) c.are_few.ensures
 
 pub returns-clause-run : goal.returns-clause-run
 returns-clause-run g c =
     let is : plan_of c.new-operator.result ≡ plan_for c.args.options c.in_ok-frames.frames.items c.in_ok-struck.struck.items = search rules in
-    session_ok c.args.options c.args.form _ _ _ c.in_ok-image.image c.in_ok-frames.frames.items c.in_ok-struck.struck.items c.new-operator.result c.attend.result _ _ c.in_ok-image.ensures.tape c.in_ok-frames.ensures.bytes c.in_ok-struck.ensures.bytes is c.new-operator.ensures.first c.attend.ensures.run
+    session_ok c.args.options c.args.form _ _ _ c.in_ok-image.image c.in_ok-frames.frames.items c.in_ok-struck.struck.items c.new-operator.result c.run_scheduled.result _ _ c.in_ok-image.ensures.tape c.in_ok-frames.ensures.bytes c.in_ok-struck.ensures.bytes is c.new-operator.ensures.first c.run_scheduled.ensures.run
 
 pub returns-clause-faults : goal.returns-clause-faults
-returns-clause-faults g c = session_faults _ _ _ _ c.in_ok-image.image c.attend.result c.in_ok-image.ensures.tape c.attend.ensures.reads c.attend.ensures.faults
+returns-clause-faults g c = session_faults _ _ _ _ c.in_ok-image.image c.run_scheduled.result c.in_ok-image.ensures.tape c.run_scheduled.ensures.reads c.run_scheduled.ensures.faults
 
 pub returns-clause-front : goal.returns-clause-front
 returns-clause-front g c =
     let is : plan_of c.new-operator.result ≡ plan_for c.args.options c.in_ok-frames.frames.items c.in_ok-struck.struck.items = search rules in
-    on_err_weaker c.attend.result (session_or c.args.options c.args.form _ _ _ c.in_ok-image.image c.in_ok-frames.frames.items c.in_ok-struck.struck.items c.new-operator.result _ _ _ c.in_ok-image.ensures.tape c.in_ok-frames.ensures.bytes c.in_ok-struck.ensures.bytes is c.new-operator.ensures.first) c.attend.ensures.front
+    on_err_weaker c.run_scheduled.result (session_or c.args.options c.args.form _ _ _ c.in_ok-image.image c.in_ok-frames.frames.items c.in_ok-struck.struck.items c.new-operator.result _ _ _ c.in_ok-image.ensures.tape c.in_ok-frames.ensures.bytes c.in_ok-struck.ensures.bytes is c.new-operator.ensures.first) c.run_scheduled.ensures.front
 
 pub returns-clause-front_of_failure : goal.returns-clause-front_of_failure
 returns-clause-front_of_failure g c = λ failed.
     let is : plan_of c.new-operator.result ≡ plan_for c.args.options c.in_ok-frames.frames.items c.in_ok-struck.struck.items = search rules in
-    session_fronts c.args.options c.args.form _ _ _ c.in_ok-image.image c.in_ok-frames.frames.items c.in_ok-struck.struck.items c.new-operator.result _ _ _ c.in_ok-image.ensures.tape c.in_ok-frames.ensures.bytes c.in_ok-struck.ensures.bytes is c.new-operator.ensures.first (of_failure c.attend.result failed c.attend.ensures.front)
+    session_fronts c.args.options c.args.form _ _ _ c.in_ok-image.image c.in_ok-frames.frames.items c.in_ok-struck.struck.items c.new-operator.result _ _ _ c.in_ok-image.ensures.tape c.in_ok-frames.ensures.bytes c.in_ok-struck.ensures.bytes is c.new-operator.ensures.first (of_failure c.run_scheduled.result failed c.run_scheduled.ensures.front)
 
 pub returns-in_err-image-clause-broke_off : goal.returns-in_err-image-clause-broke_off
 returns-in_err-image-clause-broke_off g c = λ same. absurd (tape_wants_none _ c.tape_from.result c.tape_from.ensures.faults (search rules))
@@ -40,19 +40,19 @@ returns-in_err-struck-clause-broke_off g c = λ same. inr (inl (bytes_came _ _ c
 pub returns-clause-broke_off : goal.returns-clause-broke_off
 returns-clause-broke_off g c = λ refused.
     let is : plan_of c.new-operator.result ≡ plan_for c.args.options c.in_ok-frames.frames.items c.in_ok-struck.struck.items = search rules in
-    inr (inr (session_fronts c.args.options c.args.form _ _ _ c.in_ok-image.image c.in_ok-frames.frames.items c.in_ok-struck.struck.items c.new-operator.result _ _ _ c.in_ok-image.ensures.tape c.in_ok-frames.ensures.bytes c.in_ok-struck.ensures.bytes is c.new-operator.ensures.first (of_refusal c.attend.result refused c.attend.ensures.front)))
+    inr (inr (session_fronts c.args.options c.args.form _ _ _ c.in_ok-image.image c.in_ok-frames.frames.items c.in_ok-struck.struck.items c.new-operator.result _ _ _ c.in_ok-image.ensures.tape c.in_ok-frames.ensures.bytes c.in_ok-struck.ensures.bytes is c.new-operator.ensures.first (of_refusal c.run_scheduled.result refused c.run_scheduled.ensures.front)))
 
 pub returns-clause-nothing : goal.returns-clause-nothing
-returns-clause-nothing g c = held_no_tape c.attend.result _ c.attend.ensures.faults
+returns-clause-nothing g c = held_no_tape c.run_scheduled.result _ c.run_scheduled.ensures.faults
 
 pub returns-clause-nothing_after_failure : goal.returns-clause-nothing_after_failure
-returns-clause-nothing_after_failure g c = λ yes. absurd (true≢false (sym (c.attend.ensures.reads yes)))
+returns-clause-nothing_after_failure g c = λ yes. absurd (true≢false (sym (c.run_scheduled.ensures.reads yes)))
 
 pub returns-clause-reads : goal.returns-clause-reads
-returns-clause-reads g c = none_failed _ _ _ _ c.in_ok-image.ensures.marks c.in_ok-frames.ensures.marks c.in_ok-struck.ensures.marks (not_read c.attend.result c.attend.ensures.reads)
+returns-clause-reads g c = none_failed _ _ _ _ c.in_ok-image.ensures.marks c.in_ok-frames.ensures.marks c.in_ok-struck.ensures.marks (not_read c.run_scheduled.result c.run_scheduled.ensures.reads)
 
 pub returns-clause-unread : goal.returns-clause-unread
-returns-clause-unread g c = held_no_tape c.attend.result _ c.attend.ensures.faults
+returns-clause-unread g c = held_no_tape c.run_scheduled.result _ c.run_scheduled.ensures.faults
 
 pub returns-in_err-struck-clause-keys_unread : goal.returns-in_err-struck-clause-keys_unread
 returns-in_err-struck-clause-keys_unread g c = inr (came_whole _ _ _ c.in_ok-frames.frames.items c.in_ok-frames.ensures.taken c.in_ok-frames.ensures.bytes)

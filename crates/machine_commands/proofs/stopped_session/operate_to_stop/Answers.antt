@@ -30,21 +30,21 @@ returns-in_err-event-clause-broke g c =
     let failed : g.S.Scheduler.unread c.next_event.new.self ≡ true = c.in_err-event.ensures.marks in
     search (rules, un_to_unread g.S.Scheduler.brings c.args.stops.now p c.args.trace c.args.schedule.now c.loop-event.schedule (view c.args.world.now) (view c.loop-event.world) c.loop-event.steps c.loop-event.visits _ _ _ _ _ _ _ inv.un inv.unmarked inv.untyped failed cut)
 
-pub returns-in_err-play-clause-broke : goal.returns-in_err-play-clause-broke
-returns-in_err-play-clause-broke g c =
+pub returns-in_err-apply_event-clause-broke : goal.returns-in_err-apply_event-clause-broke
+returns-in_err-apply_event-clause-broke g c =
     let inv = c.loop-event.invariant in
     let p = profile_of c.args.world.now in
     let next : IsNext g.S.Scheduler.brings c.loop-event.schedule c.next_event.new.self (view c.loop-event.world) c.in-Some.event = rw c.in-Some.is at c.in_ok-event.ensures.due in
     let readable : g.S.Scheduler.unread c.next_event.new.self ≡ false = c.in_ok-event.ensures.marks in
-    let front : PlayedFront p c.args.trace (view c.loop-event.world) c.in-Some.event (view c.play.new.world) (g.W.ByteSink.mark c.play.new.report) (g.T.ByteSink.mark c.play.new.teletype) (g.W.ByteSink.taken c.loop-event.report) (g.W.ByteSink.taken c.play.new.report) (g.T.ByteSink.taken c.loop-event.teletype) (g.T.ByteSink.taken c.play.new.teletype) = rw inv.profile at c.in_err-play.ensures.front in
+    let front : PlayedFront p c.args.trace (view c.loop-event.world) c.in-Some.event (view c.apply_event.new.world) (g.W.ByteSink.mark c.apply_event.new.report) (g.T.ByteSink.mark c.apply_event.new.teletype) (g.W.ByteSink.taken c.loop-event.report) (g.W.ByteSink.taken c.apply_event.new.report) (g.T.ByteSink.taken c.loop-event.teletype) (g.T.ByteSink.taken c.apply_event.new.teletype) = rw inv.profile at c.in_err-apply_event.ensures.front in
     let passed : Passes c.args.stops.now p c.loop-event.visits (view c.loop-event.world) c.in-Some.event (Some c.in-Some-visits_past.more) = rw (inv.profile, c.in-Some-visits_past.is) at c.visits_past.ensures.passes in
-    search (rules, un_to_fault g.S.Scheduler.brings c.args.stops.now p c.args.trace c.args.schedule.now c.loop-event.schedule c.next_event.new.self c.in-Some.event (view c.args.world.now) (view c.loop-event.world) (view c.play.new.world) c.loop-event.steps c.loop-event.visits _ _ _ _ _ _ _ _ _ inv.un next g.met.S.Scheduler.anywhere passed.0 readable front)
+    search (rules, un_to_fault g.S.Scheduler.brings c.args.stops.now p c.args.trace c.args.schedule.now c.loop-event.schedule c.next_event.new.self c.in-Some.event (view c.args.world.now) (view c.loop-event.world) (view c.apply_event.new.world) c.loop-event.steps c.loop-event.visits _ _ _ _ _ _ _ _ _ inv.un next g.met.S.Scheduler.anywhere passed.0 readable front)
 
 pub overflow_add-steps : goal.overflow_add-steps
 overflow_add-steps g c =
     let inv = c.loop-event.invariant in
     let p = profile_of c.args.world.now in
-    let played : Played p c.args.trace (view c.loop-event.world) c.in-Some.event Ran (view c.play.new.world) (g.W.ByteSink.taken c.loop-event.report) (g.W.ByteSink.taken c.play.new.report) (g.T.ByteSink.taken c.loop-event.teletype) (g.T.ByteSink.taken c.play.new.teletype) = rw (inv.profile, c.in-Ran.is) at c.in_ok-play.ensures.played in
+    let played : Played p c.args.trace (view c.loop-event.world) c.in-Some.event Ran (view c.apply_event.new.world) (g.W.ByteSink.taken c.loop-event.report) (g.W.ByteSink.taken c.apply_event.new.report) (g.T.ByteSink.taken c.loop-event.teletype) (g.T.ByteSink.taken c.apply_event.new.teletype) = rw (inv.profile, c.in-Ran.is) at c.in_ok-apply_event.ensures.played in
     let one : steps_in c.in-Some.event ≡ 1 = ran_counts p (view c.loop-event.world) c.in-Some.event played.sees in
     let taken : steps_in c.in-Some.event + g.S.Scheduler.steps_to_come c.next_event.new.self ≤ g.S.Scheduler.steps_to_come c.loop-event.schedule = rw c.in-Some.is at c.in_ok-event.ensures.steps in
     let few : g.S.Scheduler.steps_to_come c.args.schedule.now < 18446744073709551616 = c.requires.few in
@@ -56,7 +56,7 @@ pub overflow_add-result : goal.overflow_add-result
 overflow_add-result g c =
     let inv = c.loop-event.invariant in
     let p = profile_of c.args.world.now in
-    let played : Played p c.args.trace (view c.loop-event.world) c.in-Some.event Halted (view c.play.new.world) (g.W.ByteSink.taken c.loop-event.report) (g.W.ByteSink.taken c.play.new.report) (g.T.ByteSink.taken c.loop-event.teletype) (g.T.ByteSink.taken c.play.new.teletype) = rw (inv.profile, c.in-Halted.is) at c.in_ok-play.ensures.played in
+    let played : Played p c.args.trace (view c.loop-event.world) c.in-Some.event Halted (view c.apply_event.new.world) (g.W.ByteSink.taken c.loop-event.report) (g.W.ByteSink.taken c.apply_event.new.report) (g.T.ByteSink.taken c.loop-event.teletype) (g.T.ByteSink.taken c.apply_event.new.teletype) = rw (inv.profile, c.in-Halted.is) at c.in_ok-apply_event.ensures.played in
     let one : steps_in c.in-Some.event ≡ 1 = halted_is_step p (view c.loop-event.world) c.in-Some.event played.sees in
     let taken : steps_in c.in-Some.event + g.S.Scheduler.steps_to_come c.next_event.new.self ≤ g.S.Scheduler.steps_to_come c.loop-event.schedule = rw c.in-Some.is at c.in_ok-event.ensures.steps in
     let few : g.S.Scheduler.steps_to_come c.args.schedule.now < 18446744073709551616 = c.requires.few in
@@ -68,7 +68,7 @@ pub complete_devices-requires : goal.complete_devices-requires
 complete_devices-requires g c =
     let inv = c.loop-event.invariant in
     let p = profile_of c.args.world.now in
-    let played : Played p c.args.trace (view c.loop-event.world) c.in-Some.event Ran (view c.play.new.world) (g.W.ByteSink.taken c.loop-event.report) (g.W.ByteSink.taken c.play.new.report) (g.T.ByteSink.taken c.loop-event.teletype) (g.T.ByteSink.taken c.play.new.teletype) = rw (inv.profile, c.in-Ran.is) at c.in_ok-play.ensures.played in
+    let played : Played p c.args.trace (view c.loop-event.world) c.in-Some.event Ran (view c.apply_event.new.world) (g.W.ByteSink.taken c.loop-event.report) (g.W.ByteSink.taken c.apply_event.new.report) (g.T.ByteSink.taken c.loop-event.teletype) (g.T.ByteSink.taken c.apply_event.new.teletype) = rw (inv.profile, c.in-Ran.is) at c.in_ok-apply_event.ensures.played in
     let stepped : c.in-Some.event ≡ Step → g.S.Scheduler.stepped c.next_event.new.self ≡ true = rw c.in-Some.is at c.in_ok-event.ensures.stepped in
     record { stepped = stepped (ran_is_step p (view c.loop-event.world) c.in-Some.event played.sees) }
 
@@ -77,9 +77,9 @@ loop-event-preserved-in-Ran g c =
     let inv = c.loop-event.invariant in
     let p = profile_of c.args.world.now in
     let next : IsNext g.S.Scheduler.brings c.loop-event.schedule c.next_event.new.self (view c.loop-event.world) c.in-Some.event = rw c.in-Some.is at c.in_ok-event.ensures.due in
-    let played : Played p c.args.trace (view c.loop-event.world) c.in-Some.event Ran (view c.play.new.world) (g.W.ByteSink.taken c.loop-event.report) (g.W.ByteSink.taken c.play.new.report) (g.T.ByteSink.taken c.loop-event.teletype) (g.T.ByteSink.taken c.play.new.teletype) = rw (inv.profile, c.in-Ran.is) at c.in_ok-play.ensures.played in
+    let played : Played p c.args.trace (view c.loop-event.world) c.in-Some.event Ran (view c.apply_event.new.world) (g.W.ByteSink.taken c.loop-event.report) (g.W.ByteSink.taken c.apply_event.new.report) (g.T.ByteSink.taken c.loop-event.teletype) (g.T.ByteSink.taken c.apply_event.new.teletype) = rw (inv.profile, c.in-Ran.is) at c.in_ok-apply_event.ensures.played in
     let passed : Passes c.args.stops.now p c.loop-event.visits (view c.loop-event.world) c.in-Some.event (Some c.in-Some-visits_past.more) = rw (inv.profile, c.in-Some-visits_past.is) at c.visits_past.ensures.passes in
-    let ran = rw (← passed.1) at (un_more g.S.Scheduler.brings c.args.stops.now p c.args.trace c.args.schedule.now c.loop-event.schedule c.next_event.new.self c.in-Some.event (view c.args.world.now) (view c.loop-event.world) (view c.play.new.world) c.loop-event.steps c.loop-event.visits Ran _ _ _ _ _ _ inv.un next played refl passed.0) in
+    let ran = rw (← passed.1) at (un_more g.S.Scheduler.brings c.args.stops.now p c.args.trace c.args.schedule.now c.loop-event.schedule c.next_event.new.self c.in-Some.event (view c.args.world.now) (view c.loop-event.world) (view c.apply_event.new.world) c.loop-event.steps c.loop-event.visits Ran _ _ _ _ _ _ inv.un next played refl passed.0) in
     let more : c.in-Some-visits_past.more ≤ c.loop-event.visits + steps_in c.in-Some.event = rw c.in-Some-visits_past.is at c.visits_past.ensures.few in
     let count : c.loop-event.visits + g.S.Scheduler.steps_to_come c.loop-event.schedule ≤ g.S.Scheduler.steps_to_come c.args.schedule.now = inv.visits in
     let one : steps_in c.in-Some.event ≡ 1 = ran_counts p (view c.loop-event.world) c.in-Some.event played.sees in
@@ -88,13 +88,13 @@ loop-event-preserved-in-Ran g c =
     let was : c.loop-event.steps + g.S.Scheduler.steps_to_come c.loop-event.schedule ≤ g.S.Scheduler.steps_to_come c.args.schedule.now = inv.steps in
     let unread : g.S.Scheduler.unread c.next_event.new.self ≡ false = c.in_ok-event.ensures.marks in
     record {
-      un = rw c.complete_devices.ensures.done (un_completed g.S.Scheduler.brings c.args.stops.now p c.args.trace c.args.schedule.now c.next_event.new.self c.complete_devices.new.self (view c.args.world.now) (view c.play.new.world) _ _ _ _ _ _ ran c.complete_devices.ensures.brings);
-      profile = c.complete_devices.ensures.profile ∙ c.play.ensures.profile ∙ inv.profile;
+      un = rw c.complete_devices.ensures.done (un_completed g.S.Scheduler.brings c.args.stops.now p c.args.trace c.args.schedule.now c.next_event.new.self c.complete_devices.new.self (view c.args.world.now) (view c.apply_event.new.world) _ _ _ _ _ _ ran c.complete_devices.ensures.brings);
+      profile = c.complete_devices.ensures.profile ∙ c.apply_event.ensures.profile ∙ inv.profile;
       steps = omega (arith, one, taken, same, was);
       visits = omega (arith, more, taken, same, count);
       readable = c.complete_devices.ensures.marks ∙ unread;
-      unmarked = or_left _ _ c.in_ok-play.ensures.marks;
-      untyped = or_right _ _ c.in_ok-play.ensures.marks;
+      unmarked = or_left _ _ c.in_ok-apply_event.ensures.marks;
+      untyped = or_right _ _ c.in_ok-apply_event.ensures.marks;
     }
 
 pub loop-event-preserved-in-NotEnabled : goal.loop-event-preserved-in-NotEnabled
@@ -102,7 +102,7 @@ loop-event-preserved-in-NotEnabled g c =
     let inv = c.loop-event.invariant in
     let p = profile_of c.args.world.now in
     let next : IsNext g.S.Scheduler.brings c.loop-event.schedule c.next_event.new.self (view c.loop-event.world) c.in-Some.event = rw c.in-Some.is at c.in_ok-event.ensures.due in
-    let played : Played p c.args.trace (view c.loop-event.world) c.in-Some.event NotEnabled (view c.play.new.world) (g.W.ByteSink.taken c.loop-event.report) (g.W.ByteSink.taken c.play.new.report) (g.T.ByteSink.taken c.loop-event.teletype) (g.T.ByteSink.taken c.play.new.teletype) = rw (inv.profile, c.in-NotEnabled.is) at c.in_ok-play.ensures.played in
+    let played : Played p c.args.trace (view c.loop-event.world) c.in-Some.event NotEnabled (view c.apply_event.new.world) (g.W.ByteSink.taken c.loop-event.report) (g.W.ByteSink.taken c.apply_event.new.report) (g.T.ByteSink.taken c.loop-event.teletype) (g.T.ByteSink.taken c.apply_event.new.teletype) = rw (inv.profile, c.in-NotEnabled.is) at c.in_ok-apply_event.ensures.played in
     let taken : steps_in c.in-Some.event + g.S.Scheduler.steps_to_come c.next_event.new.self ≤ g.S.Scheduler.steps_to_come c.loop-event.schedule = rw c.in-Some.is at c.in_ok-event.ensures.steps in
     let was : c.loop-event.steps + g.S.Scheduler.steps_to_come c.loop-event.schedule ≤ g.S.Scheduler.steps_to_come c.args.schedule.now = inv.steps in
     let unread : g.S.Scheduler.unread c.next_event.new.self ≡ false = c.in_ok-event.ensures.marks in
@@ -110,13 +110,13 @@ loop-event-preserved-in-NotEnabled g c =
     let more : c.in-Some-visits_past.more ≤ c.loop-event.visits + steps_in c.in-Some.event = rw c.in-Some-visits_past.is at c.visits_past.ensures.few in
     let count : c.loop-event.visits + g.S.Scheduler.steps_to_come c.loop-event.schedule ≤ g.S.Scheduler.steps_to_come c.args.schedule.now = inv.visits in
     record {
-      un = rw (← passed.1) at (un_still g.S.Scheduler.brings c.args.stops.now p c.args.trace c.args.schedule.now c.loop-event.schedule c.next_event.new.self c.in-Some.event (view c.args.world.now) (view c.loop-event.world) (view c.play.new.world) c.loop-event.steps c.loop-event.visits NotEnabled _ _ _ _ _ _ inv.un next played refl refl passed.0);
-      profile = c.play.ensures.profile ∙ inv.profile;
+      un = rw (← passed.1) at (un_still g.S.Scheduler.brings c.args.stops.now p c.args.trace c.args.schedule.now c.loop-event.schedule c.next_event.new.self c.in-Some.event (view c.args.world.now) (view c.loop-event.world) (view c.apply_event.new.world) c.loop-event.steps c.loop-event.visits NotEnabled _ _ _ _ _ _ inv.un next played refl refl passed.0);
+      profile = c.apply_event.ensures.profile ∙ inv.profile;
       steps = omega (arith, taken, was);
       visits = omega (arith, more, taken, count);
       readable = unread;
-      unmarked = or_left _ _ c.in_ok-play.ensures.marks;
-      untyped = or_right _ _ c.in_ok-play.ensures.marks;
+      unmarked = or_left _ _ c.in_ok-apply_event.ensures.marks;
+      untyped = or_right _ _ c.in_ok-apply_event.ensures.marks;
     }
 
 pub loop-event-preserved : goal.loop-event-preserved
@@ -124,7 +124,7 @@ loop-event-preserved g c =
     let inv = c.loop-event.invariant in
     let p = profile_of c.args.world.now in
     let next : IsNext g.S.Scheduler.brings c.loop-event.schedule c.next_event.new.self (view c.loop-event.world) c.in-Some.event = rw c.in-Some.is at c.in_ok-event.ensures.due in
-    let played : Played p c.args.trace (view c.loop-event.world) c.in-Some.event Changed (view c.play.new.world) (g.W.ByteSink.taken c.loop-event.report) (g.W.ByteSink.taken c.play.new.report) (g.T.ByteSink.taken c.loop-event.teletype) (g.T.ByteSink.taken c.play.new.teletype) = rw (inv.profile, c.in-Changed.is) at c.in_ok-play.ensures.played in
+    let played : Played p c.args.trace (view c.loop-event.world) c.in-Some.event Changed (view c.apply_event.new.world) (g.W.ByteSink.taken c.loop-event.report) (g.W.ByteSink.taken c.apply_event.new.report) (g.T.ByteSink.taken c.loop-event.teletype) (g.T.ByteSink.taken c.apply_event.new.teletype) = rw (inv.profile, c.in-Changed.is) at c.in_ok-apply_event.ensures.played in
     let taken : steps_in c.in-Some.event + g.S.Scheduler.steps_to_come c.next_event.new.self ≤ g.S.Scheduler.steps_to_come c.loop-event.schedule = rw c.in-Some.is at c.in_ok-event.ensures.steps in
     let was : c.loop-event.steps + g.S.Scheduler.steps_to_come c.loop-event.schedule ≤ g.S.Scheduler.steps_to_come c.args.schedule.now = inv.steps in
     let unread : g.S.Scheduler.unread c.next_event.new.self ≡ false = c.in_ok-event.ensures.marks in
@@ -132,13 +132,13 @@ loop-event-preserved g c =
     let more : c.in-Some-visits_past.more ≤ c.loop-event.visits + steps_in c.in-Some.event = rw c.in-Some-visits_past.is at c.visits_past.ensures.few in
     let count : c.loop-event.visits + g.S.Scheduler.steps_to_come c.loop-event.schedule ≤ g.S.Scheduler.steps_to_come c.args.schedule.now = inv.visits in
     record {
-      un = rw (← passed.1) at (un_still g.S.Scheduler.brings c.args.stops.now p c.args.trace c.args.schedule.now c.loop-event.schedule c.next_event.new.self c.in-Some.event (view c.args.world.now) (view c.loop-event.world) (view c.play.new.world) c.loop-event.steps c.loop-event.visits Changed _ _ _ _ _ _ inv.un next played refl refl passed.0);
-      profile = c.play.ensures.profile ∙ inv.profile;
+      un = rw (← passed.1) at (un_still g.S.Scheduler.brings c.args.stops.now p c.args.trace c.args.schedule.now c.loop-event.schedule c.next_event.new.self c.in-Some.event (view c.args.world.now) (view c.loop-event.world) (view c.apply_event.new.world) c.loop-event.steps c.loop-event.visits Changed _ _ _ _ _ _ inv.un next played refl refl passed.0);
+      profile = c.apply_event.ensures.profile ∙ inv.profile;
       steps = omega (arith, taken, was);
       visits = omega (arith, more, taken, count);
       readable = unread;
-      unmarked = or_left _ _ c.in_ok-play.ensures.marks;
-      untyped = or_right _ _ c.in_ok-play.ensures.marks;
+      unmarked = or_left _ _ c.in_ok-apply_event.ensures.marks;
+      untyped = or_right _ _ c.in_ok-apply_event.ensures.marks;
     }
 
 pub returns-in-Halted-clause-ran : goal.returns-in-Halted-clause-ran
@@ -146,9 +146,9 @@ returns-in-Halted-clause-ran g c =
     let inv = c.loop-event.invariant in
     let p = profile_of c.args.world.now in
     let next : IsNext g.S.Scheduler.brings c.loop-event.schedule c.next_event.new.self (view c.loop-event.world) c.in-Some.event = rw c.in-Some.is at c.in_ok-event.ensures.due in
-    let played : Played p c.args.trace (view c.loop-event.world) c.in-Some.event Halted (view c.play.new.world) (g.W.ByteSink.taken c.loop-event.report) (g.W.ByteSink.taken c.play.new.report) (g.T.ByteSink.taken c.loop-event.teletype) (g.T.ByteSink.taken c.play.new.teletype) = rw (inv.profile, c.in-Halted.is) at c.in_ok-play.ensures.played in
+    let played : Played p c.args.trace (view c.loop-event.world) c.in-Some.event Halted (view c.apply_event.new.world) (g.W.ByteSink.taken c.loop-event.report) (g.W.ByteSink.taken c.apply_event.new.report) (g.T.ByteSink.taken c.loop-event.teletype) (g.T.ByteSink.taken c.apply_event.new.teletype) = rw (inv.profile, c.in-Halted.is) at c.in_ok-apply_event.ensures.played in
     let passed : Passes c.args.stops.now p c.loop-event.visits (view c.loop-event.world) c.in-Some.event (Some c.in-Some-visits_past.more) = rw (inv.profile, c.in-Some-visits_past.is) at c.visits_past.ensures.passes in
-    un_to_halt g.S.Scheduler.brings c.args.stops.now p c.args.trace c.args.schedule.now c.loop-event.schedule c.next_event.new.self c.in-Some.event (view c.args.world.now) (view c.loop-event.world) (view c.play.new.world) c.loop-event.steps c.loop-event.visits _ _ _ _ _ _ _
+    un_to_halt g.S.Scheduler.brings c.args.stops.now p c.args.trace c.args.schedule.now c.loop-event.schedule c.next_event.new.self c.in-Some.event (view c.args.world.now) (view c.loop-event.world) (view c.apply_event.new.world) c.loop-event.steps c.loop-event.visits _ _ _ _ _ _ _
     inv.un next played passed.0 refl c.end_of.ensures
 
 pub returns-in-Unsupported-clause-ran : goal.returns-in-Unsupported-clause-ran
@@ -156,9 +156,9 @@ returns-in-Unsupported-clause-ran g c =
     let inv = c.loop-event.invariant in
     let p = profile_of c.args.world.now in
     let next : IsNext g.S.Scheduler.brings c.loop-event.schedule c.next_event.new.self (view c.loop-event.world) c.in-Some.event = rw c.in-Some.is at c.in_ok-event.ensures.due in
-    let played : Played p c.args.trace (view c.loop-event.world) c.in-Some.event (Unsupported c.in-Unsupported.field-0) (view c.play.new.world) (g.W.ByteSink.taken c.loop-event.report) (g.W.ByteSink.taken c.play.new.report) (g.T.ByteSink.taken c.loop-event.teletype) (g.T.ByteSink.taken c.play.new.teletype) = rw (inv.profile, c.in-Unsupported.is) at c.in_ok-play.ensures.played in
+    let played : Played p c.args.trace (view c.loop-event.world) c.in-Some.event (Unsupported c.in-Unsupported.field-0) (view c.apply_event.new.world) (g.W.ByteSink.taken c.loop-event.report) (g.W.ByteSink.taken c.apply_event.new.report) (g.T.ByteSink.taken c.loop-event.teletype) (g.T.ByteSink.taken c.apply_event.new.teletype) = rw (inv.profile, c.in-Unsupported.is) at c.in_ok-apply_event.ensures.played in
     let passed : Passes c.args.stops.now p c.loop-event.visits (view c.loop-event.world) c.in-Some.event (Some c.in-Some-visits_past.more) = rw (inv.profile, c.in-Some-visits_past.is) at c.visits_past.ensures.passes in
-    un_to_stuck g.S.Scheduler.brings c.args.stops.now p c.args.trace c.args.schedule.now c.loop-event.schedule c.next_event.new.self c.in-Some.event (view c.args.world.now) (view c.loop-event.world) (view c.play.new.world) c.loop-event.steps c.loop-event.visits c.in-Unsupported.field-0 _ _ _ _ _ _ _
+    un_to_stuck g.S.Scheduler.brings c.args.stops.now p c.args.trace c.args.schedule.now c.loop-event.schedule c.next_event.new.self c.in-Some.event (view c.args.world.now) (view c.loop-event.world) (view c.apply_event.new.world) c.loop-event.steps c.loop-event.visits c.in-Unsupported.field-0 _ _ _ _ _ _ _
     inv.un next played passed.0 refl (search rules)
 
 pub returns-clause-ran : goal.returns-clause-ran

@@ -8,8 +8,8 @@ use Rattle.machine_commands.proofs.TeletypeLemmas.{tape_failed, typed_faults}
 use Rattle.machine_commands.proofs.TypistLemmas.{either_first, either_second, first_failed}
 use Rattle.machine_commands.proofs.stopped_session.teletype_with_stops.Goals as goal
 
-pub attend_to_stop-requires : goal.attend_to_stop-requires
-attend_to_stop-requires g c = record {
+pub run_scheduled_to_stop-requires : goal.run_scheduled_to_stop-requires
+run_scheduled_to_stop-requires g c = record {
   writable = c.requires.writable;
   typable = c.requires.typable;
   punchable = c.requires.punchable;
@@ -20,20 +20,20 @@ attend_to_stop-requires g c = record {
 pub returns-clause-run : goal.returns-clause-run
 returns-clause-run g c =
     let t = c.args.typist.now in
-    let run = rw (c.begin.ensures, c.run_of-options.ensures, c.options.ensures) at c.attend_to_stop.ensures.run in
-    typed_stop_ok t.options c.args.stops.now c.args.form _ (g.R.ByteSource.remaining c.args.tape.now) (source (g.F.ByteSource.remaining t.reader) (g.F.ByteSource.ended t.reader)) (source (g.K.ByteSource.remaining t.keys) (g.K.ByteSource.ended t.keys)) c.in_ok-image.image c.attend_to_stop.result _ _ c.in_ok-image.ensures.tape run
+    let run = rw (c.begin.ensures, c.run_of-options.ensures, c.options.ensures) at c.run_scheduled_to_stop.ensures.run in
+    typed_stop_ok t.options c.args.stops.now c.args.form _ (g.R.ByteSource.remaining c.args.tape.now) (source (g.F.ByteSource.remaining t.reader) (g.F.ByteSource.ended t.reader)) (source (g.K.ByteSource.remaining t.keys) (g.K.ByteSource.ended t.keys)) c.in_ok-image.image c.run_scheduled_to_stop.result _ _ c.in_ok-image.ensures.tape run
 
 pub returns-clause-faults : goal.returns-clause-faults
-returns-clause-faults g c = typed_faults _ c.in_ok-image.image c.attend_to_stop.result c.in_ok-image.ensures.tape c.attend_to_stop.ensures.faults
+returns-clause-faults g c = typed_faults _ c.in_ok-image.image c.run_scheduled_to_stop.result c.in_ok-image.ensures.tape c.run_scheduled_to_stop.ensures.faults
 
 pub returns-clause-front : goal.returns-clause-front
 returns-clause-front g c =
     let t = c.args.typist.now in
-    let n = c.attend_to_stop.new.schedule in
-    let front = rw (c.begin.ensures, c.run_of-options.ensures, c.options.ensures) at c.attend_to_stop.ensures.front in
+    let n = c.run_scheduled_to_stop.new.schedule in
+    let front = rw (c.begin.ensures, c.run_of-options.ensures, c.options.ensures) at c.run_scheduled_to_stop.ensures.front in
     typed_stop_err t.options c.args.stops.now c.args.form _ (g.R.ByteSource.remaining c.args.tape.now) (source (g.F.ByteSource.remaining t.reader) (g.F.ByteSource.ended t.reader)) (source (g.K.ByteSource.remaining t.keys) (g.K.ByteSource.ended t.keys)) c.in_ok-image.image
-    (g.R.ByteSource.mark c.tape_from.new.source) (g.F.ByteSource.mark n.reader || g.K.ByteSource.mark n.keys) (failures (g.W.ByteSink.mark c.attend_to_stop.new.out.report) (g.T.ByteSink.mark c.attend_to_stop.new.out.teletype) (g.P.ByteSink.mark c.attend_to_stop.new.out.punch))
-    _ _ c.attend_to_stop.result c.in_ok-image.ensures.tape front
+    (g.R.ByteSource.mark c.tape_from.new.source) (g.F.ByteSource.mark n.reader || g.K.ByteSource.mark n.keys) (failures (g.W.ByteSink.mark c.run_scheduled_to_stop.new.out.report) (g.T.ByteSink.mark c.run_scheduled_to_stop.new.out.teletype) (g.P.ByteSink.mark c.run_scheduled_to_stop.new.out.punch))
+    _ _ c.run_scheduled_to_stop.result c.in_ok-image.ensures.tape front
 
 pub returns-in_err-image-clause-front : goal.returns-in_err-image-clause-front
 returns-in_err-image-clause-front g c =
@@ -41,13 +41,13 @@ returns-in_err-image-clause-front g c =
     rw (p.1, p.2) (tape_failed _ _ _ c.in_err-image.ensures.faults c.in_err-image.ensures.marks)
 
 pub returns-clause-nothing : goal.returns-clause-nothing
-returns-clause-nothing g c = held_no_tape c.attend_to_stop.result _ c.attend_to_stop.ensures.faults
+returns-clause-nothing g c = held_no_tape c.run_scheduled_to_stop.result _ c.run_scheduled_to_stop.ensures.faults
 
 pub returns-clause-unread : goal.returns-clause-unread
-returns-clause-unread g c = held_no_tape c.attend_to_stop.result _ c.attend_to_stop.ensures.faults
+returns-clause-unread g c = held_no_tape c.run_scheduled_to_stop.result _ c.run_scheduled_to_stop.ensures.faults
 
 pub returns-clause-reads : goal.returns-clause-reads
-returns-clause-reads g c = λ yes. either_second _ _ (c.attend_to_stop.ensures.reads yes)
+returns-clause-reads g c = λ yes. either_second _ _ (c.run_scheduled_to_stop.ensures.reads yes)
 
 pub returns-in_err-image-clause-reads : goal.returns-in_err-image-clause-reads
 returns-in_err-image-clause-reads g c = λ yes.
@@ -56,7 +56,7 @@ returns-in_err-image-clause-reads g c = λ yes.
     either_first _ _ (c.in_err-image.ensures.marks ∙ read)
 
 pub returns-clause-read_told : goal.returns-clause-read_told
-returns-clause-read_told g c = λ yes. c.attend_to_stop.ensures.read_told (rw c.in_ok-image.ensures.marks at yes)
+returns-clause-read_told g c = λ yes. c.run_scheduled_to_stop.ensures.read_told (rw c.in_ok-image.ensures.marks at yes)
 
 pub returns-in_err-image-clause-read_told : goal.returns-in_err-image-clause-read_told
 returns-in_err-image-clause-read_told g c = λ yes.

@@ -7,8 +7,8 @@ use Rattle.machine_commands.proofs.TeletypeLemmas.{tape_failed, typed_err, typed
 use Rattle.machine_commands.proofs.TypistLemmas.{either_first, either_second, first_failed}
 use Rattle.machine_commands.proofs.teletype.teletype.Goals as goal
 
-pub attend-requires : goal.attend-requires
-attend-requires g c = record {
+pub run_scheduled-requires : goal.run_scheduled-requires
+run_scheduled-requires g c = record {
   writable = c.requires.writable;
   typable = c.requires.typable;
   punchable = c.requires.punchable;
@@ -19,20 +19,20 @@ attend-requires g c = record {
 pub returns-clause-run : goal.returns-clause-run
 returns-clause-run g c =
     let t = c.args.typist.now in
-    let run = rw (c.begin.ensures, c.run_of-options.ensures, c.options.ensures) at c.attend.ensures.run in
-    typed_ok t.options c.args.form (g.R.ByteSource.remaining c.args.tape.now) (source (g.F.ByteSource.remaining t.reader) (g.F.ByteSource.ended t.reader)) (source (g.K.ByteSource.remaining t.keys) (g.K.ByteSource.ended t.keys)) c.in_ok-image.image c.attend.result _ _ c.in_ok-image.ensures.tape run
+    let run = rw (c.begin.ensures, c.run_of-options.ensures, c.options.ensures) at c.run_scheduled.ensures.run in
+    typed_ok t.options c.args.form (g.R.ByteSource.remaining c.args.tape.now) (source (g.F.ByteSource.remaining t.reader) (g.F.ByteSource.ended t.reader)) (source (g.K.ByteSource.remaining t.keys) (g.K.ByteSource.ended t.keys)) c.in_ok-image.image c.run_scheduled.result _ _ c.in_ok-image.ensures.tape run
 
 pub returns-clause-faults : goal.returns-clause-faults
-returns-clause-faults g c = typed_faults _ c.in_ok-image.image c.attend.result c.in_ok-image.ensures.tape c.attend.ensures.faults
+returns-clause-faults g c = typed_faults _ c.in_ok-image.image c.run_scheduled.result c.in_ok-image.ensures.tape c.run_scheduled.ensures.faults
 
 pub returns-clause-front : goal.returns-clause-front
 returns-clause-front g c =
     let t = c.args.typist.now in
-    let n = c.attend.new.schedule in
-    let front = rw (c.begin.ensures, c.run_of-options.ensures, c.options.ensures) at c.attend.ensures.front in
+    let n = c.run_scheduled.new.schedule in
+    let front = rw (c.begin.ensures, c.run_of-options.ensures, c.options.ensures) at c.run_scheduled.ensures.front in
     typed_err t.options c.args.form (g.R.ByteSource.remaining c.args.tape.now) (source (g.F.ByteSource.remaining t.reader) (g.F.ByteSource.ended t.reader)) (source (g.K.ByteSource.remaining t.keys) (g.K.ByteSource.ended t.keys)) c.in_ok-image.image
-    (g.R.ByteSource.mark c.tape_from.new.source) (g.F.ByteSource.mark n.reader || g.K.ByteSource.mark n.keys) (failures (g.W.ByteSink.mark c.attend.new.out.report) (g.T.ByteSink.mark c.attend.new.out.teletype) (g.P.ByteSink.mark c.attend.new.out.punch))
-    _ _ c.attend.result c.in_ok-image.ensures.tape front
+    (g.R.ByteSource.mark c.tape_from.new.source) (g.F.ByteSource.mark n.reader || g.K.ByteSource.mark n.keys) (failures (g.W.ByteSink.mark c.run_scheduled.new.out.report) (g.T.ByteSink.mark c.run_scheduled.new.out.teletype) (g.P.ByteSink.mark c.run_scheduled.new.out.punch))
+    _ _ c.run_scheduled.result c.in_ok-image.ensures.tape front
 
 pub returns-in_err-image-clause-front : goal.returns-in_err-image-clause-front
 returns-in_err-image-clause-front g c =
@@ -40,13 +40,13 @@ returns-in_err-image-clause-front g c =
     rw (p.1, p.2) (tape_failed _ _ _ c.in_err-image.ensures.faults c.in_err-image.ensures.marks)
 
 pub returns-clause-nothing : goal.returns-clause-nothing
-returns-clause-nothing g c = held_no_tape c.attend.result _ c.attend.ensures.faults
+returns-clause-nothing g c = held_no_tape c.run_scheduled.result _ c.run_scheduled.ensures.faults
 
 pub returns-clause-unread : goal.returns-clause-unread
-returns-clause-unread g c = held_no_tape c.attend.result _ c.attend.ensures.faults
+returns-clause-unread g c = held_no_tape c.run_scheduled.result _ c.run_scheduled.ensures.faults
 
 pub returns-clause-reads : goal.returns-clause-reads
-returns-clause-reads g c = λ yes. either_second _ _ (c.attend.ensures.reads yes)
+returns-clause-reads g c = λ yes. either_second _ _ (c.run_scheduled.ensures.reads yes)
 
 pub returns-in_err-image-clause-reads : goal.returns-in_err-image-clause-reads
 returns-in_err-image-clause-reads g c = λ yes.
@@ -55,7 +55,7 @@ returns-in_err-image-clause-reads g c = λ yes.
     either_first _ _ (c.in_err-image.ensures.marks ∙ read)
 
 pub returns-clause-read_told : goal.returns-clause-read_told
-returns-clause-read_told g c = λ yes. c.attend.ensures.read_told (rw c.in_ok-image.ensures.marks at yes)
+returns-clause-read_told g c = λ yes. c.run_scheduled.ensures.read_told (rw c.in_ok-image.ensures.marks at yes)
 
 pub returns-in_err-image-clause-read_told : goal.returns-in_err-image-clause-read_told
 returns-in_err-image-clause-read_told g c = λ yes.

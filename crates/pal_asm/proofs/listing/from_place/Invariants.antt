@@ -1,5 +1,5 @@
 use Rattle.std.proofs.Common.{◌≡◌, length}
-use Rattle.pal_asm.specs.Kept.{skip}
+use Rattle.pal_asm.specs.SourceInCode.{skip}
 use Rattle.pal_asm.proofs.listing.from_place.Given as goal
 
 abbrev pub invariant-loop-rest : goal.invariant-loop-rest

@@ -2,7 +2,7 @@ use Rattle.std.proofs.Common.{◌∙◌, sym, subst, List, length}
 use Rattle.std.specs.List.{AllByRecursion}
 use Rattle.pal_text.specs.declared.lines.Line.{Line}
 use Rattle.pal_text.specs.Order.{IsLineWithin}
-use Rattle.pal_asm.specs.Kept.{lines_in}
+use Rattle.pal_asm.specs.SourceInCode.{lines_in}
 use Rattle.pal_asm.proofs.Fronted.{all_lines_within}
 use Rattle.pal_asm.proofs.Written.{front_left, no_front_left}
 use Rattle.pal_asm.proofs.listing.keep_fronts.Goals as goal

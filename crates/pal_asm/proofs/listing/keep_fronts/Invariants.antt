@@ -1,5 +1,5 @@
 use Rattle.std.proofs.Common.{◌≡◌, ◌++◌, drop}
-use Rattle.pal_asm.specs.Kept.{lines_in, lines_of_fronts}
+use Rattle.pal_asm.specs.SourceInCode.{lines_in, lines_of_fronts}
 use Rattle.pal_asm.proofs.listing.keep_fronts.Given as goal
 
 abbrev pub invariant-loop-front : goal.invariant-loop-front

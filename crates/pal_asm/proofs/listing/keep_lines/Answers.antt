@@ -1,5 +1,5 @@
 use Rattle.std.proofs.Common.{◌∙◌, refl, ◌+◌}
-use Rattle.pal_asm.specs.Kept.{lines_in}
+use Rattle.pal_asm.specs.SourceInCode.{lines_in}
 use Rattle.pal_asm.proofs.Written.{line_left, no_line_left}
 use Rattle.pal_asm.proofs.listing.keep_lines.Goals as goal
 

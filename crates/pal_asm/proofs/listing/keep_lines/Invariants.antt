@@ -1,6 +1,6 @@
 use Rattle.std.proofs.Common.{◌≡◌, ◌++◌, ◌+◌, drop}
 use Rattle.pal_asm.specs.Sources.{text_lines}
-use Rattle.pal_asm.specs.Kept.{lines_in}
+use Rattle.pal_asm.specs.SourceInCode.{lines_in}
 use Rattle.pal_asm.proofs.listing.keep_lines.Given as goal
 
 abbrev pub invariant-loop-at : goal.invariant-loop-at

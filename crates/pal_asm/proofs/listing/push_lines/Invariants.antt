@@ -1,5 +1,5 @@
 use Rattle.std.proofs.Common.{◌≡◌, ◌++◌, drop}
-use Rattle.pal_asm.specs.Kept.{lines_in, turns_text}
+use Rattle.pal_asm.specs.SourceInCode.{lines_in, turns_text}
 use Rattle.pal_asm.proofs.listing.push_lines.Given as goal
 
 abbrev pub invariant-loop-line : goal.invariant-loop-line

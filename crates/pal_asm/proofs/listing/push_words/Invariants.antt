@@ -1,6 +1,6 @@
 use Rattle.std.proofs.Common.{◌≡◌, ◌++◌, length}
 use Rattle.pal_asm.specs.Listings.{words_text}
-use Rattle.pal_asm.specs.Kept.{after_those, next_at}
+use Rattle.pal_asm.specs.SourceInCode.{after_those, next_at}
 use Rattle.pal_asm.proofs.listing.push_words.Given as goal
 
 abbrev pub invariant-loop-rest : goal.invariant-loop-rest

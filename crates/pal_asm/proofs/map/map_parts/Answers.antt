@@ -1,7 +1,7 @@
 use Rattle.pal_acts.specs.Permanent.{permanent_symbols}
 use Rattle.pal_asm.specs.Sources.{texts}
 use Rattle.pal_asm.specs.Programs.{mapped_symbols, mapped_image, mapped_words}
-use Rattle.pal_asm.specs.Kept.{lines_of_fronts}
+use Rattle.pal_asm.specs.SourceInCode.{lines_of_fronts}
 use Rattle.pal_asm.proofs.One.{means_if, places_if, refuses_if}
 use Rattle.pal_asm.proofs.map.map_parts.Goals as goal
 

@@ -1,7 +1,7 @@
 use Rattle.pal_acts.specs.Permanent.{permanent_symbols}
 use Rattle.pal_asm.specs.Sources.{texts}
 use Rattle.pal_asm.specs.Programs.{symbols_of, image_of, listing_of}
-use Rattle.pal_asm.specs.Kept.{lines_of_fronts}
+use Rattle.pal_asm.specs.SourceInCode.{lines_of_fronts}
 use Rattle.pal_asm.proofs.One.{means_if, lists_if, refuses_if}
 use Rattle.pal_asm.proofs.program.assemble_parts.Goals as goal
 

@@ -1,7 +1,7 @@
 use Rattle.std.proofs.Common.{ap}
 use Rattle.pal_acts.specs.Permanent.{permanent_symbols}
 use Rattle.pal_asm.specs.Programs.{symbols_of, image_of, listing_of}
-use Rattle.pal_asm.specs.Kept.{lines_of_fronts}
+use Rattle.pal_asm.specs.SourceInCode.{lines_of_fronts}
 use Rattle.pal_asm.proofs.One.{source_if, listing_if, silent_refuses}
 use Rattle.pal_asm.proofs.program.assemble_reading.Goals as goal
 

@@ -1,6 +1,6 @@
 use Rattle.std.proofs.Common.{◌∙◌}
 use Rattle.pal_text.proofs.Cuts.{found_at, told_on}
-use Rattle.pal_asm.specs.Kept.{StopsPart}
+use Rattle.pal_asm.specs.SourceInCode.{StopsPart}
 use Rattle.pal_asm.proofs.Stepped.{says_by, stepped_more, stuck_at}
 use Rattle.pal_asm.proofs.reading.keep_read.Goals as goal
 

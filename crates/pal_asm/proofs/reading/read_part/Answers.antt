@@ -1,7 +1,7 @@
 use Rattle.std.proofs.Common.{◌∙◌, sym, subst, refl, take}
 use Rattle.std.proofs.lemmas.List.{length-take-le}
 use Rattle.pal_text.specs.declared.fault.StatementFault.{StatementFault}
-use Rattle.pal_asm.specs.Kept.{StopsPart, lines_of_fronts}
+use Rattle.pal_asm.specs.SourceInCode.{StopsPart, lines_of_fronts}
 use Rattle.pal_asm.proofs.Fronted.{stop_inside, front_lines}
 use Rattle.pal_asm.proofs.Turned.{read_last, read_on, refused}
 use Rattle.pal_asm.proofs.reading.read_part.Goals as goal

@@ -1,4 +1,4 @@
-use Rattle.pal_asm.specs.Kept.{lines_of_fronts}
+use Rattle.pal_asm.specs.SourceInCode.{lines_of_fronts}
 use Rattle.pal_asm.proofs.Turned.{Came}
 use Rattle.pal_asm.proofs.reading.read_parts.Given as goal
 

@@ -2,7 +2,7 @@ use Rattle.std.proofs.Common.{◌≡◌, ◌++◌, length, map}
 use Rattle.std.specs.List.{AllByRecursion}
 use Rattle.pal_text.specs.Names.{IsWithin}
 use Rattle.pal_asm.specs.Acts.{tag_act}
-use Rattle.pal_asm.specs.Kept.{names_in}
+use Rattle.pal_asm.specs.SourceInCode.{names_in}
 use Rattle.pal_asm.proofs.statement.keep_tags.Given as goal
 
 abbrev pub invariant-loop-rest : goal.invariant-loop-rest

@@ -1,5 +1,5 @@
 use Rattle.std.proofs.Common.{◌≡◌, length}
-use Rattle.pal_asm.specs.Kept.{after_tags}
+use Rattle.pal_asm.specs.SourceInCode.{after_tags}
 use Rattle.pal_asm.proofs.statement.without_tags.Given as goal
 
 abbrev pub invariant-loop-rest : goal.invariant-loop-rest

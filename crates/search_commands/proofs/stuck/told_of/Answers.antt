@@ -13,7 +13,7 @@ pub returns-in-Some : goal.returns-in-Some
 returns-in-Some g c = record {
   why = rw c.in-Some.is at c.why_stuck-found.ensures.explained;
   place = rw c.in-Some.is at c.why_stuck-found.ensures.place;
-  telling = c.telling_of-telling.ensures;
+  telling = c.reason_context_of-telling.ensures;
   first = rw c.in-Some.is at c.why_stuck-found.ensures.first;
   none = tt;
 }

@@ -5,7 +5,7 @@ pub returns : goal.returns
 returns g c = record {
   reason = c.reason_of-reason.result;
   why = c.reason_of-reason.ensures;
-  telling = c.telling_of-telling.result;
-  told = c.telling_of-telling.ensures;
+  telling = c.reason_context_of-telling.result;
+  told = c.reason_context_of-telling.ensures;
   text_is = joined _ _ _ _ _ c.in_ok-push_verdict.ensures c.in_ok-push_fact.ensures;
 }

@@ -2,7 +2,7 @@ use Rattle.diagnostics.proofs.ReasonLemmas.{all_pushed, none_pushed, one_pushed}
 use Rattle.diagnostics.proofs.verdicts.reason_text.sums.push_further.Goals as goal
 
 pub loop-summand-init : goal.loop-summand-init
-loop-summand-init g c = none_pushed (g.L.Lines.text c.args.text.now)
+loop-summand-init g c = none_pushed (g.L.MessageWriter.text c.args.text.now)
 
 pub loop-summand-preserved : goal.loop-summand-preserved
 loop-summand-preserved g c =

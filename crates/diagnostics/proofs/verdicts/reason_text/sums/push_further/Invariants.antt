@@ -5,4 +5,4 @@ use Rattle.diagnostics.proofs.verdicts.reason_text.sums.push_further.Given as go
 
 abbrev pub invariant-loop-summand : goal.invariant-loop-summand
 invariant-loop-summand g l =
-    g.L.Lines.text l.text ≡ g.L.Lines.text l.fn.text ++ further_text (map summand_of (take l.summand-index l.summands))
+    g.L.MessageWriter.text l.text ≡ g.L.MessageWriter.text l.fn.text ++ further_text (map summand_of (take l.summand-index l.summands))

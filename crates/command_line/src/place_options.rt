@@ -1,0 +1,259 @@
+//! The cells and the places that options name.
+
+ghost use Rattle.std.specs.Prelude.{◌≡◌, ◌==◌};
+ghost use Rattle.std.specs.List.{position};
+
+use crate::fault::{CommandLineFault, Misuse};
+use clap::ArgMatches;
+use command_parts::options::Stops;
+use std::alloc::{AllocError, Global};
+use streams::text::{Words, decimal_between, octal_word};
+use word12::Word;
+use wordset::WordSet;
+
+/// The greatest number of steps that may be asked for at a place.
+const MOST_VISITS: u32 = 1_000_000;
+
+/// The greatest number of last instructions that may be asked for.
+const MOST_LAST: u32 = 1_000_000;
+
+/// The first place of a dash.
+fn place_of_dash(word: &[u8]) -> Option<usize>
+    ensures { result ≡ position (λ c. c == 45) word.now }
+{
+    word.iter().position(|byte| *byte == b'-')
+}
+
+/// The cells from one address to another, which is not below it.
+fn span(low: &[u8], high: &[u8]) -> Option<WordSet> {
+    let low = octal_word(low)?;
+    let high = octal_word(high)?;
+    if low.value() <= high.value() {
+        Some(WordSet::range(low, high))
+    } else {
+        None
+    }
+}
+
+/// The cells of an address, or from one address to another.
+fn range(word: &[u8]) -> Option<WordSet> {
+    match place_of_dash(word) {
+        None => octal_word(word).map(WordSet::one),
+        Some(at) => span(&word[..at], &word[at + 1..]),
+    }
+}
+
+/// What reads the words by which options name cells and places.
+pub trait AddressReader {
+    /// The cells of an address or a range; none where a word is neither.
+    fn cells(&self, word: &[u8]) -> Option<WordSet>;
+
+    /// The address that a word is; none where it is none.
+    fn place(&self, word: &[u8]) -> Option<Word>;
+}
+
+/// Reads addresses in octal digits.
+#[derive(Clone, Copy)]
+pub struct OctalAddresses;
+
+impl AddressReader for OctalAddresses {
+    fn cells(&self, word: &[u8]) -> Option<WordSet> {
+        range(word)
+    }
+
+    fn place(&self, word: &[u8]) -> Option<Word> {
+        octal_word(word)
+    }
+}
+
+/// The cells of addresses and ranges, one or more, as a line of a declaration spells them.
+fn cells<C: AddressReader>(reader: &C, text: &[u8]) -> Option<WordSet> {
+    let mut set = WordSet::empty();
+    for word in Words::of(text) {
+        set = set.union(&reader.cells(word)?);
+    }
+    if set.is_empty() { None } else { Some(set) }
+}
+
+/// The cells that an option names each time that it is given, or what is wrong with it.
+fn named_cells<C: AddressReader>(
+    reader: &C,
+    texts: &[&str],
+    misuse: Misuse,
+) -> Result<WordSet, Misuse> {
+    let mut set = WordSet::empty();
+    for text in texts {
+        set = set.union(&cells(reader, text.as_bytes()).ok_or(misuse)?);
+    }
+    Ok(set)
+}
+
+/// The cells and the places that options name, as they are given.
+#[derive(Drop)]
+pub struct PlaceOptions<'a> {
+    /// The values of `--show`.
+    show: Vec<&'a str>,
+    /// The value of `--until`.
+    until: Option<&'a str>,
+    /// The values of `--until-write`.
+    written: Vec<&'a str>,
+    /// The values of `--until-read`.
+    read: Vec<&'a str>,
+    /// How many of the last instructions are shown, if that is asked for.
+    last: Option<u32>,
+}
+
+/// The values of an option that may be given several times.
+fn values_of<'a>(
+    alloc: Global,
+    found: &ArgMatches<'a>,
+    option: &str,
+) -> Result<Vec<&'a str>, AllocError> {
+    let mut values = Vec::new(alloc);
+    values.extend_from_slice(found.get_strs(option).unwrap_or(&[]))?;
+    Ok(values)
+}
+
+/// The cells and the places that options of a run name.
+pub(crate) fn places_of<'a>(
+    alloc: Global,
+    found: &ArgMatches<'a>,
+) -> Result<PlaceOptions<'a>, CommandLineFault> {
+    let last = last_of(found)?;
+    Ok(PlaceOptions {
+        show: values_of(alloc, found, "show")?,
+        until: found.get_str("until"),
+        written: values_of(alloc, found, "until-write")?,
+        read: values_of(alloc, found, "until-read")?,
+        last,
+    })
+}
+
+impl PlaceOptions<'_> {
+    /// The cells whose words are shown when a run is over: those of each `--show`.
+    ///
+    /// # Errors
+    ///
+    /// What is wrong with a value.
+    pub fn shown<C: AddressReader>(&self, reader: &C) -> Result<WordSet, Misuse> {
+        named_cells(reader, &self.show, Misuse::Show)
+    }
+
+    /// Where a run is stopped.
+    ///
+    /// # Errors
+    ///
+    /// What is wrong with a value.
+    pub fn stops<C: AddressReader>(&self, reader: &C) -> Result<Stops, Misuse> {
+        let stops = Stops {
+            place: None,
+            times: 1,
+            written: named_cells(reader, &self.written, Misuse::UntilWrite)?,
+            read: named_cells(reader, &self.read, Misuse::UntilRead)?,
+        };
+        let Some(text) = self.until else {
+            return Ok(stops);
+        };
+        let Some(visits) = visits_of(reader, text.as_bytes()) else {
+            return Err(Misuse::Until);
+        };
+        Ok(Stops {
+            place: Some(visits.place),
+            times: visits.times,
+            ..stops
+        })
+    }
+
+    /// How a run is followed, if it may be stopped or its last instructions are asked for.
+    ///
+    /// # Errors
+    ///
+    /// What is wrong with a value.
+    pub fn stopping<C: AddressReader>(&self, reader: &C) -> Result<Option<StopOptions>, Misuse> {
+        if self.last.is_none() && !self.has_stops() {
+            return Ok(None);
+        }
+        Ok(Some(StopOptions {
+            stops: self.stops(reader)?,
+            last: self.last,
+        }))
+    }
+
+    /// Whether a run may be stopped.
+    fn has_stops(&self) -> bool {
+        self.until.is_some() || !self.written.is_empty() || !self.read.is_empty()
+    }
+}
+
+/// An address, and how many steps come to it.
+#[derive(Clone, Copy)]
+struct VisitCount {
+    place: Word,
+    times: u32,
+}
+
+/// The first place of a comma.
+fn place_of_comma(word: &[u8]) -> Option<usize>
+    ensures { result ≡ position (λ c. c == 44) word.now }
+{
+    word.iter().position(|byte| *byte == b',')
+}
+
+/// The address and the number of a `PLACE` or a `PLACE,N`.
+fn visits_of<C: AddressReader>(reader: &C, text: &[u8]) -> Option<VisitCount> {
+    match place_of_comma(text) {
+        None => Some(VisitCount {
+            place: reader.place(text)?,
+            times: 1,
+        }),
+        Some(at) => Some(VisitCount {
+            place: reader.place(&text[..at])?,
+            times: decimal_between(1, MOST_VISITS, &text[at + 1..])?,
+        }),
+    }
+}
+
+/// How a run is followed that may be stopped.
+#[derive(Clone, Copy)]
+pub struct StopOptions {
+    /// Where it is stopped.
+    pub stops: Stops,
+    /// How many of its last instructions are shown, if that is asked for.
+    pub last: Option<u32>,
+}
+
+/// How many of the last instructions are shown, if that is asked for.
+fn last_of(found: &ArgMatches<'_>) -> Result<Option<u32>, CommandLineFault> {
+    let Some(text) = found.get_str("last") else {
+        return Ok(None);
+    };
+    if found.get_flag("trace") || found.get_flag("trace-long") {
+        return Err(CommandLineFault::Misuse(Misuse::LastAndTrace));
+    }
+    match decimal_between(1, MOST_LAST, text.as_bytes()) {
+        Some(most) => Ok(Some(most)),
+        None => Err(CommandLineFault::Misuse(Misuse::Last)),
+    }
+}
+
+/// The cells that are shown of the run of a tape. Of a source they are not known yet.
+pub(crate) fn shown_on(
+    tape: Option<&str>,
+    places: &PlaceOptions<'_>,
+) -> Result<WordSet, CommandLineFault> {
+    if tape.is_none() {
+        return Ok(WordSet::empty());
+    }
+    Ok(places.shown(&OctalAddresses)?)
+}
+
+/// How the run of a tape is followed, if it may be stopped. Of a source that is not known yet.
+pub(crate) fn stopping_on(
+    tape: Option<&str>,
+    places: &PlaceOptions<'_>,
+) -> Result<Option<StopOptions>, CommandLineFault> {
+    match tape {
+        None => Ok(None),
+        Some(_) => Ok(places.stopping(&OctalAddresses)?),
+    }
+}

@@ -1,0 +1,136 @@
+//! What may be asked for with a source in place of a tape, without a declaration.
+
+use crate::fault::CommandLineFault;
+use crate::names::FileNames;
+use crate::operator::{Session, TeletypeSession, has_operator, session_of, teletype_of};
+use crate::place_options::{PlaceOptions, places_of};
+use crate::requests::Request;
+use crate::tapes::{DumpRequest, RunRequest, dump_request, run_request};
+use crate::values::read_standard_input_once;
+use clap::ArgMatches;
+use instruct::Profile;
+use std::alloc::{AllocError, Global};
+
+/// To run the program of a source, or to list its words.
+#[derive(Drop)]
+pub struct SourceProgramRequest<'a> {
+    /// The names of the files of the source's parts, in order.
+    pub parts: Vec<&'a str>,
+    /// The cells and places that options name, which may have the symbols of the source.
+    pub places: PlaceOptions<'a>,
+    /// What is done with the program.
+    pub task: MachineTask<'a>,
+    /// Whether more is said than the line of a fault.
+    pub explained: bool,
+}
+
+/// What is done with a program without its declaration.
+#[derive(Clone, Copy)]
+pub enum MachineTask<'a> {
+    /// It is run.
+    Run(RunRequest<'a>),
+    /// It is run with an operator.
+    Session(Session<'a>),
+    /// A session at the teletype is held.
+    Teletype(TeletypeSession<'a>),
+    /// Its words are listed.
+    Dump(DumpRequest<'a>),
+}
+
+impl<'a> MachineTask<'a> {
+    /// The name of the command.
+    pub fn command(&self) -> &'static str {
+        match self {
+            MachineTask::Run(_) | MachineTask::Session(_) => "run",
+            MachineTask::Teletype(_) => "teletype",
+            MachineTask::Dump(_) => "dump",
+        }
+    }
+
+    /// The names of its files.
+    pub fn names(&self) -> FileNames<'a> {
+        match self {
+            MachineTask::Run(run) => run.names(),
+            MachineTask::Session(session) => session.names(),
+            MachineTask::Teletype(session) => session.names(),
+            MachineTask::Dump(dump) => dump.names(),
+        }
+    }
+
+    /// The machine that it is for.
+    pub fn profile(&self) -> Profile {
+        match self {
+            MachineTask::Run(run) => run.options.profile,
+            MachineTask::Session(session) => session.options.run.profile,
+            MachineTask::Teletype(session) => session.options.profile,
+            MachineTask::Dump(dump) => dump.profile,
+        }
+    }
+}
+
+/// What `run`, `teletype` or `dump` asks for with a tape.
+fn tape_request<'a>(
+    command: &str,
+    found: &ArgMatches<'a>,
+    places: &PlaceOptions<'a>,
+) -> Result<Request<'a>, CommandLineFault> {
+    Ok(match command {
+        "dump" => Request::Dump(dump_request(found)?),
+        "teletype" => Request::Teletype(teletype_of(found, places)?),
+        _ if has_operator(found) => Request::Session(session_of(found, places)?),
+        _ => Request::Run(run_request(found, places)?),
+    })
+}
+
+/// What `run`, `teletype` or `dump` asks for with a source.
+fn task_of<'a>(
+    command: &str,
+    found: &ArgMatches<'a>,
+    places: &PlaceOptions<'a>,
+) -> Result<MachineTask<'a>, CommandLineFault> {
+    Ok(match command {
+        "dump" => MachineTask::Dump(dump_request(found)?),
+        "teletype" => MachineTask::Teletype(teletype_of(found, places)?),
+        _ if has_operator(found) => MachineTask::Session(session_of(found, places)?),
+        _ => MachineTask::Run(run_request(found, places)?),
+    })
+}
+
+/// The names of a task's inputs and of the parts of a source.
+fn inputs_of<'a>(
+    alloc: Global,
+    task: &MachineTask<'a>,
+    parts: &[&'a str],
+) -> Result<Vec<&'a str>, AllocError> {
+    let mut inputs = Vec::new(alloc);
+    inputs.extend_from_slice(parts)?;
+    for input in task.names().inputs() {
+        inputs.extend_from_slice(input.as_slice())?;
+    }
+    if let MachineTask::Teletype(_) = task {
+        inputs.push("-")?;
+    }
+    Ok(inputs)
+}
+
+/// The request of `run`, `teletype` or `dump`.
+pub(crate) fn machine_request<'a>(
+    alloc: Global,
+    command: &str,
+    found: &ArgMatches<'a>,
+) -> Result<Request<'a>, CommandLineFault> {
+    let places = places_of(alloc, found)?;
+    let Some(names) = found.get_strs("source") else {
+        return tape_request(command, found, &places);
+    };
+    let task = task_of(command, found, &places)?;
+    let mut parts = Vec::new(alloc);
+    parts.extend_from_slice(names)?;
+    read_standard_input_once(&inputs_of(alloc, &task, &parts)?)?;
+    Ok(Request::Sourced(SourceProgramRequest {
+        parts,
+        places,
+        task,
+        explained: found.get_flag("why"),
+    }))
+}

@@ -1,0 +1,209 @@
+//! What is wrong when a symbol is given a value.
+
+use crate::findings::Finding;
+use crate::lines::count_characters;
+use crate::meanings::{Meanings, Occurrence};
+use crate::pieces::name_of;
+use crate::statement::FaultyStatement;
+use crate::symbols::{Source, letters_of, push_line_of, push_written, written};
+use pal_acts::Name;
+use pal_text::{Kind, Token};
+use std::alloc::{AllocError, Allocator};
+use word12::Word;
+
+/// What to do about a symbol that is given another value: `one` is where it got the first one.
+fn push_other_advice<A: Allocator + Copy>(
+    alloc: A,
+    text: &mut String<A>,
+    source: &Source<'_>,
+    one: Occurrence,
+    other: Occurrence,
+) -> Result<(), AllocError> {
+    let first = written(source, one);
+    let second = written(source, other);
+    if first == second {
+        text.push_str("it got that value on ")?;
+        push_line_of(alloc, text, source, one, other.part)?;
+        return text.push_str(
+            "; a symbol has only one value in the whole source: use another symbol",
+        );
+    }
+    let name = Name::new(first);
+    let letters = letters_of(&name);
+    text.push_str("only six characters of a symbol count: ")?;
+    push_written(text, source, one)?;
+    write!(text, " is {letters}, defined on ")?;
+    push_line_of(alloc, text, source, one, other.part)?;
+    text.push_str(", and so is ")?;
+    push_written(text, source, other)?;
+    text.push_str(": use symbols that differ in the first six")
+}
+
+/// What is said about a symbol that is given another value than it has: this one.
+fn about_other_value<A: Allocator + Copy>(
+    alloc: A,
+    source: &Source<'_>,
+    before: &Meanings<'_, A>,
+    occurrence: Occurrence,
+    had: Word,
+    value: Word,
+) -> Result<Finding<A>, AllocError> {
+    let mut wrong = String::new(alloc);
+    let mut advice = String::new(alloc);
+    push_written(&mut wrong, source, occurrence)?;
+    match before.occurrence(&Name::new(written(source, occurrence))) {
+        Some(first) => {
+            write!(
+                wrong,
+                " already has the value {had}, and would be {value} here"
+            )?;
+            push_other_advice(alloc, &mut advice, source, first, occurrence)?;
+        }
+        None => {
+            write!(
+                wrong,
+                " is a permanent symbol with the value {had}, and would be {value} here"
+            )?;
+            advice.push_str("use another symbol")?;
+        }
+    }
+    Ok(Finding {
+        start: occurrence.start,
+        end: occurrence.end,
+        wrong,
+        advice,
+    })
+}
+
+/// What is said about DECIMAL, OCTAL or PAUSE where a symbol is given a value.
+fn about_direction<A: Allocator + Copy>(
+    alloc: A,
+    source: &Source<'_>,
+    occurrence: Occurrence,
+    direction: &'static str,
+) -> Result<Finding<A>, AllocError> {
+    let mut wrong = String::new(alloc);
+    push_written(&mut wrong, source, occurrence)?;
+    wrong.push_str(" cannot be a symbol")?;
+    let mut advice = String::new(alloc);
+    if count_characters(written(source, occurrence)) > direction.len() {
+        write!(
+            advice,
+            "only six characters of a symbol count, so it is {direction}: "
+        )?;
+    }
+    advice.push_str("use another symbol")?;
+    Ok(Finding {
+        start: occurrence.start,
+        end: occurrence.end,
+        wrong,
+        advice,
+    })
+}
+
+/// What is said about a symbol that is given this value, if it cannot be.
+fn about_given<A: Allocator + Copy>(
+    alloc: A,
+    source: &Source<'_>,
+    before: &Meanings<'_, A>,
+    occurrence: Occurrence,
+    value: Word,
+) -> Result<Option<Finding<A>>, AllocError> {
+    let name = Name::new(written(source, occurrence));
+    let direction = match name.kind() {
+        Kind::Decimal => "DECIMAL",
+        Kind::Octal => "OCTAL",
+        Kind::Pause => "PAUSE",
+        _ => {
+            return match before.symbols.get(&name) {
+                Some(had) if had != value => {
+                    Ok(Some(about_other_value(alloc, source, before, occurrence, had, value)?))
+                }
+                _ => Ok(None),
+            };
+        }
+    };
+    Ok(Some(about_direction(alloc, source, occurrence, direction)?))
+}
+
+/// Where a token of a statement stands.
+fn occurrence_of<A: Allocator>(faulty: &FaultyStatement<A>, token: Token) -> Occurrence {
+    Occurrence {
+        part: faulty.part,
+        start: token.start,
+        end: token.end,
+    }
+}
+
+/// What is said about the first tag of a statement that has another value.
+pub(crate) fn about_tags<A: Allocator + Copy>(
+    alloc: A,
+    source: &Source<'_>,
+    before: &Meanings<'_, A>,
+    faulty: &FaultyStatement<A>,
+) -> Result<Option<Finding<A>>, AllocError> {
+    for token in faulty.tags() {
+        if token.kind == Kind::Symbol {
+            let occurrence = occurrence_of(faulty, *token);
+            let found = about_given(alloc, source, before, occurrence, before.here)?;
+            if found.is_some() {
+                return Ok(found);
+            }
+        }
+    }
+    Ok(None)
+}
+
+/// What is said about an assignment of another value.
+pub(crate) fn about_assignment<A: Allocator + Copy>(
+    alloc: A,
+    source: &Source<'_>,
+    before: &Meanings<'_, A>,
+    faulty: &FaultyStatement<A>,
+) -> Result<Option<Finding<A>>, AllocError> {
+    let [token, ..] = faulty.body() else {
+        return Ok(None);
+    };
+    let bytes = source.bytes(faulty.part);
+    let Some(value) = before.value(alloc, bytes, faulty.operand())? else {
+        return Ok(None);
+    };
+    about_given(alloc, source, before, occurrence_of(faulty, *token), value)
+}
+
+/// What is said about one symbol too many.
+fn about_new<A: Allocator + Copy>(
+    alloc: A,
+    source: &Source<'_>,
+    occurrence: Occurrence,
+) -> Result<Finding<A>, AllocError> {
+    let mut wrong = String::new(alloc);
+    push_written(&mut wrong, source, occurrence)?;
+    wrong.push_str(" would be the 1025th symbol")?;
+    let advice = String::from_str(
+        alloc,
+        "a source has at most 1024 symbols of its own: refer to nearby cells with .+1 or .-1",
+    )?;
+    Ok(Finding {
+        start: occurrence.start,
+        end: occurrence.end,
+        wrong,
+        advice,
+    })
+}
+
+/// What is said about the first symbol of a statement for which there is no place.
+pub(crate) fn about_room<A: Allocator + Copy>(
+    alloc: A,
+    source: &Source<'_>,
+    before: &Meanings<'_, A>,
+    faulty: &FaultyStatement<A>,
+) -> Result<Option<Finding<A>>, AllocError> {
+    for token in &faulty.tokens {
+        let name = name_of(source.bytes(faulty.part), *token);
+        if token.kind == Kind::Symbol && before.symbols.get(&name).is_none() {
+            return Ok(Some(about_new(alloc, source, occurrence_of(faulty, *token))?));
+        }
+    }
+    Ok(None)
+}

@@ -1,0 +1,474 @@
+//! Files that were given in the place of others: a source where a tape is wanted, say. They are known by what is in
+//! them; this is tested, not proved.
+
+use crate::faults::bytes_of;
+use crate::files::is_read_once;
+use command_line::{FileNames, Request};
+use command_parts::inputs::tape_from;
+use command_parts::status::Fault;
+use command_parts::visible::visible_text;
+use pal_asm::PalFault;
+use std::alloc::Global;
+use std::fmt::Write;
+use std::rt::Files;
+use streams::standard::Reads;
+
+/// What is in a file, by the look of it.
+#[derive(Clone, Copy, PartialEq, Eq)]
+enum Kind {
+    Tape,
+    Source,
+    Declaration,
+    Certificate,
+    OtherText,
+    OtherBytes,
+}
+
+/// The words that begin the lines of a declaration.
+const DECLARING: [&[u8]; 13] = [
+    b"start", b"main", b"sub", b"var", b"stop", b"pause", b"profile", b"read", b"skips", b"moves",
+    b"abandon", b"holds", b"returns",
+];
+
+/// Whether these are the characters of a text, as a source has them and a tape hasn't.
+fn is_text(bytes: &[u8]) -> bool {
+    bytes
+        .iter()
+        .all(|byte| matches!(*byte, b'\t'..=b'\r' | b' '..=b'~'))
+}
+
+/// Whether a line begins like one of a declaration.
+fn declares(line: &[u8]) -> bool {
+    let line = line.trim_ascii();
+    let mut words = line.split(|byte| matches!(*byte, b' ' | b'\t' | b'/'));
+    match words.next() {
+        Some(first) => DECLARING.iter().any(|known| *known == first),
+        None => false,
+    }
+}
+
+/// Whether a line is the end of a source, or sets the location.
+fn is_of_source(line: &[u8]) -> bool {
+    let line = line.trim_ascii();
+    line.starts_with(b"$") || line.starts_with(b"*")
+}
+
+/// Whether bytes are a tape.
+#[inline(never)]
+fn is_tape(bytes: &[u8]) -> bool {
+    let mut frames = Reads::new(bytes);
+    tape_from(&mut frames).is_ok()
+}
+
+/// What is in a file that isn't empty.
+fn kind_of(bytes: &[u8]) -> Kind {
+    if !is_text(bytes) {
+        return if is_tape(bytes) {
+            Kind::Tape
+        } else {
+            Kind::OtherBytes
+        };
+    }
+    if bytes.starts_with(b"PDP8-CERTIFICATE") {
+        return Kind::Certificate;
+    }
+    for line in bytes.split(|byte| *byte == b'\n') {
+        if is_of_source(line) {
+            return Kind::Source;
+        }
+        if declares(line) {
+            return Kind::Declaration;
+        }
+    }
+    Kind::OtherText
+}
+
+/// The name of the tape of a source, without its ending.
+fn stem_of<'n>(name: &'n str) -> &'n str {
+    if name.ends_with(".bin") {
+        return "new";
+    }
+    name.strip_suffix(".pal").unwrap_or(name)
+}
+
+/// What is known of a command whose input has a fault.
+#[derive(Clone, Copy)]
+struct CommandContext<'a> {
+    /// Its name.
+    command: &'static str,
+    /// Whether it takes `--source`.
+    takes_source: bool,
+    /// Whether it is given a source in place of a tape.
+    is_sourced: bool,
+    /// Whether its source has several parts.
+    has_several_parts: bool,
+    /// Its files.
+    names: FileNames<'a>,
+}
+
+/// Whether a command takes `--source`, in place of a tape.
+fn takes_source(command: &str) -> bool {
+    [
+        "verify", "check", "report", "declare", "guess", "refute", "watch", "run", "teletype",
+        "dump",
+    ]
+    .iter()
+    .any(|name| *name == command)
+}
+
+/// Whether a command writes its result to a file, which is named behind its inputs.
+fn writes_result(command: &str) -> bool {
+    ["declare", "guess", "refute", "report"]
+        .iter()
+        .any(|name| *name == command)
+}
+
+/// Whether a command takes a declaration behind a tape or a source.
+fn takes_declaration(command: &str) -> bool {
+    ["verify", "check", "report", "guess", "refute", "watch"]
+        .iter()
+        .any(|name| *name == command)
+}
+
+impl CommandContext<'_> {
+    /// Adds the command with a source in place of its tape.
+    fn push_with_source(&self, text: &mut String, source: &str) {
+        let _ = write!(text, "pdp8 {} --source {source}", self.command);
+    }
+
+    /// Adds the operands behind the tape.
+    fn push_operands(&self, text: &mut String) {
+        let names = &self.names;
+        let events = if self.command == "watch" {
+            names.events
+        } else {
+            None
+        };
+        for name in [names.declaration, names.certificate, events] {
+            if let Some(name) = name {
+                let _ = write!(text, " {name}");
+            }
+        }
+        self.push_output(text);
+    }
+
+    /// Adds where the result goes, if there is one.
+    fn push_output(&self, text: &mut String) {
+        if !writes_result(self.command) {
+            return;
+        }
+        if let Some(name) = self.names.output {
+            let _ = write!(text, " -o {name}");
+        }
+    }
+
+    /// Adds what to do with a text that was given as a tape.
+    fn push_text_as_tape(&self, text: &mut String, name: &str) {
+        let _ = write!(text, "{name} is text, not a tape: if it is a source, use ");
+        if self.takes_source {
+            self.push_with_source(text, name);
+            self.push_operands(text);
+            return;
+        }
+        let stem = stem_of(name);
+        let command = self.command;
+        let _ = write!(
+            text,
+            "pdp8 assemble -o {stem}.bin {name}, and then pdp8 {command} {stem}.bin"
+        );
+    }
+
+    /// Adds what to do with a declaration that was given as a tape.
+    fn push_declaration_as_tape(&self, text: &mut String, name: &str) {
+        let _ = write!(
+            text,
+            "{name} is a declaration, not a tape: the tape comes before it"
+        );
+        if let Some(other) = self.names.declaration {
+            let command = self.command;
+            let _ = write!(text, ", as in pdp8 {command} {other} {name}");
+            self.push_output(text);
+        }
+    }
+
+    /// Adds what to do with a file that was given as a tape, if it is none.
+    fn push_as_tape(&self, text: &mut String, name: &str, kind: Kind) {
+        match kind {
+            Kind::Tape | Kind::OtherBytes => {}
+            Kind::Source | Kind::OtherText => self.push_text_as_tape(text, name),
+            Kind::Declaration => self.push_declaration_as_tape(text, name),
+            Kind::Certificate => {
+                let _ = write!(
+                    text,
+                    "{name} is a certificate, not a tape: it comes after the tape and the declaration"
+                );
+            }
+        }
+    }
+
+    /// Where a tape is given.
+    fn place_of_tape(&self) -> &'static str {
+        if self.is_sourced {
+            "--source takes the place of the tape"
+        } else {
+            "the tape comes before the declaration"
+        }
+    }
+
+    /// Adds what to do with a source that was given as a declaration.
+    fn push_source_as_declaration(&self, text: &mut String, name: &str) {
+        let _ = write!(text, "{name} is a source, not a declaration: ");
+        if self.is_sourced && self.takes_source {
+            let _ = text.push_str("each part of the source has a --source of its own");
+        } else if self.is_sourced {
+            let _ = text.push_str("the parts of the source stand without an option");
+        } else if self.takes_source {
+            self.push_with_source(text, name);
+            self.push_output(text);
+            let _ = text.push_str(" takes its /: lines for the declaration");
+        } else {
+            let _ = write!(
+                text,
+                "pdp8 place -o new.declaration {name} makes one of its /: lines"
+            );
+        }
+    }
+
+    /// Adds what to do with a file that was given as a declaration, if it is none.
+    fn push_as_declaration(&self, text: &mut String, name: &str, kind: Kind) {
+        match kind {
+            Kind::Declaration | Kind::OtherText | Kind::OtherBytes => {}
+            Kind::Source => self.push_source_as_declaration(text, name),
+            Kind::Tape => {
+                let place = self.place_of_tape();
+                let _ = write!(text, "{name} is a tape, not a declaration: {place}");
+            }
+            Kind::Certificate => {
+                let _ = write!(
+                    text,
+                    "{name} is a certificate, not a declaration: it comes after the declaration"
+                );
+            }
+        }
+    }
+
+    /// Adds what to do with a tape that was given as a source.
+    fn push_tape_as_source(&self, text: &mut String, name: &str) {
+        let command = self.command;
+        let _ = write!(text, "{name} is a tape, not a source");
+        if self.has_several_parts {
+            return;
+        }
+        if self.takes_source {
+            let _ = write!(text, ": use pdp8 {command} {name}");
+            self.push_operands(text);
+        } else {
+            let _ = write!(text, ": pdp8 source {name} -o new.pal makes a source of it");
+        }
+    }
+
+    /// Adds what to do with a declaration that was given as a source.
+    fn push_declaration_as_source(&self, text: &mut String, name: &str) {
+        let command = self.command;
+        let _ = write!(text, "{name} is a declaration, not a source");
+        if takes_declaration(command) {
+            let source = self.names.declaration.unwrap_or("SOURCE");
+            let _ = write!(
+                text,
+                ": it comes after the source, as in pdp8 {command} --source {source} {name}"
+            );
+            self.push_output(text);
+        }
+    }
+
+    /// Adds what to do with a file that was given as a part of a source, if it is none.
+    fn push_as_source(&self, text: &mut String, name: &str, kind: Kind) {
+        match kind {
+            Kind::Source | Kind::OtherText | Kind::OtherBytes => {}
+            Kind::Tape => self.push_tape_as_source(text, name),
+            Kind::Declaration => self.push_declaration_as_source(text, name),
+            Kind::Certificate => {
+                let _ = write!(text, "{name} is a certificate, not a source");
+            }
+        }
+    }
+
+    /// Adds what to do with a file that was given as a certificate, if it is none.
+    fn push_as_certificate(&self, text: &mut String, name: &str, kind: Kind) {
+        let _ = match kind {
+            Kind::Certificate | Kind::OtherText | Kind::OtherBytes => Ok(()),
+            Kind::Tape => {
+                let place = self.place_of_tape();
+                write!(text, "{name} is a tape, not a certificate: {place}")
+            }
+            Kind::Source => write!(
+                text,
+                "{name} is a source, not a certificate: pdp8 guess --source {name} -o new.certificate searches for one"
+            ),
+            Kind::Declaration => write!(
+                text,
+                "{name} is a declaration, not a certificate: pdp8 guess {} {name} -o new.certificate searches for one",
+                self.names.tape.unwrap_or("--source SOURCE")
+            ),
+        };
+    }
+}
+
+/// Whether a request has a source in place of a tape.
+fn is_sourced(request: &Request<'_>) -> bool {
+    matches!(request, Request::Program(_) | Request::Sourced(_)) && !request.parts().is_empty()
+}
+
+/// What is known of a request.
+fn asked_of<'a>(request: &Request<'a>) -> CommandContext<'a> {
+    let command = request.command();
+    CommandContext {
+        command,
+        takes_source: takes_source(command),
+        is_sourced: is_sourced(request),
+        has_several_parts: request.parts().len() > 1,
+        names: request.names(),
+    }
+}
+
+/// A line as it is shown, with its end, if there is anything in it.
+fn shown_line(alloc: Global, text: &str) -> String {
+    match visible_text(alloc, text) {
+        Ok(mut shown) if !shown.is_empty() => {
+            let _ = shown.push('\n');
+            shown
+        }
+        _ => String::new(alloc),
+    }
+}
+
+/// The line on a file that was given as the declaration of a source, if it is none; else nothing, and nothing of
+/// standard input.
+pub(crate) fn declaration_hint(
+    alloc: Global,
+    command: &'static str,
+    name: &str,
+    text: &[u8],
+) -> String {
+    let asked = CommandContext {
+        command,
+        takes_source: takes_source(command),
+        is_sourced: true,
+        has_several_parts: false,
+        names: FileNames::NONE,
+    };
+    let mut told = String::new(alloc);
+    if name != "-" && !text.is_empty() {
+        asked.push_as_declaration(&mut told, name, kind_of(text));
+    }
+    shown_line(alloc, &told)
+}
+
+/// The line on a file that was given as a part of a source, if it is none; else nothing, and nothing of standard
+/// input. These are the names and the texts of the parts.
+pub(crate) fn source_hint(
+    alloc: Global,
+    command: &'static str,
+    names: FileNames<'_>,
+    parts: &[&str],
+    fault: PalFault,
+    texts: &[&[u8]],
+) -> String {
+    let asked = CommandContext {
+        command,
+        takes_source: takes_source(command),
+        is_sourced: true,
+        has_several_parts: parts.len() > 1,
+        names,
+    };
+    let index = fault.part.wrapping_sub(1);
+    let mut told = String::new(alloc);
+    let name = parts.get(index).copied().unwrap_or("-");
+    if name == "-" {
+        return told;
+    }
+    if let Some(text) = texts.get(index) {
+        asked.push_as_source(&mut told, name, kind_of(text));
+    }
+    shown_line(alloc, &told)
+}
+
+/// What is in a file that can be read twice and isn't empty. Standard input and pipes cannot be read twice.
+fn kind_in<R: Files + Input>(rt: &R, alloc: Global, name: &str) -> Option<Kind> {
+    if is_read_once(rt, name) {
+        return None;
+    }
+    let Ok(bytes) = bytes_of(rt, alloc, name) else {
+        return None;
+    };
+    if bytes.is_empty() {
+        return None;
+    }
+    Some(kind_of(&bytes))
+}
+
+/// The name of the part of a source that has a fault, if it has that part.
+fn faulty_part<'a>(parts: &[&'a str], fault: PalFault) -> Option<&'a str> {
+    parts.get(fault.part.wrapping_sub(1)).copied()
+}
+
+/// The line on a file that was given as a part of a source that is assembled or listed, if it is none and can be
+/// read twice; else nothing.
+pub(crate) fn part_hint<R: Files + Input>(
+    rt: &R,
+    alloc: Global,
+    command: &'static str,
+    parts: &[&str],
+    fault: &Fault,
+) -> String {
+    let mut text = String::new(alloc);
+    let asked = CommandContext {
+        command,
+        takes_source: false,
+        is_sourced: true,
+        has_several_parts: parts.len() > 1,
+        names: FileNames::NONE,
+    };
+    let name = match fault {
+        Fault::Source(fault) => faulty_part(parts, *fault),
+        _ => None,
+    };
+    if let Some(name) = name {
+        if let Some(kind) = kind_in(rt, alloc, name) {
+            asked.push_as_source(&mut text, name, kind);
+        }
+    }
+    shown_line(alloc, &text)
+}
+
+/// The line on an input that was given in the place of another one, if it can be told; else nothing.
+#[inline(never)]
+pub fn hint_line<R: Files + Input>(
+    rt: &R,
+    alloc: Global,
+    fault: &Fault,
+    request: &Request<'_>,
+) -> String {
+    let mut text = String::new(alloc);
+    let asked = asked_of(request);
+    let name = match fault {
+        Fault::Tape(_) => asked.names.tape,
+        Fault::Declared(_) => asked.names.declaration,
+        Fault::Certificate(_) => asked.names.certificate,
+        Fault::Source(fault) => faulty_part(request.parts(), *fault),
+        _ => None,
+    };
+    let Some(name) = name else {
+        return text;
+    };
+    let Some(kind) = kind_in(rt, alloc, name) else {
+        return text;
+    };
+    match fault {
+        Fault::Tape(_) => asked.push_as_tape(&mut text, name, kind),
+        Fault::Declared(_) => asked.push_as_declaration(&mut text, name, kind),
+        Fault::Source(_) => asked.push_as_source(&mut text, name, kind),
+        _ => asked.push_as_certificate(&mut text, name, kind),
+    }
+    shown_line(alloc, &text)
+}

@@ -1,0 +1,286 @@
+//! The files and streams of a run with an operator.
+
+ghost use Rattle.std.specs.Prelude.{◌≡◌, false};
+
+use crate::files::open_input;
+use crate::replacing::ResultFile;
+use crate::standard_error::{NullSink, open_input_if, report_to, tell_to};
+use command_line::{Interrupt, Session, StopOptions, TeletypeSession};
+use command_parts::options::{SessionOptions, SummaryForm};
+use command_parts::status::{DeviceFault, Fault, Status};
+use command_parts::visible::visible_text;
+use either::Either;
+use machine_commands::interrupted::InterruptibleKeys;
+use machine_commands::last_session::{run_session_with_last, teletype_with_last};
+use machine_commands::session::{Outputs, run_session};
+use machine_commands::stopped_session::{no_stops, run_session_with_stops, teletype_with_stops};
+use machine_commands::teletype::{Typist, teletype};
+use std::alloc::{AllocError, Global};
+use std::io::{self, Printer};
+use std::rt::Files;
+use streams::standard::{Reads, Writes};
+use streams::{ByteSink, ByteSource};
+
+/// Where the punched bytes go: to a file, or nowhere.
+type Punch<'r, R> = Either<ResultFile<'r, R>, NullSink>;
+
+/// Sees to it that the punch's file can be made or written, and leaves it as it is; where it is left out, what is punched
+/// goes nowhere.
+fn open_punch<'r, R: Files>(
+    rt: &'r R,
+    alloc: Global,
+    name: Option<&'r str>,
+) -> Result<Punch<'r, R>, Fault> {
+    let Some(name) = name else {
+        return Ok(Either::Right(NullSink));
+    };
+    let mut file = ResultFile::new(rt, alloc, name)?;
+    match file.check() {
+        Ok(()) => Ok(Either::Left(file)),
+        Err(_) => Err(Fault::Device(DeviceFault::Write)),
+    }
+}
+
+/// Puts what was punched in its place. It goes out by one write before the summary, so it is whole also where that
+/// fails; a run that punched nothing leaves an empty file.
+fn finish_punch<R: Files>(
+    punch: &mut Punch<'_, R>,
+    failed: bool,
+    answer: Result<Status, Fault>,
+) -> Result<Status, Fault> {
+    let Either::Left(file) = punch else {
+        return answer;
+    };
+    if failed {
+        return answer;
+    }
+    let done = match answer {
+        Ok(_) => file.finish_or_empty(),
+        Err(_) => file.finish(),
+    };
+    match done {
+        Ok(()) => answer,
+        Err(_) => Err(Fault::Device(DeviceFault::Write)),
+    }
+}
+
+/// Where the characters of a session go: to standard output or nowhere.
+fn type_to<'r, R: Print>(rt: &'r R, teletype: bool) -> Writes<Either<Printer<'r, R>, NullSink>>
+    ensures { result.failed ≡ false }
+{
+    if teletype {
+        Writes::new(Either::Left(io::writer(rt)))
+    } else {
+        Writes::new(Either::Right(NullSink))
+    }
+}
+
+/// The name of the punch's file as it is shown.
+fn shown_name(alloc: Global, name: Option<&str>) -> Result<Option<String>, AllocError> {
+    match name {
+        Some(name) => Ok(Some(visible_text(alloc, name)?)),
+        None => Ok(None),
+    }
+}
+
+/// The form of a summary that tells the punch's file by this name.
+fn form_with<'n>(form: SummaryForm<'_>, name: &'n Option<String>) -> SummaryForm<'n> {
+    SummaryForm {
+        apart: form.apart,
+        seen: form.seen,
+        saved_in: match name {
+            Some(name) => Some(name.as_str()),
+            None => None,
+        },
+    }
+}
+
+/// Runs a tape with an operator, up to where it is stopped, and shows its last instructions if that is asked for.
+fn follow_session<
+    R: ByteSource,
+    F: ByteSource,
+    K: ByteSource,
+    W: ByteSink,
+    T: ByteSink,
+    P: ByteSink,
+>(
+    alloc: Global,
+    frames: &mut R,
+    reader: &mut F,
+    keys: &mut K,
+    options: SessionOptions,
+    stopping: &StopOptions,
+    form: SummaryForm<'_>,
+    out: &mut Outputs<W, T, P>,
+) -> Result<Status, Fault>
+    requires readable { R.mark frames.old ≡ false }
+    requires reader_readable { F.mark reader.old ≡ false }
+    requires keys_readable { K.mark keys.old ≡ false }
+    requires writable { W.mark out.old.report ≡ false }
+    requires typable { T.mark out.old.teletype ≡ false }
+    requires punchable { P.mark out.old.punch ≡ false }
+{
+    let stops = &stopping.stops;
+    match stopping.last {
+        None => run_session_with_stops(alloc, frames, reader, keys, options, stops, form, out),
+        Some(most) => {
+            run_session_with_last(alloc, frames, reader, keys, options, stops, most, form, out)
+        }
+    }
+}
+
+/// Runs a tape with these frames and with an operator. The files are opened in this order: the reader's frames and the
+/// keys, and then it is seen that the punch's can be made.
+///
+/// # Errors
+///
+/// As for `run_session`, and `Device` where a file can't be opened or made.
+#[inline(never)]
+pub(crate) fn hold_session_on<R: Files + Input + Print + Eprint, S: ByteSource>(
+    rt: &R,
+    alloc: Global,
+    session: &Session<'_>,
+    frames: &mut S,
+) -> Result<Status, Fault>
+    requires { S.mark frames.old ≡ false }
+{
+    let joined = &session.joined;
+    let name = shown_name(alloc, joined.punch)?;
+    let form = form_with(session.summary, &name);
+    let mut reader = open_input_if(rt, joined.reader)?;
+    let mut keys = open_input_if(rt, joined.keys)?;
+    let mut punch = open_punch(rt, alloc, joined.punch)?;
+    let mut outputs = Outputs {
+        report: report_to(rt, joined.teletype),
+        teletype: type_to(rt, joined.teletype),
+        punch: Writes::new(&mut punch),
+    };
+    let options = session.options;
+    let out = &mut outputs;
+    let answer = match &session.stopping {
+        None => run_session(alloc, frames, &mut reader, &mut keys, options, form, out),
+        Some(stopping) => {
+            follow_session(
+                alloc,
+                frames,
+                &mut reader,
+                &mut keys,
+                options,
+                stopping,
+                form,
+                out,
+            )
+        }
+    };
+    let failed = outputs.punch.failed();
+    finish_punch(&mut punch, failed, answer)
+}
+
+/// Runs the tape of a file with an operator. The tape is opened first.
+///
+/// # Errors
+///
+/// As for [`hold_session_on`].
+pub fn hold_session<R: Files + Input + Print + Eprint>(
+    rt: &R,
+    alloc: Global,
+    session: &Session<'_>,
+) -> Result<Status, Fault> {
+    let mut frames = open_input(rt, session.tape.unwrap_or("-"))?;
+    hold_session_on(rt, alloc, session, &mut frames)
+}
+
+/// The key that interrupts a session at a terminal where no other is asked for: ^E.
+const USUAL_KEY: u8 = 5;
+
+/// The byte of the key that interrupts a session, if one does.
+fn interrupt_key(interrupt: Interrupt, at_terminal: bool) -> Option<u8> {
+    match interrupt {
+        Interrupt::Usual if at_terminal => Some(USUAL_KEY),
+        Interrupt::Usual | Interrupt::Off => None,
+        Interrupt::Key(byte) => Some(byte),
+    }
+}
+
+/// Says which key interrupts the session, if one does.
+fn tell_key<R: Eprint>(rt: &R, key: Option<u8>) {
+    let Some(byte) = key else {
+        return;
+    };
+    let told = if byte < 0o40 {
+        let letter = char::from(byte + 0o100);
+        eprintln!(rt; "^{letter} ends the session when the program asks for a key")
+    } else {
+        eprintln!(rt; "key {byte:03o} ends the session when the program asks for a key")
+    };
+    match told {
+        Ok(()) | Err(_) => {}
+    }
+}
+
+/// Holds a session at the teletype with the tape of these frames: keys come from standard input, what is printed goes to
+/// standard output, and the summary to standard error. The reader's frames are opened first, and then it is seen that
+/// the punch's file can be made.
+///
+/// # Errors
+///
+/// As for `teletype`, and `Device` where a file can't be opened or made.
+#[inline(never)]
+pub(crate) fn hold_teletype_session_on<R: Files + Input + Print + Eprint, S: ByteSource>(
+    rt: &R,
+    alloc: Global,
+    session: &TeletypeSession<'_>,
+    at_terminal: bool,
+    frames: &mut S,
+) -> Result<Status, Fault>
+    requires { S.mark frames.old ≡ false }
+{
+    let key = interrupt_key(session.interrupt, at_terminal);
+    if at_terminal {
+        tell_key(rt, key);
+    }
+    let name = shown_name(alloc, session.punch)?;
+    let form = form_with(session.summary, &name);
+    let reader = open_input_if(rt, session.reader)?;
+    let keys = Reads::new(rt.reader());
+    let mut punch = open_punch(rt, alloc, session.punch)?;
+    let mut outputs = Outputs {
+        report: tell_to(rt),
+        teletype: Writes::new(io::writer(rt)),
+        punch: Writes::new(&mut punch),
+    };
+    let mut typist = Typist::new(reader, InterruptibleKeys::new(keys, key), session.options);
+    let out = &mut outputs;
+    let answer = match &session.stopping {
+        Some(stopping) => {
+            let stops = &stopping.stops;
+            match stopping.last {
+                None => teletype_with_stops(alloc, frames, &mut typist, stops, form, out),
+                Some(most) => {
+                    teletype_with_last(alloc, frames, &mut typist, stops, most, form, out)
+                }
+            }
+        }
+        None if key.is_some() => {
+            teletype_with_stops(alloc, frames, &mut typist, &no_stops(), form, out)
+        }
+        None => teletype(alloc, frames, &mut typist, form, out),
+    };
+    let failed = outputs.punch.failed();
+    finish_punch(&mut punch, failed, answer)
+}
+
+/// Holds a session at the teletype with the tape of a file, which is opened first.
+///
+/// # Errors
+///
+/// As for [`hold_teletype_session_on`].
+pub fn hold_teletype_session<R: Files + Input + Print + Eprint>(
+    rt: &R,
+    alloc: Global,
+    session: &TeletypeSession<'_>,
+    at_terminal: bool,
+) -> Result<Status, Fault> {
+    let mut frames = open_input(rt, session.tape.unwrap_or("-"))?;
+    hold_teletype_session_on(rt, alloc, session, at_terminal, &mut frames)
+}

@@ -1,0 +1,126 @@
+//! What is said about a source whose command is done, or has a fault that lies within the source.
+
+use crate::of_sources::numbering::{DeclarationOrigin, SourceInput};
+use crate::of_sources::part_lines::{
+    PartLine, behind_lines, line_counts, line_of, on_line, part_line_of,
+};
+use crate::source_faults::{name_slices, visible_names};
+use crate::telling::tell_with;
+use command_line::ProgramRequest;
+use command_parts::status::{Fault, Status};
+use command_parts::visible::visible_text;
+use declaration::DeclarationFault;
+use diagnostics::inputs::{FaultyFile, push_fault};
+use pal_text::{Ending, statements};
+use std::alloc::{AllocError, Global};
+
+/// The lines on a fault of a declaration within a source, of which the line stands there.
+fn within_lines(
+    alloc: Global,
+    fault: &DeclarationFault,
+    part_line: &PartLine<'_>,
+    text: &[u8],
+) -> String {
+    let behind = line_of(*fault).saturating_sub(part_line.line);
+    let shown = Fault::Declared(on_line(*fault, part_line.line));
+    let mut told = String::new(alloc);
+    let Ok(name) = visible_text(alloc, part_line.name) else {
+        return told;
+    };
+    let file = FaultyFile {
+        name: &name,
+        bytes: behind_lines(text, behind),
+    };
+    let _ = push_fault(&mut told, shown, &file);
+    told
+}
+
+/// Tells the fault of a declaration that stands within a source, and below it where and why.
+fn tell_within<R: Eprint>(
+    rt: &R,
+    alloc: Global,
+    fault: &DeclarationFault,
+    names: &[&str],
+    parts: &[&[u8]],
+    text: &[u8],
+) -> Result<Status, Fault> {
+    let counts = line_counts(alloc, parts)?;
+    let part_line = part_line_of(names, &counts, line_of(*fault));
+    let lines = within_lines(alloc, fault, &part_line, text);
+    Ok(tell_with(rt, Fault::Declared(*fault), &lines))
+}
+
+/// The declaration's fault, if it is one.
+fn declaration_fault(fault: &Fault) -> Option<DeclarationFault> {
+    match fault {
+        Fault::Declared(declared) => Some(*declared),
+        _ => None,
+    }
+}
+
+/// Tells a fault of the command where it lies within the source; each other one is given on.
+pub(crate) fn tell_command<R: Eprint>(
+    rt: &R,
+    alloc: Global,
+    fault: &Fault,
+    asked: &ProgramRequest<'_>,
+    given: &SourceInput,
+    parts: &[&[u8]],
+) -> Result<Status, Fault> {
+    if given.promise == DeclarationOrigin::Within && asked.explained {
+        if let Some(declared) = declaration_fault(fault) {
+            let names = asked.program.parts();
+            return tell_within(rt, alloc, &declared, names, parts, &given.text);
+        }
+    }
+    Err(*fault)
+}
+
+/// The place of the first part that ends the program by `$`.
+fn ending_part(alloc: Global, parts: &[&[u8]]) -> Option<usize> {
+    for (index, part) in parts.iter().enumerate() {
+        if let Ok(read) = statements(alloc, part) {
+            if read.ending == Ending::Dollar {
+                return Some(index);
+            }
+        }
+    }
+    None
+}
+
+/// Says on standard error which parts are ignored, because the program ends before them.
+///
+/// # Errors
+///
+/// Memory was refused.
+pub(crate) fn tell_unread<R: Eprint>(
+    rt: &R,
+    alloc: Global,
+    names: &[&str],
+    parts: &[&[u8]],
+) -> Result<(), AllocError> {
+    let shown = visible_names(alloc, names)?;
+    tell_ignored(rt, alloc, &name_slices(alloc, &shown)?, parts);
+    Ok(())
+}
+
+/// The same with the names as they are shown.
+fn tell_ignored<R: Eprint>(rt: &R, alloc: Global, names: &[&str], parts: &[&[u8]]) {
+    if names.len() < 2 {
+        return;
+    }
+    let Some(index) = ending_part(alloc, parts) else {
+        return;
+    };
+    let Some(name) = names.get(index) else {
+        return;
+    };
+    let Some(unread) = names.get(index.saturating_add(1)) else {
+        return;
+    };
+    let _ = if names.len() > index.saturating_add(2) {
+        eprintln!(rt; "{name} ends the program with $: {unread} and what follows are ignored")
+    } else {
+        eprintln!(rt; "{name} ends the program with $: {unread} is ignored")
+    };
+}

@@ -1,0 +1,81 @@
+//! Streams that may be left out, and standard error as a sink.
+
+ghost use Rattle.std.specs.Prelude.{◌≡◌, false, IfOk};
+
+use crate::files::input_of;
+use command_parts::status::Fault;
+use either::Either;
+use std::io::{self, Printer};
+use std::rt::Files;
+use streams::standard::{Reads, Writes};
+
+/// What an input that is left out gives.
+static NOTHING: &[u8] = b"";
+
+/// Takes bytes, which go nowhere.
+#[derive(Clone, Copy)]
+pub struct NullSink;
+
+impl io::Write for NullSink {
+    fn write(&mut self, buf: &[u8]) -> io::Result<usize> {
+        Ok(buf.len())
+    }
+
+    fn flush(&mut self) -> io::Result<()> {
+        Ok(())
+    }
+}
+
+/// Standard error, for text.
+#[derive(Drop)]
+pub struct StandardError<'r, R> {
+    to: &'r R,
+}
+
+impl<R: Eprint> io::Write for StandardError<'_, R> {
+    fn write(&mut self, buf: &[u8]) -> io::Result<usize> {
+        match str::from_utf8(buf) {
+            Ok(text) => self.to.eprint(text)?,
+            Err(_) => return Err(io::Error::from(io::ErrorKind::InvalidData)),
+        }
+        Ok(buf.len())
+    }
+
+    fn flush(&mut self) -> io::Result<()> {
+        Ok(())
+    }
+}
+
+/// Standard error, as a sink of text.
+pub fn tell_to<'r, R: Eprint>(rt: &'r R) -> Writes<StandardError<'r, R>>
+    ensures { result.failed ≡ false }
+{
+    Writes::new(StandardError { to: rt })
+}
+
+/// Opens an input that may be left out, and then gives no byte.
+pub fn open_input_if<R: Files + Input>(
+    rt: &R,
+    name: Option<&str>,
+) -> Result<Reads<Either<Either<R::Reader, R::File>, &'static [u8]>>, Fault>
+    ensures { IfOk result (λ input. input.failed ≡ false) }
+{
+    match name {
+        Some(name) => Ok(Reads::new(Either::Left(input_of(rt, name)?))),
+        None => Ok(Reads::new(Either::Right(NOTHING))),
+    }
+}
+
+/// Where a report goes: to standard error, where something else has standard output.
+pub fn report_to<'r, R: Print + Eprint>(
+    rt: &'r R,
+    is_taken: bool,
+) -> Writes<Either<Printer<'r, R>, StandardError<'r, R>>>
+    ensures { result.failed ≡ false }
+{
+    if is_taken {
+        Writes::new(Either::Right(StandardError { to: rt }))
+    } else {
+        Writes::new(Either::Left(io::writer(rt)))
+    }
+}

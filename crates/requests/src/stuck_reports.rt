@@ -1,0 +1,72 @@
+//! The report of a search for a certificate that is stuck.
+
+use crate::files::{finish, is_read_once, open_output};
+use crate::named_files::NamedFiles;
+use crate::of_sources::assembled::AssembledSource;
+use crate::of_sources::source_lines::labelled;
+use crate::stuck::{StuckSearch, stuck_why};
+use command_line::{Destination, ProgramRequest};
+use command_parts::status::{DeviceFault, Fault, Status};
+use reports::drafting::draft_page;
+use reports::reporting::ReportForm;
+use std::alloc::{AllocError, Global};
+use std::rt::Files;
+use streams::put;
+use streams::standard::Writes;
+
+/// Why a search is stuck, with what the source says about its addresses, if there is one.
+fn why_in(
+    alloc: Global,
+    stuck: &StuckSearch<'_>,
+    source: Option<&AssembledSource>,
+) -> Result<Option<Vec<u8>>, AllocError> {
+    let Some(source) = source else {
+        return Ok(None);
+    };
+    Ok(Some(labelled(alloc, source, &stuck_why(alloc, stuck)?)?))
+}
+
+/// Writes to a file what a search had found when it was stuck, with what the source says about addresses, if there is
+/// one.
+#[inline(never)]
+pub fn report_stuck<R: Files + Print>(
+    rt: &R,
+    alloc: Global,
+    asked: &ProgramRequest<'_>,
+    stuck: &StuckSearch<'_>,
+    name: &str,
+    source: Option<&AssembledSource>,
+) -> Result<(), Fault> {
+    let why = why_in(alloc, stuck, source)?;
+    let files = NamedFiles::of(rt, alloc, asked, None)?;
+    let mut file = open_output(rt, alloc, Destination::MadeLast(name))?;
+    let bytes = draft_page(
+        alloc,
+        stuck.image,
+        stuck.declaration,
+        stuck.draft,
+        stuck.at,
+        ReportForm::Page,
+        files.names(),
+        source.map(|source| &source.notes),
+        match &why {
+            Some(lines) => Some(lines.as_slice()),
+            None => None,
+        },
+    )?;
+    put(&mut Writes::new(&mut file), &bytes)?;
+    let _status = finish(&mut file, Status::Done)?;
+    Ok(())
+}
+
+/// Ensures that these files can be read twice, as a search with a report needs it.
+///
+/// # Errors
+///
+/// `Device` if one of them is standard input or a pipe.
+pub fn need_rereading<R: Files>(rt: &R, tape: &str, declaration: &str) -> Result<(), Fault> {
+    if is_read_once(rt, tape) || is_read_once(rt, declaration) {
+        return Err(Fault::Device(DeviceFault::Read));
+    }
+    Ok(())
+}

@@ -6,7 +6,7 @@ use Rattle.wordset.proofs.Tests.{or_left, or_right, some_from}
 use Rattle.domain.specs.Facts.{Fact}
 use Rattle.declaration.specs.Declaration.{Declaration}
 use Rattle.certificate_lines.specs.Certificate.{Certificate, has_any, has_exits}
-use Rattle.certificate_lines.specs.Kept.{Follows}
+use Rattle.certificate_lines.specs.CertificateInCode.{Follows}
 use Rattle.analyser.specs.Attempts.{IsInSomeBody, StandsRight}
 
 -- What holds below a number and at it holds below the next.

@@ -1,9 +1,9 @@
 -- What is found.
 use Rattle.std.specs.Prelude.{ℕ, List, Option}
 use Rattle.peripherals.specs.Loading.{image_of}
-use Rattle.declaration.specs.Kept as declared
+use Rattle.declaration.specs.DeclarationInCode as declared
 use Rattle.policy.specs.Runs.{IsSafe}
-use Rattle.certificate_lines.specs.Kept as certified
+use Rattle.certificate_lines.specs.CertificateInCode as certified
 use Rattle.judge.specs.Conditions.{IsValid}
 use Rattle.judge.specs.Judged.{judged}
 

@@ -1,9 +1,9 @@
 -- What a search came to.
 use Rattle.std.specs.Prelude.{◌≡◌, ◌<◌, ◌||◌, ℕ, ⊤, Bool, true, false, List, Option}
 use Rattle.declaration.specs.Declaration.{Declaration, Routine}
-use Rattle.declaration.specs.Kept as declared
+use Rattle.declaration.specs.DeclarationInCode as declared
 use Rattle.certificate_lines.specs.Certificate.{Certificate, has_any, has_exits}
-use Rattle.certificate_lines.specs.Kept.{Kept, claims, meaning}
+use Rattle.certificate_lines.specs.CertificateInCode.{Kept, claims, meaning}
 use Rattle.instruct.specs.declared.Profile.{Profile}
 use Rattle.analyser.specs.Accepted.{IsAccepted}
 use Rattle.certificate_lines.specs.declared.Version.{Version}

@@ -1,9 +1,9 @@
 //! Whether what a draft says is where it may be.
 
 ghost use Rattle.std.specs.Prelude.{◌≡◌, ◌||◌, true};
-ghost use Rattle.declaration.specs.Kept.{meaning as declared};
+ghost use Rattle.declaration.specs.DeclarationInCode.{meaning as declared};
 ghost use Rattle.certificate_lines.specs.Certificate.{has_any, has_exits};
-ghost use Rattle.certificate_lines.specs.Kept.{claims};
+ghost use Rattle.certificate_lines.specs.CertificateInCode.{claims};
 ghost use Rattle.analyser.specs.Attempts.{IsDraft, IsInSomeBody, StandsRight};
 
 use certificate::Certificate;

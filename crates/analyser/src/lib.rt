@@ -2,8 +2,8 @@
 #![tactic(auto)]
 
 ghost use Rattle.std.specs.Prelude.{◌≡◌, ◌≢◌, ◌≤◌, IfErr, IfOk};
-ghost use Rattle.declaration.specs.Kept.{meaning as declared};
-ghost use Rattle.certificate_lines.specs.Kept.{claims, meaning};
+ghost use Rattle.declaration.specs.DeclarationInCode.{meaning as declared};
+ghost use Rattle.certificate_lines.specs.CertificateInCode.{claims, meaning};
 ghost use Rattle.certificate.specs.Exact.{AreLines};
 ghost use Rattle.certificate_lines.specs.declared.Version.TheVariants.{Three};
 ghost use Rattle.judge.specs.Judged.{judged};
@@ -25,9 +25,9 @@ use bin_tape::Image;
 use certificate::Certificate;
 use certificate_lines::Version;
 use declaration::Declaration;
-use fixpoint::{AnalysedProgram, Halt, MANY_RUNS, ONE_RUN, Patience, Search};
+use fixpoint::{AnalysedProgram, MANY_RUNS, ONE_RUN, Patience, Search, SearchFault};
 use instruct::Profile;
-use judge::{Rooms, judge};
+use judge::{JudgeWorkspace, judge};
 use std::alloc::Allocator;
 pub use turns::{GuessFault, Turns};
 use word12::Word;
@@ -77,7 +77,7 @@ fn accepted<A: Allocator + Copy, D: Allocator>(
         (IsRefused (judged image.now declaration.now (claims certificate))) }
     ensures left { IfErr result (λ fault. fault ≢ TurnsSpent) }
 {
-    let Ok(mut rooms) = Rooms::boxed(alloc) else {
+    let Ok(mut rooms) = JudgeWorkspace::boxed(alloc) else {
         return Err(GuessFault::NoMemory);
     };
     match judge(image, declaration, &certificate, &mut rooms) {
@@ -227,8 +227,8 @@ fn drafted_by<A: Allocator + Copy, D: Allocator>(
     };
     match search.draft(program, version) {
         Ok(draft) if is_draft(program.declaration, &draft, *at) => Ok(Attempt::Stuck(*at, draft)),
-        Ok(_) | Err(Halt::Stuck(_)) => Err(*fault),
-        Err(Halt::NoMemory) => Err(GuessFault::NoMemory),
+        Ok(_) | Err(SearchFault::Stuck(_)) => Err(*fault),
+        Err(SearchFault::NoMemory) => Err(GuessFault::NoMemory),
     }
 }
 

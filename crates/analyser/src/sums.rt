@@ -1,7 +1,7 @@
 //! Certificates of version 3: facts with relations of sums, told apart in one way after another.
 
 ghost use Rattle.std.specs.Prelude.{◌≡◌, ◌≤◌, IfErr, IfOk};
-ghost use Rattle.certificate_lines.specs.Kept.{meaning};
+ghost use Rattle.certificate_lines.specs.CertificateInCode.{meaning};
 ghost use Rattle.certificate.specs.Exact.{AreLines};
 ghost use Rattle.certificate_lines.specs.declared.Version.TheVariants.{Three};
 ghost use Rattle.turns.specs.Counts.{IsSpentUp};
@@ -158,7 +158,7 @@ pub(crate) fn found_by_sums<A: Allocator + Copy, D: Allocator>(
     let Err(GuessFault::Stuck(at)) = &found else {
         return found;
     };
-    let cells = search.tellers(&program);
+    let cells = search.distinguishing_variables(&program);
     let found = tried(&mut search, &program, &split.by_links(), turns);
     let Err(GuessFault::Stuck(_)) = &found else {
         return found;

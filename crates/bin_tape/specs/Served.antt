@@ -3,12 +3,12 @@ use Rattle.std.specs.Prelude.{◌≡◌, ℕ, ◌+◌, ◌≤◌, List, length, 
 use Rattle.std.specs.Io.KnownBytes.{Consumes}
 use Rattle.bin_tape.specs.declared.fault.TapeFault.{TapeFault}
 use Rattle.bin_tape.specs.declared.fault.TapeFault.TheVariants.{ReadFault}
-use Rattle.bin_tape.specs.declared.reader.Reader.{Reader}
+use Rattle.bin_tape.specs.declared.reader.TapeParser.{TapeParser}
 use Rattle.bin_tape.specs.Reading.{reads, Answers}
 use Rattle.bin_tape.specs.Holds.{Shows, IsOpen}
 
 -- So many frames were taken, and brought no answer.
-pub record CameTo (old new : Option (List ℕ)) (at : ℕ) (r : Reader) : Type 0 where
+pub record CameTo (old new : Option (List ℕ)) (at : ℕ) (r : TapeParser) : Type 0 where
   pub given : List ℕ
   pub taken : Consumes old new given
   pub count : length given ≡ at

@@ -13,7 +13,7 @@ ghost use Rattle.bin_tape.specs.declared.fault.TapeFault.TheVariants.{ReadFault}
 
 use crate::fault::TapeFault;
 use crate::image::Image;
-use crate::reader::{Fed, Reader};
+use crate::reader::{FrameResult, TapeParser};
 use streams::ByteSource;
 
 /// How many frames are looked at.
@@ -26,15 +26,15 @@ const PIECE: usize = 512;
 fn read_whole(frames: &[u8]) -> Result<Image, TapeFault>
     ensures { Answers (nat_lt 65536 (length frames.now)) (reads (take 65536 frames.now)) result }
 {
-    let mut reader = Reader::new();
+    let mut reader = TapeParser::new();
     for (at, frame) in frames.iter().enumerate() {
         if at == LIMIT {
             return Err(TapeFault::TooLong);
         }
         match reader.feed(at, *frame) {
-            Fed::More => {}
-            Fed::End => return Ok(reader.image),
-            Fed::Fault(fault) => return Err(fault),
+            FrameResult::More => {}
+            FrameResult::End => return Ok(reader.image),
+            FrameResult::Fault(fault) => return Err(fault),
         }
     }
     Err(reader.unfinished())
@@ -69,7 +69,7 @@ fn read_source<R: ByteSource>(source: &mut R) -> Result<Image, TapeFault>
     ensures serves { Serves (R.remaining source.old) (R.remaining source.new) result }
     ensures marks { R.mark source.new ≡ failed_to_read result }
 {
-    let mut reader = Reader::new();
+    let mut reader = TapeParser::new();
     let mut piece = [0u8; PIECE];
     let mut at = 0;
     while at < LIMIT {
@@ -81,9 +81,9 @@ fn read_source<R: ByteSource>(source: &mut R) -> Result<Image, TapeFault>
                     return Err(reader.unfinished());
                 }
                 match reader.feed_all(at, &piece[..count]) {
-                    Fed::More => at += count,
-                    Fed::End => return Ok(reader.image),
-                    Fed::Fault(fault) => return Err(fault),
+                    FrameResult::More => at += count,
+                    FrameResult::End => return Ok(reader.image),
+                    FrameResult::Fault(fault) => return Err(fault),
                 }
             }
         }

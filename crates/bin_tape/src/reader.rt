@@ -14,7 +14,7 @@ use word12::Word;
 
 /// What the next frame is.
 #[derive(Clone, Copy, PartialEq, Eq, Debug)]
-pub enum Place {
+pub enum ReaderState {
     /// It begins a word, or is skipped.
     Between,
     /// It is the second frame of a word, after this one.
@@ -25,7 +25,7 @@ pub enum Place {
 
 /// What a frame brought.
 #[derive(Clone, Copy, PartialEq, Eq, Debug)]
-pub enum Fed {
+pub enum FrameResult {
     /// No answer: another frame is wanted.
     More,
     /// The trailer, where the tape ends.
@@ -37,25 +37,25 @@ pub enum Fed {
 /// Reads a tape frame by frame. The last word that came is kept apart, since it may be the
 /// checksum; all the others are in the image and in the sum.
 #[derive(Drop)]
-pub struct Reader {
+pub struct TapeParser {
     pub(crate) image: Image,
     pub(crate) location: Word,
     pub(crate) sum: Word,
     pub(crate) last: Option<TapeWord>,
-    pub(crate) place: Place,
+    pub(crate) place: ReaderState,
 }
 
-impl Reader {
+impl TapeParser {
     /// No frame has come.
-    pub(crate) fn new() -> Reader
+    pub(crate) fn new() -> TapeParser
         ensures { Shows (Between []) result }
     {
-        Reader {
+        TapeParser {
             image: Image::empty(),
             location: Word::ZERO,
             sum: Word::ZERO,
             last: None,
-            place: Place::Between,
+            place: ReaderState::Between,
         }
     }
 
@@ -110,65 +110,65 @@ impl Reader {
     }
 
     /// A frame that begins a word, or is skipped.
-    fn begin(&mut self, at: usize, frame: u8) -> Fed
-        requires { self.old.place ≡ Place.Between }
+    fn begin(&mut self, at: usize, frame: u8) -> FrameResult
+        requires { self.old.place ≡ ReaderState.Between }
         ensures { (parts : List Part) → Holds (words parts) self.old →
             Shows (begun at parts frame) self.new × Tells (begun at parts frame) result }
     {
         match frame {
             0 if self.last.is_none() => {}
-            0..=0o77 if self.last.is_none() => return Fed::Fault(TapeFault::NoOrigin),
-            0..=0o177 => self.place = Place::Second(frame),
+            0..=0o77 if self.last.is_none() => return FrameResult::Fault(TapeFault::NoOrigin),
+            0..=0o177 => self.place = ReaderState::Second(frame),
             0o200 => match self.end() {
                 Ok(false) => {}
-                Ok(true) => return Fed::End,
-                Err(fault) => return Fed::Fault(fault),
+                Ok(true) => return FrameResult::End,
+                Err(fault) => return FrameResult::Fault(fault),
             },
             0o300 => {}
-            0o377 => self.place = Place::Skipping,
-            0o310..=0o370 if frame % 8 == 0 => return Fed::Fault(TapeFault::WrongField(at)),
-            _ => return Fed::Fault(TapeFault::BadFrame(at)),
+            0o377 => self.place = ReaderState::Skipping,
+            0o310..=0o370 if frame % 8 == 0 => return FrameResult::Fault(TapeFault::WrongField(at)),
+            _ => return FrameResult::Fault(TapeFault::BadFrame(at)),
         }
-        Fed::More
+        FrameResult::More
     }
 
     /// Takes the frame at this place of the tape.
-    pub(crate) fn feed(&mut self, at: usize, frame: u8) -> Fed
+    pub(crate) fn feed(&mut self, at: usize, frame: u8) -> FrameResult
         ensures { (p : Progress) → Shows p self.old → IsOpen p →
             Shows (next at p frame) self.new × Tells (next at p frame) result }
     {
         match self.place {
-            Place::Between => return self.begin(at, frame),
-            Place::Second(first) => {
+            ReaderState::Between => return self.begin(at, frame),
+            ReaderState::Second(first) => {
                 if frame >= 0o100 {
-                    return Fed::Fault(TapeFault::BadFrame(at));
+                    return FrameResult::Fault(TapeFault::BadFrame(at));
                 }
                 self.take(TapeWord::of_frames(first, frame));
-                self.place = Place::Between;
+                self.place = ReaderState::Between;
             }
-            Place::Skipping => {
+            ReaderState::Skipping => {
                 if frame == 0o377 {
-                    self.place = Place::Between;
+                    self.place = ReaderState::Between;
                 }
             }
         }
-        Fed::More
+        FrameResult::More
     }
 
     /// Takes all these frames, the first of them at this place of the tape, up to the one that
     /// brings an answer.
-    pub(crate) fn feed_all(&mut self, at: usize, frames: &[u8]) -> Fed
+    pub(crate) fn feed_all(&mut self, at: usize, frames: &[u8]) -> FrameResult
         requires { at + length frames.now < 2 ^ 32 }
         ensures { (p : Progress) → Shows p self.old → IsOpen p →
             Shows (run at p frames.now) self.new × Tells (run at p frames.now) result }
     {
         for (i, frame) in frames.iter().enumerate() {
             match self.feed(at + i, *frame) {
-                Fed::More => {}
+                FrameResult::More => {}
                 answer => return answer,
             }
         }
-        Fed::More
+        FrameResult::More
     }
 
     /// The fault of a list that ends here.
@@ -178,7 +178,7 @@ impl Reader {
         ensures no_read { is_read_fault result ≡ false }
     {
         match (self.place, self.last) {
-            (Place::Between, None) => TapeFault::NoWord,
+            (ReaderState::Between, None) => TapeFault::NoWord,
             _ => TapeFault::Truncated,
         }
     }

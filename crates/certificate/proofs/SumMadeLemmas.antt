@@ -22,7 +22,7 @@ use Rattle.certificate_lines.specs.Laws.{bytes_of}
 use Rattle.certificate_lines.specs.Found.{IsLine, AreInOrder, Follow, newest_first, unended, IsWhole}
 use Rattle.certificate_lines.specs.Packed.{Packed, said_lines}
 use Rattle.certificate_lines.specs.Spelled.{all_ended}
-use Rattle.certificate_lines.specs.Kept.{Kept, meaning}
+use Rattle.certificate_lines.specs.CertificateInCode.{Kept, meaning}
 use Rattle.certificate_lines.specs.Made.{details_of, lines_of_fact, lines_of_exit, before_end, with_lines, MayAdd, AreDetails}
 use Rattle.certificate_lines.proofs.SumTextLemmas.{both_ended}
 use Rattle.certificate_lines.proofs.SumWholeLemmas.{newest_both, followed, whole}

@@ -14,7 +14,7 @@ use Rattle.certificate_lines.specs.LineOf.{has_form}
 use Rattle.certificate_lines.specs.Order.{place_of_head}
 use Rattle.certificate_lines.specs.Reading.{facts_at, exits_at, routine_at, is_listed}
 use Rattle.certificate_lines.specs.Packed.{Packed, said_lines}
-use Rattle.certificate_lines.specs.Kept.{BeginAt}
+use Rattle.certificate_lines.specs.CertificateInCode.{BeginAt}
 use Rattle.certificate_lines.specs.Found.{IsLine, IsWhole, AreRising, from_place, begins_at, least_place}
 use Rattle.certificate_lines.proofs.SumReaderLemmas.{has_place, formed, line_formed, begin_found, NextLine, next_line, facts_end, exits_end}
 

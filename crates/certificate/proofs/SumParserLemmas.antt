@@ -19,7 +19,7 @@ use Rattle.certificate_lines.specs.Packed.{Packed, said_lines}
 use Rattle.certificate_lines.specs.Found.{AreInOrder, Keeps, IsWhole, unended}
 use Rattle.certificate_lines.specs.Reading.{Text, Progress as ReadingProgress, Start, After, Failed, after_line, at_last, answer_from, reading}
 use Rattle.certificate_lines.specs.Serving.{Settles, AsksForMemory, front}
-use Rattle.certificate_lines.specs.Kept.{Kept as KeptCertificate}
+use Rattle.certificate_lines.specs.CertificateInCode.{Kept as KeptCertificate}
 use Rattle.certificate.specs.Parser.{NoFeed, Reached, HasRead, WasRead, Parts, Seen, Refuses, IsParsed}
 use Rattle.certificate.proofs.LengthLemmas.{no_feed_both}
 use Rattle.certificate.proofs.SumLengthLemmas.{line_short}

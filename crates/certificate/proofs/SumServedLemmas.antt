@@ -19,7 +19,7 @@ use Rattle.certificate_lines.specs.Lines.{is_end}
 use Rattle.certificate_lines.specs.Packed.{Packed}
 use Rattle.certificate_lines.specs.Order.{oldest}
 use Rattle.certificate_lines.specs.Reading.{Text, at_last, reading}
-use Rattle.certificate_lines.specs.Kept.{Kept}
+use Rattle.certificate_lines.specs.CertificateInCode.{Kept}
 use Rattle.certificate.specs.Parser.{NoFeed, HasRead, CameTo, Told, IsAnswered, Serves, Parts, Seen, IsSmall, Refuses, IsParsed}
 use Rattle.certificate_lines.specs.Serving.{Settles, IsUnanswered, AsksForMemory}
 use Rattle.certificate.proofs.LengthLemmas.{feed_taken}

@@ -26,7 +26,7 @@ use Rattle.certificate_lines.specs.declared.runs.Run.{Run}
 use Rattle.domain.specs.declared.chains.Step.{Step}
 use Rattle.certificate_lines.specs.declared.packed.PackedLine.{PackedLine}
 use Rattle.certificate_lines.specs.declared.packed.PackedLine.TheVariants as packed
-use Rattle.certificate_lines.specs.Kept.{Kept, claims}
+use Rattle.certificate_lines.specs.CertificateInCode.{Kept, claims}
 use Rattle.certificate.proofs.SumMadeLemmas.{mq_one}
 use Rattle.certificate_lines.proofs.SumWholeLemmas.{whole}
 use Rattle.certificate_lines.proofs.SumReaderLemmas.{has_place, formed}

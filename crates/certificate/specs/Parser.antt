@@ -10,7 +10,7 @@ use Rattle.certificate_lines.specs.Found.{AreInOrder, Keeps, unended}
 use Rattle.certificate_lines.specs.Progress.{Tracks}
 use Rattle.certificate_lines.specs.Pieces.{most_bytes}
 use Rattle.certificate_lines.specs.Packed.{Packed}
-use Rattle.certificate_lines.specs.Kept.{Kept, meaning}
+use Rattle.certificate_lines.specs.CertificateInCode.{Kept, meaning}
 use Rattle.certificate_lines.specs.Reading.{reading}
 use Rattle.certificate_lines.specs.Serving.{Settles, IsUnanswered, AsksForMemory, front}
 

@@ -13,12 +13,12 @@ ghost use Rattle.certificate_lines.specs.Reading.{reading};
 ghost use Rattle.certificate_lines.specs.Laws.{bytes_of};
 ghost use Rattle.certificate_lines.specs.Made.{SitesAreAdded};
 ghost use Rattle.certificate_lines.specs.Serving.{AsksForMemory};
-ghost use Rattle.certificate_lines.specs.Kept.{meaning, claims, facts_from, exits_from, IsBeforeFacts, IsBeforeExits, HasShape, Follows};
+ghost use Rattle.certificate_lines.specs.CertificateInCode.{meaning, claims, facts_from, exits_from, IsBeforeFacts, IsBeforeExits, HasShape, Follows};
 ghost use Rattle.certificate.specs.Exact.{AreLines, SpellingLaw, ReadingLaw};
 ghost use Rattle.certificate_lines.specs.Written.{fact_text_at};
 
 use crate::parser::Parser;
-use crate::spelled::{put_lines, put_text};
+use crate::spelling::{put_lines, put_text};
 use certificate_lines::{
     CertificateFault, CertifiedFact, FIRST_EXIT, FIRST_FACT, PackedLines, RoutineClaim, Version,
     behind, end_of, fact_line, first_routine, first_said,
@@ -33,7 +33,7 @@ mod line_text;
 mod makers;
 mod parser;
 mod pieces;
-mod spelled;
+mod spelling;
 
 /// A growth of a certificate was refused.
 #[derive(Clone, Copy, PartialEq, Eq, Debug, Error)]
@@ -55,7 +55,7 @@ pub struct Certificate<A: Allocator> {
 }
 
 impl<A: Allocator> Model for Certificate<A> {
-    ghost use Rattle.certificate_lines.specs.Kept.{Kept};
+    ghost use Rattle.certificate_lines.specs.CertificateInCode.{Kept};
     ghost use Rattle.certificate_lines.specs.Found.{IsWhole};
 
     ghost Value = { Kept };

@@ -2,14 +2,14 @@
 
 ghost use Rattle.std.specs.Prelude.{◌≡◌, ◌<◌, List, [], ◌∷◌, ◌++◌, map, false, IfOk, OnOk, OnErr};
 ghost use Rattle.wordset.specs.Lanes.{words};
-ghost use Rattle.declaration.specs.Kept.{meaning as declared};
+ghost use Rattle.declaration.specs.DeclarationInCode.{meaning as declared};
 ghost use Rattle.certificate_lines.specs.declared.runs.Run.{Run};
 ghost use Rattle.domain.specs.declared.chains.Step.{Step};
 ghost use Rattle.certificate_lines.specs.RisingLists.{Each};
 ghost use Rattle.certificate_lines.specs.Packed.{said_at, said_lines};
 ghost use Rattle.certificate_lines.specs.Found.{IsLine};
 ghost use Rattle.certificate_lines.specs.Lines.{is_of_sums};
-ghost use Rattle.certificate_lines.specs.Kept.{meaning, claims};
+ghost use Rattle.certificate_lines.specs.CertificateInCode.{meaning, claims};
 ghost use Rattle.certificate_lines.specs.Made.{no_lines, routine_line_of, lines_of_fact, lines_of_exit, MayAdd, with_lines, migrated, sites_at, sites_by, sited_by, with_sites};
 
 use crate::{Certificate, NoMemory};

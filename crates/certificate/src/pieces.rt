@@ -4,7 +4,7 @@ ghost use Rattle.std.specs.Prelude.{◌≡◌, ◌⊎◌, ◌≤◌, Ok, Err, If
 ghost use Rattle.streams.specs.Bytes.{Gave};
 ghost use Rattle.certificate_lines.specs.declared.CertificateFault.TheVariants.{NoMemory, ReadFault};
 ghost use Rattle.certificate_lines.specs.Reading.{reading};
-ghost use Rattle.certificate_lines.specs.Kept.{meaning};
+ghost use Rattle.certificate_lines.specs.CertificateInCode.{meaning};
 ghost use Rattle.certificate_lines.specs.ReadFaults.{failed_to_read};
 ghost use Rattle.certificate_lines.specs.Serving.{IsPrompt, IsUnanswered, AsksForMemory};
 ghost use Rattle.certificate.specs.Parser.{Serves};

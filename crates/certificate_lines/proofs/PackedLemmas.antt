@@ -10,7 +10,7 @@ use Rattle.wordset.specs.Lanes.{words}
 use Rattle.wordset.proofs.SetLemmas.{words_are, equal_words, lt_to, all_past}
 use Rattle.wordset.proofs.RangeLemmas.{all_between}
 use Rattle.certificate_lines.specs.declared.runs.Run.{Run}
-use Rattle.certificate_lines.specs.declared.runs.Counts.{Counts}
+use Rattle.certificate_lines.specs.declared.runs.RunCounts.{RunCounts}
 use Rattle.certificate_lines.specs.declared.runs.PackedRegisters.{PackedRegisters}
 use Rattle.certificate_lines.specs.Runs.{Begins, joined, set_of_runs, added, set_at, one_at, other_at, registers_at, AreWithin, AreLaid}
 
@@ -76,10 +76,10 @@ range_kept xs more first count k =
 pub set_kept : (runs more : List Run) (first count : ℕ) → first + count ≤ length runs → set_at (runs ++ more) first count ≡ set_at runs first count
 set_kept runs more first count h = ap set_of_runs (range_kept runs more first count h)
 
-pub one_kept : (runs more : List Run) (s : Counts) → AreWithin (length runs) s → one_at (runs ++ more) s ≡ one_at runs s
+pub one_kept : (runs more : List Run) (s : RunCounts) → AreWithin (length runs) s → one_at (runs ++ more) s ≡ one_at runs s
 one_kept runs more s h = set_kept runs more 0 s.one (let q = h.inside in omega (arith, q))
 
-pub other_kept : (runs more : List Run) (s : Counts) → AreWithin (length runs) s → other_at (runs ++ more) s ≡ other_at runs s
+pub other_kept : (runs more : List Run) (s : RunCounts) → AreWithin (length runs) s → other_at (runs ++ more) s ≡ other_at runs s
 other_kept runs more s h = set_kept runs more s.one s.other h.inside
 
 pub registers_kept : (runs more : List Run) (r : PackedRegisters) → AreWithin (length runs) r.sets → registers_at (runs ++ more) r ≡ registers_at runs r

@@ -9,7 +9,7 @@ use Rattle.domain.specs.declared.chains.Step.{Step}
 use Rattle.certificate_lines.specs.declared.runs.Run.{Run}
 use Rattle.certificate_lines.specs.declared.packed.PackedLine.{PackedLine}
 use Rattle.certificate_lines.specs.declared.packed.PackedLine.TheVariants as packed
-use Rattle.certificate_lines.specs.declared.packed.KeptLine.{KeptLine}
+use Rattle.certificate_lines.specs.declared.packed.StoredLine.{StoredLine}
 use Rattle.certificate_lines.specs.Runs.{Begins}
 use Rattle.certificate_lines.specs.Lines.{Line, is_detail}
 use Rattle.certificate_lines.specs.Order.{place_of_head}
@@ -27,23 +27,23 @@ past_same n runs more steps further (packed.Sum s c) = refl
 past_same n runs more steps further (packed.Chain c) = refl
 past_same n runs more steps further packed.End = refl
 
-past_kept : (runs new : List Run) (steps later : List Step) (n : ℕ) (ls : List KeptLine) → ArePast runs steps n ls → ArePast new later n ls
+past_kept : (runs new : List Run) (steps later : List Step) (n : ℕ) (ls : List StoredLine) → ArePast runs steps n ls → ArePast new later n ls
 past_kept runs new steps later n [] h = tt
 past_kept runs new steps later n (k ∷ ks) h =
     (h.0 ∙ past_same n (drop k.first runs) (drop k.first new) (drop k.first steps) (drop k.first later) k.line, past_kept runs new steps later k.past ks h.1)
 
-past_added : (runs : List Run) (steps : List Step) (ks : List KeptLine) (n : ℕ) (k : KeptLine) → ArePast runs steps n ks → k.past ≡ past (last_past n ks) (kept_at runs steps k) →
+past_added : (runs : List Run) (steps : List Step) (ks : List StoredLine) (n : ℕ) (k : StoredLine) → ArePast runs steps n ks → k.past ≡ past (last_past n ks) (kept_at runs steps k) →
     ArePast runs steps n (ks ++ k ∷ [])
 past_added runs steps [] n k h e = (e, tt)
 past_added runs steps (x ∷ ks) n k h e = (h.0, past_added runs steps ks x.past k h.1 e)
 
-pub past_front : (runs : List Run) (steps : List Step) (ks : List KeptLine) (n i : ℕ) → ArePast runs steps n ks → ArePast runs steps n (take i ks)
+pub past_front : (runs : List Run) (steps : List Step) (ks : List StoredLine) (n i : ℕ) → ArePast runs steps n ks → ArePast runs steps n (take i ks)
 past_front runs steps [] n zero h = tt
 past_front runs steps [] n (suc i) h = tt
 past_front runs steps (k ∷ ks) n zero h = tt
 past_front runs steps (k ∷ ks) n (suc i) h = (h.0, past_front runs steps ks k.past i h.1)
 
-pub last_is : (ks : List KeptLine) (n i : ℕ) (d : KeptLine) → length ks ≡ suc i → last_past n ks ≡ (get_or ks i d).past
+pub last_is : (ks : List StoredLine) (n i : ℕ) (d : StoredLine) → length ks ≡ suc i → last_past n ks ≡ (get_or ks i d).past
 last_is [] n i d e = absurd (omega arith)
 last_is (k ∷ []) n zero d e = refl
 last_is (k ∷ []) n (suc i) d e = absurd (omega arith)
@@ -51,10 +51,10 @@ last_is (k ∷ x ∷ ks) n zero d e = absurd (omega arith)
 last_is (k ∷ x ∷ ks) n (suc i) d e = last_is (x ∷ ks) k.past i d (omega arith)
 
 -- What is kept stays so where more runs and steps are added, and a line more.
-pub kept_on : (runs new : List Run) (steps later : List Step) (ls : List KeptLine) → AreKept runs steps ls → Begins runs new → Begins steps later → AreKept new later ls
+pub kept_on : (runs new : List Run) (steps later : List Step) (ls : List StoredLine) → AreKept runs steps ls → Begins runs new → Begins steps later → AreKept new later ls
 kept_on runs new steps later ls h b d = record { within = still_within runs new steps later ls h.within b d; past = past_kept runs new steps later 0 ls h.past }
 
-pub kept_added : (runs new : List Run) (steps later : List Step) (ls after : List KeptLine) (k : KeptLine) (line : Line) → AreKept runs steps ls →
+pub kept_added : (runs new : List Run) (steps later : List Step) (ls after : List StoredLine) (k : StoredLine) (line : Line) → AreKept runs steps ls →
     Begins runs new → Begins steps later → IsPacked (drop k.first new) (drop k.first later) k.line line →
     k.past ≡ past (last_past 0 ls) (said_at [] [] k.line) → after ≡ ls ++ k ∷ [] → AreKept new later after
 kept_added runs new steps later ls after k line h b d p g e = record {
@@ -64,11 +64,11 @@ kept_added runs new steps later ls after k line h b d p g e = record {
 }
 
 -- The places rise.
-on : (runs : List Run) (steps : List Step) (k : KeptLine) (ls : List Line) (n : ℕ) → k.past ≡ past n (kept_at runs steps k) → AreRising n (kept_at runs steps k ∷ ls) →
+on : (runs : List Run) (steps : List Step) (k : StoredLine) (ls : List Line) (n : ℕ) → k.past ≡ past n (kept_at runs steps k) → AreRising n (kept_at runs steps k ∷ ls) →
     (n ≤ k.past) × AreRising k.past ls
 on runs steps k ls n e h = rw e h
 
-at_least : (runs : List Run) (steps : List Step) (ks : List KeptLine) (n j : ℕ) (d : KeptLine) → ArePast runs steps n ks → AreRising n (map (kept_at runs steps) ks) →
+at_least : (runs : List Run) (steps : List Step) (ks : List StoredLine) (n j : ℕ) (d : StoredLine) → ArePast runs steps n ks → AreRising n (map (kept_at runs steps) ks) →
     j < length ks → n ≤ (get_or ks j d).past
 at_least runs steps [] n j d a h b = absurd (omega arith)
 at_least runs steps (k ∷ ks) n zero d a h b = (on runs steps k (map (kept_at runs steps) ks) n a.0 h).0
@@ -76,8 +76,8 @@ at_least runs steps (k ∷ ks) n (suc j) d a h b =
     let o = on runs steps k (map (kept_at runs steps) ks) n a.0 h in
     let x : n ≤ k.past = o.0 in let y : k.past ≤ (get_or ks j d).past = at_least runs steps ks k.past j d a.1 o.1 (omega arith) in omega arith
 
-pub rises : (runs : List Run) (steps : List Step) (ks : List KeptLine) (n : ℕ) → ArePast runs steps n ks → AreRising n (map (kept_at runs steps) ks) →
-    IsNonDecreasingBy (λ (k : KeptLine). k.past) ks
+pub rises : (runs : List Run) (steps : List Step) (ks : List StoredLine) (n : ℕ) → ArePast runs steps n ks → AreRising n (map (kept_at runs steps) ks) →
+    IsNonDecreasingBy (λ (k : StoredLine). k.past) ks
 rises runs steps [] n a h i j d le b = absurd (omega arith)
 rises runs steps (k ∷ ks) n a h zero zero d le b = omega arith
 rises runs steps (k ∷ ks) n a h zero (suc j) d le b = at_least runs steps ks k.past j d a.1 (on runs steps k (map (kept_at runs steps) ks) n a.0 h).1 (omega arith)
@@ -98,8 +98,8 @@ found l ls n p low h = elim (cases_Bool (is_detail l)) [
   | inr d ↦ (let z : p < place_of_head l + 1 = rw d at h in let e : nat_le p (place_of_head l) ≡ true = grind (arith, nat_tests) in rw (d, e) refl)
 ]
 
-pub search_told : (runs : List Run) (steps : List Step) (ks : List KeptLine) (n p i : ℕ) → ArePast runs steps n ks → n ≤ p → i ≤ length ks →
-    ((j : ℕ) (d : KeptLine) → j < i → (get_or ks j d).past ≤ p) → ((d : KeptLine) → i < length ks → p < (get_or ks i d).past) →
+pub search_told : (runs : List Run) (steps : List Step) (ks : List StoredLine) (n p i : ℕ) → ArePast runs steps n ks → n ≤ p → i ≤ length ks →
+    ((j : ℕ) (d : StoredLine) → j < i → (get_or ks j d).past ≤ p) → ((d : StoredLine) → i < length ks → p < (get_or ks i d).past) →
     drop i (map (kept_at runs steps) ks) ≡ from_place p (map (kept_at runs steps) ks)
 search_told runs steps [] n p i a low few under over = drop_all i [] (omega arith)
 search_told runs steps (k ∷ ks) n p zero a low few under over =
@@ -111,13 +111,13 @@ search_told runs steps (k ∷ ks) n p (suc i) a low few under over =
     sym (passed (kept_at runs steps k) (map (kept_at runs steps) ks) n p (omega arith))
 
 -- The place that is kept with a line that is no detail.
-past_at : (runs : List Run) (steps : List Step) (ks : List KeptLine) (n i : ℕ) (d : KeptLine) → ArePast runs steps n ks → i < length ks →
+past_at : (runs : List Run) (steps : List Step) (ks : List StoredLine) (n i : ℕ) (d : StoredLine) → ArePast runs steps n ks → i < length ks →
     is_detail (kept_at runs steps (get_or ks i d)) ≡ false → (get_or ks i d).past ≡ place_of_head (kept_at runs steps (get_or ks i d)) + 1
 past_at runs steps [] n i d a b e = absurd (omega arith)
 past_at runs steps (k ∷ ks) n zero d a b e = let p : k.past ≡ past n (kept_at runs steps k) = a.0 in rw e at p
 past_at runs steps (k ∷ ks) n (suc i) d a b e = past_at runs steps ks k.past i d a.1 (omega arith) e
 
-pub place_there : (runs : List Run) (steps : List Step) (ks : List KeptLine) (i : ℕ) (k : KeptLine) → AreKept runs steps ks → i < length ks → k ≡ get_or ks i k →
+pub place_there : (runs : List Run) (steps : List Step) (ks : List StoredLine) (i : ℕ) (k : StoredLine) → AreKept runs steps ks → i < length ks → k ≡ get_or ks i k →
     is_detail (kept_at runs steps k) ≡ false → k.past ≡ place_of_head (kept_at runs steps k) + 1
 place_there runs steps ks i k a b is e = rw is (past_at runs steps ks 0 i k a.past b (rw is at e))
 

@@ -12,7 +12,7 @@ use Rattle.certificate_lines.specs.declared.runs.Run.{Run}
 use Rattle.certificate_lines.specs.declared.runs.PackedRegisters.{PackedRegisters}
 use Rattle.certificate_lines.specs.declared.packed.PackedLine.{PackedLine}
 use Rattle.certificate_lines.specs.declared.packed.PackedLine.TheVariants as packed
-use Rattle.certificate_lines.specs.declared.packed.KeptLine.{KeptLine}
+use Rattle.certificate_lines.specs.declared.packed.StoredLine.{StoredLine}
 use Rattle.certificate_lines.specs.FieldSpelling.{Registers}
 use Rattle.certificate_lines.specs.Runs.{Begins, set_of_runs, added, set_at, registers_at, AreWithin}
 use Rattle.certificate_lines.specs.Lines.{Line, is_chain, End}
@@ -47,7 +47,7 @@ line_kept runs more steps further (packed.Sum s n) h = let q : n ≤ length runs
 line_kept runs more steps further (packed.Chain c) h = rw (take-append-le c.count steps further h.0) refl
 line_kept runs more steps further packed.End h = refl
 
-still_kept : (runs more : List Run) (steps further : List Step) (k : KeptLine) → IsKept (length runs) (length steps) k →
+still_kept : (runs more : List Run) (steps further : List Step) (k : StoredLine) → IsKept (length runs) (length steps) k →
     kept_at (runs ++ more) (steps ++ further) k ≡ kept_at runs steps k
 still_kept runs more steps further k h =
     ap (λ (rs : List Run). said_at rs (drop k.first (steps ++ further)) k.line) (drop_both k.first runs more) ∙
@@ -55,7 +55,7 @@ still_kept runs more steps further k h =
     line_kept (drop k.first runs) (drop (k.first - length runs) more) (drop k.first steps) (drop (k.first - length steps) further) k.line
     (rw (length-drop k.first runs, length-drop k.first steps) h))
 
-lines_kept : (runs more : List Run) (steps further : List Step) (ls : List KeptLine) → AllByRecursion (IsKept (length runs) (length steps)) ls →
+lines_kept : (runs more : List Run) (steps further : List Step) (ls : List StoredLine) → AllByRecursion (IsKept (length runs) (length steps)) ls →
     map (kept_at (runs ++ more) (steps ++ further)) ls ≡ map (kept_at runs steps) ls
 lines_kept runs more steps further [] h = refl
 lines_kept runs more steps further (l ∷ ls) h = rw (still_kept runs more steps further l h.0, lines_kept runs more steps further ls h.1) refl
@@ -69,11 +69,11 @@ line_on n m p q (packed.Sum s c) h k w = let z : c ≤ n = w in omega (arith, z)
 line_on n m p q (packed.Chain c) h k w = let z : c.count ≤ p = w.0 in (omega (arith, z), w.1)
 line_on n m p q packed.End h k w = tt
 
-all_on : (n m p q : ℕ) (ls : List KeptLine) → n ≤ m → p ≤ q → AllByRecursion (IsKept n p) ls → AllByRecursion (IsKept m q) ls
+all_on : (n m p q : ℕ) (ls : List StoredLine) → n ≤ m → p ≤ q → AllByRecursion (IsKept n p) ls → AllByRecursion (IsKept m q) ls
 all_on n m p q [] h k w = tt
 all_on n m p q (x ∷ ls) h k w = (line_on (n - x.first) (m - x.first) (p - x.first) (q - x.first) x.line (omega arith) (omega arith) w.0, all_on n m p q ls h k w.1)
 
-one_on : (n p : ℕ) (ls : List KeptLine) (k : KeptLine) → AllByRecursion (IsKept n p) ls → IsKept n p k → AllByRecursion (IsKept n p) (ls ++ k ∷ [])
+one_on : (n p : ℕ) (ls : List StoredLine) (k : StoredLine) → AllByRecursion (IsKept n p) ls → IsKept n p k → AllByRecursion (IsKept n p) (ls ++ k ∷ [])
 one_on n p [] k w one = (one, tt)
 one_on n p (x ∷ ls) k w one = (w.0, one_on n p ls k w.1 one)
 
@@ -81,16 +81,16 @@ one_on n p (x ∷ ls) k w one = (w.0, one_on n p ls k w.1 one)
 longer_steps : (steps later : List Step) → Begins steps later → length steps ≤ length later
 longer_steps steps later b = let q : length later ≡ length (steps ++ b.0) = ap length b.1 in omega (arith, length-append steps b.0)
 
-pub lines_added : (runs new : List Run) (steps later : List Step) (ls : List KeptLine) → AllByRecursion (IsKept (length runs) (length steps)) ls →
+pub lines_added : (runs new : List Run) (steps later : List Step) (ls : List StoredLine) → AllByRecursion (IsKept (length runs) (length steps)) ls →
     Begins runs new → Begins steps later → map (kept_at new later) ls ≡ map (kept_at runs steps) ls
 lines_added runs new steps later ls h b d = rw (b.1, d.1) (lines_kept runs b.0 steps d.0 ls h)
 
-pub still_within : (runs new : List Run) (steps later : List Step) (ls : List KeptLine) → AllByRecursion (IsKept (length runs) (length steps)) ls →
+pub still_within : (runs new : List Run) (steps later : List Step) (ls : List StoredLine) → AllByRecursion (IsKept (length runs) (length steps)) ls →
     Begins runs new → Begins steps later → AllByRecursion (IsKept (length new) (length later)) ls
 still_within runs new steps later ls h b d = all_on (length runs) (length new) (length steps) (length later) ls (longer runs new b) (longer_steps steps later d) h
 
 -- A line more, whose runs and steps were added.
-pub line_added : (runs new : List Run) (steps later : List Step) (ls after : List KeptLine) (k : KeptLine) (line : Line) →
+pub line_added : (runs new : List Run) (steps later : List Step) (ls after : List StoredLine) (k : StoredLine) (line : Line) →
     AllByRecursion (IsKept (length runs) (length steps)) ls → Begins runs new → Begins steps later →
     IsPacked (drop k.first new) (drop k.first later) k.line line → after ≡ ls ++ k ∷ [] →
     map (kept_at new later) after ≡ map (kept_at runs steps) ls ++ line ∷ []
@@ -98,7 +98,7 @@ line_added runs new steps later ls after k line h b d p e =
     rw e (map_push (kept_at new later) ls k ∙ (ap (λ (x : List Line). x ++ kept_at new later k ∷ []) (lines_added runs new steps later ls h b d) ∙
     ap (λ (x : Line). map (kept_at runs steps) ls ++ x ∷ []) p.is))
 
-pub all_within : (runs new : List Run) (steps later : List Step) (ls after : List KeptLine) (k : KeptLine) (line : Line) →
+pub all_within : (runs new : List Run) (steps later : List Step) (ls after : List StoredLine) (k : StoredLine) (line : Line) →
     AllByRecursion (IsKept (length runs) (length steps)) ls → Begins runs new → Begins steps later →
     IsPacked (drop k.first new) (drop k.first later) k.line line → after ≡ ls ++ k ∷ [] → AllByRecursion (IsKept (length new) (length later)) after
 all_within runs new steps later ls after k line h b d p e =
@@ -194,17 +194,17 @@ line_alone runs steps l h = record {
     counted runs steps packed.End h = tt
 
 -- The line at a place.
-pub record LineThere (runs : List Run) (steps : List Step) (ls : List KeptLine) (i : ℕ) (k : KeptLine) : Type 0 where
+pub record LineThere (runs : List Run) (steps : List Step) (ls : List StoredLine) (i : ℕ) (k : StoredLine) : Type 0 where
   pub there : drop i (map (kept_at runs steps) ls) ≡ kept_at runs steps k ∷ drop (i + 1) (map (kept_at runs steps) ls)
   pub within : LiesWithin (length (drop k.first runs)) (length (drop k.first steps)) k.line
 
-pub line_there : (runs : List Run) (steps : List Step) (ls : List KeptLine) (i : ℕ) (k : KeptLine) → k ≡ get_or ls i k → i < length (map (kept_at runs steps) ls) →
+pub line_there : (runs : List Run) (steps : List Step) (ls : List StoredLine) (i : ℕ) (k : StoredLine) → k ≡ get_or ls i k → i < length (map (kept_at runs steps) ls) →
     AllByRecursion (IsKept (length runs) (length steps)) ls → LineThere runs steps ls i k
 line_there runs steps ls i k at h all =
     let b : i < length ls = omega (arith, length-map ls (kept_at runs steps)) in
     let it : IsKept (length runs) (length steps) k = rw at (All-from_recursion (IsKept (length runs) (length steps)) ls all i k b) in
     record {
-      there = drop-map (kept_at runs steps) i ls ∙ (ap (map (kept_at runs steps)) (drop_more ls i k b ∙ ap (λ (x : KeptLine). x ∷ drop (i + 1) ls) (sym at)) ∙
+      there = drop-map (kept_at runs steps) i ls ∙ (ap (map (kept_at runs steps)) (drop_more ls i k b ∙ ap (λ (x : StoredLine). x ∷ drop (i + 1) ls) (sym at)) ∙
           ap (λ (x : List Line). kept_at runs steps k ∷ x) (sym (drop-map (kept_at runs steps) (i + 1) ls)));
       within = rw (length-drop k.first runs, length-drop k.first steps) it;
     }
@@ -216,7 +216,7 @@ same_head x y xs ys e = cc
 pub line_is : (ls : List Line) (i : ℕ) (l : Line) → i < length ls → drop i ls ≡ l ∷ drop (i + 1) ls → get_or ls i End ≡ l
 line_is ls i l h e = same_head (get_or ls i End) l (drop (i + 1) ls) (drop (i + 1) ls) (sym (drop_more ls i End h) ∙ e)
 
-pub kept_there : (runs : List Run) (steps : List Step) (ks : List KeptLine) (i : ℕ) (k : KeptLine) → k ≡ get_or ks i k → i < length (map (kept_at runs steps) ks) →
+pub kept_there : (runs : List Run) (steps : List Step) (ks : List StoredLine) (i : ℕ) (k : StoredLine) → k ≡ get_or ks i k → i < length (map (kept_at runs steps) ks) →
     AllByRecursion (IsKept (length runs) (length steps)) ks → get_or (map (kept_at runs steps) ks) i End ≡ kept_at runs steps k
 kept_there runs steps ks i k at h all = line_is (map (kept_at runs steps) ks) i (kept_at runs steps k) h (line_there runs steps ks i k at h all).there
 

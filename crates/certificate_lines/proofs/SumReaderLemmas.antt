@@ -15,7 +15,7 @@ use Rattle.certificate_lines.specs.Reading.{cells_under, relations_under, chains
 use Rattle.certificate_lines.specs.LineOf.{has_form, most_offsets}
 use Rattle.certificate_lines.specs.declared.Version.TheVariants.{One, Two, Three}
 use Rattle.certificate_lines.specs.Packed.{Packed, said_lines}
-use Rattle.certificate_lines.specs.Kept.{BeginAt}
+use Rattle.certificate_lines.specs.CertificateInCode.{BeginAt}
 use Rattle.certificate_lines.specs.Found.{IsLine, Follow, IsWhole, AreRising, past, from_place, begins_at, begins, behind_details, FitUnder, IsSaid}
 use Rattle.certificate_lines.proofs.SumPackedLemmas.{drop_both}
 use Rattle.certificate_lines.proofs.SumWholeLemmas.{follows}

@@ -12,7 +12,7 @@ use Rattle.certificate_lines.specs.LineOf.{is_relation, is_step}
 use Rattle.wordset.specs.Words.{some_below}
 use Rattle.certificate_lines.specs.Reading.{relations_under, chains_under, fact_said, all_offsets}
 use Rattle.certificate_lines.specs.Packed.{Packed, said_lines}
-use Rattle.certificate_lines.specs.Kept.{HasShape}
+use Rattle.certificate_lines.specs.CertificateInCode.{HasShape}
 use Rattle.certificate_lines.specs.Found.{Follow, IsWhole, begins_at, begins, behind_details, FitUnder, IsSaid}
 use Rattle.certificate_lines.proofs.SumWholeLemmas.{follows}
 use Rattle.certificate_lines.proofs.SumReaderLemmas.{follow_from, next_line, fit_next, fact_next, FactNext, exit_next, ExitNext, has_said}

@@ -10,7 +10,7 @@ use Rattle.certificate_lines.specs.Order.{place_of_head, details_of_last}
 use Rattle.certificate_lines.specs.Reading.{facts_at}
 use Rattle.certificate_lines.specs.LineOf.{has_form}
 use Rattle.certificate_lines.specs.Packed.{Packed, said_lines}
-use Rattle.certificate_lines.specs.Kept.{BeginAt}
+use Rattle.certificate_lines.specs.CertificateInCode.{BeginAt}
 use Rattle.certificate_lines.specs.Found.{IsWhole, AreRising, past, from_place, begins_at, behind_details, first_with_details}
 use Rattle.certificate_lines.specs.Written.{facts_lines}
 use Rattle.certificate_lines.proofs.SumReaderLemmas.{begin_found, begin_behind, rising_from, no_facts, next_line, line_formed}

@@ -7,7 +7,7 @@ use Rattle.certificate_lines.specs.declared.RoutineClaim.{RoutineClaim}
 use Rattle.certificate_lines.specs.declared.runs.Run.{Run}
 use Rattle.domain.specs.declared.chains.Step.{Step}
 use Rattle.certificate_lines.specs.declared.Version.{Version}
-use Rattle.certificate_lines.specs.declared.packed.KeptLine.{KeptLine}
+use Rattle.certificate_lines.specs.declared.packed.StoredLine.{StoredLine}
 use Rattle.certificate_lines.specs.Lines.{Line, RoutineIs, FactIs, ExitIs, End, is_detail, is_end}
 use Rattle.certificate_lines.specs.Order.{may_stand, comes_in_order, has_room, place_of_head, details_of_last}
 use Rattle.certificate_lines.specs.LineOf.{has_form}
@@ -65,17 +65,17 @@ AreRising n [] = Unit {0}
 AreRising n (l ∷ ls) = (n ≤ past n l) × AreRising (past n l) ls
 
 -- The place that is kept with the last line, or this one where there is none.
-abbrev pub last_past : ℕ → List KeptLine → ℕ
+abbrev pub last_past : ℕ → List StoredLine → ℕ
 last_past n [] = n
 last_past n (k ∷ ks) = last_past k.past ks
 
 -- The place that is kept with each line is the least one after it.
-abbrev pub ArePast : List Run → List Step → ℕ → List KeptLine → Type 0
+abbrev pub ArePast : List Run → List Step → ℕ → List StoredLine → Type 0
 ArePast runs steps n [] = Unit {0}
 ArePast runs steps n (k ∷ ks) = (k.past ≡ past n (kept_at runs steps k)) × ArePast runs steps k.past ks
 
 -- What is kept with each line is so: the runs of its sets lie among all, and so do its steps, and the place is that after it.
-pub record AreKept (runs : List Run) (steps : List Step) (ks : List KeptLine) : Type 0 where
+pub record AreKept (runs : List Run) (steps : List Step) (ks : List StoredLine) : Type 0 where
   pub within : AllByRecursion (IsKept (length runs) (length steps)) ks
   pub past : ArePast runs steps 0 ks
 

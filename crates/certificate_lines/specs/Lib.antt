@@ -17,7 +17,7 @@ pub mod Order
 pub mod Reading
 pub mod Laws
 pub mod Line
-pub mod Kept
+pub mod CertificateInCode
 pub mod Adding
 pub mod Found
 pub mod Progress

@@ -16,12 +16,12 @@ use Rattle.domain.specs.declared.chains.Step.{Step}
 use Rattle.domain.specs.Locations.{Ac}
 use Rattle.wordset.specs.Lanes.{words}
 use Rattle.certificate_lines.specs.declared.runs.Run.{Run}
-use Rattle.certificate_lines.specs.declared.runs.Counts.{Counts}
+use Rattle.certificate_lines.specs.declared.runs.RunCounts.{RunCounts}
 use Rattle.certificate_lines.specs.declared.packed.sum.PackedSum.{PackedSum}
 use Rattle.certificate_lines.specs.declared.packed.PackedLine.{PackedLine}
 use Rattle.certificate_lines.specs.declared.packed.PackedLine.TheVariants as packed
-use Rattle.certificate_lines.specs.declared.packed.KeptLine.{KeptLine}
-use Rattle.certificate_lines.specs.declared.packed.LentLine.{LentLine}
+use Rattle.certificate_lines.specs.declared.packed.StoredLine.{StoredLine}
+use Rattle.certificate_lines.specs.declared.packed.LineView.{LineView}
 use Rattle.certificate_lines.specs.declared.packed.Claim.{Claim}
 use Rattle.certificate_lines.specs.declared.packed.Claim.TheVariants as claim
 use Rattle.certificate_lines.specs.FieldSpelling.{Registers}
@@ -50,12 +50,12 @@ said_at runs steps (packed.Chain c) = ChainIs (record { cell = c.cell; more = c.
 said_at runs steps packed.End = End
 
 -- What a line says that is kept, where these are the runs and the steps of all lines.
-abbrev pub kept_at : List Run → List Step → KeptLine → Line
+abbrev pub kept_at : List Run → List Step → StoredLine → Line
 kept_at runs steps k = said_at (drop k.first runs) (drop k.first steps) k.line
 
 -- Lines as they're kept packed: the lines in their order, the runs of all their sets, and the steps of all their chains.
 pub record Packed : Type 0 where
-  pub list : List KeptLine
+  pub list : List StoredLine
   pub runs : List Run
   pub steps : List Step
 
@@ -64,7 +64,7 @@ abbrev pub said_lines : Packed → List Line
 said_lines p = map (kept_at p.runs p.steps) p.list
 
 -- The runs of the sites and of the registers lie among so many.
-abbrev pub LieWithin : ℕ → ℕ → Counts → Type 0
+abbrev pub LieWithin : ℕ → ℕ → RunCounts → Type 0
 LieWithin n sites s = sites + (s.one + s.other) ≤ n
 
 -- The runs of a packed line's sets lie among so many, and its steps among so many.
@@ -78,7 +78,7 @@ LiesWithin n m (packed.Chain c) = (c.count ≤ m) × (c.count ≤ 16)
 LiesWithin n m packed.End = Unit {0}
 
 -- So do those of a line that is kept, of which the first one is told.
-abbrev pub IsKept : ℕ → ℕ → KeptLine → Type 0
+abbrev pub IsKept : ℕ → ℕ → StoredLine → Type 0
 IsKept n m k = LiesWithin (n - k.first) (m - k.first) k.line
 
 -- How many runs the sets of a packed line have, and how many steps it has.
@@ -124,7 +124,7 @@ pub record IsPacked (runs : List Run) (steps : List Step) (l : PackedLine) (line
   pub is : said_at runs steps l ≡ line
 
 -- What a line says that is lent with its runs and steps.
-abbrev pub said_of : LentLine → Line
+abbrev pub said_of : LineView → Line
 said_of l = said_at l.runs.now l.steps.now l.line.now
 
 -- An exit's offset has two digits, and a chain no more steps than a text may give it.

@@ -3,7 +3,7 @@ use Rattle.std.specs.Prelude.{◌≡◌, ℕ, ◌+◌, ◌<◌, ◌≤◌, List,
 use Rattle.wordset.specs.Words.{Words, all_words, nothing, between, union, meet}
 use Rattle.wordset.specs.Links.{links_of}
 use Rattle.certificate_lines.specs.declared.runs.Run.{Run}
-use Rattle.certificate_lines.specs.declared.runs.Counts.{Counts}
+use Rattle.certificate_lines.specs.declared.runs.RunCounts.{RunCounts}
 use Rattle.certificate_lines.specs.declared.runs.PackedRoutine.{PackedRoutine}
 use Rattle.certificate_lines.specs.declared.runs.PackedRegisters.{PackedRegisters}
 use Rattle.certificate_lines.specs.FieldSpelling.{RoutineLine, Registers}
@@ -35,11 +35,11 @@ abbrev pub set_at : List Run → ℕ → ℕ → Words
 set_at runs first count = set_of_runs (slice_range runs first (first + count))
 
 -- The first of two sets: that of so many runs at the front.
-abbrev pub one_at : List Run → Counts → Words
+abbrev pub one_at : List Run → RunCounts → Words
 one_at runs s = set_at runs 0 s.one
 
 -- The second of two sets: that of so many runs after those of the first set.
-abbrev pub other_at : List Run → Counts → Words
+abbrev pub other_at : List Run → RunCounts → Words
 other_at runs s = set_at runs s.one s.other
 
 -- What a packed routine's line says, whose runs these are: the first of its two sets is its sites, the second the cells that it
@@ -53,11 +53,11 @@ abbrev pub registers_at : List Run → PackedRegisters → Registers
 registers_at runs r = record { ac = one_at runs r.sets; mq = other_at runs r.sets; link = links_of r.link }
 
 -- The runs of two sets lie among so many.
-pub record AreWithin (n : ℕ) (s : Counts) : Type 0 where
+pub record AreWithin (n : ℕ) (s : RunCounts) : Type 0 where
   pub inside : s.one + s.other ≤ n
 
 -- These are the runs of two sets.
-pub record AreLaid (runs : List Run) (s : Counts) (one other : Words) : Type 0 where
+pub record AreLaid (runs : List Run) (s : RunCounts) (one other : Words) : Type 0 where
   pub within : AreWithin (length runs) s
   pub one_is : one_at runs s ≡ one
   pub other_is : other_at runs s ≡ other

@@ -15,7 +15,7 @@ mod sum_fields;
 pub use lines::{behind, end_of, fact_line, first_routine, first_said};
 pub use packed::sum::PackedSum;
 pub use packed::{
-    CertifiedFact, Claim, LentLine, PackedChain, PackedExit, PackedFact, PackedLine, PackedLines,
+    CertifiedFact, Claim, LineView, PackedChain, PackedExit, PackedFact, PackedLine, PackedLines,
     Steps, runs_from,
 };
 pub use progress::{FIRST_EXIT, FIRST_FACT, Progress};

@@ -26,7 +26,7 @@ use crate::Version;
 use crate::fields::Fields;
 use crate::packed::sum::equation;
 use crate::packed::{PackedChain, PackedExit, PackedFact, PackedLine, Steps};
-use crate::runs::{Counts, PackedRegisters, PackedRoutine, Runs};
+use crate::runs::{PackedRegisters, PackedRoutine, RunCounts, Runs};
 use domain::{Location, ReturnOffsets};
 use word12::Word;
 
@@ -110,7 +110,7 @@ fn read_registers(fields: &mut Fields<'_>, version: Version, runs: &mut Runs) ->
     fields.skip(b" link ");
     let link = fields.links();
     PackedRegisters {
-        sets: Counts { one, other },
+        sets: RunCounts { one, other },
         link,
     }
 }
@@ -167,7 +167,7 @@ fn read_routine(line: &[u8], runs: &mut Runs) -> Option<PackedLine>
         Some(PackedLine::Routine(PackedRoutine {
             entry,
             rank,
-            sets: Counts { one, other },
+            sets: RunCounts { one, other },
         }))
     } else {
         None

@@ -19,7 +19,7 @@ use crate::RoutineClaim;
 use crate::packed::store::{lay_all, lay_sited, pack};
 use crate::packed::sum::PackedSum;
 use crate::progress::{LAST_PLACE, place_of};
-use crate::runs::{Counts, PackedRegisters, PackedRoutine, Run};
+use crate::runs::{PackedRegisters, PackedRoutine, Run, RunCounts};
 use arrayvec::ArrayVec;
 use domain::{CellSet, Chain, Relation, ReturnOffsets, Step, SumFact};
 use std::alloc::{AllocError, Allocator};
@@ -100,7 +100,7 @@ pub enum Claim<'a> {
 /// A line, which one of all runs is the first of its own (of a chain, which of all steps), and the least place after it; a
 /// detail has that of the line that it says more of. So lines are found by their places.
 #[derive(Clone, Copy)]
-pub struct KeptLine {
+pub struct StoredLine {
     first: u32,
     past: u32,
     line: PackedLine,
@@ -115,7 +115,7 @@ pub fn is_step(word: Word) -> bool
 }
 
 /// How many runs two sets have.
-fn in_both(sets: &Counts) -> usize
+fn in_both(sets: &RunCounts) -> usize
     ensures count { result ≡ sets.now.one + sets.now.other }
     ensures small { result < 131072 }
 {
@@ -207,7 +207,7 @@ impl PackedLine {
 /// Lines in their order, packed. The runs of all their sets lie in one list, and the steps of all their chains in another.
 #[derive(Drop)]
 pub struct PackedLines<A: Allocator> {
-    list: Vec<KeptLine, A>,
+    list: Vec<StoredLine, A>,
     runs: Vec<Run, A>,
     steps: Vec<Step, A>,
 }
@@ -226,7 +226,7 @@ impl<A: Allocator> Model for PackedLines<A> {
 
 /// A line as it is packed, with the runs and the steps from its own on.
 #[derive(Clone, Copy)]
-pub struct LentLine<'x> {
+pub struct LineView<'x> {
     pub runs: &'x [Run],
     pub steps: &'x [Step],
     pub line: &'x PackedLine,
@@ -269,7 +269,7 @@ fn brief(number: usize) -> Result<u32, AllocError>
 }
 
 /// The least place after a line that is added to these.
-fn past(list: &[KeptLine], line: &PackedLine) -> u32
+fn past(list: &[StoredLine], line: &PackedLine) -> u32
     requires { IsNumbered line.now }
     ensures { (runs : List Run) (steps : List Step) → result ≡ past (last_past 0 list.now) (said_at runs steps line.now) }
 {
@@ -305,13 +305,13 @@ impl<A: Allocator> PackedLines<A> {
 
     /// The line at a place as it is packed, with its runs and steps.
     #[inline(always)]
-    pub fn line(&self, at: usize) -> LentLine<'_>
+    pub fn line(&self, at: usize) -> LineView<'_>
         requires { at < length (said_lines self.now) }
         ensures there { drop at (said_lines self.now) ≡ said_of result ∷ drop (at + 1) (said_lines self.now) }
         ensures within { LiesWithin (length result.runs.now) (length result.steps.now) result.line.now }
     {
         let kept = &self.list[at];
-        LentLine {
+        LineView {
             runs: runs_from(&self.runs, kept.first as usize),
             steps: steps_from(&self.steps, kept.first as usize),
             line: &kept.line,
@@ -345,7 +345,7 @@ impl<A: Allocator> PackedLines<A> {
         let first = brief(first_of(line, run_count, step_count))?;
         let past = past(&self.list, line);
         lay_all(&mut self.runs, &mut self.steps, runs, steps)?;
-        self.list.push(KeptLine {
+        self.list.push(StoredLine {
             first,
             past,
             line: *line,
@@ -365,13 +365,13 @@ impl<A: Allocator> PackedLines<A> {
         let line = pack(&mut self.runs, &mut self.steps, claim)?;
         let first = brief(first_of(&line, run_count, step_count))?;
         let past = past(&self.list, &line);
-        self.list.push(KeptLine { first, past, line })?;
+        self.list.push(StoredLine { first, past, line })?;
         Ok(())
     }
 
     /// Adds a line that is kept elsewhere, a fact or an exit with these sites in place of its own; or leaves what is said as it
     /// is.
-    pub fn push_sited(&mut self, lent: &LentLine<'_>, sites: &WordSet) -> Result<(), AllocError>
+    pub fn push_sited(&mut self, lent: &LineView<'_>, sites: &WordSet) -> Result<(), AllocError>
         requires within { LiesWithin (length lent.now.runs.now) (length lent.now.steps.now) lent.now.line.now }
         requires numbers { IsNumbered lent.now.line.now }
         ensures added { OnOk result (said_lines self.new ≡
@@ -383,7 +383,7 @@ impl<A: Allocator> PackedLines<A> {
         let line = lay_sited(&mut self.runs, &mut self.steps, lent, sites)?;
         let first = brief(first_of(&line, run_count, step_count))?;
         let past = past(&self.list, &line);
-        self.list.push(KeptLine { first, past, line })?;
+        self.list.push(StoredLine { first, past, line })?;
         Ok(())
     }
 

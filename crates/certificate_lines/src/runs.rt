@@ -34,7 +34,7 @@ impl Default for Run {
 
 /// How many runs each of two sets has; those of the one lie before those of the other.
 #[derive(Clone, Copy)]
-pub struct Counts {
+pub struct RunCounts {
     pub one: u16,
     pub other: u16,
 }
@@ -44,13 +44,13 @@ pub struct Counts {
 pub struct PackedRoutine {
     pub entry: Word,
     pub rank: u8,
-    pub sets: Counts,
+    pub sets: RunCounts,
 }
 
 /// The words that the accumulator and then those that MQ may hold, packed, and the links.
 #[derive(Clone, Copy)]
 pub struct PackedRegisters {
-    pub sets: Counts,
+    pub sets: RunCounts,
     pub link: Links,
 }
 
@@ -105,14 +105,14 @@ pub fn lay_two<A: Allocator>(
     runs: &mut Vec<Run, A>,
     one: &WordSet,
     other: &WordSet,
-) -> Result<Counts, AllocError>
+) -> Result<RunCounts, AllocError>
     ensures front { Begins runs.old.items runs.new.items }
     ensures laid { IfOk result (λ sets. AreLaid
         (drop (length runs.old.items) runs.new.items) sets (words one.now) (words other.now)) }
 {
     let one = lay(runs, one)?;
     let other = lay(runs, other)?;
-    Ok(Counts { one, other })
+    Ok(RunCounts { one, other })
 }
 
 /// Whether each of these runs has a word, and between it and the one before lies another word.

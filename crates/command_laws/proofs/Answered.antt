@@ -20,7 +20,7 @@ use Rattle.peripherals.specs.declared.Seen.{Seen}
 use Rattle.peripherals.specs.declared.Seen.TheVariants as seen
 use Rattle.peripherals.specs.Devices.{Devices, Reader, WorldState, answer_to, answer_of, devices_after, word_at_pc, Instructs, with_reader_flag, with_writer_flag, with_keyboard_flag, fetched, fetches, clears_keyboard, given}
 use Rattle.peripherals.specs.Events.{Happens, done, read, struck, with_devices}
-use Rattle.peripherals.specs.Seen.{seen_of}
+use Rattle.peripherals.specs.EventOutcomes.{seen_of}
 use Rattle.machine_commands.specs.declared.follow.End.{End}
 use Rattle.machine_commands.specs.declared.follow.End.TheVariants.{Unsupported}
 use Rattle.wordset.specs.Lanes.{words}

@@ -10,7 +10,7 @@ use Rattle.peripherals.specs.declared.Seen.TheVariants as seen
 use Rattle.peripherals.specs.Devices.{WorldState}
 use Rattle.peripherals.specs.Events.{Happens}
 use Rattle.peripherals.specs.Operator.{Plan, round_due, key_due, frame_due, first_due, due, one_less, left_after}
-use Rattle.peripherals.specs.Seen.{seen_of}
+use Rattle.peripherals.specs.EventOutcomes.{seen_of}
 use Rattle.machine_commands.specs.declared.follow.End.TheVariants.{Unsupported}
 use Rattle.machine_commands.specs.Follows.{Ended, Stuck, Stopped, Went, end_of, goes_on, counted}
 use Rattle.command_laws.specs.Laws.{Carries, CarriesAll, SessionsEnd}

@@ -13,7 +13,7 @@ use Rattle.peripherals.specs.declared.Seen.TheVariants as seen
 use Rattle.peripherals.specs.Devices.{WorldState, word_at_pc}
 use Rattle.peripherals.specs.Events.{Happens}
 use Rattle.peripherals.specs.Runs.{EventRun, EventsAreRuns, is_supported, states_before, stepped_from}
-use Rattle.peripherals.specs.Seen.{seen_of, seen_of_step}
+use Rattle.peripherals.specs.EventOutcomes.{seen_of, seen_of_step}
 use Rattle.machine_commands.specs.declared.follow.End.{End}
 use Rattle.machine_commands.specs.Follows.{Follows, Ended, Stuck, Stopped, Went, counted}
 use Rattle.command_laws.specs.Laws.{FollowsTheTable}

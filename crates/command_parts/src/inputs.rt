@@ -2,7 +2,7 @@
 
 ghost use Rattle.std.specs.Prelude.{◌≡◌, false, IfOk, IfErr};
 ghost use Rattle.std.specs.Io.KnownBytes.{Consumes};
-ghost use Rattle.declaration.specs.Kept.{meaning};
+ghost use Rattle.declaration.specs.DeclarationInCode.{meaning};
 ghost use Rattle.command_parts.specs.Faults.{IsTapeInputFault, IsDeclarationInputFault, IsEventsInputFault, IsBytesFault, fails_to_read};
 ghost use Rattle.command_parts.specs.Inputs.{AreFirst, HasImage, HasDeclaration, HasEvents, TakesAtMost, TakesTape, input};
 

@@ -1,7 +1,7 @@
 //! What several commands read: a program with its declaration, alone or with a text of events.
 
 ghost use Rattle.std.specs.Prelude.{◌≡◌, false, IfOk};
-ghost use Rattle.declaration.specs.Kept.{meaning};
+ghost use Rattle.declaration.specs.DeclarationInCode.{meaning};
 ghost use Rattle.command_parts.specs.Answers.{NeverFails, ReadsRun, ReadsTwo};
 ghost use Rattle.command_parts.specs.Faults.{fails_to_write};
 ghost use Rattle.command_parts.specs.Inputs.{HasDeclaration, HasEvents, HasImage, input};

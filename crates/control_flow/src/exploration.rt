@@ -2,7 +2,7 @@
 //! the declaration by which it is watched is widened wherever a step breaks it, as far as one can be.
 
 ghost use Rattle.std.specs.Prelude.{◌≡◌};
-ghost use Rattle.declaration.specs.Kept.{meaning};
+ghost use Rattle.declaration.specs.DeclarationInCode.{meaning};
 ghost use Rattle.peripherals.specs.World.{profile_of};
 
 use crate::ObservedRuns;

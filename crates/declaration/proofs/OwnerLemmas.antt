@@ -6,7 +6,7 @@ use Rattle.std.specs.Option.{option_map}
 use Rattle.std.proofs.lemmas.Bool.{cases_Bool, eq-eqb}
 use Rattle.wordset.specs.Lanes.{words}
 use Rattle.declaration.specs.Declaration.{Routine, IsDeclared}
-use Rattle.declaration.specs.Kept.{Kept, bodies, body_of, meaning, routine_of}
+use Rattle.declaration.specs.DeclarationInCode.{Kept, bodies, body_of, meaning, routine_of}
 use Rattle.declaration.specs.declared.Owner.{Owner}
 use Rattle.declaration.specs.declared.Owner.TheVariants as owner
 use Rattle.declaration.specs.declared.Routine.{Routine as KeptRoutine}

@@ -11,7 +11,7 @@ use Rattle.std.proofs.Math.Path.{fun_ext}
 use Rattle.wordset.specs.Words.{Words, nothing, SameWords, IsFirstFrom, HasNoneFrom}
 use Rattle.wordset.specs.Lanes.{words}
 use Rattle.wordset.proofs.SetLemmas.{word_small}
-use Rattle.declaration.specs.Kept.{offsets_of, subroutine_of, further_of, place_assertion_of, return_assertion_of}
+use Rattle.declaration.specs.DeclarationInCode.{offsets_of, subroutine_of, further_of, place_assertion_of, return_assertion_of}
 use Rattle.declaration.specs.declared.FurtherOffsets.{FurtherOffsets as KeptFurtherOffsets}
 use Rattle.declaration.specs.declared.PlaceAssertion.{PlaceAssertion}
 use Rattle.declaration.specs.declared.ReturnAssertion.{ReturnAssertion}

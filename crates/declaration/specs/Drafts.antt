@@ -4,14 +4,14 @@ use Rattle.std.specs.List.{list_any, count_by, before_first}
 use Rattle.std.specs.Option.{option_map, option_to_list}
 use Rattle.wordset.specs.Words.{Words, nothing, union}
 use Rattle.wordset.specs.Lanes.{words}
-use Rattle.declaration.specs.Kept.{subroutine_of, further_of, place_assertion_of, return_assertion_of}
+use Rattle.declaration.specs.DeclarationInCode.{subroutine_of, further_of, place_assertion_of, return_assertion_of}
 use Rattle.declaration.specs.Lines.{Line, Nothing, Start, Main, Sub, Variables, Stops, Pauses, Machine, Reads, Skips, Moves, Abandon, Holds, Returns, all_read, range_of, address_of, is_returns, is_subject, line_of}
 use Rattle.declaration.specs.Text.{Contents, contents, HasGoodLines, most_routines, most_skips, most_assertions, assertions_in}
 use Rattle.declaration.specs.declared.Routine.{Routine as KeptRoutine}
 use Rattle.declaration.specs.declared.lines.Form.{Form}
 use Rattle.declaration.specs.declared.lines.Form.TheVariants.{Range, Address}
-use Rattle.declaration.specs.declared.lines.Line.{Line as KeptLine}
-use Rattle.declaration.specs.declared.lines.Line.TheVariants.{Nothing as KeptNothing, Start as KeptStart, Main as KeptMain, Sub as KeptSub, Variables as KeptVariables, Stops as KeptStops, Pauses as KeptPauses, Machine as KeptMachine, Reads as KeptReads, Skips as KeptSkips, Moves as KeptMoves, Abandon as KeptAbandon, Holds as KeptHolds, Returns as KeptReturns}
+use Rattle.declaration.specs.declared.lines.DeclarationLine.{DeclarationLine as KeptLine}
+use Rattle.declaration.specs.declared.lines.DeclarationLine.TheVariants.{Nothing as KeptNothing, Start as KeptStart, Main as KeptMain, Sub as KeptSub, Variables as KeptVariables, Stops as KeptStops, Pauses as KeptPauses, Machine as KeptMachine, Reads as KeptReads, Skips as KeptSkips, Moves as KeptMoves, Abandon as KeptAbandon, Holds as KeptHolds, Returns as KeptReturns}
 use Rattle.declaration.specs.declared.FurtherOffsets.{FurtherOffsets as KeptFurtherOffsets}
 use Rattle.declaration.specs.declared.ReturnAssertion.{ReturnAssertion as KeptReturnAssertion}
 use Rattle.declaration.specs.declared.drafts.Draft.{Draft}

@@ -1,5 +1,5 @@
 pub mod Declaration
-pub mod Kept
+pub mod DeclarationInCode
 pub mod Lines
 pub mod Text
 pub mod Drafts

@@ -9,7 +9,7 @@ use Rattle.streams.specs.Taking.{StandsAt}
 use Rattle.streams.specs.Text.{text_lines}
 use Rattle.declaration.specs.Declaration.{Declaration, PlaceAssertion, ReturnAssertion}
 use Rattle.declaration.specs.Lines.{Subroutine, FurtherOffsets, Line, Start, Main, Sub, Variables, Stops, Pauses, Machine, Reads, Skips, Moves, Abandon, Holds, Returns, line_of}
-use Rattle.declaration.specs.Kept.{subroutine_of}
+use Rattle.declaration.specs.DeclarationInCode.{subroutine_of}
 use Rattle.declaration.specs.declared.Routine.{Routine as KeptRoutine}
 use Rattle.declaration.specs.declared.DeclarationFault.{DeclarationFault}
 use Rattle.declaration.specs.declared.DeclarationFault.TheVariants.{BadLine, TwoStarts, TwoProfiles, NoStart, Overlap, EntryInAutoIndex, StartNotInMain, TooMany, HaltNotInBody, Misplaced, NoMemory}

@@ -6,12 +6,12 @@ ghost use Rattle.wordset.specs.Words.{SameWords};
 ghost use Rattle.wordset.specs.Lanes.{words};
 ghost use Rattle.processor.specs.Machine.{is_auto_index};
 ghost use Rattle.declaration.specs.Declaration.{IsDeclared};
-ghost use Rattle.declaration.specs.Kept.{meaning, routines_of, subroutine_of};
+ghost use Rattle.declaration.specs.DeclarationInCode.{meaning, routines_of, subroutine_of};
 ghost use Rattle.declaration.specs.Text.{contents, is_entry, Says, KeepsRules, LineFails, RuleFails, overlaps, entry_in_index, halt_outside, misplaced, bodies_at, entries_at, assertions_in, most_assertions};
 ghost use Rattle.declaration.specs.Drafts.{gathered, said, with_line, MayFollow, Counts, kept_bodies, kept_entries, named_entries};
 
 use super::coverage::Coverage;
-use super::lines::{Line, read_line};
+use super::lines::{DeclarationLine, read_line};
 use super::{
     Declaration, DeclarationFault, FurtherOffsets, PlaceAssertion, ReturnAssertion, Routine,
 };
@@ -73,7 +73,7 @@ impl<A: Allocator> Draft<A> {
     }
 
     /// Adds what the line of a number says, where it may follow.
-    fn add(&mut self, line: &Line, number: usize) -> Result<(), DeclarationFault>
+    fn add(&mut self, line: &DeclarationLine, number: usize) -> Result<(), DeclarationFault>
         ensures added { OnOk result
             (gathered self.new ≡ with_line (gathered self.old) (said line.now)) }
         ensures follows { OnOk result (MayFollow (gathered self.old) (said line.now)) }
@@ -81,31 +81,31 @@ impl<A: Allocator> Draft<A> {
             (LineFails (gathered self.old) number (Some (said line.now))) }
     {
         match line {
-            Line::Nothing => {}
-            Line::Start(at) => return self.add_start(*at, number),
-            Line::Main(set) => self.main = self.main.union(set),
-            Line::Sub(routine) => return self.add_routine(routine, number),
-            Line::Variables(set) => self.variables = self.variables.union(set),
-            Line::Stops(set) => self.stops = self.stops.union(set),
-            Line::Pauses(set) => self.pauses = self.pauses.union(set),
-            Line::Machine(profile) => return self.add_profile(*profile, number),
-            Line::Reads(set) => self.add_reads(set),
-            Line::Skips(skips) => return self.add_skips(skips, number),
-            Line::Moves(set) => self.moves = self.moves.union(set),
-            Line::Abandon(set) => self.abandons = self.abandons.union(set),
-            Line::Holds(holding) => return self.add_holding(holding, number),
-            Line::Returns(returning) => return self.add_returning(returning, number),
+            DeclarationLine::Nothing => {}
+            DeclarationLine::Start(at) => return self.add_start(*at, number),
+            DeclarationLine::Main(set) => self.main = self.main.union(set),
+            DeclarationLine::Sub(routine) => return self.add_routine(routine, number),
+            DeclarationLine::Variables(set) => self.variables = self.variables.union(set),
+            DeclarationLine::Stops(set) => self.stops = self.stops.union(set),
+            DeclarationLine::Pauses(set) => self.pauses = self.pauses.union(set),
+            DeclarationLine::Machine(profile) => return self.add_profile(*profile, number),
+            DeclarationLine::Reads(set) => self.add_reads(set),
+            DeclarationLine::Skips(skips) => return self.add_skips(skips, number),
+            DeclarationLine::Moves(set) => self.moves = self.moves.union(set),
+            DeclarationLine::Abandon(set) => self.abandons = self.abandons.union(set),
+            DeclarationLine::Holds(holding) => return self.add_holding(holding, number),
+            DeclarationLine::Returns(returning) => return self.add_returning(returning, number),
         }
         Ok(())
     }
 
     fn add_start(&mut self, at: Word, number: usize) -> Result<(), DeclarationFault>
         ensures added { OnOk result
-            (gathered self.new ≡ with_line (gathered self.old) (said (Line.Start at))) }
+            (gathered self.new ≡ with_line (gathered self.old) (said (DeclarationLine.Start at))) }
         ensures follows { OnOk result
-            (MayFollow (gathered self.old) (said (Line.Start at))) }
+            (MayFollow (gathered self.old) (said (DeclarationLine.Start at))) }
         ensures refused { IfErr result
-            (LineFails (gathered self.old) number (Some (said (Line.Start at)))) }
+            (LineFails (gathered self.old) number (Some (said (DeclarationLine.Start at)))) }
     {
         if self.start.is_some() {
             return Err(DeclarationFault::TwoStarts(number));
@@ -116,11 +116,11 @@ impl<A: Allocator> Draft<A> {
 
     fn add_profile(&mut self, profile: Profile, number: usize) -> Result<(), DeclarationFault>
         ensures added { OnOk result
-            (gathered self.new ≡ with_line (gathered self.old) (said (Line.Machine profile))) }
+            (gathered self.new ≡ with_line (gathered self.old) (said (DeclarationLine.Machine profile))) }
         ensures follows { OnOk result
-            (MayFollow (gathered self.old) (said (Line.Machine profile))) }
+            (MayFollow (gathered self.old) (said (DeclarationLine.Machine profile))) }
         ensures refused { IfErr result
-            (LineFails (gathered self.old) number (Some (said (Line.Machine profile)))) }
+            (LineFails (gathered self.old) number (Some (said (DeclarationLine.Machine profile)))) }
     {
         if self.profile.is_some() {
             return Err(DeclarationFault::TwoProfiles(number));
@@ -131,11 +131,11 @@ impl<A: Allocator> Draft<A> {
 
     fn add_routine(&mut self, routine: &Routine, number: usize) -> Result<(), DeclarationFault>
         ensures added { OnOk result
-            (gathered self.new ≡ with_line (gathered self.old) (said (Line.Sub routine.now))) }
+            (gathered self.new ≡ with_line (gathered self.old) (said (DeclarationLine.Sub routine.now))) }
         ensures follows { OnOk result
-            (MayFollow (gathered self.old) (said (Line.Sub routine.now))) }
+            (MayFollow (gathered self.old) (said (DeclarationLine.Sub routine.now))) }
         ensures refused { IfErr result
-            (LineFails (gathered self.old) number (Some (said (Line.Sub routine.now)))) }
+            (LineFails (gathered self.old) number (Some (said (DeclarationLine.Sub routine.now)))) }
     {
         if self.routines.len() >= MOST_ROUTINES {
             return Err(DeclarationFault::TooMany);
@@ -147,7 +147,7 @@ impl<A: Allocator> Draft<A> {
     }
 
     fn add_reads(&mut self, set: &WordSet)
-        ensures { gathered self.new ≡ with_line (gathered self.old) (said (Line.Reads set.now)) }
+        ensures { gathered self.new ≡ with_line (gathered self.old) (said (DeclarationLine.Reads set.now)) }
     {
         let reads = match self.reads {
             Some(reads) => reads,
@@ -158,11 +158,11 @@ impl<A: Allocator> Draft<A> {
 
     fn add_skips(&mut self, skips: &FurtherOffsets, number: usize) -> Result<(), DeclarationFault>
         ensures added { OnOk result
-            (gathered self.new ≡ with_line (gathered self.old) (said (Line.Skips skips.now))) }
+            (gathered self.new ≡ with_line (gathered self.old) (said (DeclarationLine.Skips skips.now))) }
         ensures follows { OnOk result
-            (MayFollow (gathered self.old) (said (Line.Skips skips.now))) }
+            (MayFollow (gathered self.old) (said (DeclarationLine.Skips skips.now))) }
         ensures refused { IfErr result
-            (LineFails (gathered self.old) number (Some (said (Line.Skips skips.now)))) }
+            (LineFails (gathered self.old) number (Some (said (DeclarationLine.Skips skips.now)))) }
     {
         if self.skips.len() >= MOST_SKIPS {
             return Err(DeclarationFault::TooMany);
@@ -187,11 +187,11 @@ impl<A: Allocator> Draft<A> {
         number: usize,
     ) -> Result<(), DeclarationFault>
         ensures added { OnOk result
-            (gathered self.new ≡ with_line (gathered self.old) (said (Line.Holds holding.now))) }
+            (gathered self.new ≡ with_line (gathered self.old) (said (DeclarationLine.Holds holding.now))) }
         ensures follows { OnOk result
-            (MayFollow (gathered self.old) (said (Line.Holds holding.now))) }
+            (MayFollow (gathered self.old) (said (DeclarationLine.Holds holding.now))) }
         ensures refused { IfErr result
-            (LineFails (gathered self.old) number (Some (said (Line.Holds holding.now)))) }
+            (LineFails (gathered self.old) number (Some (said (DeclarationLine.Holds holding.now)))) }
     {
         if self.has_all_assertions() {
             return Err(DeclarationFault::TooMany);
@@ -208,11 +208,11 @@ impl<A: Allocator> Draft<A> {
         number: usize,
     ) -> Result<(), DeclarationFault>
         ensures added { OnOk result
-            (gathered self.new ≡ with_line (gathered self.old) (said (Line.Returns returning.now))) }
+            (gathered self.new ≡ with_line (gathered self.old) (said (DeclarationLine.Returns returning.now))) }
         ensures follows { OnOk result
-            (MayFollow (gathered self.old) (said (Line.Returns returning.now))) }
+            (MayFollow (gathered self.old) (said (DeclarationLine.Returns returning.now))) }
         ensures refused { IfErr result
-            (LineFails (gathered self.old) number (Some (said (Line.Returns returning.now)))) }
+            (LineFails (gathered self.old) number (Some (said (DeclarationLine.Returns returning.now)))) }
     {
         if self.has_all_assertions() {
             return Err(DeclarationFault::TooMany);

@@ -10,7 +10,7 @@ ghost use Rattle.declaration.specs.Drafts.{gathered, HasLines};
 ghost use Rattle.declaration.specs.declared.DeclarationFault.{DeclarationFault};
 ghost use Rattle.declaration.specs.declared.DeclarationFault.TheVariants.{NoMemory};
 ghost use Rattle.wordset.specs.Lanes.{words};
-ghost use Rattle.declaration.specs.Kept.{offsets, offsets_of, subroutine_of, routine_of, routines_of, further_of, assertion_of, place_assertion_of, return_assertion_of, skips_of, further_offsets, meaning};
+ghost use Rattle.declaration.specs.DeclarationInCode.{offsets, offsets_of, subroutine_of, routine_of, routines_of, further_of, assertion_of, place_assertion_of, return_assertion_of, skips_of, further_offsets, meaning};
 
 use crate::drafts::Draft;
 use instruct::Profile;
@@ -170,7 +170,7 @@ pub struct Declaration<A: Allocator> {
 
 impl<A: Allocator> Model for Declaration<A> {
     ghost use Rattle.declaration.specs.Declaration.{IsDeclared};
-    ghost use Rattle.declaration.specs.Kept.{Kept, meaning};
+    ghost use Rattle.declaration.specs.DeclarationInCode.{Kept, meaning};
 
     ghost Value = { Kept };
 

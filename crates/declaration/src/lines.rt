@@ -6,7 +6,7 @@ ghost use Rattle.std.specs.List.{after_first, before_first, find, position};
 ghost use Rattle.std.specs.Option.{option_map};
 ghost use Rattle.streams.specs.TextLeft.{words_left};
 ghost use Rattle.wordset.specs.Lanes.{words};
-ghost use Rattle.declaration.specs.Kept.{offsets_of, assertion_of};
+ghost use Rattle.declaration.specs.DeclarationInCode.{offsets_of, assertion_of};
 ghost use Rattle.declaration.specs.Lines.{is_dash, range_of, address_of, offset_of, any_of, these, all_read, some_read, span, is_returns, body_read, offsets_read, routine, start_line, sub_line, profile_line, named_line, further_line, skips_line, every_offset, if_offsets, holds_line, returns_line, is_subject, addresses_of, offsets_named, assertion_in, named_assertion, asserted, link_of, bit_of, cell_assertion, line_of};
 ghost use Rattle.declaration.specs.Drafts.{cells_read, ranges_before, cells_before, said};
 
@@ -20,7 +20,7 @@ use wordset::WordSet;
 
 /// What a line says.
 #[derive(Clone, Copy)]
-pub enum Line {
+pub enum DeclarationLine {
     Nothing,
     Start(Word),
     Main(WordSet),
@@ -47,51 +47,51 @@ enum Form {
 }
 
 /// What a line says, if it isn't bad.
-pub fn read_line(line: &[u8]) -> Option<Line>
+pub fn read_line(line: &[u8]) -> Option<DeclarationLine>
     ensures { option_map said result ≡ line_of line.now }
 {
     let mut words = Words::of(line);
     match words.next() {
-        None => Some(Line::Nothing),
+        None => Some(DeclarationLine::Nothing),
         Some(name) => named_line(name, words),
     }
 }
 
 /// What a line of this first word says.
-fn named_line(name: &[u8], rest: Words<'_>) -> Option<Line>
+fn named_line(name: &[u8], rest: Words<'_>) -> Option<DeclarationLine>
     ensures { option_map said result ≡ named_line name.now (words_left rest.entry) }
 {
     if text::is(name, "start") {
         start_line(rest)
     } else if text::is(name, "main") {
-        some_cells(Form::Range, rest).map(Line::Main)
+        some_cells(Form::Range, rest).map(DeclarationLine::Main)
     } else if text::is(name, "sub") {
         sub_line(rest)
     } else if text::is(name, "var") {
-        some_cells(Form::Range, rest).map(Line::Variables)
+        some_cells(Form::Range, rest).map(DeclarationLine::Variables)
     } else if text::is(name, "stop") {
-        some_cells(Form::Address, rest).map(Line::Stops)
+        some_cells(Form::Address, rest).map(DeclarationLine::Stops)
     } else if text::is(name, "pause") {
-        some_cells(Form::Address, rest).map(Line::Pauses)
+        some_cells(Form::Address, rest).map(DeclarationLine::Pauses)
     } else if text::is(name, "profile") {
         profile_line(rest)
     } else if text::is(name, "read") {
-        all_cells(Form::Range, rest).map(Line::Reads)
+        all_cells(Form::Range, rest).map(DeclarationLine::Reads)
     } else {
         further_line(name, rest)
     }
 }
 
 /// What a line of another first word says: on how routines return, or on what is to hold.
-fn further_line(name: &[u8], rest: Words<'_>) -> Option<Line>
+fn further_line(name: &[u8], rest: Words<'_>) -> Option<DeclarationLine>
     ensures { option_map said result ≡ further_line name.now (words_left rest.entry) }
 {
     if text::is(name, "skips") {
         skips_line(rest)
     } else if text::is(name, "moves") {
-        some_cells(Form::Address, rest).map(Line::Moves)
+        some_cells(Form::Address, rest).map(DeclarationLine::Moves)
     } else if text::is(name, "abandon") {
-        some_cells(Form::Address, rest).map(Line::Abandon)
+        some_cells(Form::Address, rest).map(DeclarationLine::Abandon)
     } else if text::is(name, "holds") {
         holds_line(rest)
     } else if text::is(name, "returns") {
@@ -102,7 +102,7 @@ fn further_line(name: &[u8], rest: Words<'_>) -> Option<Line>
 }
 
 /// The start of a line of one word.
-fn start_line(rest: Words<'_>) -> Option<Line>
+fn start_line(rest: Words<'_>) -> Option<DeclarationLine>
     ensures { option_map said result ≡ start_line (words_left rest.entry) }
 {
     let mut words = rest;
@@ -110,13 +110,13 @@ fn start_line(rest: Words<'_>) -> Option<Line>
         return None;
     };
     match words.next() {
-        None => text::octal_word(word).map(Line::Start),
+        None => text::octal_word(word).map(DeclarationLine::Start),
         Some(_) => None,
     }
 }
 
 /// The machine of a line of one word.
-fn profile_line(rest: Words<'_>) -> Option<Line>
+fn profile_line(rest: Words<'_>) -> Option<DeclarationLine>
     ensures { option_map said result ≡ profile_line (words_left rest.entry) }
 {
     let mut words = rest;
@@ -130,20 +130,20 @@ fn profile_line(rest: Words<'_>) -> Option<Line>
 }
 
 /// The machine of this name.
-fn profile(word: &[u8]) -> Option<Line>
+fn profile(word: &[u8]) -> Option<DeclarationLine>
     ensures { option_map said result ≡ profile_line (word.now ∷ []) }
 {
     if text::is(word, "8i") {
-        Some(Line::Machine(Profile::Pdp8I))
+        Some(DeclarationLine::Machine(Profile::Pdp8I))
     } else if text::is(word, "8e") {
-        Some(Line::Machine(Profile::Pdp8E))
+        Some(DeclarationLine::Machine(Profile::Pdp8E))
     } else {
         None
     }
 }
 
 /// A routine: its entry, the word `body`, ranges, the word `returns`, and offsets.
-fn sub_line(rest: Words<'_>) -> Option<Line>
+fn sub_line(rest: Words<'_>) -> Option<DeclarationLine>
     ensures { option_map said result ≡ sub_line (words_left rest.entry) }
 {
     let mut words = rest;
@@ -160,7 +160,7 @@ fn sub_line(rest: Words<'_>) -> Option<Line>
 }
 
 /// The routine of an entry and of what follows the word `body`.
-fn routine(entry: &[u8], rest: Words<'_>) -> Option<Line>
+fn routine(entry: &[u8], rest: Words<'_>) -> Option<DeclarationLine>
     ensures { let words = words_left rest.entry in
         option_map said result ≡ routine (octal_word entry.now) (body_read words)
         (offsets_read (after_first is_returns words)) }
@@ -175,7 +175,7 @@ fn routine(entry: &[u8], rest: Words<'_>) -> Option<Line>
     let Some(offsets) = offsets(words) else {
         return None;
     };
-    Some(Line::Sub(Routine {
+    Some(DeclarationLine::Sub(Routine {
         entry,
         body,
         offsets,
@@ -336,7 +336,7 @@ fn span(low: &[u8], high: &[u8]) -> Option<WordSet>
 }
 
 /// Further offsets: an entry and ranges of offsets.
-fn skips_line(rest: Words<'_>) -> Option<Line>
+fn skips_line(rest: Words<'_>) -> Option<DeclarationLine>
     ensures { option_map said result ≡ skips_line (words_left rest.entry) }
 {
     let mut words = rest;
@@ -352,7 +352,7 @@ fn skips_line(rest: Words<'_>) -> Option<Line>
     let Some(offsets) = if_offsets(&set) else {
         return None;
     };
-    Some(Line::Skips(FurtherOffsets { entry, offsets }))
+    Some(DeclarationLine::Skips(FurtherOffsets { entry, offsets }))
 }
 
 /// All offsets, 0 to 77.
@@ -374,7 +374,7 @@ fn if_offsets(set: &WordSet) -> Option<WordSet>
 }
 
 /// What is to hold at places: addresses and an assertion.
-fn holds_line(rest: Words<'_>) -> Option<Line>
+fn holds_line(rest: Words<'_>) -> Option<DeclarationLine>
     ensures { option_map said result ≡ holds_line (words_left rest.entry) }
 {
     let Some(places) = places(rest) else {
@@ -383,11 +383,11 @@ fn holds_line(rest: Words<'_>) -> Option<Line>
     let Some(assertion) = assertion(rest) else {
         return None;
     };
-    Some(Line::Holds(PlaceAssertion { places, assertion }))
+    Some(DeclarationLine::Holds(PlaceAssertion { places, assertion }))
 }
 
 /// What is to hold at returns: an entry, offsets and an assertion.
-fn returns_line(rest: Words<'_>) -> Option<Line>
+fn returns_line(rest: Words<'_>) -> Option<DeclarationLine>
     ensures { option_map said result ≡ returns_line (words_left rest.entry) }
 {
     let mut words = rest;
@@ -403,7 +403,7 @@ fn returns_line(rest: Words<'_>) -> Option<Line>
     let Some(assertion) = assertion(words) else {
         return None;
     };
-    Some(Line::Returns(ReturnAssertion {
+    Some(DeclarationLine::Returns(ReturnAssertion {
         entry,
         offsets,
         assertion,

@@ -13,10 +13,10 @@ use Rattle.wordset.specs.Lanes.{words}
 use Rattle.wordset.proofs.Counts.{how_many_same}
 use Rattle.wordset.proofs.Tests.{some_from, some_to}
 use Rattle.declaration.specs.declared.Routine.{Routine}
-use Rattle.declaration.specs.Kept.{bodies, entries}
+use Rattle.declaration.specs.DeclarationInCode.{bodies, entries}
 use Rattle.certificate_lines.specs.declared.CertificateFault.{CertificateFault}
 use Rattle.certificate_lines.specs.declared.CertificateFault.TheVariants as faults
-use Rattle.certificate_lines.specs.Kept.{Kept, meaning}
+use Rattle.certificate_lines.specs.CertificateInCode.{Kept, meaning}
 use Rattle.certificate_lines.specs.Reading.{reading}
 use Rattle.certificate_lines.specs.Serving.{AsksForMemory}
 use Rattle.certificate.proofs.SumExactLemmas.{reading_law}

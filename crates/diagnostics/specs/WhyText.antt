@@ -23,14 +23,14 @@ use Rattle.judge.specs.declared.judging.Refusal.{Refusal}
 use Rattle.reasons.specs.Reasons.{Explains}
 use Rattle.reasons.specs.declared.counterexample.Counterexample.{Counterexample}
 use Rattle.reasons.specs.declared.counterexample.Counterexample.TheVariants as gap
-use Rattle.reasons.specs.declared.breach.Landing.{Landing}
-use Rattle.reasons.specs.declared.breach.Landing.TheVariants as landing
-use Rattle.reasons.specs.declared.breach.CallBreach.{CallBreach}
-use Rattle.reasons.specs.declared.breach.CallBreach.TheVariants as call
-use Rattle.reasons.specs.declared.breach.ReturnBreach.{ReturnBreach}
-use Rattle.reasons.specs.declared.breach.ReturnBreach.TheVariants as return
-use Rattle.reasons.specs.declared.breach.Breach.{Breach}
-use Rattle.reasons.specs.declared.breach.Breach.TheVariants as breach
+use Rattle.reasons.specs.declared.violation.LandingFailure.{LandingFailure}
+use Rattle.reasons.specs.declared.violation.LandingFailure.TheVariants as landing
+use Rattle.reasons.specs.declared.violation.CallViolation.{CallViolation}
+use Rattle.reasons.specs.declared.violation.CallViolation.TheVariants as call
+use Rattle.reasons.specs.declared.violation.ReturnViolation.{ReturnViolation}
+use Rattle.reasons.specs.declared.violation.ReturnViolation.TheVariants as return
+use Rattle.reasons.specs.declared.violation.Violation.{Violation}
+use Rattle.reasons.specs.declared.violation.Violation.TheVariants as breach
 use Rattle.reasons.specs.declared.reason.Reason.{Reason}
 use Rattle.reasons.specs.declared.reason.Reason.TheVariants as reason
 use Rattle.command_parts.specs.declared.status.Status.{Status}
@@ -203,7 +203,7 @@ abbrev pub left_text : ℕ → Location → ℕ → List ℕ
 left_text l n w = with_link_text l ++ name_may_hold n w
 
 -- Why a run does not land.
-abbrev pub landing_text : Landing → List ℕ
+abbrev pub landing_text : LandingFailure → List ℕ
 landing_text landing.NoFact = codes "there is no fact at that address"
 landing_text landing.OtherBody = codes "that address is not in the body"
 landing_text (landing.Excluded g) = gap_text g ++ codes ", which the fact there excludes"
@@ -212,7 +212,7 @@ landing_text (landing.NotTaken l n w) = left_text l (location_of n) w ++ codes "
 landing_text landing.NotEntailed = codes "none of the facts there allows all that is possible"
 
 -- Why what is possible at a return is not among what the exit lines allow.
-abbrev pub exit_text : Landing → List ℕ
+abbrev pub exit_text : LandingFailure → List ℕ
 exit_text landing.NoFact = codes ", which has no exit line"
 exit_text landing.OtherBody = codes ", which is not in the body"
 exit_text (landing.Excluded g) = codes ": " ++ (gap_text g ++ codes ", which the exit line excludes")
@@ -221,7 +221,7 @@ exit_text (landing.NotTaken l n w) = codes ": " ++ (left_text l (location_of n) 
 exit_text landing.NotEntailed = codes ": none of the exit lines allows all that is possible"
 
 -- A run does not land since there is no fact.
-abbrev pub is_without_fact : Landing → Bool
+abbrev pub is_without_fact : LandingFailure → Bool
 is_without_fact landing.NoFact = true
 is_without_fact landing.OtherBody = false
 is_without_fact (landing.Excluded g) = false
@@ -230,7 +230,7 @@ is_without_fact (landing.NotTaken l n w) = false
 is_without_fact landing.NotEntailed = false
 
 -- Why the facts at the start do not allow every start.
-abbrev pub start_text : Landing → List ℕ
+abbrev pub start_text : LandingFailure → List ℕ
 start_text l =
     if is_without_fact l then codes "there is no fact at this address" else codes "at a start " ++ landing_text l
 
@@ -249,7 +249,7 @@ returned_text OfEquations o i = around_offset (codes ", which returns with offse
 returned_text OfSums o i = around_offset (codes ", which returns with offset ") o (codes " by exit ") ++ around_number (codes "") (from_one i) (codes ": ")
 
 -- What a call violates.
-abbrev pub call_text : Rules → CallBreach → List ℕ
+abbrev pub call_text : Rules → CallViolation → List ℕ
 call_text rules call.NoEntry = codes ", which is not an entry"
 call_text rules call.NotListed = codes ", which has no routine line"
 call_text rules (call.NotLower rank own) =
@@ -269,7 +269,7 @@ undeclared_text e o =
     else (codes ", which is not declared: add `skips " ++ octal_text e) ++ around_offset (codes " ") o (codes "`")
 
 -- What a return through an entry violates.
-abbrev pub return_text : ℕ → ReturnBreach → List ℕ
+abbrev pub return_text : ℕ → ReturnViolation → List ℕ
 return_text e return.OtherRoutine = codes ", which is not its own entry"
 return_text e (return.NotDeclared o) = around_offset (codes " with offset ") o (codes "") ++ undeclared_text e o
 return_text e (return.NotAllowed o l) = around_offset (codes " with offset ") o (codes "") ++ exit_text l
@@ -306,7 +306,7 @@ abbrev pub advised_text : List ℕ → ℕ → List ℕ → List ℕ
 advised_text before at line = (before ++ octal_text at) ++ ((line ++ octal_text at) ++ codes "`")
 
 -- What a word violates.
-abbrev pub breach_text : Rules → Breach → List ℕ
+abbrev pub breach_text : Rules → Violation → List ℕ
 breach_text rules breach.NotSupported = codes "this word is not supported"
 breach_text rules (breach.WritesUndeclared c) = around (codes "it may write ") c (codes ", which is neither a variable nor an entry")
 breach_text rules (breach.WritesEntry c) = around (codes "it may write ") c (codes ", which is an entry")

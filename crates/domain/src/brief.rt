@@ -10,7 +10,7 @@ use wordset::WordSet;
 
 /// How a set is kept: as the words from one up to another, or whole.
 #[derive(Clone, Copy)]
-enum Kept {
+enum Representation {
     Row(Word, Word),
     Whole,
 }
@@ -21,7 +21,7 @@ enum Kept {
 /// Contracts see it as the words that `brief_words` gives.
 #[derive(Clone, Copy)]
 pub struct BriefSet {
-    kept: Kept,
+    kept: Representation,
     whole: WordSet,
 }
 
@@ -97,7 +97,7 @@ impl BriefSet {
         ensures { brief_words result ≡ nothing }
     {
         BriefSet {
-            kept: Kept::Row(Word::from_index(1), Word::ZERO),
+            kept: Representation::Row(Word::from_index(1), Word::ZERO),
             whole: WordSet::empty(),
         }
     }
@@ -108,7 +108,7 @@ impl BriefSet {
         ensures { brief_words result ≡ one 0 }
     {
         BriefSet {
-            kept: Kept::Row(Word::ZERO, Word::ZERO),
+            kept: Representation::Row(Word::ZERO, Word::ZERO),
             whole: WordSet::empty(),
         }
     }
@@ -119,7 +119,7 @@ impl BriefSet {
         ensures { brief_words result ≡ all_words }
     {
         BriefSet {
-            kept: Kept::Row(Word::ZERO, Word::from_index(0o7777)),
+            kept: Representation::Row(Word::ZERO, Word::from_index(0o7777)),
             whole: WordSet::empty(),
         }
     }
@@ -129,7 +129,7 @@ impl BriefSet {
         ensures { brief_words result ≡ words set }
     {
         BriefSet {
-            kept: Kept::Whole,
+            kept: Representation::Whole,
             whole: set,
         }
     }
@@ -139,8 +139,8 @@ impl BriefSet {
         ensures { words place.new ≡ brief_words self.now }
     {
         match &self.kept {
-            Kept::Row(first, last) => put_row(place, *first, *last),
-            Kept::Whole => *place = self.whole,
+            Representation::Row(first, last) => put_row(place, *first, *last),
+            Representation::Whole => *place = self.whole,
         }
     }
 
@@ -149,8 +149,8 @@ impl BriefSet {
         ensures { words set.new ≡ meet (words set.old) (brief_words self.now) }
     {
         match &self.kept {
-            Kept::Row(first, last) => keep_row(set, *first, *last),
-            Kept::Whole => *set = set.meet(&self.whole),
+            Representation::Row(first, last) => keep_row(set, *first, *last),
+            Representation::Whole => *set = set.meet(&self.whole),
         }
     }
 
@@ -159,8 +159,8 @@ impl BriefSet {
         ensures { result ≡ only (brief_words self.now) }
     {
         match &self.kept {
-            Kept::Row(first, last) => only_in_row(*first, *last),
-            Kept::Whole => self.whole.only(),
+            Representation::Row(first, last) => only_in_row(*first, *last),
+            Representation::Whole => self.whole.only(),
         }
     }
 
@@ -169,8 +169,8 @@ impl BriefSet {
         ensures { result ≡ not (has_some (brief_words self.now)) }
     {
         match &self.kept {
-            Kept::Row(first, last) => is_row_empty(*first, *last),
-            Kept::Whole => self.whole.is_empty(),
+            Representation::Row(first, last) => is_row_empty(*first, *last),
+            Representation::Whole => self.whole.is_empty(),
         }
     }
 
@@ -179,8 +179,8 @@ impl BriefSet {
         ensures { IsTrue result ↔ IsWithin (words set.now) (brief_words self.now) }
     {
         match &self.kept {
-            Kept::Row(first, last) => is_within_row(set, *first, *last),
-            Kept::Whole => set.is_subset(&self.whole),
+            Representation::Row(first, last) => is_within_row(set, *first, *last),
+            Representation::Whole => set.is_subset(&self.whole),
         }
     }
 
@@ -189,8 +189,8 @@ impl BriefSet {
         ensures { IsTrue result ↔ IsWithin (between first last) (brief_words self.now) }
     {
         match &self.kept {
-            Kept::Row(low, high) => is_row_within(first, last, *low, *high),
-            Kept::Whole => is_range_within(first, last, &self.whole),
+            Representation::Row(low, high) => is_row_within(first, last, *low, *high),
+            Representation::Whole => is_range_within(first, last, &self.whole),
         }
     }
 
@@ -199,8 +199,8 @@ impl BriefSet {
         ensures { IsTrue result ↔ IsWithin (brief_words self.now) (brief_words other.now) }
     {
         match &self.kept {
-            Kept::Row(first, last) => other.has_row(*first, *last),
-            Kept::Whole => other.has_all(&self.whole),
+            Representation::Row(first, last) => other.has_row(*first, *last),
+            Representation::Whole => other.has_all(&self.whole),
         }
     }
 
@@ -209,10 +209,10 @@ impl BriefSet {
         ensures { IsTrue result → brief_words self.now ≡ brief_words other.now }
     {
         match &self.kept {
-            Kept::Whole => false,
-            Kept::Row(first, last) => match &other.kept {
-                Kept::Whole => false,
-                Kept::Row(low, high) => *first == *low && *last == *high,
+            Representation::Whole => false,
+            Representation::Row(first, last) => match &other.kept {
+                Representation::Whole => false,
+                Representation::Row(low, high) => *first == *low && *last == *high,
             },
         }
     }
@@ -234,7 +234,7 @@ impl BriefSet {
     pub fn set_row(&mut self, first: Word, last: Word)
         ensures { brief_words self.new ≡ between first last }
     {
-        self.kept = Kept::Row(first, last);
+        self.kept = Representation::Row(first, last);
     }
 
     /// Lets it have one word alone.
@@ -242,14 +242,14 @@ impl BriefSet {
     pub fn set_one(&mut self, word: Word)
         ensures { brief_words self.new ≡ one word }
     {
-        self.kept = Kept::Row(word, word);
+        self.kept = Representation::Row(word, word);
     }
 
     /// Lets it have the words of a set.
     pub fn set(&mut self, set: &WordSet)
         ensures { brief_words self.new ≡ words set.now }
     {
-        self.kept = Kept::Whole;
+        self.kept = Representation::Whole;
         self.whole = *set;
     }
 
@@ -258,8 +258,8 @@ impl BriefSet {
         ensures { brief_words self.new ≡ brief_words other.now }
     {
         match &other.kept {
-            Kept::Row(first, last) => self.set_row(*first, *last),
-            Kept::Whole => self.set(&other.whole),
+            Representation::Row(first, last) => self.set_row(*first, *last),
+            Representation::Whole => self.set(&other.whole),
         }
     }
 

@@ -2,15 +2,16 @@
 //! interpretation this is the domain: sets of words, relations between sums of words, chains, the sites of calls, and offsets of a return word.
 #![tactic(auto)]
 
-mod asked;
 mod brief;
 mod cell_sets;
 mod chains;
+mod fact_lines;
 pub mod laws;
 mod lengths;
 mod location;
 mod names;
 mod narrowing;
+mod queries;
 mod relations;
 mod return_offsets;
 mod rows;
@@ -21,7 +22,6 @@ mod sum_moves;
 mod sum_parts;
 mod taking;
 mod terms;
-mod told;
 
 pub use brief::BriefSet;
 pub use cell_sets::{CellSet, CellSets};

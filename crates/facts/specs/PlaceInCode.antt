@@ -2,7 +2,7 @@
 use Rattle.std.specs.Prelude.{ℕ}
 use Rattle.instruct.specs.Instructions.{Meaning, meaning_of}
 use Rattle.peripherals.specs.Loading.{image_of}
-use Rattle.declaration.specs.Kept.{meaning}
+use Rattle.declaration.specs.DeclarationInCode.{meaning}
 use Rattle.domain.specs.Facts as said
 use Rattle.domain.specs.FactInCode.{rules_of}
 use Rattle.facts.specs.declared.place.Place.{Place}

@@ -4,7 +4,7 @@ ghost use Rattle.std.specs.Prelude.{◌≡◌, ◌==◌, ◌&&◌, ◌↔◌, tr
 ghost use Rattle.wordset.specs.Words.{SameWords};
 ghost use Rattle.wordset.specs.Lanes.{words};
 ghost use Rattle.wordset.specs.Links.{links_of};
-ghost use Rattle.declaration.specs.Kept.{assertion_of, place_assertion_of, return_assertion_of};
+ghost use Rattle.declaration.specs.DeclarationInCode.{assertion_of, place_assertion_of, return_assertion_of};
 ghost use Rattle.domain.specs.FactInCode.{fact_in_code};
 ghost use Rattle.facts.specs.Conditions.{link_words, may_be, IsAsserted, IsDenied, EachIsHeld, EachIsHeldBy};
 ghost use Rattle.facts.specs.PlaceInCode.{place_in_code};

@@ -22,7 +22,7 @@ use crate::place::Place;
 use domain::SumFact;
 use instruct::{DeviceOperation, Instruction, Operation, decode, halts, refers_indirectly, target};
 use std::alloc::Allocator;
-use transfer::{Outcome, Outcomes, single_target};
+use transfer::{FactOutcome, Outcomes, single_target};
 use word12::Word;
 use wordset::WordSet;
 
@@ -35,8 +35,8 @@ impl<A: Allocator> Place<'_, A> {
         seen: &SumFact<C, R>,
         reached: &WordSet,
         single: &Option<Word>,
-        first: &mut Outcome,
-        second: &mut Outcome,
+        first: &mut FactOutcome,
+        second: &mut FactOutcome,
     )
         requires single { single.now ≡ only (words reached.now) }
         requires cells { length (cell_sets_of seen.now.cells) ≤ 133 }

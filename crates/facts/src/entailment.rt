@@ -23,7 +23,7 @@ ghost use Rattle.facts.specs.Entailing.{EachWithin, EntailsRegisters, GivesAllow
 ghost use Rattle.facts.specs.Entailment.{Among, EachGives, Entails, KnowsAll, KnowsBy, ShowsChain, ShowsChains, ShowsDifference};
 ghost use Rattle.facts.specs.PlaceInCode.{place_in_code};
 
-use crate::known::KnownFact;
+use crate::known_fact::KnownFact;
 use crate::place::Place;
 use domain::{BriefSet, CellSet, Chain, Location, Relation, Rules, Sum, SumFact, Term, negated};
 use std::alloc::Allocator;
@@ -130,7 +130,7 @@ fn each_gives(chains: &[Chain], cell: Word, word: Word, ac: Word, link: Link) ->
 
 /// What is allowed beside a word of a cell: words of the accumulator, links, and what chains give.
 #[derive(Drop)]
-pub struct Allowed<'a> {
+pub struct AllowedValues<'a> {
     /// The words of the accumulator.
     pub accumulators: &'a WordSet,
     /// The links.
@@ -139,7 +139,7 @@ pub struct Allowed<'a> {
     pub chains: &'a [Chain],
 }
 
-impl Allowed<'_> {
+impl AllowedValues<'_> {
     /// Whether a chain gives a pair of a word of its cell, or the pair is not allowed beside the word.
     pub fn permits(&self, chain: &Chain, word: Word, ac: Word, link: Link) -> bool
         ensures { IsTrue result ↔ GivesIfAllowed (words self.now.accumulators.now) (links_of self.now.links)
@@ -251,7 +251,7 @@ fn permits_all<'a>(
     ensures { IsTrue result ↔ ((v : ℕ) → v < 4096 → words cells.now v ≡ true →
         GivesAllowed (words accumulators.now) (links_of links) (map chain_of chains.now) (chain_of chain.now) v) }
 {
-    let allowed = Allowed {
+    let allowed = AllowedValues {
         accumulators,
         links,
         chains,

@@ -13,10 +13,10 @@ ghost use Rattle.facts.specs.Entailment.{EntailsOne, IsSplit, PartLands, Lands, 
 ghost use Rattle.facts.specs.Landing.{TakesAt, IsSplitBy, AllowAll, LandsUnder, IsIdleUnder};
 ghost use Rattle.facts.specs.PlaceInCode.{place_in_code};
 
-use crate::known::KnownFact;
-use crate::parts::{LinkPart, Part};
+use crate::fact_parts::{FactPart, LinkPart};
+use crate::fact_sizes::Fact;
+use crate::known_fact::KnownFact;
 use crate::place::Place;
-use crate::rooms::Fact;
 use crate::source::FactSource;
 use domain::{CellSet, Location, Rules, SumFact};
 use std::alloc::Allocator;
@@ -26,15 +26,15 @@ use wordset::WordSet;
 
 /// Room for asking whether a fact lands. What stands in it does not matter: the same serves for one fact after another.
 #[derive(Drop)]
-pub struct LandingRooms {
+pub struct LandingWorkspace {
     given: Fact,
     part: LinkPart,
 }
 
-impl LandingRooms {
+impl LandingWorkspace {
     /// Room that nothing stands in.
-    pub fn new() -> LandingRooms {
-        LandingRooms {
+    pub fn new() -> LandingWorkspace {
+        LandingWorkspace {
             given: SumFact::any(),
             part: LinkPart::new(),
         }
@@ -84,7 +84,7 @@ impl<A: Allocator> Place<'_, A> {
 
     /// Adds another fact's words of a name to those that are taken, if it takes what they leave of a part. It is not asked
     /// where each of them that the part may have is taken already.
-    pub fn add_taken<P: Part>(
+    pub fn add_taken<P: FactPart>(
         &self,
         part: &mut P,
         name: &Location,
@@ -109,7 +109,7 @@ impl<A: Allocator> Place<'_, A> {
     }
 
     /// Whether a part is split among some facts by the words of a name.
-    fn is_split_by<P: Part, F: FactSource>(
+    fn is_split_by<P: FactPart, F: FactSource>(
         &self,
         part: &mut P,
         name: &Location,
@@ -131,7 +131,7 @@ impl<A: Allocator> Place<'_, A> {
     }
 
     /// Whether a part is split among some facts by the words of one of some cells.
-    fn is_split_by_some<P: Part, F: FactSource>(
+    fn is_split_by_some<P: FactPart, F: FactSource>(
         &self,
         part: &mut P,
         cells: &WordSet,
@@ -152,7 +152,7 @@ impl<A: Allocator> Place<'_, A> {
     }
 
     /// Whether a part is split among some facts by the words of a cell of which one of them tells.
-    fn is_split_by_told<P: Part, F: FactSource>(
+    fn is_split_by_told<P: FactPart, F: FactSource>(
         &self,
         part: &mut P,
         among: &F,
@@ -170,7 +170,12 @@ impl<A: Allocator> Place<'_, A> {
 
     /// Whether a part is split among some facts by a name: the accumulator, a cell of which one of them tells, or one of which
     /// none does. There is always one of those beyond the machine's memory, and it does not matter which it is.
-    fn is_split<P: Part, F: FactSource>(&self, part: &mut P, among: &F, given: &mut Fact) -> bool
+    fn is_split<P: FactPart, F: FactSource>(
+        &self,
+        part: &mut P,
+        among: &F,
+        given: &mut Fact,
+    ) -> bool
         requires { is_void (P.part part.old) ≡ false }
         ensures split { IsTrue result ↔ IsSplit (place_in_code self.now) (P.part part.old) (F.facts among.now) }
         ensures kept { P.part part.new ≡ P.part part.old }
@@ -186,7 +191,7 @@ impl<A: Allocator> Place<'_, A> {
     }
 
     /// Whether a narrowed fact of one link lands among some facts.
-    pub fn part_lands<P: Part, F: FactSource>(
+    pub fn part_lands<P: FactPart, F: FactSource>(
         &self,
         part: &mut P,
         among: &F,
@@ -210,7 +215,7 @@ impl<A: Allocator> Place<'_, A> {
         fact: &mut NextFact,
         link: Link,
         among: &F,
-        rooms: &mut LandingRooms,
+        rooms: &mut LandingWorkspace,
     ) -> bool
         ensures lands { IsTrue result ↔
             LandsUnder (place_in_code self.now) link (fact_in_code fact.old) (F.facts among.now) }
@@ -219,7 +224,7 @@ impl<A: Allocator> Place<'_, A> {
         if !fact.link().contains(link) {
             return true;
         }
-        let LandingRooms { given, part } = rooms;
+        let LandingWorkspace { given, part } = rooms;
         part.take(self, fact, link);
         self.part_lands(part, among, given)
     }
@@ -230,7 +235,7 @@ impl<A: Allocator> Place<'_, A> {
         &self,
         fact: &mut NextFact,
         among: &F,
-        rooms: &mut LandingRooms,
+        rooms: &mut LandingWorkspace,
     ) -> bool
         ensures lands { IsTrue result ↔
             Lands (place_in_code self.now) (fact_in_code fact.old) (F.facts among.now) }
@@ -248,21 +253,21 @@ impl<A: Allocator> Place<'_, A> {
     }
 
     /// Whether no state satisfies a fact under a link, if it allows the link. The fact itself is left as it was.
-    fn is_idle_under(&self, fact: &mut NextFact, link: Link, rooms: &mut LandingRooms) -> bool
+    fn is_idle_under(&self, fact: &mut NextFact, link: Link, rooms: &mut LandingWorkspace) -> bool
         ensures idle { IsTrue result ↔ IsIdleUnder (place_in_code self.now) link (fact_in_code fact.old) }
         ensures kept { fact_in_code fact.new ≡ fact_in_code fact.old }
     {
         if !fact.link().contains(link) {
             return true;
         }
-        let LandingRooms { part, .. } = rooms;
+        let LandingWorkspace { part, .. } = rooms;
         part.take(self, fact, link);
         part.is_none()
     }
 
     /// Whether nothing need be asked of a fact: by the rules of sums, no state satisfies it under any link. The fact itself is
     /// left as it was.
-    pub fn is_idle(&self, fact: &mut NextFact, rooms: &mut LandingRooms) -> bool
+    pub fn is_idle(&self, fact: &mut NextFact, rooms: &mut LandingWorkspace) -> bool
         ensures idle { IsTrue result ↔
             IsIdle (place_in_code self.now).rules (place_in_code self.now) (fact_in_code fact.old) }
         ensures kept { fact_in_code fact.new ≡ fact_in_code fact.old }

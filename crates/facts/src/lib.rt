@@ -6,20 +6,20 @@ ghost use Rattle.facts.specs.Laws.{EntailedFactsHold, IdleNeverHolds, JoinedHold
 ghost use Rattle.transfer.specs.Shaped.{NarrowingKeepsShape};
 ghost use Rattle.facts.specs.Starts.{StartFactHolds, StartsAreExact, StartsLand};
 
-mod asked;
 mod assertions;
 mod conditions;
 mod dispatch;
 mod entailment;
+mod fact_parts;
+mod fact_sizes;
 mod instructions;
-mod known;
+mod known_fact;
 mod landing;
 mod memory;
-mod parts;
 mod place;
+mod queries;
 mod references;
 mod registers;
-mod rooms;
 mod source;
 mod start_fact;
 mod starts;
@@ -28,12 +28,12 @@ pub use domain::{
     BriefSet, CellSet, CellSets, Chain, Location, Relation, Relations, ReturnOffsets, Rules, Step,
     Sum, SumFact, Summand, Term,
 };
-pub use entailment::Allowed;
-pub use known::KnownFact;
-pub use landing::{LandingRooms, cells_told};
-pub use parts::{LinkPart, Part};
+pub use entailment::AllowedValues;
+pub use fact_parts::{FactPart, LinkPart};
+pub use fact_sizes::{ChosenFact, Fact, MetFact, NarrowedFact, PartFact};
+pub use known_fact::KnownFact;
+pub use landing::{LandingWorkspace, cells_told};
 pub use place::Place;
-pub use rooms::{ChosenFact, Fact, MetFact, NarrowedFact, PartFact};
 pub use source::FactSource;
 pub use start_fact::StartFact;
 pub use starts::{StartPart, start_part};

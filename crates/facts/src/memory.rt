@@ -19,7 +19,7 @@ use crate::place::Place;
 use domain::{Location, ReturnOffsets, Rules, Step, SumFact};
 use std::alloc::Allocator;
 use transfer::{
-    Outcome, has_some, is_alive, put_added, put_added_under, put_begun_longer, put_copied,
+    FactOutcome, has_some, is_alive, put_added, put_added_under, put_begun_longer, put_copied,
     put_stored,
 };
 use word12::{Link, Word};
@@ -69,7 +69,7 @@ impl<A: Allocator> Place<'_, A> {
         fact: &SumFact<C, R>,
         targets: &WordSet,
         single: &Option<Word>,
-        outcome: &mut Outcome,
+        outcome: &mut FactOutcome,
     )
         requires single { single.now ≡ only (words targets.now) }
         requires cells { length (cell_sets_of fact.now.cells) ≤ 133 }
@@ -99,8 +99,8 @@ impl<A: Allocator> Place<'_, A> {
         fact: &SumFact<C, R>,
         targets: &WordSet,
         single: &Option<Word>,
-        first: &mut Outcome,
-        second: &mut Outcome,
+        first: &mut FactOutcome,
+        second: &mut FactOutcome,
     )
         requires single { single.now ≡ only (words targets.now) }
         requires cells { length (cell_sets_of fact.now.cells) ≤ 133 }
@@ -146,7 +146,7 @@ impl<A: Allocator> Place<'_, A> {
         cell: Word,
         held: &WordSet,
         fact: &SumFact<C, R>,
-        outcome: &mut Outcome,
+        outcome: &mut FactOutcome,
     )
         requires cells { length (cell_sets_of fact.now.cells) ≤ 133 }
         requires relations { length (relations_of fact.now.relations) ≤ 68 }
@@ -167,7 +167,7 @@ impl<A: Allocator> Place<'_, A> {
         cell: Word,
         held: &WordSet,
         fact: &SumFact<C, R>,
-        outcome: &mut Outcome,
+        outcome: &mut FactOutcome,
     )
         requires cells { length (cell_sets_of fact.now.cells) ≤ 133 }
         requires relations { length (relations_of fact.now.relations) ≤ 68 }
@@ -190,7 +190,7 @@ impl<A: Allocator> Place<'_, A> {
         fact: &SumFact<C, R>,
         targets: &WordSet,
         single: &Option<Word>,
-        outcome: &mut Outcome,
+        outcome: &mut FactOutcome,
     )
         requires single { single.now ≡ only (words targets.now) }
         requires cells { length (cell_sets_of fact.now.cells) ≤ 133 }
@@ -224,8 +224,8 @@ impl<A: Allocator> Place<'_, A> {
         fact: &SumFact<C, R>,
         targets: &WordSet,
         cell: Word,
-        first: &mut Outcome,
-        second: &mut Outcome,
+        first: &mut FactOutcome,
+        second: &mut FactOutcome,
     )
         requires cells { length (cell_sets_of fact.now.cells) ≤ 133 }
         requires relations { length (relations_of fact.now.relations) ≤ 68 }
@@ -262,7 +262,7 @@ impl<A: Allocator> Place<'_, A> {
         fact: &SumFact<C, R>,
         targets: &WordSet,
         cell: Word,
-        outcome: &mut Outcome,
+        outcome: &mut FactOutcome,
     )
         requires cells { length (cell_sets_of fact.now.cells) ≤ 133 }
         requires relations { length (relations_of fact.now.relations) ≤ 68 }
@@ -322,8 +322,8 @@ impl<A: Allocator> Place<'_, A> {
         at: Word,
         fact: &SumFact<C, R>,
         targets: &WordSet,
-        first: &mut Outcome,
-        second: &mut Outcome,
+        first: &mut FactOutcome,
+        second: &mut FactOutcome,
     )
         requires cells { length (cell_sets_of fact.now.cells) ≤ 133 }
         requires relations { length (relations_of fact.now.relations) ≤ 68 }
@@ -356,8 +356,8 @@ impl<A: Allocator> Place<'_, A> {
         fact: &SumFact<C, R>,
         targets: &WordSet,
         single: &Option<Word>,
-        first: &mut Outcome,
-        second: &mut Outcome,
+        first: &mut FactOutcome,
+        second: &mut FactOutcome,
     )
         requires single { single.now ≡ only (words targets.now) }
         requires cells { length (cell_sets_of fact.now.cells) ≤ 133 }
@@ -384,7 +384,7 @@ impl<A: Allocator> Place<'_, A> {
         &self,
         fact: &SumFact<C, R>,
         targets: &WordSet,
-        outcome: &mut Outcome,
+        outcome: &mut FactOutcome,
     )
         requires cells { length (cell_sets_of fact.now.cells) ≤ 133 }
         requires relations { length (relations_of fact.now.relations) ≤ 68 }
@@ -413,7 +413,7 @@ impl<A: Allocator> Place<'_, A> {
         named: Word,
         fact: &SumFact<C, R>,
         targets: &WordSet,
-        outcome: &mut Outcome,
+        outcome: &mut FactOutcome,
     )
         requires cells { length (cell_sets_of fact.now.cells) ≤ 133 }
         requires relations { length (relations_of fact.now.relations) ≤ 68 }

@@ -26,7 +26,7 @@ use domain::{Location, Rules, SumFact};
 use instruct::DeviceOperation;
 use std::alloc::Allocator;
 use transfer::{
-    Outcome, Outcomes, TestedFact, is_alive, put_all_operated, put_branch, put_operated_under,
+    FactOutcome, Outcomes, TestedFact, is_alive, put_all_operated, put_branch, put_operated_under,
 };
 use word12::{Link, Word};
 use wordset::WordSet;
@@ -45,7 +45,7 @@ fn next_address(at: Word, skip: bool) -> Word
 impl<A: Allocator> Place<'_, A> {
     /// Lets the run go on at an address with the fact that stands in the outcome's room, where that may come about. The
     /// accumulator's words before are given.
-    fn go_on(&self, held: &WordSet, next: Word, outcome: &mut Outcome)
+    fn go_on(&self, held: &WordSet, next: Word, outcome: &mut FactOutcome)
         ensures { (f : said.Fact) → words held.now ≡ ac_of (place_in_code self.now) f →
             outcome_in outcome.new ≡
             goes (place_in_code self.now) all_words f all_words (one next) (fact_in_code outcome.old.fact) }
@@ -59,7 +59,7 @@ impl<A: Allocator> Place<'_, A> {
         &self,
         fact: &SumFact<C, R>,
         next: Word,
-        outcome: &mut Outcome,
+        outcome: &mut FactOutcome,
     )
         requires cells { length (cell_sets_of fact.now.cells) ≤ 133 }
         requires relations { length (relations_of fact.now.relations) ≤ 68 }
@@ -78,7 +78,7 @@ impl<A: Allocator> Place<'_, A> {
         at: Word,
         fact: &SumFact<C, R>,
         set: &WordSet,
-        outcome: &mut Outcome,
+        outcome: &mut FactOutcome,
     )
         requires cells { length (cell_sets_of fact.now.cells) ≤ 133 }
         requires relations { length (relations_of fact.now.relations) ≤ 68 }
@@ -105,8 +105,8 @@ impl<A: Allocator> Place<'_, A> {
         &self,
         at: Word,
         fact: &SumFact<C, R>,
-        first: &mut Outcome,
-        second: &mut Outcome,
+        first: &mut FactOutcome,
+        second: &mut FactOutcome,
     )
         requires cells { length (cell_sets_of fact.now.cells) ≤ 133 }
         requires relations { length (relations_of fact.now.relations) ≤ 68 }
@@ -124,8 +124,8 @@ impl<A: Allocator> Place<'_, A> {
         at: Word,
         operation: DeviceOperation,
         fact: &SumFact<C, R>,
-        first: &mut Outcome,
-        second: &mut Outcome,
+        first: &mut FactOutcome,
+        second: &mut FactOutcome,
     )
         requires cells { length (cell_sets_of fact.now.cells) ≤ 133 }
         requires relations { length (relations_of fact.now.relations) ≤ 68 }
@@ -164,7 +164,7 @@ impl<A: Allocator> Place<'_, A> {
         fact: &SumFact<C, R>,
         set: &WordSet,
         mq: &WordSet,
-        outcome: &mut Outcome,
+        outcome: &mut FactOutcome,
     )
         requires cells { length (cell_sets_of fact.now.cells) ≤ 133 }
         requires relations { length (relations_of fact.now.relations) ≤ 68 }
@@ -185,7 +185,7 @@ impl<A: Allocator> Place<'_, A> {
         at: Word,
         word: Word,
         fact: &SumFact<C, R>,
-        outcome: &mut Outcome,
+        outcome: &mut FactOutcome,
     )
         requires cells { length (cell_sets_of fact.now.cells) ≤ 133 }
         requires relations { length (relations_of fact.now.relations) ≤ 68 }
@@ -215,8 +215,8 @@ impl<A: Allocator> Place<'_, A> {
         at: Word,
         word: Word,
         fact: &SumFact<C, R>,
-        first: &mut Outcome,
-        second: &mut Outcome,
+        first: &mut FactOutcome,
+        second: &mut FactOutcome,
     )
         requires word { instruction_of Pdp8E word ≡ Operate1 }
         requires cells { length (cell_sets_of fact.now.cells) ≤ 133 }
@@ -254,7 +254,7 @@ impl<A: Allocator> Place<'_, A> {
         link: Link,
         skip: bool,
         tested: &mut TestedFact,
-        outcome: &mut Outcome,
+        outcome: &mut FactOutcome,
     )
         requires held { words held.now ≡ ac_of (place_in_code self.now) (fact_in_code fact.now) }
         requires cells { length (cell_sets_of fact.now.cells) ≤ 132 }
@@ -289,8 +289,8 @@ impl<A: Allocator> Place<'_, A> {
         fact: &SumFact<C, R>,
         link: Link,
         tested: &mut TestedFact,
-        skipping: &mut Outcome,
-        staying: &mut Outcome,
+        skipping: &mut FactOutcome,
+        staying: &mut FactOutcome,
     )
         requires held { words held.now ≡ ac_of (place_in_code self.now) (fact_in_code fact.now) }
         requires cells { length (cell_sets_of fact.now.cells) ≤ 132 }

@@ -5,7 +5,7 @@ ghost use Rattle.domain.specs.Facts as said;
 ghost use Rattle.domain.specs.FactInCode.{fact_in_code};
 ghost use Rattle.facts.specs.Landing.{fact_at};
 
-use crate::rooms::Fact;
+use crate::fact_sizes::Fact;
 
 /// Some facts of a certificate, among which another one may land: those at an address, or the exits of a routine for an
 /// offset.

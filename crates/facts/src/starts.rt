@@ -19,10 +19,10 @@ ghost use Rattle.facts.specs.PlaceInCode.{place_in_code};
 ghost use Rattle.facts.specs.StartInCode.{start_in_code, start_part_in_code};
 ghost use Rattle.facts.specs.Starts.{start_fact, words_at_start};
 
-use crate::known::KnownFact;
-use crate::parts::{Part, has_facts};
+use crate::fact_parts::{FactPart, has_facts};
+use crate::fact_sizes::Fact;
+use crate::known_fact::KnownFact;
 use crate::place::Place;
-use crate::rooms::Fact;
 use crate::source::FactSource;
 use crate::start_fact::StartFact;
 use bin_tape::Image;
@@ -258,7 +258,7 @@ fn look_at(name: &Location)
     }
 }
 
-impl Part for StartPart<'_> {
+impl FactPart for StartPart<'_> {
     ghost part = { start_part_in_code };
 
     fn has_words(&self) {

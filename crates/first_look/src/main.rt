@@ -9,7 +9,7 @@ use instruct::Profile;
 use machine_commands::running::run;
 use std::io;
 use std::process::ExitCode;
-use streams::standard::{Reads, Writes};
+use streams::standard::{StdReader, StdWriter};
 use word12::Word;
 use wordset::WordSet;
 
@@ -24,8 +24,8 @@ fn main(rt: HostRuntime) -> ExitCode {
         profile: Profile::Pdp8I,
         show: WordSet::empty(),
     };
-    let mut tape = Reads::new(rt.reader());
-    let mut out = Writes::new(io::writer(&rt));
+    let mut tape = StdReader::new(rt.reader());
+    let mut out = StdWriter::new(io::writer(&rt));
     match run(rt.alloc(), &mut tape, options, &mut out) {
         Ok(status) => ExitCode::from(status.code()),
         Err(_) => ExitCode::FAILURE,

@@ -8,8 +8,8 @@ ghost use Rattle.transfer.specs.Shaped.{HaveFewTerms};
 ghost use Rattle.fixpoint.specs.Asked.{MayBeAsked};
 ghost use Rattle.fixpoint.specs.Claimed.{cell_of, cells_of, said_of, said_in};
 
-use crate::halt::Halt;
-use crate::known::{Known, brief, has_word};
+use crate::fault::SearchFault;
+use crate::incoming_fact::{IncomingFact, brief, has_word};
 use crate::sums::{first_behind, is_short, speaks_only_of, touches};
 use crate::widening::Limits;
 use domain::{CellSet, Location, Relation, ReturnOffsets, Sum, Term, product};
@@ -48,30 +48,30 @@ pub(crate) struct Invariant<A: Allocator> {
 /// The words that are left to a name by one step along the relations, or all of its words where the relations contradict;
 /// filled where they are ragged.
 pub(crate) fn left_to<F: KnownFact>(
-    known: &Known<'_, F>,
+    known: &IncomingFact<'_, F>,
     name: &Location,
     limits: &Limits,
 ) -> WordSet {
     let narrowed = known.narrowed(name);
     if narrowed.is_empty() {
-        limits.smoothed(&known.set(name))
+        limits.with_few_runs(&known.set(name))
     } else {
-        limits.smoothed(&narrowed)
+        limits.with_few_runs(&narrowed)
     }
 }
 
 impl<A: Allocator + Copy> Invariant<A> {
     /// What is known at an instruction, without cells and relations.
-    pub(crate) fn bare<F: KnownFact>(
+    pub(crate) fn without_cells<F: KnownFact>(
         alloc: A,
         at: Word,
-        known: &Known<'_, F>,
+        known: &IncomingFact<'_, F>,
         limits: &Limits,
     ) -> Invariant<A> {
         Invariant {
             at,
             ac: left_to(known, &Location::Accumulator, limits),
-            mq: limits.smoothed(known.mq()),
+            mq: limits.with_few_runs(known.mq()),
             link: known.link(),
             offsets: known.offsets,
             growths: 0,
@@ -85,17 +85,17 @@ impl<A: Allocator + Copy> Invariant<A> {
         alloc: A,
         at: Word,
         tracked: &WordSet,
-        known: &Known<'_, F>,
+        known: &IncomingFact<'_, F>,
         limits: &Limits,
-    ) -> Result<Invariant<A>, Halt> {
-        let mut kept = Invariant::bare(alloc, at, known, limits);
+    ) -> Result<Invariant<A>, SearchFault> {
+        let mut kept = Invariant::without_cells(alloc, at, known, limits);
         kept.take_cells(tracked, known, limits)?;
         kept.take_relations(tracked, known)?;
         Ok(kept)
     }
 
     /// The part that speaks of the accumulator and of written cells, its relations in rising order.
-    pub(crate) fn written(&self, alloc: A, cells: &WordSet) -> Result<Invariant<A>, Halt> {
+    pub(crate) fn written(&self, alloc: A, cells: &WordSet) -> Result<Invariant<A>, SearchFault> {
         let mut kept = Invariant {
             at: self.at,
             ac: self.ac,
@@ -117,9 +117,9 @@ impl<A: Allocator> Invariant<A> {
     fn take_cells<F: KnownFact>(
         &mut self,
         tracked: &WordSet,
-        known: &Known<'_, F>,
+        known: &IncomingFact<'_, F>,
         limits: &Limits,
-    ) -> Result<(), Halt> {
+    ) -> Result<(), SearchFault> {
         for cell in tracked.iter() {
             self.track(cell, &left_to(known, &Location::Cell(cell), limits))?;
         }
@@ -127,7 +127,7 @@ impl<A: Allocator> Invariant<A> {
     }
 
     /// Adds the words of a cell, if they say something.
-    pub(crate) fn track(&mut self, cell: Word, set: &WordSet) -> Result<(), Halt> {
+    pub(crate) fn track(&mut self, cell: Word, set: &WordSet) -> Result<(), SearchFault> {
         if set.is_all() {
             return Ok(());
         }
@@ -142,18 +142,18 @@ impl<A: Allocator> Invariant<A> {
     }
 
     /// Adds a cell, if there is room.
-    fn add_line(&mut self, line: &CellInvariant) -> Result<(), Halt> {
+    fn add_line(&mut self, line: &CellInvariant) -> Result<(), SearchFault> {
         if self.cells.len() >= MOST_CELLS {
             return Ok(());
         }
         let Ok(()) = self.cells.push(*line) else {
-            return Err(Halt::NoMemory);
+            return Err(SearchFault::NoMemory);
         };
         Ok(())
     }
 
     /// Adds those of some cells that are in a set.
-    fn take_lines(&mut self, cells: &WordSet, lines: &[CellInvariant]) -> Result<(), Halt> {
+    fn take_lines(&mut self, cells: &WordSet, lines: &[CellInvariant]) -> Result<(), SearchFault> {
         for line in lines {
             if cells.contains(line.told.cell) {
                 self.add_line(line)?;
@@ -166,8 +166,8 @@ impl<A: Allocator> Invariant<A> {
     fn take_relations<F: KnownFact>(
         &mut self,
         tracked: &WordSet,
-        known: &Known<'_, F>,
-    ) -> Result<(), Halt> {
+        known: &IncomingFact<'_, F>,
+    ) -> Result<(), SearchFault> {
         for relation in known.relations() {
             if speaks_only_of(tracked, &relation.sum) && self.wants(relation) {
                 self.relate(relation)?;
@@ -182,7 +182,11 @@ impl<A: Allocator> Invariant<A> {
     }
 
     /// Adds those relations that speak of the accumulator or of written cells, in rising order.
-    fn take_touching(&mut self, cells: &WordSet, relations: &[Relation]) -> Result<(), Halt> {
+    fn take_touching(
+        &mut self,
+        cells: &WordSet,
+        relations: &[Relation],
+    ) -> Result<(), SearchFault> {
         let mut last: Option<Sum> = None;
         for _turn in 0..MOST_RELATIONS {
             let Some(relation) = first_behind(relations, &last) else {
@@ -197,7 +201,7 @@ impl<A: Allocator> Invariant<A> {
     }
 
     /// Adds a relation, if there is room and none of its sum.
-    pub(crate) fn relate(&mut self, relation: &Relation) -> Result<(), Halt> {
+    pub(crate) fn relate(&mut self, relation: &Relation) -> Result<(), SearchFault> {
         if self.relations.len() >= MOST_RELATIONS {
             return Ok(());
         }
@@ -205,7 +209,7 @@ impl<A: Allocator> Invariant<A> {
             return Ok(());
         }
         let Ok(()) = self.relations.push(*relation) else {
-            return Err(Halt::NoMemory);
+            return Err(SearchFault::NoMemory);
         };
         Ok(())
     }

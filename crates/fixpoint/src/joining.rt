@@ -1,10 +1,10 @@
 //! What a fact and something else that is known say both.
 
-use crate::halt::Halt;
+use crate::fault::SearchFault;
+use crate::incoming_fact::{IncomingFact, brief};
 use crate::invariant::{CellInvariant, Invariant, left_to};
-use crate::known::{Known, brief};
 use crate::sums::{difference, is_left_of};
-use crate::widening::{Limits, Pace, widened};
+use crate::widening::{Limits, WideningStrategy, widened};
 use domain::{Location, Relation, ReturnOffsets};
 use facts::KnownFact;
 use std::alloc::Allocator;
@@ -13,7 +13,7 @@ use wordset::WordSet;
 
 /// A name with one word before and another after.
 #[derive(Clone, Copy)]
-struct Moved {
+struct WordChange {
     name: Location,
     before: Word,
     after: Word,
@@ -25,7 +25,7 @@ fn more_than(a: Word, b: Word) -> Word {
 }
 
 /// The relation that two moved names keep, if they differ by the same before and after.
-fn kept_between(left: &Moved, right: &Moved) -> Option<Relation> {
+fn kept_between(left: &WordChange, right: &WordChange) -> Option<Relation> {
     let Location::Cell(cell) = right.name else {
         return None;
     };
@@ -62,23 +62,23 @@ struct Growth {
 
 /// Adds a name if it had one word and has another now.
 fn add_moved<A: Allocator, F: KnownFact>(
-    moved: &mut Vec<Moved, A>,
+    moved: &mut Vec<WordChange, A>,
     name: Location,
     old: Option<Word>,
-    known: &Known<'_, F>,
-) -> Result<(), Halt> {
+    known: &IncomingFact<'_, F>,
+) -> Result<(), SearchFault> {
     let Some(before) = old else {
         return Ok(());
     };
     let Some(after) = known.narrowed(&name).only() else {
         return Ok(());
     };
-    let Ok(()) = moved.push(Moved {
+    let Ok(()) = moved.push(WordChange {
         name,
         before,
         after,
     }) else {
-        return Err(Halt::NoMemory);
+        return Err(SearchFault::NoMemory);
     };
     Ok(())
 }
@@ -86,9 +86,9 @@ fn add_moved<A: Allocator, F: KnownFact>(
 /// Joins the words that a cell may hold now to those of its line, and tells whether it may hold any word then.
 fn grow<F: KnownFact>(
     line: &mut CellInvariant,
-    known: &Known<'_, F>,
+    known: &IncomingFact<'_, F>,
     limits: &Limits,
-    pace: Pace,
+    pace: WideningStrategy,
 ) -> bool {
     let cell = line.told.cell;
     let mut old = WordSet::all();
@@ -105,11 +105,11 @@ fn grow<F: KnownFact>(
 /// Joins to each line the words that its cell may hold now, and gathers the cells that moved.
 fn grow_all<A: Allocator, F: KnownFact>(
     cells: &mut [CellInvariant],
-    known: &Known<'_, F>,
+    known: &IncomingFact<'_, F>,
     limits: &Limits,
-    pace: Pace,
-    moved: &mut Vec<Moved, A>,
-) -> Result<Growth, Halt> {
+    pace: WideningStrategy,
+    moved: &mut Vec<WordChange, A>,
+) -> Result<Growth, SearchFault> {
     let mut growth = Growth {
         grew: false,
         lost: false,
@@ -134,10 +134,10 @@ impl<A: Allocator + Copy> Invariant<A> {
     pub(crate) fn join<F: KnownFact>(
         &mut self,
         alloc: A,
-        known: &Known<'_, F>,
+        known: &IncomingFact<'_, F>,
         limits: &Limits,
-        pace: Pace,
-    ) -> Result<bool, Halt> {
+        pace: WideningStrategy,
+    ) -> Result<bool, SearchFault> {
         let mut moved = Vec::new(alloc);
         let dropped = self.drop_relations(alloc, known)?;
         self.add_shown(known)?;
@@ -154,8 +154,8 @@ impl<A: Allocator + Copy> Invariant<A> {
     fn drop_relations<F: KnownFact>(
         &mut self,
         alloc: A,
-        known: &Known<'_, F>,
-    ) -> Result<bool, Halt> {
+        known: &IncomingFact<'_, F>,
+    ) -> Result<bool, SearchFault> {
         if self.knows_all(known) {
             return Ok(false);
         }
@@ -163,7 +163,7 @@ impl<A: Allocator + Copy> Invariant<A> {
         for relation in &self.relations {
             if known.knows(relation) {
                 let Ok(()) = left.push(*relation) else {
-                    return Err(Halt::NoMemory);
+                    return Err(SearchFault::NoMemory);
                 };
             }
         }
@@ -172,13 +172,13 @@ impl<A: Allocator + Copy> Invariant<A> {
     }
 
     /// Drops the cells that may hold any word.
-    fn drop_cells(&mut self, alloc: A) -> Result<(), Halt> {
+    fn drop_cells(&mut self, alloc: A) -> Result<(), SearchFault> {
         let mut left = Vec::new(alloc);
         let all = WordSet::all();
         for line in &self.cells {
             if !line.told.set.has_all(&all) {
                 let Ok(()) = left.push(*line) else {
-                    return Err(Halt::NoMemory);
+                    return Err(SearchFault::NoMemory);
                 };
             }
         }
@@ -189,7 +189,7 @@ impl<A: Allocator + Copy> Invariant<A> {
 
 impl<A: Allocator> Invariant<A> {
     /// Whether all relations are known.
-    fn knows_all<F: KnownFact>(&self, known: &Known<'_, F>) -> bool {
+    fn knows_all<F: KnownFact>(&self, known: &IncomingFact<'_, F>) -> bool {
         for relation in &self.relations {
             if !known.knows(relation) {
                 return false;
@@ -201,13 +201,13 @@ impl<A: Allocator> Invariant<A> {
     /// Joins the registers and the offsets, and tells whether one grew.
     fn join_registers<F: KnownFact>(
         &mut self,
-        known: &Known<'_, F>,
+        known: &IncomingFact<'_, F>,
         limits: &Limits,
-        pace: Pace,
-        moved: &mut Vec<Moved, A>,
-    ) -> Result<bool, Halt> {
+        pace: WideningStrategy,
+        moved: &mut Vec<WordChange, A>,
+    ) -> Result<bool, SearchFault> {
         let grew = !self.covers_registers(known);
-        self.mq = limits.smoothed(&self.mq.union(known.mq()));
+        self.mq = limits.with_few_runs(&self.mq.union(known.mq()));
         self.link = self.link.union(known.link());
         self.offsets = joined_offsets(self.offsets, known.offsets);
         if known.has_accumulator_within(&self.ac) {
@@ -223,14 +223,14 @@ impl<A: Allocator> Invariant<A> {
     }
 
     /// Whether MQ, the link and the offsets have no others.
-    fn covers_registers<F: KnownFact>(&self, known: &Known<'_, F>) -> bool {
+    fn covers_registers<F: KnownFact>(&self, known: &IncomingFact<'_, F>) -> bool {
         known.mq().is_subset(&self.mq)
             && known.link().is_subset(self.link)
             && known.offsets.is_subset(self.offsets)
     }
 
     /// Whether a name has no other words now than those that it has.
-    fn stays<F: KnownFact>(&self, name: &Location, known: &Known<'_, F>) -> bool {
+    fn stays<F: KnownFact>(&self, name: &Location, known: &IncomingFact<'_, F>) -> bool {
         match name {
             Location::Accumulator => known.has_accumulator_within(&self.ac),
             Location::Cell(cell) => match self.line_of(*cell) {
@@ -242,7 +242,7 @@ impl<A: Allocator> Invariant<A> {
 
     /// Adds those relations that are known now and that the words before fulfil, where not all of their names keep their one
     /// word.
-    fn add_shown<F: KnownFact>(&mut self, known: &Known<'_, F>) -> Result<(), Halt> {
+    fn add_shown<F: KnownFact>(&mut self, known: &IncomingFact<'_, F>) -> Result<(), SearchFault> {
         for relation in known.relations() {
             if self.shows(relation) && !self.keeps_all(relation, known) {
                 self.relate(relation)?;
@@ -252,7 +252,7 @@ impl<A: Allocator> Invariant<A> {
     }
 
     /// Whether no name of a relation has other words now than those that it has.
-    fn keeps_all<F: KnownFact>(&self, relation: &Relation, known: &Known<'_, F>) -> bool {
+    fn keeps_all<F: KnownFact>(&self, relation: &Relation, known: &IncomingFact<'_, F>) -> bool {
         for summand in relation.sum.summands() {
             if !self.stays(&summand.term.name(), known) {
                 return false;
@@ -262,7 +262,7 @@ impl<A: Allocator> Invariant<A> {
     }
 
     /// Adds the relations between names that moved by the same.
-    fn add_kept(&mut self, moved: &[Moved]) -> Result<(), Halt> {
+    fn add_kept(&mut self, moved: &[WordChange]) -> Result<(), SearchFault> {
         for left in moved {
             self.add_kept_of(left, moved)?;
         }
@@ -270,7 +270,7 @@ impl<A: Allocator> Invariant<A> {
     }
 
     /// Adds the relations between one name that moved and others that moved by the same.
-    fn add_kept_of(&mut self, left: &Moved, moved: &[Moved]) -> Result<(), Halt> {
+    fn add_kept_of(&mut self, left: &WordChange, moved: &[WordChange]) -> Result<(), SearchFault> {
         for right in moved {
             if let Some(relation) = kept_between(left, right) {
                 self.relate(&relation)?;

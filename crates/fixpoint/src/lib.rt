@@ -3,23 +3,23 @@
 //! it finds is only a guess, which `judge` tests.
 #![tactic(auto)]
 
-mod form;
-mod halt;
+mod certificate_form;
+mod certificates;
+mod fault;
+mod incoming_fact;
 mod invariant;
 mod joining;
-mod known;
-mod making;
 mod needs;
 mod of_sums;
 mod program;
 mod ranks;
-mod rooms;
 mod search;
 mod sums;
 mod table;
 mod widening;
+mod workspace;
 
-pub use halt::Halt;
+pub use fault::SearchFault;
 pub use of_sums::{Split, SumProgram, SumSearch};
 pub use program::AnalysedProgram;
 pub use search::{Patience, Search};

@@ -1,7 +1,7 @@
 //! Which cells are needed at an address: those that the words from there on may look at before they
 //! are written, and those of which something is declared to hold there. Only of these a quick search keeps what is known.
 
-use crate::halt::Halt;
+use crate::fault::SearchFault;
 use crate::program::{AnalysedProgram, is_reference};
 use declaration::{Assertion, Subject};
 use instruct::{Operation, refers_indirectly, target};
@@ -40,14 +40,14 @@ fn add_at<A: Allocator + Copy>(
     sets: &mut Sets<A>,
     at: Word,
     cells: &WordSet,
-) -> Result<bool, Halt> {
+) -> Result<bool, SearchFault> {
     let set = set_at(sets, at);
     if cells.is_subset(&set) {
         return Ok(false);
     }
     match sets.insert(at.index(), set.union(cells)) {
         Ok(_) => Ok(true),
-        Err(_) => Err(Halt::NoMemory),
+        Err(_) => Err(SearchFault::NoMemory),
     }
 }
 
@@ -144,7 +144,7 @@ impl<A: Allocator + Copy> Needs<A> {
         alloc: A,
         program: &AnalysedProgram<'_, D>,
         partners: &WordSet,
-    ) -> Result<Needs<A>, Halt> {
+    ) -> Result<Needs<A>, SearchFault> {
         let mut needs = Needs {
             cells: BTreeMap::new(alloc),
             writes: BTreeMap::new(alloc),
@@ -157,7 +157,10 @@ impl<A: Allocator + Copy> Needs<A> {
     }
 
     /// Finds what routines write.
-    fn find_writes<D: Allocator>(&mut self, program: &AnalysedProgram<'_, D>) -> Result<(), Halt> {
+    fn find_writes<D: Allocator>(
+        &mut self,
+        program: &AnalysedProgram<'_, D>,
+    ) -> Result<(), SearchFault> {
         for _round in 0..MOST_ROUNDS {
             if !self.add_writes(program)? {
                 return Ok(());
@@ -167,7 +170,10 @@ impl<A: Allocator + Copy> Needs<A> {
     }
 
     /// Adds what each routine writes, and tells whether something was added.
-    fn add_writes<D: Allocator>(&mut self, program: &AnalysedProgram<'_, D>) -> Result<bool, Halt> {
+    fn add_writes<D: Allocator>(
+        &mut self,
+        program: &AnalysedProgram<'_, D>,
+    ) -> Result<bool, SearchFault> {
         let mut grew = false;
         for routine in program.declaration.routines() {
             let cells = self.written_in(program, routine.body());
@@ -179,7 +185,10 @@ impl<A: Allocator + Copy> Needs<A> {
     }
 
     /// Adds to what is needed when routines return the cells of which something is to hold then.
-    fn add_returned<D: Allocator>(&mut self, program: &AnalysedProgram<'_, D>) -> Result<(), Halt> {
+    fn add_returned<D: Allocator>(
+        &mut self,
+        program: &AnalysedProgram<'_, D>,
+    ) -> Result<(), SearchFault> {
         for returning in program.declaration.returns() {
             let cells = subject_cell(returning.assertion()).meet(&program.named);
             add_at(&mut self.cells, returning.entry(), &cells)?;
@@ -188,7 +197,10 @@ impl<A: Allocator + Copy> Needs<A> {
     }
 
     /// Finds what is needed at each address.
-    fn find_cells<D: Allocator>(&mut self, program: &AnalysedProgram<'_, D>) -> Result<(), Halt> {
+    fn find_cells<D: Allocator>(
+        &mut self,
+        program: &AnalysedProgram<'_, D>,
+    ) -> Result<(), SearchFault> {
         for _round in 0..MOST_ROUNDS {
             if !self.add_cells(program)? {
                 return Ok(());
@@ -198,7 +210,10 @@ impl<A: Allocator + Copy> Needs<A> {
     }
 
     /// Adds what is needed at each address, from the last on, and tells whether something was added.
-    fn add_cells<D: Allocator>(&mut self, program: &AnalysedProgram<'_, D>) -> Result<bool, Halt> {
+    fn add_cells<D: Allocator>(
+        &mut self,
+        program: &AnalysedProgram<'_, D>,
+    ) -> Result<bool, SearchFault> {
         let mut grew = false;
         for more in 0..4096usize {
             let at = Word::from_index(4095 - more);
@@ -218,7 +233,7 @@ impl<A: Allocator + Copy> Needs<A> {
         &mut self,
         program: &AnalysedProgram<'_, D>,
         at: Word,
-    ) -> Result<WordSet, Halt> {
+    ) -> Result<WordSet, SearchFault> {
         let Some(word) = program.fixed_word(at) else {
             return Ok(program.named);
         };
@@ -237,7 +252,7 @@ impl<A: Allocator + Copy> Needs<A> {
         program: &AnalysedProgram<'_, D>,
         at: Word,
         word: Word,
-    ) -> Result<WordSet, Halt> {
+    ) -> Result<WordSet, SearchFault> {
         let named = target(word, at);
         let place = program.place_named(word, named);
         let next = self.at(at.increment());
@@ -262,7 +277,7 @@ impl<A: Allocator + Copy> Needs<A> {
         program: &AnalysedProgram<'_, D>,
         at: Word,
         place: Option<Word>,
-    ) -> Result<WordSet, Halt> {
+    ) -> Result<WordSet, SearchFault> {
         let Some(entry) = place else {
             return Ok(program.named);
         };

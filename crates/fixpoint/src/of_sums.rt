@@ -2,18 +2,18 @@
 //! are told apart.
 
 mod candidates;
-mod kept;
-mod making;
+mod certificates;
+mod invariants;
 mod merging;
 mod program;
 mod returning;
-mod rooms;
 mod search;
 mod splits;
 mod steps;
 mod table;
 mod text;
 mod widening;
+mod workspace;
 
 pub use program::SumProgram;
 pub use search::SumSearch;

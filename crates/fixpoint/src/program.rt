@@ -3,7 +3,7 @@
 ghost use Rattle.std.specs.Prelude.{◌≡◌};
 ghost use Rattle.fixpoint.specs.Asked.{MayBeAsked};
 
-use crate::halt::Halt;
+use crate::fault::SearchFault;
 use crate::widening::Limits;
 use bin_tape::Image;
 use declaration::{Declaration, Owner, Subject};
@@ -43,16 +43,16 @@ pub(crate) enum Body {
 /// A fact at an address of a body, with the sites that are known of the routine whose body it is. It is
 /// large, so the same one serves all visits.
 #[derive(Drop)]
-pub(crate) struct Visit {
+pub(crate) struct AbstractState {
     pub(crate) at: Word,
     pub(crate) fact: Fact,
     pub(crate) body: Body,
 }
 
-impl Visit {
+impl AbstractState {
     /// Before the first visit.
-    pub(crate) fn first() -> Visit {
-        Visit {
+    pub(crate) fn first() -> AbstractState {
+        AbstractState {
             at: Word::ZERO,
             fact: Fact::any(),
             body: Body::Main,
@@ -345,9 +345,9 @@ impl<D: Allocator> AnalysedProgram<'_, D> {
     }
 
     /// The owner of an address.
-    pub(crate) fn owner(&self, at: Word) -> Result<Owner, Halt> {
+    pub(crate) fn owner(&self, at: Word) -> Result<Owner, SearchFault> {
         match self.declaration.owner_of(at) {
-            None => Err(Halt::Stuck(at)),
+            None => Err(SearchFault::Stuck(at)),
             Some(owner) => Ok(owner),
         }
     }
@@ -363,7 +363,7 @@ impl<D: Allocator> AnalysedProgram<'_, D> {
     }
 
     /// The words that are possible where a fact stands.
-    pub(crate) fn possible(&self, visit: &Visit) -> WordSet {
+    pub(crate) fn possible(&self, visit: &AbstractState) -> WordSet {
         let mut possible = WordSet::empty();
         self.place(&visit.body)
             .put_possible(&visit.fact, visit.at, &mut possible);
@@ -371,7 +371,7 @@ impl<D: Allocator> AnalysedProgram<'_, D> {
     }
 
     /// Whether a word's reads are listed, and it calls through no auto-index cell.
-    pub(crate) fn may_stand(&self, visit: &Visit, word: Word) -> bool {
+    pub(crate) fn may_stand(&self, visit: &AbstractState, word: Word) -> bool {
         if is_call(word) && steps_pointer(word, target(word, visit.at)) {
             return false;
         }
@@ -381,7 +381,7 @@ impl<D: Allocator> AnalysedProgram<'_, D> {
 
     /// Whether a word, which may write some cells, has a meaning, writes only what it may, and is no HLT where the program may
     /// not halt. Mostly it writes variables alone.
-    pub(crate) fn may_run(&self, visit: &Visit, word: Word, written: &WordSet) -> bool {
+    pub(crate) fn may_run(&self, visit: &AbstractState, word: Word, written: &WordSet) -> bool {
         if !self.may_be_met(visit.at, word) {
             return false;
         }
@@ -405,7 +405,7 @@ impl<D: Allocator> AnalysedProgram<'_, D> {
     }
 
     /// The cells that a word may write, save the one that a JMS itself writes.
-    pub(crate) fn written(&self, visit: &Visit, word: Word) -> WordSet {
+    pub(crate) fn written(&self, visit: &AbstractState, word: Word) -> WordSet {
         let mut cells = WordSet::empty();
         self.place(&visit.body)
             .put_writes(&visit.fact, visit.at, word, &mut cells);
@@ -414,7 +414,7 @@ impl<D: Allocator> AnalysedProgram<'_, D> {
 
     /// Puts what may come of a word into the lent room.
     #[tactic(auto, using(crate::proofs::AskedLemmas::few_chains, crate::proofs::AskedLemmas::short_chains))]
-    pub(crate) fn put_outcomes(&self, visit: &Visit, word: Word, outcomes: &mut Outcomes)
+    pub(crate) fn put_outcomes(&self, visit: &AbstractState, word: Word, outcomes: &mut Outcomes)
         requires { MayBeAsked visit.now.fact }
     {
         visit.fact.is_within_room();
@@ -424,7 +424,7 @@ impl<D: Allocator> AnalysedProgram<'_, D> {
 
     /// The addresses for which a routine abandons all open calls by a word: where it is not main and the word is a JMP they
     /// are the declared ones, and else there are none.
-    pub(crate) fn abandoned_by(&self, visit: &Visit, word: Word) -> WordSet {
+    pub(crate) fn abandoned_by(&self, visit: &AbstractState, word: Word) -> WordSet {
         match &visit.body {
             Body::Main => WordSet::empty(),
             Body::Of(_) if word.index() / 0o1000 == 5 => *self.declaration.abandons(),
@@ -433,7 +433,7 @@ impl<D: Allocator> AnalysedProgram<'_, D> {
     }
 
     /// The entry through which a word returns: that of a JMP I through one.
-    pub(crate) fn returned_entry(&self, visit: &Visit, word: Word) -> Option<Word> {
+    pub(crate) fn returned_entry(&self, visit: &AbstractState, word: Word) -> Option<Word> {
         if word.index() / 0o1000 != 5 || !refers_indirectly(word) {
             return None;
         }

@@ -1,6 +1,6 @@
 //! Ranks of routines, and calls that go round in a circle.
 
-use crate::making::MOST_ROUTINES;
+use crate::certificates::MOST_ROUTINES;
 use crate::table::Candidate;
 use certificate_lines::RoutineClaim;
 use declaration::Declaration;

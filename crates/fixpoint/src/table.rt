@@ -4,10 +4,10 @@ ghost use Rattle.std.specs.Prelude.{◌≡◌, true, option_map};
 ghost use Rattle.fixpoint.specs.Asked.{MayBeAsked};
 ghost use Rattle.fixpoint.specs.Claimed.{kept_at, row_at, exit_in};
 
-use crate::halt::Halt;
+use crate::fault::SearchFault;
+use crate::incoming_fact::IncomingFact;
 use crate::invariant::Invariant;
-use crate::known::Known;
-use crate::widening::{Limits, Pace};
+use crate::widening::{Limits, WideningStrategy};
 use certificate_lines::RoutineClaim;
 use facts::{Fact, KnownFact};
 use std::alloc::Allocator;
@@ -39,7 +39,7 @@ impl<A: Allocator + Copy> Candidate<A> {
     }
 
     /// Lists the routine of an entry, with nothing known of it, if it is not listed.
-    pub(crate) fn list(&mut self, alloc: A, entry: Word) -> Result<(), Halt> {
+    pub(crate) fn list(&mut self, alloc: A, entry: Word) -> Result<(), SearchFault> {
         if self.row(entry).is_some() {
             return Ok(());
         }
@@ -52,15 +52,15 @@ impl<A: Allocator + Copy> Candidate<A> {
         let row = Summary { routine, exits };
         match self.routines.insert(entry.index(), row) {
             Ok(_) => Ok(()),
-            Err(_) => Err(Halt::NoMemory),
+            Err(_) => Err(SearchFault::NoMemory),
         }
     }
 
     /// Keeps a fact at an address.
-    pub(crate) fn keep(&mut self, at: Word, kept: Invariant<A>) -> Result<(), Halt> {
+    pub(crate) fn keep(&mut self, at: Word, kept: Invariant<A>) -> Result<(), SearchFault> {
         match self.facts.insert(at.index(), kept) {
             Ok(_) => Ok(()),
-            Err(_) => Err(Halt::NoMemory),
+            Err(_) => Err(SearchFault::NoMemory),
         }
     }
 
@@ -70,13 +70,13 @@ impl<A: Allocator + Copy> Candidate<A> {
         entry: Word,
         offset: usize,
         kept: Invariant<A>,
-    ) -> Result<(), Halt> {
+    ) -> Result<(), SearchFault> {
         let Some(row) = self.routines.get_mut(&entry.index()) else {
             return Ok(());
         };
         match row.exits.insert(offset, kept) {
             Ok(_) => Ok(()),
-            Err(_) => Err(Halt::NoMemory),
+            Err(_) => Err(SearchFault::NoMemory),
         }
     }
 }
@@ -88,10 +88,10 @@ impl<A: Allocator + Copy> Candidate<A> {
         &mut self,
         alloc: A,
         at: Word,
-        known: &Known<'_, F>,
+        known: &IncomingFact<'_, F>,
         limits: &Limits,
-        pace: Pace,
-    ) -> Result<bool, Halt> {
+        pace: WideningStrategy,
+    ) -> Result<bool, SearchFault> {
         if let Some(kept) = self.facts.get_mut(&at.index()) {
             return kept.join(alloc, known, limits, pace);
         }
@@ -105,10 +105,10 @@ impl<A: Allocator + Copy> Candidate<A> {
         alloc: A,
         entry: Word,
         offset: usize,
-        known: &Known<'_, F>,
+        known: &IncomingFact<'_, F>,
         limits: &Limits,
-        pace: Pace,
-    ) -> Result<bool, Halt> {
+        pace: WideningStrategy,
+    ) -> Result<bool, SearchFault> {
         if let Some(row) = self.routines.get_mut(&entry.index()) {
             if let Some(kept) = row.exits.get_mut(&offset) {
                 return kept.join(alloc, known, limits, pace);

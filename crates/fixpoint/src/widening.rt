@@ -35,7 +35,7 @@ pub const ONE_RUN: usize = 1;
 
 /// How soon sets are widened.
 #[derive(Clone, Copy)]
-pub(crate) enum Pace {
+pub(crate) enum WideningStrategy {
     /// After few growths, on to the next landmarks.
     SoonBack,
     /// After few growths, to all words.
@@ -57,7 +57,7 @@ pub(crate) struct Limits {
 
 impl Limits {
     /// A set, filled where it has too many runs.
-    pub(crate) fn smoothed(&self, set: &WordSet) -> WordSet {
+    pub(crate) fn with_few_runs(&self, set: &WordSet) -> WordSet {
         let after = set.shift(Word::ZERO.increment());
         if set.minus(&after).count() > self.most_runs {
             filled(set)
@@ -131,7 +131,7 @@ fn to_landmarks(old: &WordSet, set: &WordSet, landmarks: &WordSet) -> WordSet {
 /// How often a set may grow on the way back before it goes on to the next landmarks, and before nothing
 /// is said of it any more.
 #[derive(Clone, Copy)]
-struct Steps {
+struct GrowthLimits {
     first: u32,
     last: u32,
 }
@@ -143,9 +143,9 @@ fn quickly(
     growths: u32,
     counted: bool,
     limits: &Limits,
-    steps: Steps,
+    steps: GrowthLimits,
 ) -> WordSet {
-    let smooth = limits.smoothed(set);
+    let smooth = limits.with_few_runs(set);
     if growths < steps.first {
         return smooth;
     }
@@ -166,7 +166,7 @@ fn patiently(set: &WordSet, growths: u32, counted: bool, limits: &Limits) -> Wor
     if counted && growths >= COUNT_GROWTHS && is_negative(set) {
         return up_to_the_end(set);
     }
-    limits.smoothed(set)
+    limits.with_few_runs(set)
 }
 
 /// A set that grew, widened after few growths.
@@ -177,7 +177,7 @@ fn soon(set: &WordSet, growths: u32, counted: bool, limits: &Limits) -> WordSet 
     if counted && growths >= SOON_COUNT_GROWTHS && is_negative(set) {
         return up_to_the_end(set);
     }
-    limits.smoothed(set)
+    limits.with_few_runs(set)
 }
 
 /// A set that grew out of another so often.
@@ -187,20 +187,20 @@ pub(crate) fn widened(
     growths: u32,
     counted: bool,
     limits: &Limits,
-    pace: Pace,
+    pace: WideningStrategy,
 ) -> WordSet {
     match pace {
-        Pace::Patient => patiently(set, growths, counted, limits),
-        Pace::Soon => soon(set, growths, counted, limits),
-        Pace::Quick => {
-            let steps = Steps {
+        WideningStrategy::Patient => patiently(set, growths, counted, limits),
+        WideningStrategy::Soon => soon(set, growths, counted, limits),
+        WideningStrategy::Quick => {
+            let steps = GrowthLimits {
                 first: QUICK_GROWTHS,
                 last: LANDMARK_GROWTHS,
             };
             quickly(old, set, growths, counted, limits, steps)
         }
-        Pace::SoonBack => {
-            let steps = Steps {
+        WideningStrategy::SoonBack => {
+            let steps = GrowthLimits {
                 first: SOON_QUICK_GROWTHS,
                 last: SOON_LANDMARK_GROWTHS,
             };

@@ -100,16 +100,16 @@ impl Flags for Group2 {
 
 /// The bits of a memory reference beside its operation and its place.
 #[derive(Clone, Copy, PartialEq, Eq, Debug)]
-pub struct Reference(pub u16);
+pub struct ReferenceBits(pub u16);
 
 bitflag_items! {
-    impl Reference: u16 {
+    impl ReferenceBits: u16 {
         const INDIRECT = 256;
         const CURRENT_PAGE = 128;
     }
 }
 
-impl Flags for Reference {
+impl Flags for ReferenceBits {
     type Bits = u16;
 
     ghost exact = { ⊤ };
@@ -119,15 +119,15 @@ impl Flags for Reference {
 
     ghost set_of = { λ p. p.0 };
 
-    fn flags<'a>() -> &'a [Flag<Reference>] {
-        Reference::FLAGS
+    fn flags<'a>() -> &'a [Flag<ReferenceBits>] {
+        ReferenceBits::FLAGS
     }
 
     fn bits(&self) -> u16 {
         self.0
     }
 
-    fn from_bits_retain(bits: u16) -> Reference {
-        Reference(bits)
+    fn from_bits_retain(bits: u16) -> ReferenceBits {
+        ReferenceBits(bits)
     }
 }

@@ -17,7 +17,7 @@ ghost use Rattle.instruct.specs.declared.Instruction.TheVariants.{Memory};
 ghost use Rattle.instruct.specs.Bits.{named_cell, is_indirect};
 ghost use Rattle.instruct.specs.Instructions.{instruction_of, kind_of, meaning_of, operation_of, reference_at, device_action, device_meaning, operate_meaning, group3_meaning, is_group1};
 
-use crate::bits::{Group1, Group2, Reference};
+use crate::bits::{Group1, Group2, ReferenceBits};
 use crate::operate::MqOperation;
 use bitflags::Flags;
 pub use devices::DeviceOperation;
@@ -171,7 +171,7 @@ fn is_group_1(bits: Group1, profile: Profile) -> bool
 pub fn target(word: Word, at: Word) -> Word
     ensures { result ≡ named_cell word at }
 {
-    if Reference(word.value()).contains(Reference::CURRENT_PAGE) {
+    if ReferenceBits(word.value()).contains(ReferenceBits::CURRENT_PAGE) {
         word.in_page_of(at)
     } else {
         word.place()
@@ -183,5 +183,5 @@ pub fn target(word: Word, at: Word) -> Word
 pub fn refers_indirectly(word: Word) -> bool
     ensures { result ≡ is_indirect word }
 {
-    Reference(word.value()).contains(Reference::INDIRECT)
+    ReferenceBits(word.value()).contains(ReferenceBits::INDIRECT)
 }

@@ -10,7 +10,7 @@ ghost use Rattle.instruct.specs.Operates.{mq_operate_of};
 ghost use Rattle.instruct.specs.Instructions.{instruction_of};
 ghost use Rattle.instruct.specs.Names.{name_of, mnemonic, memory_name, named_if, spaced, rotate_names, group1_names, test_names, group2_names, group3_name_if, device_name_if, IsSpaced, Adds};
 
-use crate::bits::{Group1, Group2, Reference};
+use crate::bits::{Group1, Group2, ReferenceBits};
 use crate::operate::MqOperation;
 use crate::{DeviceOperation, Instruction, Operation, Profile, decode, refers_indirectly};
 use arrayvec::ArrayString;
@@ -83,7 +83,7 @@ fn name_page(word: Word) -> &'static str
     ensures name { result.now ≡ (if has_bit 7 word then codes " C" else codes " Z") }
     ensures short { length result.now ≡ 2 }
 {
-    if Reference(word.value()).contains(Reference::CURRENT_PAGE) {
+    if ReferenceBits(word.value()).contains(ReferenceBits::CURRENT_PAGE) {
         " C"
     } else {
         " Z"

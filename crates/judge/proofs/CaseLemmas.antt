@@ -6,7 +6,7 @@ use Rattle.std.proofs.lemmas.Bool.{true≢false, false≢true, cases_lt, eqb-tru
 use Rattle.wordset.specs.Words.{Words, HasNoneFrom, IsFirstFrom}
 use Rattle.processor.specs.Runs.{Image}
 use Rattle.declaration.specs.Declaration.{Routine, ReturnAssertion}
-use Rattle.declaration.specs.Kept.{return_assertion_of}
+use Rattle.declaration.specs.DeclarationInCode.{return_assertion_of}
 use Rattle.declaration.specs.declared.ReturnAssertion.{ReturnAssertion as KeptReturnAssertion}
 use Rattle.domain.specs.Facts.{Fact, Place, Rules, OfEquations, OfSums}
 use Rattle.facts.specs.Conditions.{EachIsHeldBy}

@@ -9,7 +9,7 @@ use Rattle.certificate_lines.specs.RisingLists.{Each}
 use Rattle.certificate_lines.specs.LineOf.{is_relation, is_summand}
 use Rattle.certificate_lines.specs.Lines.{Line}
 use Rattle.certificate_lines.specs.Reading.{routine_at, is_listed, rank_in, sites_in, writes_in}
-use Rattle.certificate_lines.specs.Kept.{Follows, HasShape as IsShaped}
+use Rattle.certificate_lines.specs.CertificateInCode.{Follows, HasShape as IsShaped}
 use Rattle.domain.specs.Chains.{Chain}
 use Rattle.domain.specs.ChainsInCode.{AreShort}
 use Rattle.domain.specs.Facts.{Fact, Relation}

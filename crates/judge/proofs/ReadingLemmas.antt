@@ -9,7 +9,7 @@ use Rattle.declaration.specs.Text.{Declares, ListsRoutines}
 use Rattle.declaration.proofs.AnswerLemmas.{one_declaration}
 use Rattle.facts.specs.declared.Condition.{Condition}
 use Rattle.certificate_lines.specs.Certificate.{Certificate}
-use Rattle.certificate_lines.specs.Kept as certified
+use Rattle.certificate_lines.specs.CertificateInCode as certified
 use Rattle.certificate_lines.specs.Reading.{Text, certificate_of, reading}
 use Rattle.certificate_lines.specs.declared.CertificateFault.{CertificateFault}
 use Rattle.judge.specs.Landing.{Case}

@@ -3,11 +3,11 @@ use Rattle.std.specs.Prelude.{◌≡◌, ◌≢◌, ℕ, ◌⊎◌, ⊤, Option,
 use Rattle.bin_tape.specs.Tape.{IsTape}
 use Rattle.bin_tape.specs.Refuses.{Refuses}
 use Rattle.peripherals.specs.Loading.{image_of}
-use Rattle.declaration.specs.Kept as declared
+use Rattle.declaration.specs.DeclarationInCode as declared
 use Rattle.declaration.specs.Text.{Declares, Fails, ListsRoutines}
 use Rattle.declaration.specs.Declaration.{Declaration}
 use Rattle.declaration.specs.declared.DeclarationFault.TheVariants as declaration
-use Rattle.certificate_lines.specs.Kept as certified
+use Rattle.certificate_lines.specs.CertificateInCode as certified
 use Rattle.certificate_lines.specs.Reading.{Text, reading}
 use Rattle.certificate_lines.specs.Serving.{AsksForMemory}
 use Rattle.processor.specs.Runs.{Image}

@@ -1,7 +1,7 @@
 -- What is judged, from what the code is given.
 use Rattle.std.specs.Prelude.{List, Option, ℕ}
 use Rattle.peripherals.specs.Loading.{image_of}
-use Rattle.declaration.specs.Kept.{Kept, meaning}
+use Rattle.declaration.specs.DeclarationInCode.{Kept, meaning}
 use Rattle.certificate_lines.specs.Certificate.{Certificate}
 use Rattle.judge.specs.Landing.{Case}
 use Rattle.judge.specs.declared.case.Case.{Case as KeptCase}

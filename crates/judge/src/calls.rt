@@ -12,8 +12,8 @@ ghost use Rattle.judge.specs.Callees.{HoldsOfCallee, IsBelow, LandsBy, LandsWith
 ghost use Rattle.judge.specs.Points.{IsPoint, HoldsHere, case_of, fact_asked};
 
 use crate::claims::Claims;
-use crate::point::{Others, Point};
-use crate::sources::ExitsFor;
+use crate::point::{ComparisonWorkspace, Point};
+use crate::sources::OffsetExits;
 use certificate_lines::RoutineClaim;
 use domain::{ReturnOffsets, Rules};
 use facts::{Condition, FactSource};
@@ -34,7 +34,11 @@ fn last_site(rules: &Rules) -> usize
 
 impl<A: Allocator, C: Claims, const K: usize, const S: usize> Point<'_, A, C, K, S> {
     /// Whether a word calls listed entries of lower rank alone, and not through an auto-index cell.
-    pub(crate) fn may_call<M: Allocator>(&self, word: Word, others: &mut Others<M>) -> bool
+    pub(crate) fn may_call<M: Allocator>(
+        &self,
+        word: Word,
+        others: &mut ComparisonWorkspace<M>,
+    ) -> bool
         requires { IsPoint C.claims self.now }
         ensures { IsTrue result ↔ HoldsHere C.claims self.now V7 word }
     {
@@ -45,7 +49,11 @@ impl<A: Allocator, C: Claims, const K: usize, const S: usize> Point<'_, A, C, K,
     }
 
     /// Whether the routine, if it is not main, covers all that a word calls.
-    pub(crate) fn covers_callees<M: Allocator>(&self, word: Word, others: &mut Others<M>) -> bool
+    pub(crate) fn covers_callees<M: Allocator>(
+        &self,
+        word: Word,
+        others: &mut ComparisonWorkspace<M>,
+    ) -> bool
         requires { IsPoint C.claims self.now }
         ensures { IsTrue result ↔ HoldsHere C.claims self.now V8 word }
     {
@@ -53,7 +61,11 @@ impl<A: Allocator, C: Claims, const K: usize, const S: usize> Point<'_, A, C, K,
     }
 
     /// Whether the address is a site of all that a word calls.
-    pub(crate) fn calls_from_sites<M: Allocator>(&self, word: Word, others: &mut Others<M>) -> bool
+    pub(crate) fn calls_from_sites<M: Allocator>(
+        &self,
+        word: Word,
+        others: &mut ComparisonWorkspace<M>,
+    ) -> bool
         requires { IsPoint C.claims self.now }
         ensures { IsTrue result ↔ HoldsHere C.claims self.now V9 word }
     {
@@ -61,7 +73,11 @@ impl<A: Allocator, C: Claims, const K: usize, const S: usize> Point<'_, A, C, K,
     }
 
     /// Whether the fact lands at the first address of all that a word calls.
-    pub(crate) fn enters_callees<M: Allocator>(&self, word: Word, others: &mut Others<M>) -> bool
+    pub(crate) fn enters_callees<M: Allocator>(
+        &self,
+        word: Word,
+        others: &mut ComparisonWorkspace<M>,
+    ) -> bool
         requires { IsPoint C.claims self.now }
         ensures { IsTrue result ↔ HoldsHere C.claims self.now V10 word }
     {
@@ -69,7 +85,11 @@ impl<A: Allocator, C: Claims, const K: usize, const S: usize> Point<'_, A, C, K,
     }
 
     /// Whether the run lands after each return of all that a word calls.
-    pub(crate) fn lands_after_calls<M: Allocator>(&self, word: Word, others: &mut Others<M>) -> bool
+    pub(crate) fn lands_after_calls<M: Allocator>(
+        &self,
+        word: Word,
+        others: &mut ComparisonWorkspace<M>,
+    ) -> bool
         requires { IsPoint C.claims self.now }
         ensures { IsTrue result ↔ HoldsHere C.claims self.now V11 word }
     {
@@ -78,7 +98,11 @@ impl<A: Allocator, C: Claims, const K: usize, const S: usize> Point<'_, A, C, K,
 
     /// Whether a word that returns does so from its own routine, at declared offsets among whose exits the
     /// fact lands.
-    pub(crate) fn returns_well<M: Allocator>(&self, word: Word, others: &mut Others<M>) -> bool
+    pub(crate) fn returns_well<M: Allocator>(
+        &self,
+        word: Word,
+        others: &mut ComparisonWorkspace<M>,
+    ) -> bool
         requires { IsPoint C.claims self.now }
         ensures { IsTrue result ↔ HoldsHere C.claims self.now V12 word }
     {
@@ -93,7 +117,7 @@ impl<A: Allocator, C: Claims, const K: usize, const S: usize> Point<'_, A, C, K,
         &self,
         condition: Condition,
         word: Word,
-        others: &mut Others<M>,
+        others: &mut ComparisonWorkspace<M>,
     ) -> bool
         requires { IsPoint C.claims self.now }
         ensures { IsTrue result ↔
@@ -115,7 +139,7 @@ impl<A: Allocator, C: Claims, const K: usize, const S: usize> Point<'_, A, C, K,
         &self,
         condition: Condition,
         word: Word,
-        others: &mut Others<M>,
+        others: &mut ComparisonWorkspace<M>,
     ) -> bool
         requires { IsPoint C.claims self.now }
         ensures { IsTrue result ↔
@@ -140,7 +164,7 @@ impl<A: Allocator, C: Claims, const K: usize, const S: usize> Point<'_, A, C, K,
         &self,
         condition: Condition,
         entry: Word,
-        others: &mut Others<M>,
+        others: &mut ComparisonWorkspace<M>,
     ) -> bool
         requires { IsPoint C.claims self.now }
         ensures { IsTrue result ↔
@@ -250,7 +274,7 @@ impl<A: Allocator, C: Claims, const K: usize, const S: usize> Point<'_, A, C, K,
     /// Whether the fact lands at the first address after an entry, with the return word not counted
     /// up, and this address as the only site.
     #[inline(never)]
-    fn enters<M: Allocator>(&self, entry: Word, others: &mut Others<M>) -> bool
+    fn enters<M: Allocator>(&self, entry: Word, others: &mut ComparisonWorkspace<M>) -> bool
         requires { IsPoint C.claims self.now }
         ensures { IsTrue result ↔
             HoldsOfCallee (case_of C.claims self.now) V10 self.now.place.routine self.now.at
@@ -268,7 +292,7 @@ impl<A: Allocator, C: Claims, const K: usize, const S: usize> Point<'_, A, C, K,
     }
 
     /// Whether the run lands after each return that is claimed of an entry.
-    fn lands_after<M: Allocator>(&self, entry: Word, others: &mut Others<M>) -> bool
+    fn lands_after<M: Allocator>(&self, entry: Word, others: &mut ComparisonWorkspace<M>) -> bool
         requires { IsPoint C.claims self.now }
         ensures { IsTrue result ↔
             LandsAfter (case_of C.claims self.now) self.now.place.routine self.now.at entry
@@ -291,7 +315,7 @@ impl<A: Allocator, C: Claims, const K: usize, const S: usize> Point<'_, A, C, K,
         entry: Word,
         offset: usize,
         callee: &RoutineClaim,
-        others: &mut Others<M>,
+        others: &mut ComparisonWorkspace<M>,
     ) -> bool
         requires point { IsPoint C.claims self.now }
         requires offset { offset < 64 }
@@ -303,7 +327,7 @@ impl<A: Allocator, C: Claims, const K: usize, const S: usize> Point<'_, A, C, K,
             LandsBy (case_of C.claims self.now) self.now.place.routine self.now.at entry offset
             (fact_asked self.now) }
     {
-        let exits = ExitsFor {
+        let exits = OffsetExits {
             claims: self.claims,
             entry,
             offset,
@@ -325,7 +349,7 @@ impl<A: Allocator, C: Claims, const K: usize, const S: usize> Point<'_, A, C, K,
         &self,
         offset: usize,
         written: &WordSet,
-        others: &mut Others<M>,
+        others: &mut ComparisonWorkspace<M>,
     ) -> bool
         requires point { IsPoint C.claims self.now }
         requires offset { offset < 64 }
@@ -347,7 +371,11 @@ impl<A: Allocator, C: Claims, const K: usize, const S: usize> Point<'_, A, C, K,
     }
 
     /// Whether a return through an entry is the routine's own, and each offset of the fact passes.
-    fn returns_through<M: Allocator>(&self, entry: Word, others: &mut Others<M>) -> bool
+    fn returns_through<M: Allocator>(
+        &self,
+        entry: Word,
+        others: &mut ComparisonWorkspace<M>,
+    ) -> bool
         requires { IsPoint C.claims self.now }
         ensures { IsTrue result ↔
             ReturnsThrough (case_of C.claims self.now) self.now.place.routine entry
@@ -375,7 +403,12 @@ impl<A: Allocator, C: Claims, const K: usize, const S: usize> Point<'_, A, C, K,
     }
 
     /// Whether the routine may return by an offset, if the fact has that.
-    fn returns_by<M: Allocator>(&self, entry: Word, offset: usize, others: &mut Others<M>) -> bool
+    fn returns_by<M: Allocator>(
+        &self,
+        entry: Word,
+        offset: usize,
+        others: &mut ComparisonWorkspace<M>,
+    ) -> bool
         requires point { IsPoint C.claims self.now }
         requires own { self.now.place.routine ≡ Some entry }
         requires offset { offset < 64 }
@@ -393,7 +426,7 @@ impl<A: Allocator, C: Claims, const K: usize, const S: usize> Point<'_, A, C, K,
         &self,
         entry: Word,
         offset: usize,
-        others: &mut Others<M>,
+        others: &mut ComparisonWorkspace<M>,
     ) -> bool
         requires point { IsPoint C.claims self.now }
         requires own { self.now.place.routine ≡ Some entry }
@@ -409,7 +442,7 @@ impl<A: Allocator, C: Claims, const K: usize, const S: usize> Point<'_, A, C, K,
             return false;
         }
         others.next.copy_from(self.fact);
-        let exits = ExitsFor {
+        let exits = OffsetExits {
             claims: self.claims,
             entry,
             offset,

@@ -21,14 +21,14 @@ ghost use Rattle.judge.specs.Asked.{ExitIsHeld, ExitsAreHeldBy};
 use crate::body::Body;
 use crate::cache::FactCache;
 use crate::claims::Claims;
-use crate::point::{Others, Point, boxed_landing, boxed_outcomes, place_of};
+use crate::point::{ComparisonWorkspace, Point, boxed_landing, boxed_outcomes, place_of};
 use crate::sited::put_sites;
-use crate::sources::FactsAt;
+use crate::sources::AddressFacts;
 use crate::words::nth;
 use bin_tape::Image;
 use declaration::{Declaration, Owner};
 use domain::{Rules, SumFact};
-use facts::{Condition, Fact, LandingRooms, NarrowedFact};
+use facts::{Condition, Fact, LandingWorkspace, NarrowedFact};
 use std::alloc::{AllocError, Allocator};
 use transfer::{NextFact, Outcomes};
 use word12::Word;
@@ -52,32 +52,32 @@ pub struct Case<'a, A: Allocator, C: Claims> {
 
 /// Room for a fact as it is claimed, for the same fact as it is asked, and for others.
 #[derive(Drop)]
-pub(crate) struct CheckRooms<M: Allocator> {
+pub(crate) struct CheckWorkspace<M: Allocator> {
     claimed: Fact,
     fact: NarrowedFact,
-    others: Others<M>,
+    others: ComparisonWorkspace<M>,
 }
 
 /// Room for all that is judged: for a fact of which conditions are asked and what it is compared with, and for the only facts at
 /// even and at odd addresses.
 #[derive(Drop)]
-pub struct Rooms<M: Allocator> {
-    pub(crate) checks: CheckRooms<M>,
+pub struct JudgeWorkspace<M: Allocator> {
+    pub(crate) checks: CheckWorkspace<M>,
     pub(crate) even: FactCache,
     pub(crate) odd: FactCache,
 }
 
-impl<M: Allocator + Copy> Rooms<M> {
+impl<M: Allocator + Copy> JudgeWorkspace<M> {
     /// Room that nothing stands in, in memory that an allocator gives, since it takes 4 MB.
     ///
     /// # Errors
     ///
     /// `AllocError` where the room was refused.
     #[inline(never)]
-    pub fn boxed(memory: M) -> Result<Box<Rooms<M>, M>, AllocError> {
+    pub fn boxed(memory: M) -> Result<Box<JudgeWorkspace<M>, M>, AllocError> {
         let outcomes = boxed_outcomes(memory)?;
         let landing = boxed_landing(memory)?;
-        Rooms::boxed_around(memory, outcomes, landing)
+        JudgeWorkspace::boxed_around(memory, outcomes, landing)
     }
 
     /// The same around its largest parts.
@@ -85,15 +85,15 @@ impl<M: Allocator + Copy> Rooms<M> {
     fn boxed_around(
         memory: M,
         outcomes: Box<Outcomes, M>,
-        landing: Box<LandingRooms, M>,
-    ) -> Result<Box<Rooms<M>, M>, AllocError> {
+        landing: Box<LandingWorkspace, M>,
+    ) -> Result<Box<JudgeWorkspace<M>, M>, AllocError> {
         Ok(Box::new(
             memory,
-            Rooms {
-                checks: CheckRooms {
+            JudgeWorkspace {
+                checks: CheckWorkspace {
                     claimed: Fact::any(),
                     fact: NarrowedFact::any(),
-                    others: Others {
+                    others: ComparisonWorkspace {
                         exit: Fact::any(),
                         next: NextFact::any(),
                         outcomes,
@@ -131,7 +131,7 @@ pub fn put_asked(rules: &Rules, image: &Image, claimed: &Fact, fact: &mut Narrow
 
 impl<A: Allocator, C: Claims> Case<'_, A, C> {
     /// Whether one of the facts at the start holds of every start.
-    pub fn starts_well<M: Allocator>(&self, rooms: &mut Rooms<M>) -> bool
+    pub fn starts_well<M: Allocator>(&self, rooms: &mut JudgeWorkspace<M>) -> bool
         ensures starts { IsTrue result ↔
             HoldsAt (case_kept C.claims self.now) V1 (case_kept C.claims self.now).declaration.start }
         ensures even { rooms.new.even ≡ rooms.old.even }
@@ -139,7 +139,7 @@ impl<A: Allocator, C: Claims> Case<'_, A, C> {
     {
         self.declaration.is_declared();
         let place = place_of(self.image, self.declaration, &None, self.claims.rules());
-        let among = FactsAt {
+        let among = AddressFacts {
             claims: self.claims,
             at: self.declaration.start(),
             sites: &WordSet::empty(),
@@ -178,7 +178,7 @@ impl<A: Allocator, C: Claims> Case<'_, A, C> {
         is_named: bool,
         near: &mut usize,
         body: &mut Body,
-        rooms: &mut Rooms<M>,
+        rooms: &mut JudgeWorkspace<M>,
     ) -> Result<(), Condition>
         requires named { is_named ≡ names_routine (C.claims self.now.claims.now) at }
         requires body { Tells (C.claims self.now.claims.now) body.old }
@@ -194,7 +194,7 @@ impl<A: Allocator, C: Claims> Case<'_, A, C> {
         if is_named && !self.declaration.is_entry(at) {
             return Err(Condition::V2);
         }
-        let Rooms { checks, even, odd } = rooms;
+        let JudgeWorkspace { checks, even, odd } = rooms;
         if at.index() % 2 == 0 {
             return self.check_here(at, near, body, even, odd, checks);
         }
@@ -210,7 +210,7 @@ impl<A: Allocator, C: Claims> Case<'_, A, C> {
         body: &mut Body,
         here: &mut FactCache,
         following: &mut FactCache,
-        rooms: &mut CheckRooms<M>,
+        rooms: &mut CheckWorkspace<M>,
     ) -> Result<(), Condition>
         requires placed { RoutinesArePlaced (case_kept C.claims self.now) at }
         requires body { Tells (C.claims self.now.claims.now) body.old }
@@ -240,7 +240,7 @@ impl<A: Allocator, C: Claims> Case<'_, A, C> {
         body: &Body,
         here: &mut FactCache,
         following: &mut FactCache,
-        rooms: &mut CheckRooms<M>,
+        rooms: &mut CheckWorkspace<M>,
     ) -> Result<(), Condition>
         requires placed { RoutinesArePlaced (case_kept C.claims self.now) at }
         requires alone { (C.claims self.now.claims.now).facts at ≡ fact_in_code here.old.fact ∷ [] }
@@ -257,7 +257,7 @@ impl<A: Allocator, C: Claims> Case<'_, A, C> {
         let near = here.end();
         here.forget();
         following.look_ahead(self.claims, at.increment(), near, &body.claim.sites);
-        let CheckRooms { fact, others, .. } = rooms;
+        let CheckWorkspace { fact, others, .. } = rooms;
         let place = self.check_claimed(
             at,
             PAST_ALL,
@@ -277,7 +277,7 @@ impl<A: Allocator, C: Claims> Case<'_, A, C> {
         at: Word,
         near: &mut usize,
         body: &mut Body,
-        rooms: &mut CheckRooms<M>,
+        rooms: &mut CheckWorkspace<M>,
     ) -> Result<(), Condition>
         requires placed { RoutinesArePlaced (case_kept C.claims self.now) at }
         requires body { Tells (C.claims self.now.claims.now) body.old }
@@ -302,7 +302,7 @@ impl<A: Allocator, C: Claims> Case<'_, A, C> {
         &self,
         at: Word,
         near: usize,
-        rooms: &mut CheckRooms<M>,
+        rooms: &mut CheckWorkspace<M>,
     ) -> Result<(), Condition>
         requires placed { RoutinesArePlaced (case_kept C.claims self.now) at }
         requires none { (C.claims self.now.claims.now).facts at ≡ [] }
@@ -313,7 +313,7 @@ impl<A: Allocator, C: Claims> Case<'_, A, C> {
         if self.declaration.returns().is_empty() {
             return Ok(());
         }
-        let CheckRooms { claimed, fact, .. } = rooms;
+        let CheckWorkspace { claimed, fact, .. } = rooms;
         if self.exits_are_held(at, near, claimed, fact) {
             Ok(())
         } else {
@@ -445,7 +445,7 @@ impl<A: Allocator, C: Claims> Case<'_, A, C> {
         count: usize,
         near: &mut usize,
         body: &Body,
-        rooms: &mut CheckRooms<M>,
+        rooms: &mut CheckWorkspace<M>,
     ) -> usize
         requires count { count ≡ length ((C.claims self.now.claims.now).facts at) }
         requires stands { (case_kept C.claims self.now).declaration.body body.now.routine at ≡ true }
@@ -471,7 +471,7 @@ impl<A: Allocator, C: Claims> Case<'_, A, C> {
         limit: usize,
         near: &mut usize,
         body: &Body,
-        rooms: &mut CheckRooms<M>,
+        rooms: &mut CheckWorkspace<M>,
     ) -> usize
         requires index { index < length ((C.claims self.now.claims.now).facts at) }
         requires low { 2 ≤ limit }
@@ -481,7 +481,7 @@ impl<A: Allocator, C: Claims> Case<'_, A, C> {
         ensures { IsLeastOf (case_kept C.claims self.now) body.now.routine at
             (fact_at ((C.claims self.now.claims.now).facts at) index) limit result }
     {
-        let CheckRooms {
+        let CheckWorkspace {
             claimed,
             fact,
             others,
@@ -501,7 +501,7 @@ impl<A: Allocator, C: Claims> Case<'_, A, C> {
         following: Option<&FactCache>,
         claimed: &mut Fact,
         fact: &mut NarrowedFact,
-        others: &mut Others<M>,
+        others: &mut ComparisonWorkspace<M>,
     ) -> usize
         requires shape { HasShape (fact_in_code claimed.old) }
         requires low { 2 ≤ limit }
@@ -542,7 +542,7 @@ impl<A: Allocator, C: Claims> Case<'_, A, C> {
         body: &Body,
         following: Option<&FactCache>,
         fact: &SumFact<K, S>,
-        others: &mut Others<M>,
+        others: &mut ComparisonWorkspace<M>,
     ) -> usize
         requires roomy { IsRoomy fact.now }
         requires cells { K ≤ 132 }

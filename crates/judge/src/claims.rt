@@ -7,7 +7,7 @@ ghost use Rattle.domain.specs.FactInCode.{fact_in_code, rules_of};
 ghost use Rattle.facts.specs.Landing.{fact_at};
 ghost use Rattle.certificate_lines.specs.Certificate as said;
 ghost use Rattle.certificate_lines.specs.Certificate.{names_routine, claimed, has_any};
-ghost use Rattle.certificate_lines.specs.Kept.{claims};
+ghost use Rattle.certificate_lines.specs.CertificateInCode.{claims};
 ghost use Rattle.judge.specs.Shapes.{HasShape};
 
 use certificate::Certificate;

@@ -2,13 +2,13 @@
 
 ghost use Rattle.std.specs.Prelude.{◌≡◌, ◌↔◌, Some, IsTrue, MatchResult, OnOk};
 ghost use Rattle.peripherals.specs.Loading.{image_of};
-ghost use Rattle.declaration.specs.Kept.{meaning};
+ghost use Rattle.declaration.specs.DeclarationInCode.{meaning};
 ghost use Rattle.policy.specs.Runs.{IsSafe};
 ghost use Rattle.judge.specs.Conditions.{IsValid, IsFirst};
 ghost use Rattle.judge.specs.Judged.{judged};
 
 use crate::body::Body;
-use crate::case::{Case, Rooms};
+use crate::case::{Case, JudgeWorkspace};
 use crate::claims::Claims;
 use bin_tape::Image;
 use declaration::Declaration;
@@ -42,7 +42,7 @@ pub fn judge<A: Allocator, C: Claims, M: Allocator>(
     image: &Image,
     declaration: &Declaration<A>,
     claims: &C,
-    rooms: &mut Rooms<M>,
+    rooms: &mut JudgeWorkspace<M>,
 ) -> Result<(), Refusal>
     ensures exact { let j = judged image.now declaration.now (C.claims claims.now) in
         MatchResult result (λ _. IsValid j) (λ r. IsFirst j r.condition r.address) }

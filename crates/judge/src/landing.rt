@@ -14,12 +14,12 @@ ghost use Rattle.judge.specs.Points.{IsPoint, case_of, HoldsHere};
 
 use crate::cache::FactCache;
 use crate::claims::Claims;
-use crate::point::{Others, Point, place_of};
-use crate::sources::FactsAt;
+use crate::point::{ComparisonWorkspace, Point, place_of};
+use crate::sources::AddressFacts;
 use domain::{BriefSet, ReturnOffsets};
-use facts::LandingRooms;
+use facts::LandingWorkspace;
 use std::alloc::Allocator;
-use transfer::{Kind, NextFact, Outcome, Outcomes};
+use transfer::{FactOutcome, NextFact, OutcomeKind, Outcomes};
 use word12::Word;
 use wordset::WordSet;
 
@@ -42,7 +42,7 @@ impl<A: Allocator, C: Claims, const K: usize, const S: usize> Point<'_, A, C, K,
         sites: &WordSet,
         at: Word,
         known: &mut NextFact,
-        rooms: &mut LandingRooms,
+        rooms: &mut LandingWorkspace,
     ) -> bool
         requires point { IsPoint C.claims self.now }
         requires sites { words sites.now ≡ sites_of (case_of C.claims self.now).certificate owner.now }
@@ -59,7 +59,7 @@ impl<A: Allocator, C: Claims, const K: usize, const S: usize> Point<'_, A, C, K,
         if !self.is_inside(owner, at) {
             return place.is_idle(known, rooms);
         }
-        let among = FactsAt {
+        let among = AddressFacts {
             claims: self.claims,
             at,
             sites,
@@ -83,7 +83,7 @@ impl<A: Allocator, C: Claims, const K: usize, const S: usize> Point<'_, A, C, K,
     }
 
     /// Whether what is known lands at an address of the same body.
-    pub fn lands_here(&self, at: Word, known: &mut NextFact, rooms: &mut LandingRooms) -> bool
+    pub fn lands_here(&self, at: Word, known: &mut NextFact, rooms: &mut LandingWorkspace) -> bool
         requires { IsPoint C.claims self.now }
         ensures lands { IsTrue result ↔
             LandsAt (case_of C.claims self.now) self.now.place.routine at (fact_in_code known.old) }
@@ -108,7 +108,7 @@ impl<A: Allocator, C: Claims, const K: usize, const S: usize> Point<'_, A, C, K,
         &self,
         addresses: &WordSet,
         known: &mut NextFact,
-        rooms: &mut LandingRooms,
+        rooms: &mut LandingWorkspace,
     ) -> bool
         requires { IsPoint C.claims self.now }
         ensures lands { IsTrue result ↔ ((a : ℕ) → a < 4096 → words addresses.now a ≡ true →
@@ -129,7 +129,7 @@ impl<A: Allocator, C: Claims, const K: usize, const S: usize> Point<'_, A, C, K,
         &self,
         targets: &BriefSet,
         known: &mut NextFact,
-        rooms: &mut LandingRooms,
+        rooms: &mut LandingWorkspace,
     ) -> bool
         requires { IsPoint C.claims self.now }
         ensures { IsTrue result ↔ ((a : ℕ) → a < 4096 → brief_words targets.now a ≡ true →
@@ -147,7 +147,7 @@ impl<A: Allocator, C: Claims, const K: usize, const S: usize> Point<'_, A, C, K,
         &self,
         targets: &BriefSet,
         known: &mut NextFact,
-        rooms: &mut LandingRooms,
+        rooms: &mut LandingWorkspace,
     ) -> bool
         requires { IsPoint C.claims self.now }
         ensures { IsTrue result ↔ ((a : ℕ) → a < 4096 → brief_words targets.now a ≡ true →
@@ -159,15 +159,15 @@ impl<A: Allocator, C: Claims, const K: usize, const S: usize> Point<'_, A, C, K,
     }
 
     /// Whether an outcome of a word that abandons no calls lands wherever it goes, if it is there and goes on.
-    fn outcome_lands(&self, outcome: &mut Outcome, rooms: &mut LandingRooms) -> bool
+    fn outcome_lands(&self, outcome: &mut FactOutcome, rooms: &mut LandingWorkspace) -> bool
         requires { IsPoint C.claims self.now }
         ensures { IsTrue result ↔
             EachSuccessor (SuccessorLandsHere (case_of C.claims self.now) self.now.place.routine)
             (outcome_in outcome.old) }
     {
         match &outcome.kind {
-            Kind::Nothing | Kind::Calls | Kind::Returns => true,
-            Kind::Goes => self.lands_at_brief(&outcome.targets, &mut outcome.fact, rooms),
+            OutcomeKind::Nothing | OutcomeKind::Calls | OutcomeKind::Returns => true,
+            OutcomeKind::Goes => self.lands_at_brief(&outcome.targets, &mut outcome.fact, rooms),
         }
     }
 
@@ -192,15 +192,15 @@ impl<A: Allocator, C: Claims, const K: usize, const S: usize> Point<'_, A, C, K,
     /// Whether an outcome of a JMP in a routine that is no return lands wherever it goes, if it is there and goes on: in main's
     /// body as one of main's facts, where calls may be abandoned for the address; else in the routine's.
     #[inline(never)]
-    fn jump_lands(&self, outcome: &mut Outcome, rooms: &mut LandingRooms) -> bool
+    fn jump_lands(&self, outcome: &mut FactOutcome, rooms: &mut LandingWorkspace) -> bool
         requires { IsPoint C.claims self.now }
         ensures { IsTrue result ↔ EachSuccessor
             (SuccessorLandsBeyond (case_of C.claims self.now) self.now.place.routine)
             (outcome_in outcome.old) }
     {
         match &outcome.kind {
-            Kind::Nothing | Kind::Calls | Kind::Returns => true,
-            Kind::Goes => self.lands_beyond(&outcome.targets, &mut outcome.fact, rooms),
+            OutcomeKind::Nothing | OutcomeKind::Calls | OutcomeKind::Returns => true,
+            OutcomeKind::Goes => self.lands_beyond(&outcome.targets, &mut outcome.fact, rooms),
         }
     }
 
@@ -210,7 +210,7 @@ impl<A: Allocator, C: Claims, const K: usize, const S: usize> Point<'_, A, C, K,
         &self,
         targets: &BriefSet,
         known: &mut NextFact,
-        rooms: &mut LandingRooms,
+        rooms: &mut LandingWorkspace,
     ) -> bool
         requires { IsPoint C.claims self.now }
         ensures { IsTrue result ↔ ((a : ℕ) → a < 4096 → brief_words targets.now a ≡ true →
@@ -233,7 +233,7 @@ impl<A: Allocator, C: Claims, const K: usize, const S: usize> Point<'_, A, C, K,
         &self,
         addresses: &WordSet,
         known: &mut NextFact,
-        rooms: &mut LandingRooms,
+        rooms: &mut LandingWorkspace,
     ) -> bool
         requires { IsPoint C.claims self.now }
         ensures { IsTrue result ↔ ((a : ℕ) → a < 4096 → words addresses.now a ≡ true →
@@ -248,7 +248,7 @@ impl<A: Allocator, C: Claims, const K: usize, const S: usize> Point<'_, A, C, K,
     }
 
     /// Whether each of some outcomes of a word that abandons no calls lands wherever it goes.
-    fn each_lands(&self, outcomes: &mut Outcomes, rooms: &mut LandingRooms) -> bool
+    fn each_lands(&self, outcomes: &mut Outcomes, rooms: &mut LandingWorkspace) -> bool
         requires { IsPoint C.claims self.now }
         ensures { IsTrue result ↔
             EachSuccessor (SuccessorLandsHere (case_of C.claims self.now) self.now.place.routine)
@@ -267,7 +267,7 @@ impl<A: Allocator, C: Claims, const K: usize, const S: usize> Point<'_, A, C, K,
     }
 
     /// Whether each of some outcomes of a JMP in a routine that is no return lands wherever it goes.
-    fn each_jumps(&self, outcomes: &mut Outcomes, rooms: &mut LandingRooms) -> bool
+    fn each_jumps(&self, outcomes: &mut Outcomes, rooms: &mut LandingWorkspace) -> bool
         requires { IsPoint C.claims self.now }
         ensures { IsTrue result ↔ EachSuccessor
             (SuccessorLandsBeyond (case_of C.claims self.now) self.now.place.routine)
@@ -287,7 +287,11 @@ impl<A: Allocator, C: Claims, const K: usize, const S: usize> Point<'_, A, C, K,
 
     /// Whether each outcome of a word that goes on lands wherever it goes. Those of a call go on in the
     /// routine, so they are not worked out.
-    pub(crate) fn outcomes_land<M: Allocator>(&self, word: Word, others: &mut Others<M>) -> bool
+    pub(crate) fn outcomes_land<M: Allocator>(
+        &self,
+        word: Word,
+        others: &mut ComparisonWorkspace<M>,
+    ) -> bool
         requires { IsPoint C.claims self.now }
         ensures { IsTrue result ↔ HoldsHere C.claims self.now V4 word }
     {

@@ -19,14 +19,14 @@ mod words;
 
 pub use body::Body;
 pub use cache::FactCache;
-pub use case::{Case, Rooms, put_asked};
+pub use case::{Case, JudgeWorkspace, put_asked};
 pub use certificate_lines::RoutineClaim;
 pub use claims::Claims;
 pub use facts::Condition;
 pub use judging::{Refusal, judge};
-pub use point::{NarrowedPoint, Others, Point, place_of};
+pub use point::{ComparisonWorkspace, NarrowedPoint, Point, place_of};
 pub use sited::put_sites;
-pub use sources::{ExitsFor, FactsAt};
+pub use sources::{AddressFacts, OffsetExits};
 pub use verdict::{Certified, CertifyFault, certify};
 
 /// The headline. Whenever `certify` answers yes for a tape, a declaration and a certificate, then in

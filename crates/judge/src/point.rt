@@ -14,7 +14,7 @@ use crate::claims::Claims;
 use bin_tape::Image;
 use declaration::Declaration;
 use domain::{Rules, SumFact};
-use facts::{Fact, LandingRooms, Place};
+use facts::{Fact, LandingWorkspace, Place};
 use std::alloc::{AllocError, Allocator};
 use transfer::{NextFact, Outcomes};
 use word12::Word;
@@ -22,11 +22,11 @@ use word12::Word;
 /// Room for further facts, with which the one at an address is compared or which come of it. The large ones have memory of
 /// their own: they are made there, and not on the stack first.
 #[derive(Drop)]
-pub struct Others<M: Allocator> {
+pub struct ComparisonWorkspace<M: Allocator> {
     pub exit: Fact,
     pub next: NextFact,
     pub outcomes: Box<Outcomes, M>,
-    pub landing: Box<LandingRooms, M>,
+    pub landing: Box<LandingWorkspace, M>,
 }
 
 /// Room for outcomes, in memory that an allocator gives.
@@ -45,8 +45,10 @@ pub(crate) fn boxed_outcomes<M: Allocator>(memory: M) -> Result<Box<Outcomes, M>
 ///
 /// `AllocError` where it was refused.
 #[inline(never)]
-pub(crate) fn boxed_landing<M: Allocator>(memory: M) -> Result<Box<LandingRooms, M>, AllocError> {
-    Ok(Box::new(memory, LandingRooms::new())?)
+pub(crate) fn boxed_landing<M: Allocator>(
+    memory: M,
+) -> Result<Box<LandingWorkspace, M>, AllocError> {
+    Ok(Box::new(memory, LandingWorkspace::new())?)
 }
 
 /// A fact of which conditions are asked at an address of a body: by the rules of equations as it is claimed, and by those of

@@ -6,7 +6,7 @@ ghost use Rattle.domain.specs.FactInCode.{fact_in_code, rules_of};
 ghost use Rattle.judge.specs.Sources.{sited_one, facts_of, exits_for};
 
 use crate::claims::Claims;
-use crate::sources::{ExitsFor, FactsAt};
+use crate::sources::{AddressFacts, OffsetExits};
 use domain::Rules;
 use facts::{Fact, FactSource};
 use wordset::WordSet;
@@ -22,7 +22,7 @@ pub fn put_sites(rules: &Rules, sites: &WordSet, fact: &mut Fact)
     }
 }
 
-impl<C: Claims> FactSource for FactsAt<'_, C> {
+impl<C: Claims> FactSource for AddressFacts<'_, C> {
     ghost facts = { facts_of C.claims };
 
     fn len(&self) -> usize {
@@ -35,7 +35,7 @@ impl<C: Claims> FactSource for FactsAt<'_, C> {
     }
 }
 
-impl<C: Claims> FactSource for ExitsFor<'_, C> {
+impl<C: Claims> FactSource for OffsetExits<'_, C> {
     ghost facts = { exits_for C.claims };
 
     fn len(&self) -> usize {

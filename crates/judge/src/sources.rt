@@ -9,7 +9,7 @@ use wordset::WordSet;
 ///
 /// Contracts see them as the list that `facts_of` gives.
 #[derive(Drop)]
-pub struct FactsAt<'a, C> {
+pub struct AddressFacts<'a, C> {
     pub claims: &'a C,
     pub at: Word,
     /// The sites of the routine whose body has the address.
@@ -22,7 +22,7 @@ pub struct FactsAt<'a, C> {
 ///
 /// Contracts see them as the list that `exits_for` gives.
 #[derive(Drop)]
-pub struct ExitsFor<'a, C> {
+pub struct OffsetExits<'a, C> {
     pub claims: &'a C,
     pub entry: Word,
     pub offset: usize,

@@ -16,7 +16,7 @@ ghost use Rattle.policy.specs.Watching.{IsClean, LeadsTo, StepPutsOut, begun};
 ghost use Rattle.judge.specs.Conditions.{IsValid};
 ghost use Rattle.judge.specs.Certifying.{AreRead, AreValid, FailFirst, IsRefused, IsRefusal, IsSomeTape, DeclaresSomething, case_of, declaration_of, words_of};
 
-use crate::case::Rooms;
+use crate::case::JudgeWorkspace;
 use crate::judging::{Refusal, judge};
 use bin_tape::{Image, TapeFault, read_tape};
 use certificate::Certificate;
@@ -199,7 +199,7 @@ pub fn certify<A: Allocator + Copy>(
         Err(CertificateFault::NoMemory) => return Err(CertifyFault::NoMemory),
         Err(fault) => return Err(CertifyFault::Certificate(fault)),
     };
-    let mut rooms = match Rooms::boxed(alloc) {
+    let mut rooms = match JudgeWorkspace::boxed(alloc) {
         Ok(rooms) => rooms,
         Err(_) => return Err(CertifyFault::NoMemory),
     };

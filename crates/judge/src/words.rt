@@ -11,7 +11,7 @@ ghost use Rattle.judge.specs.Asked.{IsLeastPlace};
 ghost use Rattle.judge.specs.Points.{IsPoint, HoldsHere, HoldsForAllWords, HoldsOfPoint, HasFewHere, possible_at};
 
 use crate::claims::Claims;
-use crate::point::{Others, Point};
+use crate::point::{ComparisonWorkspace, Point};
 use bin_tape::Image;
 use facts::Condition;
 use std::alloc::Allocator;
@@ -62,7 +62,11 @@ pub(crate) fn word_of(image: &Image, at: Word) -> Option<Word>
 impl<A: Allocator, C: Claims, const K: usize, const S: usize> Point<'_, A, C, K, S> {
     /// The place of the first condition on words before a limit that fails of the fact, and the limit if
     /// none does.
-    pub(crate) fn first_failing<M: Allocator>(&self, limit: usize, others: &mut Others<M>) -> usize
+    pub(crate) fn first_failing<M: Allocator>(
+        &self,
+        limit: usize,
+        others: &mut ComparisonWorkspace<M>,
+    ) -> usize
         requires point { IsPoint C.claims self.now }
         requires low { 2 ≤ limit }
         requires high { limit ≤ 16 }
@@ -85,7 +89,12 @@ impl<A: Allocator, C: Claims, const K: usize, const S: usize> Point<'_, A, C, K,
     }
 
     /// The same, where a word is the only one that is possible.
-    fn check_word<M: Allocator>(&self, word: Word, limit: usize, others: &mut Others<M>) -> usize
+    fn check_word<M: Allocator>(
+        &self,
+        word: Word,
+        limit: usize,
+        others: &mut ComparisonWorkspace<M>,
+    ) -> usize
         requires point { IsPoint C.claims self.now }
         requires only { possible_at C.claims self.now ≡ one word }
         requires low { 2 ≤ limit }
@@ -105,7 +114,7 @@ impl<A: Allocator, C: Claims, const K: usize, const S: usize> Point<'_, A, C, K,
         &self,
         condition: Condition,
         word: Word,
-        others: &mut Others<M>,
+        others: &mut ComparisonWorkspace<M>,
     ) -> bool
         requires point { IsPoint C.claims self.now }
         requires only { possible_at C.claims self.now ≡ one word }
@@ -117,7 +126,7 @@ impl<A: Allocator, C: Claims, const K: usize, const S: usize> Point<'_, A, C, K,
 
     /// The same, whichever words are possible; the room for them is made here alone.
     #[inline(never)]
-    fn check_words<M: Allocator>(&self, limit: usize, others: &mut Others<M>) -> usize
+    fn check_words<M: Allocator>(&self, limit: usize, others: &mut ComparisonWorkspace<M>) -> usize
         requires point { IsPoint C.claims self.now }
         requires low { 2 ≤ limit }
         requires high { limit ≤ 16 }
@@ -147,7 +156,7 @@ impl<A: Allocator, C: Claims, const K: usize, const S: usize> Point<'_, A, C, K,
         &self,
         condition: Condition,
         possible: &WordSet,
-        others: &mut Others<M>,
+        others: &mut ComparisonWorkspace<M>,
     ) -> bool
         requires point { IsPoint C.claims self.now }
         requires possible { words possible.now ≡ possible_at C.claims self.now }
@@ -175,7 +184,7 @@ impl<A: Allocator, C: Claims, const K: usize, const S: usize> Point<'_, A, C, K,
         &self,
         condition: Condition,
         possible: &WordSet,
-        others: &mut Others<M>,
+        others: &mut ComparisonWorkspace<M>,
     ) -> bool
         requires point { IsPoint C.claims self.now }
         requires possible { words possible.now ≡ possible_at C.claims self.now }
@@ -194,7 +203,7 @@ impl<A: Allocator, C: Claims, const K: usize, const S: usize> Point<'_, A, C, K,
         &self,
         condition: Condition,
         word: Word,
-        others: &mut Others<M>,
+        others: &mut ComparisonWorkspace<M>,
     ) -> bool
         requires { IsPoint C.claims self.now }
         ensures { IsTrue result ↔ HoldsHere C.claims self.now condition word }

@@ -7,9 +7,9 @@ use Rattle.std.specs.Str.{bytes_eq}
 use Rattle.std.specs.List.{after_first, list_any}
 use Rattle.streams.specs.Text.{text_lines, words_of}
 use Rattle.pal_text.specs.declared.tokens.Token.{Token}
-use Rattle.pal_text.specs.declared.cut.Statement.{Statement}
-use Rattle.pal_text.specs.declared.cut.Ending.{Ending}
-use Rattle.pal_text.specs.declared.cut.Ending.TheVariants.{Dollar, Pause, Bytes}
+use Rattle.pal_text.specs.declared.statement.Statement.{Statement}
+use Rattle.pal_text.specs.declared.statement.Ending.{Ending}
+use Rattle.pal_text.specs.declared.statement.Ending.TheVariants.{Dollar, Pause, Bytes}
 use Rattle.pal_text.specs.declared.fault.TextFault.{TextFault}
 use Rattle.pal_text.specs.declared.fault.TextFault.TheVariants.{Illegal, TooLong, NoMemory}
 use Rattle.pal_text.specs.declared.lines.Line.{Line}

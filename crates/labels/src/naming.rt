@@ -15,7 +15,7 @@ use crate::placing::{
 use crate::program::{NumberingFault, translation_of};
 use crate::within::{machine_of, reads_on, reads_on_after};
 use pal_acts::SymbolTable;
-use pal_text::{Kind, Name, Token, statements};
+use pal_text::{Name, Token, TokenKind, statements};
 use std::alloc::{AllocError, Allocator};
 use streams::text::{self, Words};
 use word12::Word;
@@ -68,7 +68,7 @@ fn push_tags<A: Allocator, S: Allocator + Copy>(
 ) -> Result<(), AllocError> {
     let mut before: &[u8] = &[];
     for token in tokens {
-        if token.kind == Kind::Comma {
+        if token.kind == TokenKind::Comma {
             push_tag(own, before, tags)?;
         }
         before = bytes_between(source, token.start, token.end);

@@ -2,7 +2,7 @@
 
 use std::io::{self, ErrorKind, Read, Write};
 use std::test::Fail;
-use streams::standard::{Reads, Writes};
+use streams::standard::{StdReader, StdWriter};
 use streams::{ByteSink, ByteSource, put, read_at_most};
 
 /// A reader and writer whose next calls are interrupted so many times, and then fail or not. It forgets what is written.
@@ -52,11 +52,11 @@ impl Write for InterruptedStream<'_> {
 #[test]
 fn an_interrupted_read_is_tried_again(rt: HostRuntime) -> Result<(), Fail> {
     for times in [0, 1, 2, 30] {
-        let mut source = Reads::new(InterruptedStream::new(times, false, b"TAD 200"));
+        let mut source = StdReader::new(InterruptedStream::new(times, false, b"TAD 200"));
         let text = read_at_most(rt.alloc(), &mut source, 100)?;
         assert!(rt; text.as_slice() == b"TAD 200".as_slice() && !source.failed());
     }
-    let mut source = Reads::new(InterruptedStream::new(3, true, b"TAD 200"));
+    let mut source = StdReader::new(InterruptedStream::new(3, true, b"TAD 200"));
     assert!(rt; read_at_most(rt.alloc(), &mut source, 100).is_err() && source.failed());
     Ok(())
 }
@@ -64,9 +64,9 @@ fn an_interrupted_read_is_tried_again(rt: HostRuntime) -> Result<(), Fail> {
 #[test]
 fn an_interrupted_write_is_tried_again(rt: HostRuntime) {
     for times in [0, 1, 2, 30] {
-        let mut sink = Writes::new(InterruptedStream::new(times, false, b""));
+        let mut sink = StdWriter::new(InterruptedStream::new(times, false, b""));
         assert!(rt; put(&mut sink, b"HALT 0200").is_ok() && !sink.failed());
     }
-    let mut sink = Writes::new(InterruptedStream::new(3, true, b""));
+    let mut sink = StdWriter::new(InterruptedStream::new(3, true, b""));
     assert!(rt; put(&mut sink, b"HALT 0200").is_err() && sink.failed());
 }

@@ -12,7 +12,7 @@ use Rattle.peripherals.specs.declared.Seen.{Seen}
 use Rattle.peripherals.specs.declared.Seen.TheVariants as seen
 use Rattle.peripherals.specs.Devices.{WorldState, word_at_pc}
 use Rattle.peripherals.specs.Events.{Happens}
-use Rattle.peripherals.specs.Seen.{seen_of}
+use Rattle.peripherals.specs.EventOutcomes.{seen_of}
 use Rattle.policy.specs.Runs.{HappensDeclared, resumed}
 use Rattle.policy.specs.WatchedSteps.{waits}
 use Rattle.policy.proofs.WatchLemmas.{goes_on}

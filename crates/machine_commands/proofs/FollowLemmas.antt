@@ -13,7 +13,7 @@ use Rattle.peripherals.specs.declared.Seen.{Seen}
 use Rattle.peripherals.specs.declared.Seen.TheVariants as seen
 use Rattle.peripherals.specs.Devices.{WorldState, word_at_pc}
 use Rattle.peripherals.specs.Events.{Happens}
-use Rattle.peripherals.specs.Seen.{puts_out, seen_of}
+use Rattle.peripherals.specs.EventOutcomes.{puts_out, seen_of}
 use Rattle.machine_commands.specs.declared.follow.End.{End}
 use Rattle.machine_commands.specs.declared.follow.End.TheVariants.{Unsupported}
 use Rattle.machine_commands.specs.declared.follow.RunOutcome.{RunOutcome}

@@ -8,7 +8,7 @@ use Rattle.peripherals.specs.declared.Event.{Event}
 use Rattle.peripherals.specs.declared.Event.TheVariants.{Step}
 use Rattle.peripherals.specs.Devices.{WorldState}
 use Rattle.peripherals.specs.Events.{Happens}
-use Rattle.peripherals.specs.Seen.{seen_of}
+use Rattle.peripherals.specs.EventOutcomes.{seen_of}
 use Rattle.machine_commands.specs.Follows.{goes_on}
 use Rattle.processor.specs.Machine.{State}
 use Rattle.machine_commands.specs.Stops.{StopsAfter, Here, Later, NeverStops, Over, Ends, Continues, is_asked_for, stops_before, visits_with}

@@ -11,7 +11,7 @@ use Rattle.peripherals.specs.declared.Seen.{Seen}
 use Rattle.peripherals.specs.declared.Seen.TheVariants as seen
 use Rattle.peripherals.specs.Devices.{WorldState}
 use Rattle.peripherals.specs.Events.{Happens, completed}
-use Rattle.peripherals.specs.Seen.{puts_out, seen_of}
+use Rattle.peripherals.specs.EventOutcomes.{puts_out, seen_of}
 use Rattle.wordset.specs.Lanes.{words}
 use Rattle.command_parts.specs.declared.options.RunOptions.{RunOptions}
 use Rattle.command_parts.specs.declared.options.Stops.{Stops}

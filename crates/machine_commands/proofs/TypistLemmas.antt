@@ -10,7 +10,7 @@ use Rattle.instruct.specs.declared.devices.DeviceOperation.TheVariants.{SkipOnKe
 use Rattle.peripherals.specs.Devices.{WorldState, word_at_pc}
 use Rattle.peripherals.specs.Events.{Happens, completed, done, with_devices}
 use Rattle.peripherals.specs.Operator.{Plan, first_due, left_after, round_due}
-use Rattle.peripherals.specs.Seen.{puts_out, seen_of}
+use Rattle.peripherals.specs.EventOutcomes.{puts_out, seen_of}
 use Rattle.command_parts.specs.declared.options.TeletypeOptions.{TeletypeOptions}
 use Rattle.machine_commands.specs.Follows.{goes_on}
 use Rattle.machine_commands.specs.Cuts.{some_left}

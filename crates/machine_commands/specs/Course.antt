@@ -5,7 +5,7 @@ use Rattle.instruct.specs.declared.Profile.{Profile}
 use Rattle.peripherals.specs.declared.Event.{Event}
 use Rattle.peripherals.specs.declared.Event.TheVariants.{Step, PrinterDone, PunchDone}
 use Rattle.peripherals.specs.Devices.{WorldState}
-use Rattle.peripherals.specs.Seen.{puts_out}
+use Rattle.peripherals.specs.EventOutcomes.{puts_out}
 use Rattle.machine_commands.specs.declared.follow.End.{End}
 use Rattle.machine_commands.specs.declared.follow.Course.{Course}
 use Rattle.machine_commands.specs.declared.follow.Course.TheVariants.{Rounds, Listed}

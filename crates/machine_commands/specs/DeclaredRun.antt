@@ -4,7 +4,7 @@ use Rattle.std.proofs.Common.{zero, suc}
 use Rattle.peripherals.specs.declared.Event.{Event}
 use Rattle.peripherals.specs.declared.Event.TheVariants.{Continue}
 use Rattle.peripherals.specs.Devices.{WorldState}
-use Rattle.peripherals.specs.Seen.{seen_of}
+use Rattle.peripherals.specs.EventOutcomes.{seen_of}
 use Rattle.declaration.specs.Declaration.{Declaration}
 use Rattle.policy.specs.Runs.{HappensDeclared}
 use Rattle.policy.specs.declared.watcher.Watched.{Watched}

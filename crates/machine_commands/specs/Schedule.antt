@@ -6,7 +6,7 @@ use Rattle.peripherals.specs.declared.Event.TheVariants.{Step}
 use Rattle.peripherals.specs.Devices.{WorldState}
 use Rattle.peripherals.specs.Events.{Happens}
 use Rattle.peripherals.specs.Operator.{Plan, due, left_after}
-use Rattle.peripherals.specs.Seen.{puts_out, seen_of}
+use Rattle.peripherals.specs.EventOutcomes.{puts_out, seen_of}
 use Rattle.machine_commands.specs.Follows.{goes_on}
 
 -- A schedule has states. In each it says which event is due in a world, or none where the run is over; which state comes after

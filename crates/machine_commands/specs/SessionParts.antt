@@ -10,7 +10,7 @@ use Rattle.peripherals.specs.Devices.{WorldState}
 use Rattle.peripherals.specs.Events.{Happens}
 use Rattle.peripherals.specs.Operator.{Plan, plan_of}
 use Rattle.peripherals.specs.declared.operator.Operator.{Operator}
-use Rattle.peripherals.specs.Seen.{puts_out, seen_of}
+use Rattle.peripherals.specs.EventOutcomes.{puts_out, seen_of}
 use Rattle.command_parts.specs.declared.options.RunOptions.{RunOptions}
 use Rattle.command_parts.specs.declared.options.SummaryForm.{SummaryForm}
 use Rattle.command_parts.specs.declared.status.Status.{Status}

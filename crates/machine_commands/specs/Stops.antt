@@ -14,7 +14,7 @@ use Rattle.peripherals.specs.declared.Event.{Event}
 use Rattle.peripherals.specs.declared.Event.TheVariants.{Step}
 use Rattle.peripherals.specs.Devices.{WorldState}
 use Rattle.peripherals.specs.Events.{Happens}
-use Rattle.peripherals.specs.Seen.{seen_of}
+use Rattle.peripherals.specs.EventOutcomes.{seen_of}
 use Rattle.command_parts.specs.declared.options.Stops.{Stops}
 use Rattle.machine_commands.specs.Follows.{goes_on}
 

@@ -9,7 +9,7 @@ use Rattle.peripherals.specs.declared.Event.{Event}
 use Rattle.peripherals.specs.declared.Seen.{Seen}
 use Rattle.peripherals.specs.declared.Seen.TheVariants.{Ran, Halted}
 use Rattle.peripherals.specs.Devices.{WorldState, word_at_pc}
-use Rattle.peripherals.specs.Seen.{seen_of}
+use Rattle.peripherals.specs.EventOutcomes.{seen_of}
 use Rattle.command_parts.specs.LinkText.{link_text}
 
 -- The address, the word there and its name.

@@ -3,7 +3,7 @@
 ghost use Rattle.std.specs.Prelude.{◌≡◌, ◌≤◌, None, IfOk, true, false};
 ghost use Rattle.peripherals.specs.Operator.{plan_of};
 ghost use Rattle.peripherals.specs.World.{view, profile_of};
-ghost use Rattle.declaration.specs.Kept.{meaning};
+ghost use Rattle.declaration.specs.DeclarationInCode.{meaning};
 ghost use Rattle.machine_commands.specs.Continued.{ComesOn, IsAtPause, IsLine, press_of, presses, went_text};
 ghost use Rattle.machine_commands.specs.ContinuedParts.{IsPressed};
 ghost use Rattle.machine_commands.specs.Schedule.{first_place};

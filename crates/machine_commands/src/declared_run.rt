@@ -2,9 +2,9 @@
 
 ghost use Rattle.std.specs.Prelude.{◌≡◌, ◌++◌, ◌+◌, ◌<◌, ◌≤◌, false, true, not, take, length, Some, is_some, IfOk, IfErr, OnOk, OnErr};
 ghost use Rattle.std.specs.Io.KnownBytes.{Appends};
-ghost use Rattle.peripherals.specs.Seen.{seen_of};
+ghost use Rattle.peripherals.specs.EventOutcomes.{seen_of};
 ghost use Rattle.peripherals.specs.World.{view, profile_of};
-ghost use Rattle.declaration.specs.Kept.{meaning};
+ghost use Rattle.declaration.specs.DeclarationInCode.{meaning};
 ghost use Rattle.policy.specs.Runs.{HappensDeclared};
 ghost use Rattle.machine_commands.specs.DeclaredRun.{Traces, IsDeclaredCut, IsDeclaredStop, IsLinesBefore, is_continue, last_of, stopped_line, up_to};
 ghost use Rattle.policy.specs.WatchedSteps.{waits};

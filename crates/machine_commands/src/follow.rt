@@ -4,7 +4,7 @@ ghost use Rattle.std.specs.Prelude.{◌≡◌, ◌<◌, true, false, get_or, len
 ghost use Rattle.std.specs.Io.KnownBytes.{Appends};
 ghost use Rattle.streams.specs.Bytes.{AppendsFront};
 ghost use Rattle.peripherals.specs.Events.{Happens};
-ghost use Rattle.peripherals.specs.Seen.{puts_out, seen_of};
+ghost use Rattle.peripherals.specs.EventOutcomes.{puts_out, seen_of};
 ghost use Rattle.peripherals.specs.World.{view, profile_of};
 ghost use Rattle.command_parts.specs.Faults.{IsRunFault, fails_to_write};
 ghost use Rattle.machine_commands.specs.Follows.{IsReached, IsTraceOfSome, end_of};

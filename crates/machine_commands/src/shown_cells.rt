@@ -2,7 +2,7 @@
 
 ghost use Rattle.std.specs.Prelude.{◌≡◌, take, IfOk};
 ghost use Rattle.wordset.specs.Lanes.{words};
-ghost use Rattle.declaration.specs.Kept.{meaning};
+ghost use Rattle.declaration.specs.DeclarationInCode.{meaning};
 ghost use Rattle.machine_commands.specs.WatchText.{CellsAfter, IsShown, happening};
 
 use crate::summary::push_shown;

@@ -3,7 +3,7 @@
 ghost use Rattle.std.specs.Prelude.{◌≡◌, ◌||◌, ◌⊎◌, false, true, IfOk, IfErr, OnErr};
 ghost use Rattle.streams.specs.Bytes.{Gave};
 ghost use Rattle.wordset.specs.Lanes.{words};
-ghost use Rattle.declaration.specs.Kept.{meaning};
+ghost use Rattle.declaration.specs.DeclarationInCode.{meaning};
 ghost use Rattle.command_parts.specs.Faults.{IsRunFault, is_fault_of_declaration, is_fault_of_tape, fails_to_read, fails_to_write};
 ghost use Rattle.command_parts.specs.Inputs.{AreFirst, IsGoodDeclaration, IsGoodTape, TakesAtMost, TakesTape, input};
 ghost use Rattle.command_parts.specs.Writes.{FrontOf, Writes};

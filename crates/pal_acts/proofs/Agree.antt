@@ -7,12 +7,12 @@ use Rattle.std.specs.Map.{keys_of}
 use Rattle.std.proofs.lemmas.List.{map-append}
 use Rattle.std.proofs.lemmas.Bool.{cases_Bool, eqb-true, cases_lt, le-ltb}
 use Rattle.pal_text.specs.declared.names.Name.{Name}
-use Rattle.pal_acts.specs.declared.act.Term.{Term}
-use Rattle.pal_acts.specs.declared.act.Term.TheVariants.{Number, Symbol, Here}
-use Rattle.pal_acts.specs.declared.act.Join.{Join}
+use Rattle.pal_acts.specs.declared.act.ExpressionTerm.{ExpressionTerm}
+use Rattle.pal_acts.specs.declared.act.ExpressionTerm.TheVariants.{Number, Symbol, Here}
+use Rattle.pal_acts.specs.declared.act.SignedTerm.{SignedTerm}
 use Rattle.pal_acts.specs.declared.act.Act.{Act}
 use Rattle.pal_acts.specs.declared.act.Act.TheVariants as act
-use Rattle.pal_acts.specs.declared.code.Code.{Code}
+use Rattle.pal_acts.specs.declared.fault_code.FaultCode.{FaultCode}
 use Rattle.pal_acts.specs.Acts.{PlacedAct}
 use Rattle.pal_acts.specs.Values.{same, has, Values, term_value, joined, value_after, value}
 use Rattle.pal_acts.specs.Meaning.{location_after, location}
@@ -24,7 +24,7 @@ use Rattle.pal_acts.proofs.Table.{in_table, lookup-left, lookup-right, has_looku
 abbrev pub Agrees : List Name → Values → Values → Type 0
 Agrees ns σ τ = (n : Name) → has ns n ≡ true → σ n ≡ τ n
 
-term_agree : (ns : List Name) (σ τ : Values) (here : ℕ) (t : Term) → IsTermOf ns t → Agrees ns σ τ → term_value σ here t ≡ term_value τ here t
+term_agree : (ns : List Name) (σ τ : Values) (here : ℕ) (t : ExpressionTerm) → IsTermOf ns t → Agrees ns σ τ → term_value σ here t ≡ term_value τ here t
 term_agree ns σ τ here (Number w) h e = refl
 term_agree ns σ τ here (Symbol n) h e = e n h
 term_agree ns σ τ here Here h e = refl
@@ -33,23 +33,23 @@ and_then_agree : (f g : ℕ → Option ℕ) (o : Option ℕ) → ((v : ℕ) → 
 and_then_agree f g None e = refl
 and_then_agree f g (Some v) e = e v
 
-pub value_agree : (ns : List Name) (σ τ : Values) (here a : ℕ) (js : List Join) → Names ns js → Agrees ns σ τ → value_after σ here a js ≡ value_after τ here a js
+pub value_agree : (ns : List Name) (σ τ : Values) (here a : ℕ) (js : List SignedTerm) → Names ns js → Agrees ns σ τ → value_after σ here a js ≡ value_after τ here a js
 value_agree ns σ τ here a [] h e = refl
 value_agree ns σ τ here a (j ∷ js) h e =
     ap (option_and_then (λ v. value_after σ here (joined j.sign a v) js)) (term_agree ns σ τ here j.term h.0 e)
     ∙ and_then_agree (λ v. value_after σ here (joined j.sign a v) js) (λ v. value_after τ here (joined j.sign a v) js) (term_value τ here j.term) (λ v. value_agree ns σ τ here (joined j.sign a v) js h.1 e)
 
 -- an expression has a value only where its names have
-term_closed : (t : List (Name × ℕ)) (here v : ℕ) (x : Term) → term_value (in_table t) here x ≡ Some v → IsTermOf (keys_of t) x
+term_closed : (t : List (Name × ℕ)) (here v : ℕ) (x : ExpressionTerm) → term_value (in_table t) here x ≡ Some v → IsTermOf (keys_of t) x
 term_closed t here v (Number w) e = tt
 term_closed t here v (Symbol n) e = has_lookup t n (Some v) e
 term_closed t here v Here e = tt
 
-closed_on : (t : List (Name × ℕ)) (here v : ℕ) (x : Term) (f : ℕ → Option ℕ) (P : Type 0) (o : Option ℕ) → term_value (in_table t) here x ≡ o → option_and_then f o ≡ Some v → ((w : ℕ) → f w ≡ Some v → P) → IsTermOf (keys_of t) x × P
+closed_on : (t : List (Name × ℕ)) (here v : ℕ) (x : ExpressionTerm) (f : ℕ → Option ℕ) (P : Type 0) (o : Option ℕ) → term_value (in_table t) here x ≡ o → option_and_then f o ≡ Some v → ((w : ℕ) → f w ≡ Some v → P) → IsTermOf (keys_of t) x × P
 closed_on t here v x f P None n e k = cc
 closed_on t here v x f P (Some w) n e k = (term_closed t here w x n, k w e)
 
-pub value_closed : (t : List (Name × ℕ)) (here a v : ℕ) (js : List Join) → value_after (in_table t) here a js ≡ Some v → Names (keys_of t) js
+pub value_closed : (t : List (Name × ℕ)) (here a v : ℕ) (js : List SignedTerm) → value_after (in_table t) here a js ≡ Some v → Names (keys_of t) js
 value_closed t here a v [] e = tt
 value_closed t here a v (j ∷ js) e =
     closed_on t here v j.term (λ w. value_after (in_table t) here (joined j.sign a w) js) (Names (keys_of t) js) (term_value (in_table t) here j.term) refl e
@@ -79,7 +79,7 @@ pub weaker : (ns : List Name) (a : Act) (σ τ : Values) → Agrees (names_after
 weaker ns a σ τ e m h = e m (has-after ns m a h)
 
 -- an act moves the location to the same place
-moved_agree : (ns : List Name) (σ τ : Values) (here : ℕ) (e : List Join) (a : Act) → IsLawfulAct ns e a → Agrees ns σ τ → location_after σ here e a ≡ location_after τ here e a
+moved_agree : (ns : List Name) (σ τ : Values) (here : ℕ) (e : List SignedTerm) (a : Act) → IsLawfulAct ns e a → Agrees ns σ τ → location_after σ here e a ≡ location_after τ here e a
 moved_agree ns σ τ here e act.Origin h g = ap (λ o. unwrap_or o 0) (value_agree ns σ τ here 0 e h g)
 moved_agree ns σ τ here e _ h g = refl
 
@@ -90,7 +90,7 @@ location_agree perm σ τ (a ∷ before) h g =
     ap (λ l. location_after σ l a.terms a.act) (location_agree perm σ τ before h.1 earlier) ∙ moved_agree (names perm before) σ τ (location τ before) a.terms a.act h.0 earlier
 
 -- and gives the same value
-giving_agree : (ns : List Name) (σ τ : Values) (here : ℕ) (e : List Join) (a : Act) → IsLawfulAct ns e a → Agrees ns σ τ → giving σ here e a ≡ giving τ here e a
+giving_agree : (ns : List Name) (σ τ : Values) (here : ℕ) (e : List SignedTerm) (a : Act) → IsLawfulAct ns e a → Agrees ns σ τ → giving σ here e a ≡ giving τ here e a
 giving_agree ns σ τ here e (act.Assign n) h g = ap (λ v. (n, unwrap_or v 0) ∷ []) (value_agree ns σ τ here 0 e h g)
 giving_agree ns σ τ here e _ h g = refl
 
@@ -135,7 +135,7 @@ pub record Given (perm : List (Name × ℕ)) (before : List PlacedAct) (t u : Li
   pub others : AllByRecursion (IsGiven (in_table u)) (givings (in_table u) before)
   pub agrees : Agrees (names (keys_of perm) before) (in_table t) (in_table u)
 
-given_old : (perm : List (Name × ℕ)) (limit : ℕ) (before : List PlacedAct) (symbols : List (Name × ℕ)) (n : Name) (v w : ℕ) (code : Code)
+given_old : (perm : List (Name × ℕ)) (limit : ℕ) (before : List PlacedAct) (symbols : List (Name × ℕ)) (n : Name) (v w : ℕ) (code : FaultCode)
     → IsOfTheWhole perm limit before symbols → in_table (perm ++ symbols) n ≡ Some w → giving_fault code limit (length symbols) (Some w) v ≡ None
     → Given perm before (perm ++ symbols) (perm ++ symbols) n v
 given_old perm limit before symbols n v w code d is none = elim (cases_Bool (nat_eq w v)) [
@@ -164,7 +164,7 @@ given_new perm limit before symbols n v d is =
       agrees = ag;
     })
 
-room_new : (limit v : ℕ) (symbols : List (Name × ℕ)) (n : Name) (code : Code) → length symbols ≤ limit → giving_fault code limit (length symbols) None v ≡ None → length (symbols ++ (n, v) ∷ []) ≤ limit
+room_new : (limit v : ℕ) (symbols : List (Name × ℕ)) (n : Name) (code : FaultCode) → length symbols ≤ limit → giving_fault code limit (length symbols) None v ≡ None → length (symbols ++ (n, v) ∷ []) ≤ limit
 room_new limit v symbols n code h none = elim (cases_lt (length symbols) limit) [
   | inl lt ↦ omega (arith, length-append symbols ((n, v) ∷ []))
   | inr ge ↦ cc (rw (le-ltb (length symbols) limit ge) at none)
@@ -175,7 +175,7 @@ pub record Gives (perm : List (Name × ℕ)) (limit : ℕ) (before : List Placed
   pub given : Given perm before (perm ++ symbols) (perm ++ new) n v
   pub room : length new ≤ limit
 
-give_on : (perm : List (Name × ℕ)) (limit : ℕ) (before : List PlacedAct) (symbols : List (Name × ℕ)) (n : Name) (v : ℕ) (code : Code) (o : Option ℕ)
+give_on : (perm : List (Name × ℕ)) (limit : ℕ) (before : List PlacedAct) (symbols : List (Name × ℕ)) (n : Name) (v : ℕ) (code : FaultCode) (o : Option ℕ)
     → IsOfTheWhole perm limit before symbols → in_table (perm ++ symbols) n ≡ o → giving_fault code limit (length symbols) o v ≡ None
     → Gives perm limit before symbols (giving_table symbols n o v) n v
 give_on perm limit before symbols n v code None d is none = record { given = given_new perm limit before symbols n v d is; room = room_new limit v symbols n code d.room none }
@@ -186,7 +186,7 @@ pub record Moves (perm : List (Name × ℕ)) (limit : ℕ) (before : List Placed
   pub defines : IsOfTheWhole perm limit (next ∷ before) new
   pub here : location (in_table (perm ++ symbols)) (next ∷ before) ≡ location (in_table (perm ++ new)) (next ∷ before)
 
-assign_on : (perm : List (Name × ℕ)) (limit : ℕ) (before : List PlacedAct) (symbols : List (Name × ℕ)) (n : Name) (e : List Join) (o : Option ℕ)
+assign_on : (perm : List (Name × ℕ)) (limit : ℕ) (before : List PlacedAct) (symbols : List (Name × ℕ)) (n : Name) (e : List SignedTerm) (o : Option ℕ)
     → IsOfTheWhole perm limit before symbols → value (in_table (perm ++ symbols)) (location (in_table (perm ++ symbols)) before) e ≡ o
     → assign_fault perm limit symbols n o ≡ None
     → Gives perm limit before symbols (assign_table perm limit symbols n o) n (unwrap_or o 0) × Names (names (keys_of perm) before) e
@@ -196,21 +196,21 @@ assign_on perm limit before symbols n e (Some v) d is none = (
   subst (λ ns. Names ns e) d.order (value_closed (perm ++ symbols) (location (in_table (perm ++ symbols)) before) 0 v e is),
 )
 
-origin_on : (perm : List (Name × ℕ)) (limit : ℕ) (before : List PlacedAct) (symbols : List (Name × ℕ)) (e : List Join) (o : Option ℕ)
+origin_on : (perm : List (Name × ℕ)) (limit : ℕ) (before : List PlacedAct) (symbols : List (Name × ℕ)) (e : List SignedTerm) (o : Option ℕ)
     → IsOfTheWhole perm limit before symbols → value (in_table (perm ++ symbols)) (location (in_table (perm ++ symbols)) before) e ≡ o
     → origin_fault o ≡ None → Names (names (keys_of perm) before) e
 origin_on perm limit before symbols e None d is none = cc
 origin_on perm limit before symbols e (Some v) d is none = subst (λ ns. Names ns e) d.order (value_closed (perm ++ symbols) (location (in_table (perm ++ symbols)) before) 0 v e is)
 
 -- what an act with no fault leaves, by what it is
-record MovesBy (perm : List (Name × ℕ)) (limit : ℕ) (before : List PlacedAct) (e : List Join) (a : Act) (symbols new : List (Name × ℕ)) : Type 0 where
+record MovesBy (perm : List (Name × ℕ)) (limit : ℕ) (before : List PlacedAct) (e : List SignedTerm) (a : Act) (symbols new : List (Name × ℕ)) : Type 0 where
   order : keys_of (perm ++ new) ≡ names_after (names (keys_of perm) before) a
   one_value : AllByRecursion (IsGiven (in_table (perm ++ new))) (giving (in_table (perm ++ new)) (location (in_table (perm ++ new)) before) e a ++ givings (in_table (perm ++ new)) before)
   lawful : IsLawfulAct (names (keys_of perm) before) e a
   room : length new ≤ limit
   here : location_after (in_table (perm ++ symbols)) (location (in_table (perm ++ symbols)) before) e a ≡ location_after (in_table (perm ++ new)) (location (in_table (perm ++ new)) before) e a
 
-moves_by : (perm : List (Name × ℕ)) (limit : ℕ) (before : List PlacedAct) (e : List Join) (a : Act) (symbols : List (Name × ℕ))
+moves_by : (perm : List (Name × ℕ)) (limit : ℕ) (before : List PlacedAct) (e : List SignedTerm) (a : Act) (symbols : List (Name × ℕ))
     → IsOfTheWhole perm limit before symbols → fault perm limit symbols (location (in_table (perm ++ symbols)) before) e a ≡ None
     → MovesBy perm limit before e a symbols (after perm limit symbols (location (in_table (perm ++ symbols)) before) e a)
 moves_by perm limit before e (act.Wrong c) symbols d none = cc

@@ -6,7 +6,7 @@ use Rattle.std.proofs.lemmas.Option.{unwrap_or-slice_get}
 use Rattle.pal_text.specs.declared.names.Name.{Name}
 use Rattle.pal_acts.specs.declared.act.SourcePlace.{SourcePlace}
 use Rattle.pal_acts.specs.declared.act.PlacedWord.{PlacedWord}
-use Rattle.pal_acts.specs.declared.code.Code.{Code}
+use Rattle.pal_acts.specs.declared.fault_code.FaultCode.{FaultCode}
 use Rattle.pal_acts.specs.Acts.{PlacedAct}
 use Rattle.pal_acts.specs.Values.{Values, known}
 use Rattle.pal_acts.specs.Meaning.{location, next_taken, Defines, nothing, one_more}
@@ -25,10 +25,10 @@ gone_more acts before rest a is = is ∙ sym (append_assoc (reverse before) (a �
 -- acts have own symbols, or there is a first one with a fault that isn't a word's
 module _ (perm : List (Name × ℕ)) (limit : ℕ) (acts : List PlacedAct) where
   abbrev DefinedOrNot : Type 0
-  DefinedOrNot = ((own : List (Name × ℕ)) × Defines perm limit (reverse acts) own) ⊎ ((at : SourcePlace) × (code : Code) × Stops perm limit acts at code)
+  DefinedOrNot = ((own : List (Name × ℕ)) × Defines perm limit (reverse acts) own) ⊎ ((at : SourcePlace) × (code : FaultCode) × Stops perm limit acts at code)
 
   taken_so : (before : List PlacedAct) (a : PlacedAct) (rest : List PlacedAct) (own : List (Name × ℕ)) → acts ≡ reverse before ++ a ∷ rest → Defines perm limit before own
-      → (r : Result (List (Name × ℕ)) Code) → next_taken perm limit own before a ≡ r
+      → (r : Result (List (Name × ℕ)) FaultCode) → next_taken perm limit own before a ≡ r
       → ((new : List (Name × ℕ)) → Defines perm limit (a ∷ before) new → DefinedOrNot) → DefinedOrNot
   taken_so before a rest own is d (Ok new) e on = on new (one_more before a own new d e)
   taken_so before a rest own is d (Err code) e on = inr (a.place, code, record { earlier = before; next = a; later = rest; parts = is; such = (refl, (own, d, e)) })
@@ -41,10 +41,10 @@ module _ (perm : List (Name × ℕ)) (limit : ℕ) (acts : List PlacedAct) where
 -- acts have words, or there is a first one whose word has a fault
 module _ (σ : Values) (acts : List PlacedAct) where
   abbrev EncodedOrNot : Type 0
-  EncodedOrNot = Encodes σ (reverse acts) ⊎ ((at : SourcePlace) × (code : Code) × Finds σ acts at code)
+  EncodedOrNot = Encodes σ (reverse acts) ⊎ ((at : SourcePlace) × (code : FaultCode) × Finds σ acts at code)
 
   word_so : (before : List PlacedAct) (a : PlacedAct) (rest : List PlacedAct) → acts ≡ reverse before ++ a ∷ rest → Encodes σ before
-      → (o : Option (Result ℕ Code)) → word_of σ (location σ before) a.terms a.act ≡ o → (Encodes σ (a ∷ before) → EncodedOrNot) → EncodedOrNot
+      → (o : Option (Result ℕ FaultCode)) → word_of σ (location σ before) a.terms a.act ≡ o → (Encodes σ (a ∷ before) → EncodedOrNot) → EncodedOrNot
   word_so before a rest is h None e on = on ((λ code f. let both : None ≡ Some (Err code) = sym e ∙ f in cc), h)
   word_so before a rest is h (Some (Ok w)) e on = on ((λ code f. let both : Some (Ok w) ≡ Some (Err code) = sym e ∙ f in cc), h)
   word_so before a rest is h (Some (Err code)) e on = inr (a.place, code, record { earlier = before; next = a; later = rest; parts = is; such = (refl, h, e) })
@@ -79,7 +79,7 @@ image_there ws =
 
 module _ (perm : List (Name × ℕ)) (limit : ℕ) (acts : List PlacedAct) where
   abbrev Answers : Type 0
-  Answers = ((own : List (Name × ℕ)) × (image : List (Option ℕ)) × IsSource perm limit acts own image) ⊎ ((place : SourcePlace) × (code : Code) × IsRefused perm limit acts place code)
+  Answers = ((own : List (Name × ℕ)) × (image : List (Option ℕ)) × IsSource perm limit acts own image) ⊎ ((place : SourcePlace) × (code : FaultCode) × IsRefused perm limit acts place code)
 
   with_words : (own : List (Name × ℕ)) → Defines perm limit (reverse acts) own → EncodedOrNot (known perm own) acts → Answers
   with_words own d (inl h) =

@@ -11,15 +11,15 @@ use Rattle.pal_text.specs.declared.names.Name.{Name}
 use Rattle.pal_text.proofs.Rises.{all_reverse}
 use Rattle.pal_acts.specs.declared.act.Sign.{Sign}
 use Rattle.pal_acts.specs.declared.act.Sign.TheVariants.{Plus, Minus, Or}
-use Rattle.pal_acts.specs.declared.act.Term.{Term}
-use Rattle.pal_acts.specs.declared.act.Term.TheVariants.{Number, Symbol, Here}
-use Rattle.pal_acts.specs.declared.act.Join.{Join}
+use Rattle.pal_acts.specs.declared.act.ExpressionTerm.{ExpressionTerm}
+use Rattle.pal_acts.specs.declared.act.ExpressionTerm.TheVariants.{Number, Symbol, Here}
+use Rattle.pal_acts.specs.declared.act.SignedTerm.{SignedTerm}
 use Rattle.pal_acts.specs.declared.act.Act.{Act}
 use Rattle.pal_acts.specs.declared.act.Act.TheVariants as act
 use Rattle.pal_acts.specs.declared.act.SourcePlace.{SourcePlace}
 use Rattle.pal_acts.specs.declared.act.PlacedWord.{PlacedWord}
-use Rattle.pal_acts.specs.declared.code.Code.{Code}
-use Rattle.pal_acts.specs.declared.code.Code.TheVariants.{Undefined}
+use Rattle.pal_acts.specs.declared.fault_code.FaultCode.{FaultCode}
+use Rattle.pal_acts.specs.declared.fault_code.FaultCode.TheVariants.{Undefined}
 use Rattle.pal_acts.specs.Acts.{PlacedAct}
 use Rattle.pal_acts.specs.Values.{same, Values, term_value, joined, value_after, value, needed}
 use Rattle.pal_acts.specs.Meaning.{location_after, location, Defines, nothing, one_more}
@@ -33,17 +33,17 @@ abbrev pub Below : Option ℕ → Type 0
 Below None = Unit {0}
 Below (Some v) = v < 4096
 
-abbrev BelowOk : Result ℕ Code → Type 0
+abbrev BelowOk : Result ℕ FaultCode → Type 0
 BelowOk (Ok v) = v < 4096
 BelowOk (Err c) = Unit {0}
 
 -- a number is a word
-abbrev pub IsWordTerm : Term → Type 0
+abbrev pub IsWordTerm : ExpressionTerm → Type 0
 IsWordTerm (Number w) = w < 4096
 IsWordTerm _ = Unit {0}
 
 -- the numbers of an expression are words
-abbrev pub Numbers : List Join → Type 0
+abbrev pub Numbers : List SignedTerm → Type 0
 Numbers js = AllByRecursion (λ j. IsWordTerm j.term) js
 
 -- and so are those of acts
@@ -83,7 +83,7 @@ joined_below Minus a b h k = omega arith
 joined_below Or a b h k = or_below a b h k
 
 module _ (σ : Values) (given : (n : Name) → Below (σ n)) where
-  term_below : (here : ℕ) (t : Term) → here < 4096 → IsWordTerm t → Below (term_value σ here t)
+  term_below : (here : ℕ) (t : ExpressionTerm) → here < 4096 → IsWordTerm t → Below (term_value σ here t)
   term_below here (Number w) h k = k
   term_below here (Symbol n) h k = given n
   term_below here Here h k = h
@@ -92,7 +92,7 @@ module _ (σ : Values) (given : (n : Name) → Below (σ n)) where
   then_below f None h k = tt
   then_below f (Some v) h k = k v h
 
-  value_below : (here a : ℕ) (js : List Join) → here < 4096 → a < 4096 → Numbers js → Below (value_after σ here a js)
+  value_below : (here a : ℕ) (js : List SignedTerm) → here < 4096 → a < 4096 → Numbers js → Below (value_after σ here a js)
   value_below here a [] h k all = k
   value_below here a (j ∷ js) h k all =
       then_below (λ v. value_after σ here (joined j.sign a v) js) (term_value σ here j.term) (term_below here j.term h all.0)
@@ -102,7 +102,7 @@ module _ (σ : Values) (given : (n : Name) → Below (σ n)) where
   zero_below None h = omega arith
   zero_below (Some v) h = h
 
-  after_below : (here : ℕ) (e : List Join) (a : Act) → here < 4096 → Numbers e → location_after σ here e a < 4096
+  after_below : (here : ℕ) (e : List SignedTerm) (a : Act) → here < 4096 → Numbers e → location_after σ here e a < 4096
   after_below here e act.Origin h all = zero_below (value σ here e) (value_below here 0 e h (omega arith) all)
   after_below here e act.Word h all = omega arith
   after_below here e _ h all = h
@@ -123,7 +123,7 @@ module _ (σ : Values) (given : (n : Name) → Below (σ n)) where
       (λ not. cond_both zero _ _ BelowOk (λ is. tt)
       (λ other. cond_both (nat_eq (a / 128) (here / 128)) _ _ BelowOk (λ is. or_below (bit_or b 128) (a % 128) (or_below b 128 h (omega arith)) (omega arith)) (λ is. tt)))
 
-  needed_below : (o : Option ℕ) (f : ℕ → Result ℕ Code) → Below o → ((v : ℕ) → v < 4096 → BelowOk (f v)) → BelowOk (needed o f)
+  needed_below : (o : Option ℕ) (f : ℕ → Result ℕ FaultCode) → Below o → ((v : ℕ) → v < 4096 → BelowOk (f v)) → BelowOk (needed o f)
   needed_below None f h k = tt
   needed_below (Some v) f h k = k v h
 
@@ -139,13 +139,13 @@ module _ (σ : Values) (given : (n : Name) → Below (σ n)) where
   abbrev Marks : Marked → Type 0
   Marks m = Numbers m.address
 
-  marks_below : (i z : Bool) (js : List Join) → Numbers js → Marks (marks_after i z js)
+  marks_below : (i z : Bool) (js : List SignedTerm) → Numbers js → Marks (marks_after i z js)
   marks_below i z [] all = tt
   marks_below i z (j ∷ js) all =
       cond_both (not i && is_mark (named (codes "I     ")) j) _ _ Marks (λ is. marks_below true z js all.1)
       (λ other. cond_both (not z && is_mark (named (codes "Z     ")) j) _ _ Marks (λ is. marks_below i true js all.1) (λ none. all))
 
-  word_below : (here : ℕ) (js : List Join) → here < 4096 → Numbers js → BelowOk (word_value σ here js)
+  word_below : (here : ℕ) (js : List SignedTerm) → here < 4096 → Numbers js → BelowOk (word_value σ here js)
   word_below here [] h all = plain_below (value σ here []) (value_below here 0 [] h (omega arith) all)
   word_below here (j ∷ js) h all =
       cond_both (is_one_of references j.sign j.term) _ _ BelowOk (λ is. reference_below here (term_value σ here j.term) (marks js) h (term_below here j.term h all.0) (marks_below false false js all.1))
@@ -156,15 +156,15 @@ module _ (σ : Values) (given : (n : Name) → Below (σ n)) where
   abbrev AllBelow : List PlacedWord → Type 0
   AllBelow ws = AllByRecursion (λ w. w.word < 4096) ws
 
-  abbrev BelowFound : Option (Result ℕ Code) → Type 0
+  abbrev BelowFound : Option (Result ℕ FaultCode) → Type 0
   BelowFound None = Unit {0}
   BelowFound (Some r) = BelowOk r
 
-  found_below : (here : ℕ) (e : List Join) (a : Act) → here < 4096 → Numbers e → BelowFound (word_of σ here e a)
+  found_below : (here : ℕ) (e : List SignedTerm) (a : Act) → here < 4096 → Numbers e → BelowFound (word_of σ here e a)
   found_below here e act.Word h all = word_below here e h all
   found_below here e _ h all = tt
 
-  placed_below : (p : SourcePlace) (at : ℕ) (o : Option (Result ℕ Code)) (before : List PlacedWord) → BelowFound o → AllBelow before → AllBelow (with_word p at o before)
+  placed_below : (p : SourcePlace) (at : ℕ) (o : Option (Result ℕ FaultCode)) (before : List PlacedWord) → BelowFound o → AllBelow before → AllBelow (with_word p at o before)
   placed_below p at None before h all = all
   placed_below p at (Some (Ok v)) before h all = (h, all)
   placed_below p at (Some (Err c)) before h all = all
@@ -190,7 +190,7 @@ assigned_below : (perm : List (Name × ℕ)) (limit : ℕ) (own : List (Name × 
 assigned_below perm limit own n None h k = h
 assigned_below perm limit own n (Some v) h k = given_below own n (in_table (perm ++ own) n) v h k
 
-symbols_after : (perm : List (Name × ℕ)) (limit : ℕ) (own : List (Name × ℕ)) (here : ℕ) (e : List Join) (a : Act) → Entries perm → Entries own → here < 4096 → Numbers e → Entries (after perm limit own here e a)
+symbols_after : (perm : List (Name × ℕ)) (limit : ℕ) (own : List (Name × ℕ)) (here : ℕ) (e : List SignedTerm) (a : Act) → Entries perm → Entries own → here < 4096 → Numbers e → Entries (after perm limit own here e a)
 symbols_after perm limit own here e (act.Tag n) p h k all = given_below own n (in_table (perm ++ own) n) here h k
 symbols_after perm limit own here e (act.Assign n) p h k all =
     assigned_below perm limit own n (value (in_table (perm ++ own)) here e) h (value_below (in_table (perm ++ own)) (table_below (perm ++ own) (entries_append perm own p h)) here 0 e k (omega arith) all)

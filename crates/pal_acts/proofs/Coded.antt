@@ -9,7 +9,7 @@ use Rattle.pal_acts.specs.Meaning.{location_after, location}
 use Rattle.pal_acts.specs.Sources.{Encodes, with_word, words}
 use Rattle.pal_acts.specs.declared.assembly.ActsFault.{ActsFault}
 use Rattle.pal_acts.specs.declared.assembly.ActsFault.TheVariants.{Fault, NoMemory}
-use Rattle.pal_acts.specs.declared.code.Code.{Code}
+use Rattle.pal_acts.specs.declared.fault_code.FaultCode.{FaultCode}
 use Rattle.pal_acts.specs.Words.{word_of}
 use Rattle.pal_acts.specs.Steps.{Codes, BreaksKeeping, FindsKeeping}
 use Rattle.pal_acts.proofs.Places.{split_at}
@@ -20,7 +20,7 @@ with_found None before = before
 with_found (Some w) before = w ∷ before
 
 module _ (σ : Values) (here : ℕ) (next : PlacedAct) (before : List PlacedAct) (at : here ≡ location σ before) where
-  abbrev found_at : ℕ → Option (Result ℕ Code)
+  abbrev found_at : ℕ → Option (Result ℕ FaultCode)
   found_at l = word_of σ l next.terms next.act
 
   -- the words with that of one act more
@@ -31,12 +31,12 @@ module _ (σ : Values) (here : ℕ) (next : PlacedAct) (before : List PlacedAct)
       ∙ (λ i. record { place = sym h.0 i; at = sym h.1 i; word = w.word } ∷ words σ before)
 
   -- an act with a word, or without one, has no fault
-  fine : (o : Option (Result ℕ Code)) (found : Option PlacedWord) (code : Code) → Codes σ here next found → found_at here ≡ o → o ≡ Some (Err code) → ⊥
+  fine : (o : Option (Result ℕ FaultCode)) (found : Option PlacedWord) (code : FaultCode) → Codes σ here next found → found_at here ≡ o → o ≡ Some (Err code) → ⊥
   fine o None code h e f = let both : None ≡ Some (Err code) = sym h ∙ e ∙ f in cc
   fine o (Some w) code h e f = let both : Some (Ok w.word) ≡ Some (Err code) = sym h.2 ∙ e ∙ f in cc
 
   pub encodes_more : (found : Option PlacedWord) → Codes σ here next found → Encodes σ before → Encodes σ (next ∷ before)
-  encodes_more found h k = (subst (λ l. (code : Code) → found_at l ≢ Some (Err code)) at (λ code e. fine (found_at here) found code h refl e), k)
+  encodes_more found h k = (subst (λ l. (code : FaultCode) → found_at l ≢ Some (Err code)) at (λ code e. fine (found_at here) found code h refl e), k)
 
   pub moves_on : (here' : ℕ) → here' ≡ location_after σ here next.terms next.act → here' ≡ location σ (next ∷ before)
   moves_on here' h = h ∙ ap (λ l. location_after σ l next.terms next.act) at

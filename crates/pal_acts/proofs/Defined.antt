@@ -2,7 +2,7 @@
 use Rattle.std.proofs.Common.{◌≡◌, ◌∙◌, sym, ap, refl, ℕ, List, [], ◌∷◌, append-nil, arith, subst, Result, Ok}
 use Rattle.std.specs.Map.{keys_of}
 use Rattle.pal_text.specs.declared.names.Name.{Name}
-use Rattle.pal_acts.specs.declared.code.Code.{Code}
+use Rattle.pal_acts.specs.declared.fault_code.FaultCode.{FaultCode}
 use Rattle.pal_acts.specs.Acts.{PlacedAct}
 use Rattle.pal_acts.specs.Values.{known}
 use Rattle.pal_acts.specs.Meaning.{location, next_taken, Defines, nothing, one_more}
@@ -58,7 +58,7 @@ came perm limit before next new d = came_by perm limit (next ∷ before) new d
 pub none_came : (perm : List (Name × ℕ)) (limit : ℕ) (own : List (Name × ℕ)) → Defines perm limit [] own → own ≡ []
 none_came perm limit own d = came_by perm limit [] own d
 
-abbrev ok : List (Name × ℕ) → Result (List (Name × ℕ)) Code
+abbrev ok : List (Name × ℕ) → Result (List (Name × ℕ)) FaultCode
 ok x = Ok x
 
 one_ok : (x y : List (Name × ℕ)) → ok x ≡ ok y → x ≡ y

@@ -4,7 +4,7 @@ use Rattle.std.specs.Prelude.{reverse, Result, Ok, Err}
 use Rattle.std.proofs.lemmas.List.{reverse-append, reverse-reverse}
 use Rattle.pal_text.specs.declared.names.Name.{Name}
 use Rattle.pal_acts.specs.declared.act.SourcePlace.{SourcePlace}
-use Rattle.pal_acts.specs.declared.code.Code.{Code}
+use Rattle.pal_acts.specs.declared.fault_code.FaultCode.{FaultCode}
 use Rattle.pal_acts.specs.Acts.{PlacedAct}
 use Rattle.pal_acts.specs.Values.{Values, known}
 use Rattle.pal_acts.specs.Meaning.{location, next_taken, Defines}
@@ -42,14 +42,14 @@ reverse_same : {X : Type 0} (e f : List X) → reverse e ≡ reverse f → e ≡
 reverse_same e f h = sym (reverse-reverse e) ∙ ap reverse h ∙ reverse-reverse f
 
 -- where what comes first goes wrong
-module _ (Good : List PlacedAct → Type 0) (Fine : List PlacedAct → PlacedAct → Type 0) (Bad : List PlacedAct → PlacedAct → Code → Type 0)
+module _ (Good : List PlacedAct → Type 0) (Fine : List PlacedAct → PlacedAct → Type 0) (Bad : List PlacedAct → PlacedAct → FaultCode → Type 0)
     (back : (m e : List PlacedAct) (n : PlacedAct) → Good (m ++ n ∷ e) → Fine e n)
-    (apart : (e : List PlacedAct) (n : PlacedAct) (c : Code) → Fine e n → Bad e n c → ⊥)
-    (one : (e : List PlacedAct) (n : PlacedAct) (c d : Code) → Bad e n c → Bad e n d → c ≡ d) where
-  never : (acts e l : List PlacedAct) (n : PlacedAct) (c : Code) → Good (reverse acts) → acts ≡ reverse e ++ n ∷ l → Bad e n c → ⊥
+    (apart : (e : List PlacedAct) (n : PlacedAct) (c : FaultCode) → Fine e n → Bad e n c → ⊥)
+    (one : (e : List PlacedAct) (n : PlacedAct) (c d : FaultCode) → Bad e n c → Bad e n d → c ≡ d) where
+  never : (acts e l : List PlacedAct) (n : PlacedAct) (c : FaultCode) → Good (reverse acts) → acts ≡ reverse e ++ n ∷ l → Bad e n c → ⊥
   never acts e l n c g parts bad = apart e n c (back (reverse l) e n (subst Good (ap reverse parts ∙ turned e l n) g)) bad
 
-  first : (acts e f l k : List PlacedAct) (n o : PlacedAct) (c d : Code) → Good e → Good f → acts ≡ reverse e ++ n ∷ l → acts ≡ reverse f ++ o ∷ k → Bad e n c → Bad f o d → (n ≡ o) × (c ≡ d)
+  first : (acts e f l k : List PlacedAct) (n o : PlacedAct) (c d : FaultCode) → Good e → Good f → acts ≡ reverse e ++ n ∷ l → acts ≡ reverse f ++ o ∷ k → Bad e n c → Bad f o d → (n ≡ o) × (c ≡ d)
   first acts e f l k n o c d g h p q bad worse = elim (cut_cases (reverse e) (reverse f) n o l k (sym p ∙ q)) [
     | inl r ↦
         let same_front : e ≡ f = reverse_same e f r.0 in
@@ -58,10 +58,10 @@ module _ (Good : List PlacedAct → Type 0) (Fine : List PlacedAct → PlacedAct
     | inr (inr r) ↦ absurd (apart f o d (back (reverse r.0) f o (subst Good (turned_back f e r.0 o r.1) g)) worse)
   ]
 
-abbrev err : Code → Result (List (Name × ℕ)) Code
+abbrev err : FaultCode → Result (List (Name × ℕ)) FaultCode
 err c = Err c
 
-one_err : (c d : Code) → err c ≡ err d → c ≡ d
+one_err : (c d : FaultCode) → err c ≡ err d → c ≡ d
 one_err c d e = cc
 
 module _ (perm : List (Name × ℕ)) (limit : ℕ) where
@@ -71,26 +71,26 @@ module _ (perm : List (Name × ℕ)) (limit : ℕ) where
   abbrev Fits : List PlacedAct → PlacedAct → Type 0
   Fits e n = (s new : List (Name × ℕ)) × Defines perm limit e s × (next_taken perm limit s e n ≡ Ok new)
 
-  abbrev Fails : List PlacedAct → PlacedAct → Code → Type 0
+  abbrev Fails : List PlacedAct → PlacedAct → FaultCode → Type 0
   Fails e n c = (s : List (Name × ℕ)) × Defines perm limit e s × (next_taken perm limit s e n ≡ Err c)
 
   fits_back : (m e : List PlacedAct) (n : PlacedAct) → Defined (m ++ n ∷ e) → Fits e n
   fits_back [] e n (s, d) = let b : Came perm limit e n s = came perm limit e n s d in (b.own, s, b.defines, b.taken_is)
   fits_back (x ∷ m) e n (s, d) = let b : Came perm limit (m ++ n ∷ e) x s = came perm limit (m ++ n ∷ e) x s d in fits_back m e n (b.own, b.defines)
 
-  fits_apart : (e : List PlacedAct) (n : PlacedAct) (c : Code) → Fits e n → Fails e n c → ⊥
+  fits_apart : (e : List PlacedAct) (n : PlacedAct) (c : FaultCode) → Fits e n → Fails e n c → ⊥
   fits_apart e n c (s, new, d, h) (u, k, f) = let same_symbols = ap (λ s. next_taken perm limit s e n) (unique perm limit e s u d k) in cc (sym h ∙ same_symbols ∙ f)
 
-  fails_one : (e : List PlacedAct) (n : PlacedAct) (c d : Code) → Fails e n c → Fails e n d → c ≡ d
+  fails_one : (e : List PlacedAct) (n : PlacedAct) (c d : FaultCode) → Fails e n c → Fails e n d → c ≡ d
   fails_one e n c d (s, k, h) (u, l, f) = one_err c d (sym h ∙ ap (λ s. next_taken perm limit s e n) (unique perm limit e s u k l) ∙ f)
 
-  fails : (acts : List PlacedAct) (at : SourcePlace) (c : Code) → (h : Stops perm limit acts at c) → Fails h.earlier h.next c
+  fails : (acts : List PlacedAct) (at : SourcePlace) (c : FaultCode) → (h : Stops perm limit acts at c) → Fails h.earlier h.next c
   fails acts at c h = h.such.1
 
-  stops_never : (acts : List PlacedAct) (at : SourcePlace) (c : Code) (s : List (Name × ℕ)) → Defines perm limit (reverse acts) s → Stops perm limit acts at c → ⊥
+  stops_never : (acts : List PlacedAct) (at : SourcePlace) (c : FaultCode) (s : List (Name × ℕ)) → Defines perm limit (reverse acts) s → Stops perm limit acts at c → ⊥
   stops_never acts at c s d h = never Defined Fits Fails fits_back fits_apart fails_one acts h.earlier h.later h.next c (s, d) h.parts (fails acts at c h)
 
-  stops_one : (acts : List PlacedAct) (at au : SourcePlace) (c d : Code) → Stops perm limit acts at c → Stops perm limit acts au d → (at ≡ au) × (c ≡ d)
+  stops_one : (acts : List PlacedAct) (at au : SourcePlace) (c d : FaultCode) → Stops perm limit acts at c → Stops perm limit acts au d → (at ≡ au) × (c ≡ d)
   stops_one acts at au c d h k =
       let r = first Defined Fits Fails fits_back fits_apart fails_one acts h.earlier k.earlier h.later k.later h.next k.next c d (h.such.1.0, h.such.1.1) (k.such.1.0, k.such.1.1) h.parts k.parts (fails acts at c h) (fails acts au d k) in
       (h.such.0 ∙ ap (λ a. a.place) r.0 ∙ sym k.such.0, r.1)
@@ -103,19 +103,19 @@ module _ (σ : Values) where
   words_back [] e n h = h
   words_back (x ∷ m) e n h = words_back m e n h.1
 
-  abbrev Breaks : List PlacedAct → PlacedAct → Code → Type 0
+  abbrev Breaks : List PlacedAct → PlacedAct → FaultCode → Type 0
   Breaks e n c = word_of σ (location σ e) n.terms n.act ≡ Some (Err c)
 
-  words_apart : (e : List PlacedAct) (n : PlacedAct) (c : Code) → IsWordFine e n → Breaks e n c → ⊥
+  words_apart : (e : List PlacedAct) (n : PlacedAct) (c : FaultCode) → IsWordFine e n → Breaks e n c → ⊥
   words_apart e n c h k = h.0 c k
 
-  words_one : (e : List PlacedAct) (n : PlacedAct) (c d : Code) → Breaks e n c → Breaks e n d → c ≡ d
+  words_one : (e : List PlacedAct) (n : PlacedAct) (c d : FaultCode) → Breaks e n c → Breaks e n d → c ≡ d
   words_one e n c d h k = let both = sym h ∙ k in cc
 
-  finds_never : (acts : List PlacedAct) (at : SourcePlace) (c : Code) → Encodes σ (reverse acts) → Finds σ acts at c → ⊥
+  finds_never : (acts : List PlacedAct) (at : SourcePlace) (c : FaultCode) → Encodes σ (reverse acts) → Finds σ acts at c → ⊥
   finds_never acts at c g h = never (Encodes σ) IsWordFine Breaks words_back words_apart words_one acts h.earlier h.later h.next c g h.parts h.such.2
 
-  finds_one : (acts : List PlacedAct) (at au : SourcePlace) (c d : Code) → Finds σ acts at c → Finds σ acts au d → (at ≡ au) × (c ≡ d)
+  finds_one : (acts : List PlacedAct) (at au : SourcePlace) (c d : FaultCode) → Finds σ acts at c → Finds σ acts au d → (at ≡ au) × (c ≡ d)
   finds_one acts at au c d h k =
       let r = first (Encodes σ) IsWordFine Breaks words_back words_apart words_one acts h.earlier k.earlier h.later k.later h.next k.next c d h.such.1 k.such.1 h.parts k.parts h.such.2 k.such.2 in
       (h.such.0 ∙ ap (λ a. a.place) r.0 ∙ sym k.such.0, r.1)

@@ -5,7 +5,7 @@ use Rattle.std.specs.Map.{lookup, keys_of}
 use Rattle.std.proofs.lemmas.Bool.{cases_Bool, cond-true}
 use Rattle.pal_text.specs.declared.names.Name.{Name}
 use Rattle.pal_acts.specs.Values.{Values, same, has}
-use Rattle.pal_acts.specs.declared.code.Code.{Code}
+use Rattle.pal_acts.specs.declared.fault_code.FaultCode.{FaultCode}
 use Rattle.pal_acts.specs.Meaning.{given}
 
 -- the values that a table of names gives: that of a name's first entry
@@ -51,6 +51,6 @@ lookup-none {K} test (x ∷ xs) ys h =
     ]
 
 -- a new name finds room
-pub given_new : (code : Code) (limit : ℕ) (own new : List (Name × ℕ)) (n : Name) (o : Option ℕ) (v : ℕ) → o ≡ None → length own < limit → new ≡ own ++ (n, v) ∷ [] → given code limit own n o v ≡ Ok new
+pub given_new : (code : FaultCode) (limit : ℕ) (own new : List (Name × ℕ)) (n : Name) (o : Option ℕ) (v : ℕ) → o ≡ None → length own < limit → new ≡ own ++ (n, v) ∷ [] → given code limit own n o v ≡ Ok new
 given_new code limit own new n o v none room e =
     ap (λ o. given code limit own n o v) none ∙ cond-true (nat_lt (length own) limit) _ _ (lt-ltb (length own) limit room) ∙ ap Ok (sym e)

@@ -3,7 +3,7 @@ use Rattle.std.proofs.Common.{◌≡◌, refl, inl, inr, ◌⊎◌, ℕ, List, O
 use Rattle.pal_text.specs.declared.names.Name.{Name}
 use Rattle.pal_acts.specs.Acts.{PlacedAct}
 use Rattle.pal_acts.specs.declared.act.SourcePlace.{SourcePlace}
-use Rattle.pal_acts.specs.declared.code.Code.{Code}
+use Rattle.pal_acts.specs.declared.fault_code.FaultCode.{FaultCode}
 use Rattle.pal_acts.specs.declared.assembly.ActsFault.{ActsFault}
 use Rattle.pal_acts.specs.declared.assembly.ActsFault.TheVariants.{Fault, NoMemory}
 use Rattle.pal_acts.specs.Sources.{IsSource}
@@ -28,10 +28,10 @@ pub silent : (permanent : List (Name × ℕ)) (limit : ℕ) (acts : List PlacedA
 silent permanent limit acts own image h (Fault at code) f = absurd (not_both permanent limit acts own image at code h f)
 silent permanent limit acts own image h NoMemory f = refl
 
-same_fault : (at there : SourcePlace) (code told : Code) → (there ≡ at) × (told ≡ code) → Fault there told ≡ Fault at code
+same_fault : (at there : SourcePlace) (code told : FaultCode) → (there ≡ at) × (told ≡ code) → Fault there told ≡ Fault at code
 same_fault at there code told e = λ i. Fault (e.0 i) (e.1 i)
 
 -- one with a fault tells no other
-pub tells_only : (permanent : List (Name × ℕ)) (limit : ℕ) (acts : List PlacedAct) (at : SourcePlace) (code : Code) → IsRefused permanent limit acts at code → (r : ActsFault) → Has permanent limit acts r → (r ≡ Fault at code) ⊎ (r ≡ NoMemory)
+pub tells_only : (permanent : List (Name × ℕ)) (limit : ℕ) (acts : List PlacedAct) (at : SourcePlace) (code : FaultCode) → IsRefused permanent limit acts at code → (r : ActsFault) → Has permanent limit acts r → (r ≡ Fault at code) ⊎ (r ≡ NoMemory)
 tells_only permanent limit acts at code h (Fault place told) f = inl (same_fault at place code told (one_fault permanent limit acts place at told code f h))
 tells_only permanent limit acts at code h NoMemory f = inr refl

@@ -6,13 +6,13 @@ use Rattle.std.specs.Option.{option_and_then}
 use Rattle.std.specs.Map.{keys_of}
 use Rattle.std.proofs.lemmas.Bool.{cases_Bool, eq-eqb, lt-ltb}
 use Rattle.pal_text.specs.declared.names.Name.{Name}
-use Rattle.pal_acts.specs.declared.act.Term.{Term}
-use Rattle.pal_acts.specs.declared.act.Term.TheVariants.{Number, Symbol, Here}
-use Rattle.pal_acts.specs.declared.act.Join.{Join}
+use Rattle.pal_acts.specs.declared.act.ExpressionTerm.{ExpressionTerm}
+use Rattle.pal_acts.specs.declared.act.ExpressionTerm.TheVariants.{Number, Symbol, Here}
+use Rattle.pal_acts.specs.declared.act.SignedTerm.{SignedTerm}
 use Rattle.pal_acts.specs.declared.act.Act.{Act}
 use Rattle.pal_acts.specs.declared.act.Act.TheVariants as act
-use Rattle.pal_acts.specs.declared.code.Code.{Code}
-use Rattle.pal_acts.specs.declared.code.Code.TheVariants.{Redefined, DuplicateTag}
+use Rattle.pal_acts.specs.declared.fault_code.FaultCode.{FaultCode}
+use Rattle.pal_acts.specs.declared.fault_code.FaultCode.TheVariants.{Redefined, DuplicateTag}
 use Rattle.pal_acts.specs.Acts.{PlacedAct}
 use Rattle.pal_acts.specs.Values.{same, has, Values, term_value, joined, value_after, value}
 use Rattle.pal_acts.specs.Meaning.{location}
@@ -22,7 +22,7 @@ use Rattle.pal_acts.proofs.Table.{in_table, lookup-right, has_lookup}
 use Rattle.pal_acts.proofs.Agree.{Agrees, value_agree, location_agree, givings_agree, grows, has-after, has_not, has_it, keys-append, same_self}
 
 -- an expression has a value where its names have
-term_known : (t : List (Name × ℕ)) (here : ℕ) (x : Term) → IsTermOf (keys_of t) x → (v : ℕ) × (term_value (in_table t) here x ≡ Some v)
+term_known : (t : List (Name × ℕ)) (here : ℕ) (x : ExpressionTerm) → IsTermOf (keys_of t) x → (v : ℕ) × (term_value (in_table t) here x ≡ Some v)
 term_known t here (Number w) h = (w, refl)
 term_known t here (Symbol n) h = by (in_table t n) refl
   where
@@ -31,7 +31,7 @@ term_known t here (Symbol n) h = by (in_table t n) refl
     by (Some v) e = (v, e)
 term_known t here Here h = (here, refl)
 
-value_known : (t : List (Name × ℕ)) (here a : ℕ) (js : List Join) → Names (keys_of t) js → (v : ℕ) × (value_after (in_table t) here a js ≡ Some v)
+value_known : (t : List (Name × ℕ)) (here a : ℕ) (js : List SignedTerm) → Names (keys_of t) js → (v : ℕ) × (value_after (in_table t) here a js ≡ Some v)
 value_known t here a [] h = (a, refl)
 value_known t here a (j ∷ js) h =
     let k : (v : ℕ) × (term_value (in_table t) here j.term ≡ Some v) = term_known t here j.term h.0 in
@@ -59,7 +59,7 @@ has-given ns n = elim (cases_Bool (has ns n)) [
   | inr not ↦ rw not (has-last ns n)
 ]
 
-giving_named : (ns : List Name) (σ : Values) (here : ℕ) (e : List Join) (a : Act) (gs : List (Name × ℕ)) → AllByRecursion (IsNamed (names_after ns a)) gs → AllByRecursion (IsNamed (names_after ns a)) (giving σ here e a ++ gs)
+giving_named : (ns : List Name) (σ : Values) (here : ℕ) (e : List SignedTerm) (a : Act) (gs : List (Name × ℕ)) → AllByRecursion (IsNamed (names_after ns a)) gs → AllByRecursion (IsNamed (names_after ns a)) (giving σ here e a ++ gs)
 giving_named ns σ here e (act.Tag n) gs h = (has-given ns n, h)
 giving_named ns σ here e (act.Assign n) gs h = (has-given ns n, h)
 giving_named ns σ here e _ gs h = h
@@ -116,14 +116,14 @@ some_same : (v w : ℕ) → Some v ≡ Some w → v ≡ w
 some_same v w e = cc
 
 -- what stood before a name was given a value
-pub record Ungiven (perm : List (Name × ℕ)) (limit : ℕ) (before : List PlacedAct) (new : List (Name × ℕ)) (n : Name) (v : ℕ) (code : Code) : Type 0 where
+pub record Ungiven (perm : List (Name × ℕ)) (limit : ℕ) (before : List PlacedAct) (new : List (Name × ℕ)) (n : Name) (v : ℕ) (code : FaultCode) : Type 0 where
   pub symbols : List (Name × ℕ)
   pub defines : IsOfTheWhole perm limit before symbols
   pub none : giving_fault code limit (length symbols) (in_table (perm ++ symbols) n) v ≡ None
   pub new_is : new ≡ giving_table symbols n (in_table (perm ++ symbols) n) v
   pub agrees : Agrees (names (keys_of perm) before) (in_table (perm ++ symbols)) (in_table (perm ++ new))
 
-ungive_old : (perm : List (Name × ℕ)) (limit : ℕ) (before : List PlacedAct) (new : List (Name × ℕ)) (n : Name) (v : ℕ) (code : Code)
+ungive_old : (perm : List (Name × ℕ)) (limit : ℕ) (before : List PlacedAct) (new : List (Name × ℕ)) (n : Name) (v : ℕ) (code : FaultCode)
     → keys_of (perm ++ new) ≡ names (keys_of perm) before → in_table (perm ++ new) n ≡ Some v
     → AllByRecursion (IsGiven (in_table (perm ++ new))) (givings (in_table (perm ++ new)) before) → IsLawful (keys_of perm) before → length new ≤ limit
     → Ungiven perm limit before new n v code
@@ -135,7 +135,7 @@ ungive_old perm limit before new n v code order is others lawful room = record {
   agrees = λ m h. refl;
 }
 
-ungive_new : (perm : List (Name × ℕ)) (limit : ℕ) (before : List PlacedAct) (new s : List (Name × ℕ)) (n : Name) (v w : ℕ) (code : Code)
+ungive_new : (perm : List (Name × ℕ)) (limit : ℕ) (before : List PlacedAct) (new s : List (Name × ℕ)) (n : Name) (v w : ℕ) (code : FaultCode)
     → keys_of (perm ++ s) ≡ names (keys_of perm) before → has (names (keys_of perm) before) n ≡ false → new ≡ s ++ (n, w) ∷ [] → in_table (perm ++ new) n ≡ Some v
     → AllByRecursion (IsGiven (in_table (perm ++ new))) (givings (in_table (perm ++ new)) before) → IsLawful (keys_of perm) before → length new ≤ limit
     → Ungiven perm limit before new n v code
@@ -164,7 +164,7 @@ ungive_new perm limit before new s n v w code order absent new_is is others lawf
       agrees = ag;
     }
 
-ungive : (perm : List (Name × ℕ)) (limit : ℕ) (before : List PlacedAct) (new : List (Name × ℕ)) (n : Name) (v : ℕ) (code : Code)
+ungive : (perm : List (Name × ℕ)) (limit : ℕ) (before : List PlacedAct) (new : List (Name × ℕ)) (n : Name) (v : ℕ) (code : FaultCode)
     → keys_of (perm ++ new) ≡ with_name (names (keys_of perm) before) n → in_table (perm ++ new) n ≡ Some v
     → AllByRecursion (IsGiven (in_table (perm ++ new))) (givings (in_table (perm ++ new)) before) → IsLawful (keys_of perm) before → length new ≤ limit
     → Ungiven perm limit before new n v code
@@ -181,13 +181,13 @@ ungive perm limit before new n v code order is others lawful room =
     ]
 
 -- what stood before an act
-pub record Before (perm : List (Name × ℕ)) (limit : ℕ) (before : List PlacedAct) (e : List Join) (a : Act) (new : List (Name × ℕ)) : Type 0 where
+pub record Before (perm : List (Name × ℕ)) (limit : ℕ) (before : List PlacedAct) (e : List SignedTerm) (a : Act) (new : List (Name × ℕ)) : Type 0 where
   pub symbols : List (Name × ℕ)
   pub defines : IsOfTheWhole perm limit before symbols
   pub none : fault perm limit symbols (location (in_table (perm ++ symbols)) before) e a ≡ None
   pub new_is : new ≡ after perm limit symbols (location (in_table (perm ++ symbols)) before) e a
 
-stood_by : (perm : List (Name × ℕ)) (limit : ℕ) (before : List PlacedAct) (e : List Join) (a : Act) (new : List (Name × ℕ))
+stood_by : (perm : List (Name × ℕ)) (limit : ℕ) (before : List PlacedAct) (e : List SignedTerm) (a : Act) (new : List (Name × ℕ))
     → keys_of (perm ++ new) ≡ names_after (names (keys_of perm) before) a
     → AllByRecursion (IsGiven (in_table (perm ++ new))) (giving (in_table (perm ++ new)) (location (in_table (perm ++ new)) before) e a ++ givings (in_table (perm ++ new)) before)
     → IsLawfulAct (names (keys_of perm) before) e a → IsLawful (keys_of perm) before → length new ≤ limit → Before perm limit before e a new

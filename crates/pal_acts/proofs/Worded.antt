@@ -4,7 +4,7 @@ use Rattle.std.specs.Prelude.{reverse}
 use Rattle.std.specs.Option.{option_and_then}
 use Rattle.std.proofs.lemmas.List.{reverse-reverse, take_all, drop_more, drop_all}
 use Rattle.pal_text.specs.declared.names.Name.{Name}
-use Rattle.pal_acts.specs.declared.act.Join.{Join}
+use Rattle.pal_acts.specs.declared.act.SignedTerm.{SignedTerm}
 use Rattle.pal_acts.specs.declared.act.PlacedWord.{PlacedWord}
 use Rattle.pal_acts.specs.declared.assembly.ActsFault.{ActsFault}
 use Rattle.pal_acts.specs.declared.assembly.ActsFault.TheVariants.{Fault, NoMemory}
@@ -40,7 +40,7 @@ symbols_refused perm acts (Fault place code) h = inl h
 symbols_refused perm acts NoMemory h = inl h
 
 -- the value of an expression, one term after another
-pub value_more : (σ : Values) (here a : ℕ) (js : List Join) (i : ℕ) (j d : Join) (v new : ℕ) → i < length js → j ≡ get_or js i d → term_value σ here j.term ≡ Some v → new ≡ joined j.sign a v
+pub value_more : (σ : Values) (here a : ℕ) (js : List SignedTerm) (i : ℕ) (j d : SignedTerm) (v new : ℕ) → i < length js → j ≡ get_or js i d → term_value σ here j.term ≡ Some v → new ≡ joined j.sign a v
     → value_after σ here a (drop i js) ≡ value_after σ here new (drop (i + 1) js)
 value_more σ here a js i j d v new h is e sum =
     ap (value_after σ here a) (drop_more js i d h)
@@ -48,5 +48,5 @@ value_more σ here a js i j d v new h is e sum =
     ∙ ap (option_and_then (λ w. value_after σ here (joined j.sign a w) (drop (i + 1) js))) e
     ∙ ap (λ w. value_after σ here w (drop (i + 1) js)) (sym sum)
 
-pub value_all : (σ : Values) (here a : ℕ) (js : List Join) (i : ℕ) → length js ≤ i → value_after σ here a (drop i js) ≡ Some a
+pub value_all : (σ : Values) (here a : ℕ) (js : List SignedTerm) (i : ℕ) → length js ≤ i → value_after σ here a (drop i js) ≡ Some a
 value_all σ here a js i h = ap (value_after σ here a) (drop_all i js h)

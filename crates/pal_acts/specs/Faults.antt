@@ -2,7 +2,7 @@
 use Rattle.std.specs.Prelude.{◌≡◌, ℕ, ◌+◌, List, ◌∷◌, ◌++◌, length, reverse, Some, Ok, Err, ◌⊎◌}
 use Rattle.pal_text.specs.declared.names.Name.{Name}
 use Rattle.pal_acts.specs.declared.act.SourcePlace.{SourcePlace}
-use Rattle.pal_acts.specs.declared.code.Code.{Code}
+use Rattle.pal_acts.specs.declared.fault_code.FaultCode.{FaultCode}
 use Rattle.pal_acts.specs.declared.assembly.ActsFault.{ActsFault}
 use Rattle.pal_acts.specs.declared.assembly.ActsFault.TheVariants.{Fault, NoMemory}
 use Rattle.pal_acts.specs.Acts.{PlacedAct}
@@ -20,17 +20,17 @@ pub record Meets (acts : List PlacedAct) (Such : List PlacedAct → PlacedAct �
   pub such : Such earlier next
 
 -- The first fault that isn't a word's: it is that of an act at this place, and the acts before it have these symbols.
-abbrev pub Stops : List (Name × ℕ) → ℕ → List PlacedAct → SourcePlace → Code → Type 0
+abbrev pub Stops : List (Name × ℕ) → ℕ → List PlacedAct → SourcePlace → FaultCode → Type 0
 Stops permanent limit acts place code = Meets acts (λ before next. (place ≡ next.place)
     × ((own : List (Name × ℕ)) × Defines permanent limit before own × (next_taken permanent limit own before next ≡ Err code)))
 
 -- The first fault of a word: it is that of an act at this place, and the words before it have none.
-abbrev pub Finds : Values → List PlacedAct → SourcePlace → Code → Type 0
+abbrev pub Finds : Values → List PlacedAct → SourcePlace → FaultCode → Type 0
 Finds σ acts place code = Meets acts (λ before next. (place ≡ next.place) × Encodes σ before × (word_of σ (location σ before) next.terms next.act ≡ Some (Err code)))
 
 -- The fault of a source is the first one that isn't a word's. Where there is none, it is the first of a word, with the
 -- symbols of the whole source.
-abbrev pub IsRefused : List (Name × ℕ) → ℕ → List PlacedAct → SourcePlace → Code → Type 0
+abbrev pub IsRefused : List (Name × ℕ) → ℕ → List PlacedAct → SourcePlace → FaultCode → Type 0
 IsRefused permanent limit acts place code = Stops permanent limit acts place code
     ⊎ ((own : List (Name × ℕ)) × Defines permanent limit (reverse acts) own × Finds (known permanent own) acts place code)
 

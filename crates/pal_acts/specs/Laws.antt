@@ -5,13 +5,13 @@ use Rattle.std.specs.List.{AllByRecursion, list_all}
 use Rattle.std.specs.Map.{keys_of}
 use Rattle.instruct.specs.declared.Profile.{Profile}
 use Rattle.pal_text.specs.declared.names.Name.{Name}
-use Rattle.pal_acts.specs.declared.act.Term.{Term}
-use Rattle.pal_acts.specs.declared.act.Term.TheVariants.{Symbol}
-use Rattle.pal_acts.specs.declared.act.Join.{Join}
+use Rattle.pal_acts.specs.declared.act.ExpressionTerm.{ExpressionTerm}
+use Rattle.pal_acts.specs.declared.act.ExpressionTerm.TheVariants.{Symbol}
+use Rattle.pal_acts.specs.declared.act.SignedTerm.{SignedTerm}
 use Rattle.pal_acts.specs.declared.act.Act.{Act}
 use Rattle.pal_acts.specs.declared.act.Act.TheVariants as act
 use Rattle.pal_acts.specs.declared.act.SourcePlace.{SourcePlace}
-use Rattle.pal_acts.specs.declared.code.Code.{Code}
+use Rattle.pal_acts.specs.declared.fault_code.FaultCode.{FaultCode}
 use Rattle.pal_acts.specs.Acts.{PlacedAct}
 use Rattle.pal_acts.specs.Values.{Values, has, known, value}
 use Rattle.pal_acts.specs.Meaning.{location, Defines}
@@ -21,7 +21,7 @@ use Rattle.pal_acts.specs.Sources.{IsSource}
 use Rattle.pal_acts.specs.Faults.{IsRefused}
 
 -- The name that an act gives a value, with that value.
-abbrev pub giving : Values → ℕ → List Join → Act → List (Name × ℕ)
+abbrev pub giving : Values → ℕ → List SignedTerm → Act → List (Name × ℕ)
 giving σ here e (act.Tag n) = (n, here) ∷ []
 giving σ here e (act.Assign n) = (n, unwrap_or (value σ here e) 0) ∷ []
 giving σ here e _ = []
@@ -47,16 +47,16 @@ names permanent [] = permanent
 names permanent (a ∷ before) = names_after (names permanent before) a.act
 
 -- A term names no other symbol than these.
-abbrev pub IsTermOf : List Name → Term → Type 0
+abbrev pub IsTermOf : List Name → ExpressionTerm → Type 0
 IsTermOf ns (Symbol n) = has ns n ≡ true
 IsTermOf ns _ = Unit {0}
 
 -- An expression names no other symbols than these.
-abbrev pub Names : List Name → List Join → Type 0
+abbrev pub Names : List Name → List SignedTerm → Type 0
 Names ns js = AllByRecursion (λ j. IsTermOf ns j.term) js
 
 -- An origin or an assignment names only symbols that have a value before it, and no act is wrong by itself.
-abbrev pub IsLawfulAct : List Name → List Join → Act → Type 0
+abbrev pub IsLawfulAct : List Name → List SignedTerm → Act → Type 0
 IsLawfulAct ns e act.Origin = Names ns e
 IsLawfulAct ns e (act.Assign n) = Names ns e
 IsLawfulAct ns e act.AssignDirection = ⊥
@@ -95,19 +95,19 @@ OneSource = (permanent : List (Name × ℕ)) (limit : ℕ) (acts : List PlacedAc
 
 -- A source with a meaning has no fault.
 abbrev pub NotBoth : Type 0
-NotBoth = (permanent : List (Name × ℕ)) (limit : ℕ) (acts : List PlacedAct) (own : List (Name × ℕ)) (image : List (Option ℕ)) (place : SourcePlace) (code : Code)
+NotBoth = (permanent : List (Name × ℕ)) (limit : ℕ) (acts : List PlacedAct) (own : List (Name × ℕ)) (image : List (Option ℕ)) (place : SourcePlace) (code : FaultCode)
     → IsSource permanent limit acts own image → IsRefused permanent limit acts place code → ⊥
 
 -- Any two faults of a source are the same, at the same place.
 abbrev pub OneFault : Type 0
-OneFault = (permanent : List (Name × ℕ)) (limit : ℕ) (acts : List PlacedAct) (place there : SourcePlace) (code other : Code)
+OneFault = (permanent : List (Name × ℕ)) (limit : ℕ) (acts : List PlacedAct) (place there : SourcePlace) (code other : FaultCode)
     → IsRefused permanent limit acts place code → IsRefused permanent limit acts there other → (place ≡ there) × (code ≡ other)
 
 -- Each source has a meaning or a fault.
 abbrev pub EachSourceIsAnswered : Type 0
 EachSourceIsAnswered =
     (permanent : List (Name × ℕ)) (limit : ℕ) (acts : List PlacedAct) → ((own : List (Name × ℕ)) × (image : List (Option ℕ)) × IsSource permanent limit acts own image)
-    ⊎ ((place : SourcePlace) × (code : Code) × IsRefused permanent limit acts place code)
+    ⊎ ((place : SourcePlace) × (code : FaultCode) × IsRefused permanent limit acts place code)
 
 -- No name stands twice among these.
 abbrev pub no_name_twice : List Name → Bool

@@ -5,6 +5,6 @@ pub mod Words
 pub mod Sources
 pub mod Faults
 pub mod Laws
-pub mod Kept
+pub mod ActsInCode
 pub mod Steps
 pub mod Permanent

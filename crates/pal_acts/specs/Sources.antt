@@ -5,7 +5,7 @@ use Rattle.bin_tape.specs.Image.{word_at}
 use Rattle.pal_text.specs.declared.names.Name.{Name}
 use Rattle.pal_acts.specs.declared.act.SourcePlace.{SourcePlace}
 use Rattle.pal_acts.specs.declared.act.PlacedWord.{PlacedWord}
-use Rattle.pal_acts.specs.declared.code.Code.{Code}
+use Rattle.pal_acts.specs.declared.fault_code.FaultCode.{FaultCode}
 use Rattle.pal_acts.specs.Acts.{PlacedAct}
 use Rattle.pal_acts.specs.Values.{Values, known}
 use Rattle.pal_acts.specs.Meaning.{location, Defines}
@@ -14,10 +14,10 @@ use Rattle.pal_acts.specs.Words.{word_of}
 -- No act is to be a word and is none.
 abbrev pub Encodes : Values → List PlacedAct → Type 0
 Encodes σ [] = Unit {0}
-Encodes σ (a ∷ before) = ((code : Code) → word_of σ (location σ before) a.terms a.act ≢ Some (Err code)) × Encodes σ before
+Encodes σ (a ∷ before) = ((code : FaultCode) → word_of σ (location σ before) a.terms a.act ≢ Some (Err code)) × Encodes σ before
 
 -- A word with its place and its address, before others; where there is none, these alone.
-abbrev pub with_word : SourcePlace → ℕ → Option (Result ℕ Code) → List PlacedWord → List PlacedWord
+abbrev pub with_word : SourcePlace → ℕ → Option (Result ℕ FaultCode) → List PlacedWord → List PlacedWord
 with_word p at (Some (Ok w)) before = record { place = p; at = at; word = w } ∷ before
 with_word p at _ before = before
 

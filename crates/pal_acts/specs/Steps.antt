@@ -2,7 +2,7 @@
 use Rattle.std.specs.Prelude.{◌≡◌, ℕ, ◌+◌, List, ◌∷◌, length, reverse, Option, Some, None, Result, Ok, Err}
 use Rattle.pal_text.specs.declared.names.Name.{Name}
 use Rattle.pal_acts.specs.declared.act.PlacedWord.{PlacedWord}
-use Rattle.pal_acts.specs.declared.code.Code.{Code}
+use Rattle.pal_acts.specs.declared.fault_code.FaultCode.{FaultCode}
 use Rattle.pal_acts.specs.declared.symbols.Refusal.{Refusal}
 use Rattle.pal_acts.specs.declared.symbols.Refusal.TheVariants as refusal
 use Rattle.pal_acts.specs.declared.assembly.ActsFault.{ActsFault}
@@ -10,13 +10,13 @@ use Rattle.pal_acts.specs.declared.assembly.ActsFault.TheVariants.{Fault, NoMemo
 use Rattle.pal_acts.specs.Acts.{PlacedAct}
 use Rattle.pal_acts.specs.Values.{Values}
 use Rattle.pal_acts.specs.Meaning.{location}
-use Rattle.pal_acts.specs.declared.words.Marks.{Marks}
+use Rattle.pal_acts.specs.declared.words.AddressOperand.{AddressOperand}
 use Rattle.pal_acts.specs.Words.{Marked, marked, word_of}
 use Rattle.pal_acts.specs.Sources.{Encodes, words, IsImage}
 use Rattle.pal_acts.specs.Faults.{Stops, AsksForMemory, Finds, AsksForWord}
 
 -- A refusal by the fault in place of symbols; or memory was refused where they become one more.
-abbrev pub IsFault : ℕ → Result (List (Name × ℕ)) Code → Refusal → Type 0
+abbrev pub IsFault : ℕ → Result (List (Name × ℕ)) FaultCode → Refusal → Type 0
 IsFault count taken (refusal.Fault code) = taken ≡ Err code
 IsFault count taken refusal.NoMemory = (new : List (Name × ℕ)) × (taken ≡ Ok new) × (length new ≡ count + 1)
 
@@ -56,5 +56,5 @@ BreaksKeeping σ here next (Fault place code) = (place ≡ next.place) × (word_
 BreaksKeeping σ here next NoMemory = (w : ℕ) × (word_of σ here next.terms next.act ≡ Some (Ok w))
 
 -- What follows an operation that takes an address, as it is lent.
-abbrev pub marks_in : Marks → Marked
+abbrev pub marks_in : AddressOperand → Marked
 marks_in m = marked m.indirect m.zero m.address.now

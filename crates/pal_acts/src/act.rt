@@ -1,6 +1,6 @@
 //! What a source is made of.
 
-use crate::code::Code;
+use crate::fault_code::FaultCode;
 pub use pal_text::Name;
 use word12::Word;
 
@@ -17,7 +17,7 @@ pub enum Sign {
 
 /// A term of an expression.
 #[derive(Clone, Copy)]
-pub enum Term {
+pub enum ExpressionTerm {
     /// A number.
     Number(Word),
     /// A symbol, by its name.
@@ -28,16 +28,16 @@ pub enum Term {
 
 /// A term, and how it joins what stands before it; an expression is a list of these.
 #[derive(Clone, Copy)]
-pub struct Join {
+pub struct SignedTerm {
     pub sign: Sign,
-    pub term: Term,
+    pub term: ExpressionTerm,
 }
 
 /// One thing that a source does. The terms of its expression stand beside it.
 #[derive(Clone, Copy)]
 pub enum Act {
     /// It is wrong by itself: a form, a digit, a number, or DECIMAL, OCTAL or PAUSE as a tag.
-    Wrong(Code),
+    Wrong(FaultCode),
     /// `symbol,`: the symbol gets the current location.
     Tag(Name),
     /// `*e`: the location becomes the value of the expression.

@@ -1,19 +1,19 @@
 //! What a source does, in order.
 
 ghost use Rattle.std.specs.Prelude.{◌≡◌, ◌<◌, [], ◌∷◌, ◌++◌, OnOk, OnErr, IfOk, Some, List, length, take, slice_get};
-ghost use Rattle.pal_acts.specs.declared.act.Join.{Join as Joined};
+ghost use Rattle.pal_acts.specs.declared.act.SignedTerm.{SignedTerm as Joined};
 ghost use Rattle.pal_acts.specs.Acts.{placed, shown};
 
-use crate::act::{Act, Join, SourcePlace};
+use crate::act::{Act, SignedTerm, SourcePlace};
 use std::alloc::{AllocError, Allocator};
 use std::marker::Model;
 
 /// An act, where it stands, and the terms of its expression; none where it has no expression.
 #[derive(Clone, Copy)]
-pub struct Placed<'t> {
+pub struct SourceAct<'t> {
     pub place: SourcePlace,
     pub act: Act,
-    pub terms: &'t [Join],
+    pub terms: &'t [SignedTerm],
 }
 
 /// Where the terms of an expression lie among those of all: from `first` up to the one before
@@ -26,7 +26,7 @@ struct Span {
 
 /// An act as it is kept.
 #[derive(Clone, Copy)]
-struct Kept {
+struct StoredAct {
     place: SourcePlace,
     act: Act,
     span: Span,
@@ -36,15 +36,15 @@ struct Kept {
 /// lie in one list.
 #[derive(Drop)]
 pub struct Acts<A: Allocator> {
-    list: Vec<Kept, A>,
-    terms: Vec<Join, A>,
+    list: Vec<StoredAct, A>,
+    terms: Vec<SignedTerm, A>,
 }
 
 impl<A: Allocator> Model for Acts<A> {
     ghost use Rattle.std.specs.Prelude.{List, length};
     ghost use Rattle.std.specs.List.{AllByRecursion};
     ghost use Rattle.pal_acts.specs.Acts.{PlacedAct, acts_in};
-    ghost use Rattle.pal_acts.specs.Kept.{LiesWithin};
+    ghost use Rattle.pal_acts.specs.ActsInCode.{LiesWithin};
 
     ghost Value = { List PlacedAct };
 
@@ -56,7 +56,10 @@ impl<A: Allocator> Model for Acts<A> {
 }
 
 /// Adds the terms of an expression, and tells where they lie.
-fn lay<A: Allocator>(terms: &mut Vec<Join, A>, expression: &[Join]) -> Result<Span, AllocError>
+fn lay<A: Allocator>(
+    terms: &mut Vec<SignedTerm, A>,
+    expression: &[SignedTerm],
+) -> Result<Span, AllocError>
     ensures kept { (more : List Joined) × (terms.new.items ≡ terms.old.items ++ more) }
     ensures laid { OnOk result (terms.new.items ≡ terms.old.items ++ expression.now) }
     ensures first { IfOk result (λ span. span.first ≡ length terms.old.items) }
@@ -91,12 +94,12 @@ impl<A: Allocator> Acts<A> {
     }
 
     /// The act at this place in the list, counted from 0; there must be one.
-    pub fn get(&self, at: usize) -> Placed<'_>
+    pub fn get(&self, at: usize) -> SourceAct<'_>
         requires { at < length self.now }
         ensures { slice_get self.now at ≡ Some (shown result) }
     {
         let kept = self.list[at];
-        Placed {
+        SourceAct {
             place: kept.place,
             act: kept.act,
             terms: &self.terms[kept.span.first..kept.span.last],
@@ -109,12 +112,17 @@ impl<A: Allocator> Acts<A> {
     ///
     /// Memory was refused. Then the acts are as they were.
     #[inline(always)]
-    pub fn keep(&mut self, place: SourcePlace, act: Act, terms: &[Join]) -> Result<(), AllocError>
+    pub fn keep(
+        &mut self,
+        place: SourcePlace,
+        act: Act,
+        terms: &[SignedTerm],
+    ) -> Result<(), AllocError>
         ensures kept { OnOk result (self.new ≡ self.old ++ placed place terms.now act ∷ []) }
         ensures same { OnErr result (self.new ≡ self.old) }
     {
         let span = lay(&mut self.terms, terms)?;
-        self.list.push(Kept { place, act, span })?;
+        self.list.push(StoredAct { place, act, span })?;
         Ok(())
     }
 

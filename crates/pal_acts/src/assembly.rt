@@ -3,7 +3,7 @@
 ghost use Rattle.std.specs.Prelude.{◌≡◌, ◌⊎◌, [], Some, Err, reverse, IfOk, IfErr, OnOk, MatchResult, ℕ, List, Option};
 ghost use Rattle.pal_text.specs.declared.names.Name.{Name as Named};
 ghost use Rattle.pal_acts.specs.declared.act.SourcePlace.{SourcePlace as Placing};
-ghost use Rattle.pal_acts.specs.declared.code.Code.{Code as Coded};
+ghost use Rattle.pal_acts.specs.declared.fault_code.FaultCode.{FaultCode as Coded};
 ghost use Rattle.pal_acts.specs.Acts.{shown};
 ghost use Rattle.pal_acts.specs.Values.{known};
 ghost use Rattle.pal_acts.specs.Meaning.{location_after, Defines};
@@ -13,8 +13,8 @@ ghost use Rattle.pal_acts.specs.Faults.{Refuses, RefusesKeeping, IsRefused};
 ghost use Rattle.pal_acts.specs.Steps.{StopsBy, FindsBy, FindsKeeping, BreaksKeeping, Codes, Puts, Keeps};
 
 use crate::act::{Act, PlacedWord, SourcePlace};
-use crate::acts::{Acts, Placed};
-use crate::code::Code;
+use crate::acts::{Acts, SourceAct};
+use crate::fault_code::FaultCode;
 use crate::symbols::{Refusal, SymbolTable, Symbols};
 use bin_tape::Image;
 use std::alloc::Allocator;
@@ -24,14 +24,14 @@ use word12::Word;
 #[derive(Clone, Copy, PartialEq, Eq)]
 pub enum ActsFault {
     /// An act at this place has this fault, the first of the source.
-    Fault(SourcePlace, Code),
+    Fault(SourcePlace, FaultCode),
     /// Memory was refused.
     NoMemory,
 }
 
 /// What a source means: its symbols, and the words that go into memory.
 #[derive(Drop)]
-pub struct Assembled<'p, A: Allocator + Copy> {
+pub struct Assembly<'p, A: Allocator + Copy> {
     pub symbols: Symbols<'p, A>,
     pub image: Image,
 }
@@ -87,9 +87,9 @@ fn define<'p, A: Allocator + Copy>(
 #[inline(always)]
 fn code<A: Allocator + Copy>(
     symbols: &Symbols<'_, A>,
-    next: Placed<'_>,
+    next: SourceAct<'_>,
     here: &mut Word,
-) -> Result<Option<PlacedWord>, Code>
+) -> Result<Option<PlacedWord>, FaultCode>
     ensures codes { IfOk result (Codes (known symbols.now.permanent.now.entries
         symbols.now.own.entries) here.old (shown next.entry)) }
     ensures moves { OnOk result (here.new ≡ location_after
@@ -124,10 +124,10 @@ fn code<A: Allocator + Copy>(
 /// Puts the word of an act, if it has one, into the image.
 fn put<A: Allocator + Copy>(
     symbols: &Symbols<'_, A>,
-    next: Placed<'_>,
+    next: SourceAct<'_>,
     image: &mut Image,
     here: &mut Word,
-) -> Result<(), Code>
+) -> Result<(), FaultCode>
     ensures puts { OnOk result (Puts (known symbols.now.permanent.now.entries
         symbols.now.own.entries) (shown next.entry) image.old here.old image.new here.new) }
     ensures refused { IfErr result (λ code.
@@ -146,7 +146,7 @@ fn put<A: Allocator + Copy>(
 /// Keeps the word of an act, if it has one, after others.
 fn keep<A: Allocator + Copy>(
     symbols: &Symbols<'_, A>,
-    next: Placed<'_>,
+    next: SourceAct<'_>,
     kept: &mut Vec<PlacedWord, A>,
     here: &mut Word,
 ) -> Result<(), ActsFault>
@@ -242,7 +242,7 @@ fn assemble_acts<'p, A: Allocator + Copy>(
     alloc: A,
     permanent: &'p SymbolTable<A>,
     acts: &Acts<A>,
-) -> Result<Assembled<'p, A>, ActsFault>
+) -> Result<Assembly<'p, A>, ActsFault>
     ensures permanent { IfOk result (λ found. found.symbols.permanent.now.entries ≡
         permanent.now.entries) }
     ensures found { IfOk result (λ found. IsSource permanent.now.entries 1024 acts.now
@@ -251,7 +251,7 @@ fn assemble_acts<'p, A: Allocator + Copy>(
 {
     let symbols = define(alloc, permanent, acts)?;
     let image = encode(&symbols, acts)?;
-    Ok(Assembled { symbols, image })
+    Ok(Assembly { symbols, image })
 }
 
 /// The meaning of a source with its words, or its first fault.
@@ -289,7 +289,7 @@ pub fn assemble<'p, A: Allocator + Copy>(
     alloc: A,
     permanent: &'p SymbolTable<A>,
     acts: &Acts<A>,
-) -> Result<Assembled<'p, A>, ActsFault>
+) -> Result<Assembly<'p, A>, ActsFault>
     ensures permanent { IfOk result (λ found. found.symbols.permanent.now.entries ≡
         permanent.now.entries) }
     ensures found { IfOk result (λ found. IsSource permanent.now.entries 1024 acts.now

@@ -9,15 +9,15 @@
 pub mod act;
 pub mod acts;
 pub mod assembly;
-pub mod code;
+pub mod fault_code;
 pub mod laws;
 pub mod permanent;
 pub mod symbols;
 mod words;
 
-pub use act::{Act, Join, Name, PlacedWord, Sign, SourcePlace, Term};
-pub use acts::{Acts, Placed};
-pub use assembly::{ActsFault, Assembled, AssembledWords, assemble, assemble_with_words};
-pub use code::Code;
+pub use act::{Act, ExpressionTerm, Name, PlacedWord, Sign, SignedTerm, SourcePlace};
+pub use acts::{Acts, SourceAct};
+pub use assembly::{ActsFault, AssembledWords, Assembly, assemble, assemble_with_words};
+pub use fault_code::FaultCode;
 pub use permanent::permanent_table;
 pub use symbols::{SymbolTable, Symbols};

@@ -5,8 +5,8 @@ ghost use Rattle.pal_acts.specs.Values.{known, term_value, value, joined};
 ghost use Rattle.pal_acts.specs.Meaning.{location_after, given, taken};
 ghost use Rattle.pal_acts.specs.Steps.{IsFault};
 
-use crate::act::{Act, Join, Name, Sign, Term};
-use crate::code::Code;
+use crate::act::{Act, ExpressionTerm, Name, Sign, SignedTerm};
+use crate::fault_code::FaultCode;
 use indexmap::IndexMap;
 use std::alloc::Allocator;
 use std::hash::{BuildHasherDefault, FoldHasher};
@@ -18,7 +18,7 @@ pub const MOST_SYMBOLS: usize = 1024;
 /// Why an act is refused.
 #[derive(Clone, Copy)]
 pub(crate) enum Refusal {
-    Fault(Code),
+    Fault(FaultCode),
     NoMemory,
 }
 
@@ -66,20 +66,20 @@ impl<'p, A: Allocator + Copy> Symbols<'p, A> {
 
     /// The value of a term at a location, if it has one.
     #[inline(always)]
-    pub(crate) fn term(&self, here: Word, term: &Term) -> Option<Word>
+    pub(crate) fn term(&self, here: Word, term: &ExpressionTerm) -> Option<Word>
         ensures { result ≡ term_value (known self.now.permanent.now.entries self.now.own.entries)
             here term.now }
     {
         match term {
-            Term::Number(word) => Some(*word),
-            Term::Symbol(name) => self.get(name),
-            Term::Here => Some(here),
+            ExpressionTerm::Number(word) => Some(*word),
+            ExpressionTerm::Symbol(name) => self.get(name),
+            ExpressionTerm::Here => Some(here),
         }
     }
 
     /// The value of an expression at a location; none where a symbol has none.
     #[inline(always)]
-    pub fn value(&self, here: Word, joins: &[Join]) -> Option<Word>
+    pub fn value(&self, here: Word, joins: &[SignedTerm]) -> Option<Word>
         ensures { result ≡ value (known self.now.permanent.now.entries self.now.own.entries) here
             joins.now }
     {
@@ -92,7 +92,7 @@ impl<'p, A: Allocator + Copy> Symbols<'p, A> {
 
     /// Gives a name a value. Where it has another, that is the fault `other`.
     #[inline(always)]
-    fn give(&mut self, name: Name, value: Word, other: Code) -> Result<(), Refusal>
+    fn give(&mut self, name: Name, value: Word, other: FaultCode) -> Result<(), Refusal>
         ensures given { OnOk result (given other 1024 self.old.own.entries name
             (known self.old.permanent.now.entries self.old.own.entries name) value ≡
             Ok self.new.own.entries) }
@@ -111,7 +111,7 @@ impl<'p, A: Allocator + Copy> Symbols<'p, A> {
             }
             None => {
                 if self.own.len() >= MOST_SYMBOLS {
-                    return Err(Refusal::Fault(Code::TableFull));
+                    return Err(Refusal::Fault(FaultCode::TableFull));
                 }
                 match self.own.insert(name, value) {
                     Ok(_) => Ok(()),
@@ -122,7 +122,12 @@ impl<'p, A: Allocator + Copy> Symbols<'p, A> {
     }
 
     /// Takes the next act, at the current location; its word is not looked at.
-    pub(crate) fn act(&mut self, here: &mut Word, act: Act, terms: &[Join]) -> Result<(), Refusal>
+    pub(crate) fn act(
+        &mut self,
+        here: &mut Word,
+        act: Act,
+        terms: &[SignedTerm],
+    ) -> Result<(), Refusal>
         ensures taken { OnOk result (taken self.old.permanent.now.entries 1024
             self.old.own.entries here.old terms.now act ≡ Ok self.new.own.entries) }
         ensures location { OnOk result (here.new ≡ location_after
@@ -134,22 +139,22 @@ impl<'p, A: Allocator + Copy> Symbols<'p, A> {
     {
         match act {
             Act::Wrong(code) => Err(Refusal::Fault(code)),
-            Act::LastPause => Err(Refusal::Fault(Code::PauseInLastPart)),
-            Act::Tag(name) => self.give(name, *here, Code::DuplicateTag),
+            Act::LastPause => Err(Refusal::Fault(FaultCode::PauseInLastPart)),
+            Act::Tag(name) => self.give(name, *here, FaultCode::DuplicateTag),
             Act::Origin => match self.value(*here, terms) {
                 Some(origin) => {
                     *here = origin;
                     Ok(())
                 }
-                None => Err(Refusal::Fault(Code::Undefined)),
+                None => Err(Refusal::Fault(FaultCode::Undefined)),
             },
             Act::Assign(name) => match self.value(*here, terms) {
-                Some(value) => self.give(name, value, Code::Redefined),
-                None => Err(Refusal::Fault(Code::Undefined)),
+                Some(value) => self.give(name, value, FaultCode::Redefined),
+                None => Err(Refusal::Fault(FaultCode::Undefined)),
             },
             Act::AssignDirection => match self.value(*here, terms) {
-                Some(_) => Err(Refusal::Fault(Code::Redefined)),
-                None => Err(Refusal::Fault(Code::Undefined)),
+                Some(_) => Err(Refusal::Fault(FaultCode::Redefined)),
+                None => Err(Refusal::Fault(FaultCode::Undefined)),
             },
             Act::Word => {
                 *here = here.increment();

@@ -5,8 +5,8 @@ ghost use Rattle.pal_acts.specs.Values.{has, term_value, known};
 ghost use Rattle.pal_acts.specs.Words.{is_one_of, is_mark, references, marked, marks, addressed, reference, word_value};
 ghost use Rattle.pal_acts.specs.Steps.{marks_in};
 
-use crate::act::{Join, Name, Sign, Term};
-use crate::code::Code;
+use crate::act::{ExpressionTerm, Name, Sign, SignedTerm};
+use crate::fault_code::FaultCode;
 use crate::symbols::Symbols;
 use std::alloc::Allocator;
 use word12::Word;
@@ -48,10 +48,10 @@ const JMP: Name = Name {
 
 /// What follows an operation that takes an address: I and Z, and then the address.
 #[derive(Clone, Copy)]
-struct Marks<'t> {
+struct AddressOperand<'t> {
     indirect: bool,
     zero: bool,
-    address: &'t [Join],
+    address: &'t [SignedTerm],
 }
 
 /// Whether a name is that of an operation that takes an address. Its first letter leaves one that it
@@ -72,31 +72,31 @@ fn takes_address(name: Name) -> bool
 
 /// Whether a term begins an expression or follows a space, and is this symbol.
 #[inline(always)]
-fn is_mark(mark: Name, join: &Join) -> bool
+fn is_mark(mark: Name, join: &SignedTerm) -> bool
     ensures { result ≡ is_mark mark join.now }
 {
     match (join.sign, join.term) {
-        (Sign::Or, Term::Symbol(name)) => name == mark,
+        (Sign::Or, ExpressionTerm::Symbol(name)) => name == mark,
         _ => false,
     }
 }
 
 #[inline(always)]
-fn refers(join: &Join) -> bool
+fn refers(join: &SignedTerm) -> bool
     ensures { result ≡ is_one_of references join.now.sign join.now.term }
 {
     match (join.sign, join.term) {
-        (Sign::Or, Term::Symbol(name)) => takes_address(name),
+        (Sign::Or, ExpressionTerm::Symbol(name)) => takes_address(name),
         _ => false,
     }
 }
 
 /// What follows an operation: I and Z, each at most once, and then the address.
 #[inline(always)]
-fn marks_of<'t>(joins: &'t [Join]) -> Marks<'t>
+fn marks_of<'t>(joins: &'t [SignedTerm]) -> AddressOperand<'t>
     ensures { marks_in result ≡ marks joins.now }
 {
-    let mut found = Marks {
+    let mut found = AddressOperand {
         indirect: false,
         zero: false,
         address: joins,
@@ -115,34 +115,39 @@ fn marks_of<'t>(joins: &'t [Join]) -> Marks<'t>
 }
 
 /// An operation with the address that it refers to.
-fn address_in(base: Word, zero: bool, here: Word, address: Word) -> Result<Word, Code>
+fn address_in(base: Word, zero: bool, here: Word, address: Word) -> Result<Word, FaultCode>
     ensures { result ≡ addressed base zero here address }
 {
     if address.value() < 0o200 {
         Ok(base.or(address))
     } else if zero {
-        Err(Code::IllegalReference)
+        Err(FaultCode::IllegalReference)
     } else if address.page() == here.page() {
         Ok(base.or(Word::from_index(0o200)).or(address.place()))
     } else {
-        Err(Code::IllegalReference)
+        Err(FaultCode::IllegalReference)
     }
 }
 
 impl<'p, A: Allocator + Copy> Symbols<'p, A> {
     /// The word of an operation that takes an address, with what follows it.
     #[inline(always)]
-    fn reference(&self, here: Word, operation: &Term, rest: &[Join]) -> Result<Word, Code>
+    fn reference(
+        &self,
+        here: Word,
+        operation: &ExpressionTerm,
+        rest: &[SignedTerm],
+    ) -> Result<Word, FaultCode>
         ensures { result ≡ reference (known self.now.permanent.now.entries self.now.own.entries)
             here (term_value (known self.now.permanent.now.entries self.now.own.entries) here
             operation.now) (marks rest.now) }
     {
         let Some(operation) = self.term(here, operation) else {
-            return Err(Code::Undefined);
+            return Err(FaultCode::Undefined);
         };
         let marks = marks_of(rest);
         let Some(address) = self.value(here, marks.address) else {
-            return Err(Code::Undefined);
+            return Err(FaultCode::Undefined);
         };
         let base = if marks.indirect {
             operation.or(Word::from_index(0o400))
@@ -159,13 +164,13 @@ impl<'p, A: Allocator + Copy> Symbols<'p, A> {
     /// `Undefined` where a symbol has no value, and `IllegalReference` where an operation that takes
     /// an address can't name the one that follows it.
     #[inline(always)]
-    pub fn word(&self, here: Word, joins: &[Join]) -> Result<Word, Code>
+    pub fn word(&self, here: Word, joins: &[SignedTerm]) -> Result<Word, FaultCode>
         ensures { result ≡ word_value (known self.now.permanent.now.entries self.now.own.entries)
             here joins.now }
     {
         match joins {
             [first, rest @ ..] if refers(first) => self.reference(here, &first.term, rest),
-            _ => self.value(here, joins).ok_or(Code::Undefined),
+            _ => self.value(here, joins).ok_or(FaultCode::Undefined),
         }
     }
 }

@@ -1,10 +1,10 @@
 -- Each source has a meaning or a fault.
 use Rattle.std.proofs.Common.{◌≡◌, ◌≢◌, ◌∙◌, sym, ap, refl, ℕ, ◌+◌, List, [], ◌∷◌, ◌++◌, Bool, Option, Some, None, inl, inr, ◌⊎◌, length}
 use Rattle.std.specs.Prelude.{nat_eq}
-use Rattle.pal_text.specs.declared.cut.Statement.{Statement}
-use Rattle.pal_text.specs.declared.cut.Close.{Close}
-use Rattle.pal_text.specs.declared.cut.Ending.{Ending}
-use Rattle.pal_text.specs.declared.cut.Ending.TheVariants.{Dollar, Pause, Bytes}
+use Rattle.pal_text.specs.declared.statement.Statement.{Statement}
+use Rattle.pal_text.specs.declared.statement.PartEnd.{PartEnd}
+use Rattle.pal_text.specs.declared.statement.Ending.{Ending}
+use Rattle.pal_text.specs.declared.statement.Ending.TheVariants.{Dollar, Pause, Bytes}
 use Rattle.pal_text.specs.declared.names.Name.{Name}
 use Rattle.pal_text.specs.Names.{part_tokens}
 use Rattle.pal_text.specs.Statements.{Piece, pieces, own, closing, Stand}
@@ -12,8 +12,8 @@ use Rattle.pal_text.specs.Statements as stands
 use Rattle.pal_text.proofs.Answered.{Answers, answered, part_closed}
 use Rattle.pal_acts.specs.declared.act.Act.TheVariants as act
 use Rattle.pal_acts.specs.declared.act.SourcePlace.{SourcePlace}
-use Rattle.pal_acts.specs.declared.code.Code.{Code}
-use Rattle.pal_acts.specs.declared.code.Code.TheVariants.{IllegalCharacter}
+use Rattle.pal_acts.specs.declared.fault_code.FaultCode.{FaultCode}
+use Rattle.pal_acts.specs.declared.fault_code.FaultCode.TheVariants.{IllegalCharacter}
 use Rattle.pal_acts.specs.Acts.{PlacedAct, placed, place}
 use Rattle.pal_acts.specs.Sources.{IsSource}
 use Rattle.pal_acts.specs.Faults.{IsRefused}
@@ -28,10 +28,10 @@ use Rattle.pal_asm.specs.Laws.{EachSourceIsAnswered}
 
 -- what the statements of a part do, where the first has this number
 module _ (n : ℕ) (last : Bool) (source : List ℕ) where
-  abbrev Done : Radix → List Piece → Close → Type 0
+  abbrev Done : Radix → List Piece → PartEnd → Type 0
   Done r ps c = (acts : List PlacedAct) × (r' : Radix) × Does n last source r ps acts r' c
 
-  does_all : (r : Radix) (ps : List Piece) (ss : List Statement) (c : Close) → Stand (part_tokens source) (length source) ps ss c → Done r ps c
+  does_all : (r : Radix) (ps : List Piece) (ss : List Statement) (c : PartEnd) → Stand (part_tokens source) (length source) ps ss c → Done r ps c
   does_all r ps ss c (stands.ends p qs s d f e) = (
     statement_acts (place n p.mark.line) (base r) last source f.names f.said,
     radix_after r f.said.form,
@@ -48,10 +48,10 @@ module _ (n : ℕ) (last : Bool) (source : List ℕ) where
 abbrev Read : ℕ → Radix → List (List ℕ) → Type 0
 Read n r parts = (acts : List PlacedAct) × (lines : List TextLine) × Reads n r parts acts lines
 
-read_on : (n : ℕ) (r r' : Radix) (p : List ℕ) (ps : List (List ℕ)) (acts : List PlacedAct) (c : Close) → PartDoes n (nat_eq (length ps) 0) r p acts r' c → c.ending ≢ Dollar → Read (n + 1) r' ps → Read n r (p ∷ ps)
+read_on : (n : ℕ) (r r' : Radix) (p : List ℕ) (ps : List (List ℕ)) (acts : List PlacedAct) (c : PartEnd) → PartDoes n (nat_eq (length ps) 0) r p acts r' c → c.ending ≢ Dollar → Read (n + 1) r' ps → Read n r (p ∷ ps)
 read_on n r r' p ps acts c does open' rest = (acts ++ rest.0, part_lines n p c ++ rest.1, next_part n r r' p ps acts rest.0 rest.1 c does open' rest.2)
 
-by_ending : (n : ℕ) (r r' : Radix) (p : List ℕ) (ps : List (List ℕ)) (acts : List PlacedAct) (c : Close) → PartDoes n (nat_eq (length ps) 0) r p acts r' c → (e : Ending) → c.ending ≡ e → Read (n + 1) r' ps → Read n r (p ∷ ps)
+by_ending : (n : ℕ) (r r' : Radix) (p : List ℕ) (ps : List (List ℕ)) (acts : List PlacedAct) (c : PartEnd) → PartDoes n (nat_eq (length ps) 0) r p acts r' c → (e : Ending) → c.ending ≡ e → Read (n + 1) r' ps → Read n r (p ∷ ps)
 by_ending n r r' p ps acts c does Dollar is rest = (acts, part_lines n p c, last_part n r r' p ps acts c does is)
 by_ending n r r' p ps acts c does Pause is rest = read_on n r r' p ps acts c does (λ k. let both : Pause ≡ Dollar = sym is ∙ k in cc) rest
 by_ending n r r' p ps acts c does Bytes is rest = read_on n r r' p ps acts c does (λ k. let both : Bytes ≡ Dollar = sym is ∙ k in cc) rest
@@ -71,7 +71,7 @@ module _ (perm : List (Name × ℕ)) (parts : List (List ℕ)) where
   Answered = ((own : List (Name × ℕ)) × (image : List (Option ℕ)) × Means perm parts own image) ⊎ ((fault : PalFault) × IsFault perm parts fault)
 
   by_acts : size_fault parts ≡ None → (read : Read 1 Octal parts)
-      → ((own : List (Name × ℕ)) × (image : List (Option ℕ)) × IsSource perm 1024 read.0 own image) ⊎ ((at : SourcePlace) × (code : Code) × IsRefused perm 1024 read.0 at code) → Answered
+      → ((own : List (Name × ℕ)) × (image : List (Option ℕ)) × IsSource perm 1024 read.0 own image) ⊎ ((at : SourcePlace) × (code : FaultCode) × IsRefused perm 1024 read.0 at code) → Answered
   by_acts sizes read (inl k) = inl (k.0, k.1, record { acts = read.0; lines = read.1; sizes = sizes; reads = read.2; so = k.2 })
   by_acts sizes read (inr k) = inr (fault_at k.1 k.0.part k.0.line, inr (record { acts = read.0; lines = read.1; sizes = sizes; reads = read.2; so = k.2 }))
 

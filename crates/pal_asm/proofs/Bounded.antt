@@ -6,12 +6,12 @@ use Rattle.std.specs.Result.{result_map_both}
 use Rattle.std.proofs.lemmas.Bool.{cond_both, ltb-true}
 use Rattle.instruct.specs.declared.Profile.{Profile}
 use Rattle.instruct.specs.declared.Profile.TheVariants.{Pdp8I, Pdp8E}
-use Rattle.pal_text.specs.declared.tokens.Kind.{Kind}
-use Rattle.pal_text.specs.declared.tokens.Kind.TheVariants as kind
+use Rattle.pal_text.specs.declared.tokens.TokenKind.{TokenKind}
+use Rattle.pal_text.specs.declared.tokens.TokenKind.TheVariants as kind
 use Rattle.pal_text.specs.declared.tokens.Token.{Token}
 use Rattle.pal_text.specs.declared.grammar.Form.{Form}
 use Rattle.pal_text.specs.declared.grammar.Form.TheVariants as form
-use Rattle.pal_text.specs.declared.cut.Close.{Close}
+use Rattle.pal_text.specs.declared.statement.PartEnd.{PartEnd}
 use Rattle.pal_text.specs.Characters.{characters}
 use Rattle.pal_text.specs.Grammar.{is_joiner, Said}
 use Rattle.pal_text.specs.Names.{bytes_of}
@@ -19,12 +19,12 @@ use Rattle.pal_text.specs.Statements.{Piece}
 use Rattle.pal_text.proofs.Rises.{all_append}
 use Rattle.pal_acts.specs.declared.act.Sign.{Sign}
 use Rattle.pal_acts.specs.declared.act.Sign.TheVariants.{Or}
-use Rattle.pal_acts.specs.declared.act.Term.{Term}
-use Rattle.pal_acts.specs.declared.act.Term.TheVariants.{Number}
-use Rattle.pal_acts.specs.declared.act.Join.{Join}
+use Rattle.pal_acts.specs.declared.act.ExpressionTerm.{ExpressionTerm}
+use Rattle.pal_acts.specs.declared.act.ExpressionTerm.TheVariants.{Number}
+use Rattle.pal_acts.specs.declared.act.SignedTerm.{SignedTerm}
 use Rattle.pal_acts.specs.declared.act.Act.TheVariants as act
 use Rattle.pal_acts.specs.declared.act.SourcePlace.{SourcePlace}
-use Rattle.pal_acts.specs.declared.code.Code.{Code}
+use Rattle.pal_acts.specs.declared.fault_code.FaultCode.{FaultCode}
 use Rattle.pal_acts.specs.Acts.{PlacedAct, placed, place}
 use Rattle.pal_acts.specs.Permanent.{permanent_symbols, common_symbols, further_symbols}
 use Rattle.pal_acts.proofs.Bounds.{IsWordTerm, Numbers, HasNumbers, Entries, entries_of, holds_words}
@@ -37,30 +37,30 @@ use Rattle.pal_asm.specs.Sources.{TextLine, Reads, no_part, broken, last_part, n
 use Rattle.pal_asm.specs.Laws.{MeantAreWords}
 
 -- a number that is read is a word
-abbrev Read : Result ℕ Code → Type 0
+abbrev Read : Result ℕ FaultCode → Type 0
 Read (Ok w) = w < 4096
 Read (Err c) = Unit {0}
 
-abbrev ReadTerm : Result Term Code → Type 0
+abbrev ReadTerm : Result ExpressionTerm FaultCode → Type 0
 ReadTerm (Ok t) = IsWordTerm t
 ReadTerm (Err c) = Unit {0}
 
-abbrev ReadAll : Result (List Join) Code → Type 0
+abbrev ReadAll : Result (List SignedTerm) FaultCode → Type 0
 ReadAll (Ok js) = Numbers js
 ReadAll (Err c) = Unit {0}
 
 number_read : (b : ℕ) (cs : List ℕ) → Read (number b cs)
 number_read b cs = cond_both (list_all (is_digit_of b) cs) _ _ Read (λ is. cond_both (nat_lt (worth b cs) 4096) _ _ Read (λ lt. ltb-true (worth b cs) 4096 lt) (λ not. tt)) (λ not. tt)
 
-number_term_read : (r : Result ℕ Code) → Read r → ReadTerm (result_map_both Number (λ c. c) r)
+number_term_read : (r : Result ℕ FaultCode) → Read r → ReadTerm (result_map_both Number (λ c. c) r)
 number_term_read (Ok w) h = h
 number_term_read (Err c) h = tt
 
-term_read : (b : ℕ) (source : List ℕ) (t : Token) (k : Kind) → ReadTerm (term_by b source t k)
+term_read : (b : ℕ) (source : List ℕ) (t : Token) (k : TokenKind) → ReadTerm (term_by b source t k)
 term_read b source t kind.Number = number_term_read (number b (characters (bytes_of source t))) (number_read b (characters (bytes_of source t)))
 term_read b source t _ = tt
 
-front_read : (s : Sign) (r : Result Term Code) (others : Result (List Join) Code) → ReadTerm r → ReadAll others → ReadAll (in_front s r others)
+front_read : (s : Sign) (r : Result ExpressionTerm FaultCode) (others : Result (List SignedTerm) FaultCode) → ReadTerm r → ReadAll others → ReadAll (in_front s r others)
 front_read s (Err c) others h k = tt
 front_read s (Ok t) (Err c) h k = tt
 front_read s (Ok t) (Ok js) h k = (h, k)
@@ -80,14 +80,14 @@ tags_hold : (p : SourcePlace) (source : List ℕ) (ts : List Token) → Each (ma
 tags_hold p source [] = tt
 tags_hold p source (t ∷ ts) = (tt, tags_hold p source ts)
 
-said_hold : (p : SourcePlace) (last : Bool) (source : List ℕ) (name : Option Token) (js : List Join) (f : Form) → Numbers js → Each (said_acts p last source name js f)
+said_hold : (p : SourcePlace) (last : Bool) (source : List ℕ) (name : Option Token) (js : List SignedTerm) (f : Form) → Numbers js → Each (said_acts p last source name js f)
 said_hold p last source name js form.Origin h = (h, tt)
 said_hold p last source name js form.Assign h = (h, tt)
 said_hold p last source name js form.Word h = (h, tt)
 said_hold p last source name js form.Pause h = cond_both last (placed p [] act.LastPause ∷ []) [] Each (λ is. (tt, tt)) (λ is. tt)
 said_hold p last source name js _ h = tt
 
-with_hold : (p : SourcePlace) (last : Bool) (source : List ℕ) (tags : List Token) (said : Said) (r : Result (List Join) Code) → ReadAll r → Each (acts_with p last source tags said r)
+with_hold : (p : SourcePlace) (last : Bool) (source : List ℕ) (tags : List Token) (said : Said) (r : Result (List SignedTerm) FaultCode) → ReadAll r → Each (acts_with p last source tags said r)
 with_hold p last source tags said (Err c) h = (tt, tt)
 with_hold p last source tags said (Ok js) h = all_append HasNumbers (map (tag_act p source) tags) (said_acts p last source said.name js said.form) (tags_hold p source tags) (said_hold p last source said.name js said.form h)
 
@@ -95,7 +95,7 @@ statement_hold : (p : SourcePlace) (b : ℕ) (last : Bool) (source : List ℕ) (
 statement_hold p b last source tags said =
     with_hold p last source tags said (expression b source said.operand) (joins_read b source Or said.operand)
 
-does_hold : (n : ℕ) (last : Bool) (source : List ℕ) (r r' : Radix) (ps : List Piece) (acts : List PlacedAct) (c : Close) → Does n last source r ps acts r' c → Each acts
+does_hold : (n : ℕ) (last : Bool) (source : List ℕ) (r r' : Radix) (ps : List Piece) (acts : List PlacedAct) (c : PartEnd) → Does n last source r ps acts r' c → Each acts
 does_hold n last source r r' ps acts c (ends q p qs tags said d s e) = statement_hold (place n p.mark.line) (base q) last source tags said
 does_hold n last source r r' ps acts c (goes_on q q' p qs tags said later d s e h) =
     all_append HasNumbers (statement_acts (place n p.mark.line) (base q) last source tags said) later (statement_hold (place n p.mark.line) (base q) last source tags said)

@@ -5,8 +5,8 @@ use Rattle.std.proofs.lemmas.Bool.{cond_both}
 use Rattle.std.proofs.lemmas.List.{reverse-append, append-nil}
 use Rattle.pal_text.specs.declared.characters.Meaning.{Meaning}
 use Rattle.pal_text.specs.declared.characters.Meaning.TheVariants.{Ignored, LineEnd, Character}
-use Rattle.pal_text.specs.declared.tokens.Kind.{Kind}
-use Rattle.pal_text.specs.declared.tokens.Kind.TheVariants.{End}
+use Rattle.pal_text.specs.declared.tokens.TokenKind.{TokenKind}
+use Rattle.pal_text.specs.declared.tokens.TokenKind.TheVariants.{End}
 use Rattle.pal_text.specs.declared.tokens.Token.{Token}
 use Rattle.pal_text.specs.Characters.{line, in_comment, meaning_after}
 use Rattle.pal_text.specs.Tokens.{is_space, absorbs, longer, token, kind_of, end_token}
@@ -40,7 +40,7 @@ without_space_joins n next t ts r =
     (λ is. (omega (arith, r.0, r.1.0), r.1.1))
     (λ is. cond_both (is_space t.kind && absorbs next.kind) (Some next) None (λ o. Joins n ts o) (λ too. (r.0, higher ts t.line next.line r.1.0 r.1.1)) (λ too. tt))
 
-with_kind_joins : (n : ℕ) (next t : Token) (ts : List Token) (o : Option Kind) → Rising n (next ∷ t ∷ ts) → Joins n ts (with_kind t next o)
+with_kind_joins : (n : ℕ) (next t : Token) (ts : List Token) (o : Option TokenKind) → Rising n (next ∷ t ∷ ts) → Joins n ts (with_kind t next o)
 with_kind_joins n next t ts None r = without_space_joins n next t ts r
 with_kind_joins n next t ts (Some k) r = (omega (arith, r.0, r.1.0), r.1.1)
 

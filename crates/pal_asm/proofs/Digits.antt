@@ -6,8 +6,8 @@ use Rattle.std.proofs.lemmas.Bool.{cases_Bool, cases_lt, lt-ltb, le-ltb, cond-tr
 use Rattle.std.proofs.lemmas.List.{drop_more}
 use Rattle.std.proofs.Math.Nat.{mul-le-mul_left, pow-suc, pow-zero}
 use Rattle.pal_text.specs.Characters.{characters, code, is_character}
-use Rattle.pal_acts.specs.declared.code.Code.{Code}
-use Rattle.pal_acts.specs.declared.code.Code.TheVariants.{IllegalCharacter, NumberTooLarge}
+use Rattle.pal_acts.specs.declared.fault_code.FaultCode.{FaultCode}
+use Rattle.pal_acts.specs.declared.fault_code.FaultCode.TheVariants.{IllegalCharacter, NumberTooLarge}
 use Rattle.pal_asm.specs.Numbers.{worth, is_digit_of, number}
 
 -- a number, with 4096 for all that are larger
@@ -15,11 +15,11 @@ abbrev pub capped : ℕ → ℕ
 capped v = if nat_lt v 4096 then v else 4096
 
 -- a number as a word
-abbrev small : ℕ → Result ℕ Code
+abbrev small : ℕ → Result ℕ FaultCode
 small v = if nat_lt v 4096 then Ok v else Err NumberTooLarge
 
 -- the number that digits spell after others that are worth so much
-abbrev pub number_from : ℕ → ℕ → List ℕ → Result ℕ Code
+abbrev pub number_from : ℕ → ℕ → List ℕ → Result ℕ FaultCode
 number_from b v [] = small v
 number_from b v (c ∷ cs) = if is_digit_of b c then number_from b (capped (v * b + (c - 48))) cs else Err IllegalCharacter
 
@@ -47,7 +47,7 @@ capped_more b v d h = elim (cases_lt v 4096) [
   | inr ge ↦ ap (λ n. capped (n * b + d)) (capped_above v ge) ∙ capped_above (4096 * b + d) (omega arith) ∙ sym (capped_above (v * b + d) (omega (arith, wide v b h)))
 ]
 
-tested : (t u : Bool) (A X : Result ℕ Code) → A ≡ (if u then X else Err IllegalCharacter) → (if t then A else Err IllegalCharacter) ≡ (if t && u then X else Err IllegalCharacter)
+tested : (t u : Bool) (A X : Result ℕ FaultCode) → A ≡ (if u then X else Err IllegalCharacter) → (if t then A else Err IllegalCharacter) ≡ (if t && u then X else Err IllegalCharacter)
 tested true u A X h = h
 tested false u A X h = refl
 

@@ -4,7 +4,7 @@ use Rattle.std.specs.Prelude.{slice_range}
 use Rattle.std.specs.List.{AllByRecursion}
 use Rattle.std.proofs.lemmas.List.{append-nil, take_all, take-append-drop}
 use Rattle.pal_text.specs.declared.tokens.Token.{Token}
-use Rattle.pal_text.specs.declared.cut.Close.{Close}
+use Rattle.pal_text.specs.declared.statement.PartEnd.{PartEnd}
 use Rattle.pal_text.specs.declared.lines.Line.{Line}
 use Rattle.pal_text.specs.Lines.{all_lines}
 use Rattle.pal_text.specs.Order.{IsLineWithin}
@@ -47,7 +47,7 @@ fronts_more (g ∷ fs) f =
     ∙ sym (append_assoc (text_lines g.number 1 g.bytes.now (all_lines g.bytes.now)) (lines_of_fronts fs) (text_lines f.number 1 f.bytes.now (all_lines f.bytes.now)))
 
 -- a part ends within its bytes
-does_within : (n : ℕ) (last : Bool) (source : List ℕ) (r r' : Radix) (ps : List Piece) (acts : List PlacedAct) (c : Close) → Marks (length source) ps → Does n last source r ps acts r' c → c.stop ≤ length source
+does_within : (n : ℕ) (last : Bool) (source : List ℕ) (r r' : Radix) (ps : List Piece) (acts : List PlacedAct) (c : PartEnd) → Marks (length source) ps → Does n last source r ps acts r' c → c.stop ≤ length source
 does_within n last source r r' ps acts c marks (ends q p qs tags said d reads e) =
     let tokens : List Token = part_tokens source in
     stop_by (length source) (closing (length source) (own tokens p) p.mark said.form) d
@@ -61,7 +61,7 @@ module _ (part : NumberedPart) (before : Radix) (old new : List PlacedAct) (reac
       (marks_within (length part.source.now) 0 0 (part_tokens part.source.now) (part_tokens_within part.source.now)) is.does
 
 -- the lines of one part more
-pub front_lines : (n : ℕ) (source : List ℕ) (c : Close) (fs fs' : List PartText) (f : PartText) → fs' ≡ fs ++ f ∷ [] → f.number ≡ n → f.bytes.now ≡ take c.stop source
+pub front_lines : (n : ℕ) (source : List ℕ) (c : PartEnd) (fs fs' : List PartText) (f : PartText) → fs' ≡ fs ++ f ∷ [] → f.number ≡ n → f.bytes.now ≡ take c.stop source
     → lines_of_fronts fs' ≡ lines_of_fronts fs ++ part_lines n source c
 front_lines n source c fs fs' f more number bytes =
     ap lines_of_fronts more ∙ fronts_more fs f

@@ -6,8 +6,8 @@ use Rattle.std.proofs.lemmas.Bool.{cond_both, cases_Bool}
 use Rattle.std.proofs.lemmas.List.{reverse-append, append-nil, take-append-drop, length-reverse, length-take-le}
 use Rattle.pal_text.specs.declared.characters.Meaning.{Meaning}
 use Rattle.pal_text.specs.declared.characters.Meaning.TheVariants.{Ignored, LineEnd, Character}
-use Rattle.pal_text.specs.declared.tokens.Kind.{Kind}
-use Rattle.pal_text.specs.declared.tokens.Kind.TheVariants.{Symbol, Number, Mixed, Space, End, Dollar}
+use Rattle.pal_text.specs.declared.tokens.TokenKind.{TokenKind}
+use Rattle.pal_text.specs.declared.tokens.TokenKind.TheVariants.{Symbol, Number, Mixed, Space, End, Dollar}
 use Rattle.pal_text.specs.declared.tokens.Token.{Token}
 use Rattle.pal_text.specs.declared.lines.Line.{Line}
 use Rattle.pal_text.specs.Characters.{line, in_comment, meaning_after}
@@ -89,7 +89,7 @@ reaches b before k e =
 -- ---- tokens, the newest first
 
 -- the end of a line or of the part, or a semicolon
-abbrev pub is_stop : Kind → Bool
+abbrev pub is_stop : TokenKind → Bool
 is_stop End = true
 is_stop _ = false
 
@@ -103,12 +103,12 @@ abbrev Fine : (ℕ → ℕ) → ℕ → List Token → Type 0
 Fine L n [] = Unit {0}
 Fine L n (t ∷ ts) = Fits L n t × Fine L t.line ts
 
-longer_end : (a b : Kind) → is_end a ≡ true → longer a b ≡ None
+longer_end : (a b : TokenKind) → is_end a ≡ true → longer a b ≡ None
 longer_end End b h = refl
 longer_end Dollar b h = refl
 longer_end _ b h = cc
 
-longer_stop : (a b : Kind) → is_stop b ≡ true → longer a b ≡ None
+longer_stop : (a b : TokenKind) → is_stop b ≡ true → longer a b ≡ None
 longer_stop Symbol End h = refl
 longer_stop Number End h = refl
 longer_stop Mixed End h = refl
@@ -116,16 +116,16 @@ longer_stop Space End h = refl
 longer_stop _ End h = refl
 longer_stop a _ h = cc
 
-none_some : (o : Option Kind) (k : Kind) → o ≡ None → o ≡ Some k → ⊥
+none_some : (o : Option TokenKind) (k : TokenKind) → o ≡ None → o ≡ Some k → ⊥
 none_some o k e f = let both : None ≡ Some k = sym e ∙ f in cc
 
-not_end : (a b k : Kind) → longer a b ≡ Some k → is_end a ≡ false
+not_end : (a b k : TokenKind) → longer a b ≡ Some k → is_end a ≡ false
 not_end a b k e = elim (cases_Bool (is_end a)) [ inl h ↦ absurd (none_some (longer a b) k (longer_end a b h) e) | inr h ↦ h ]
 
-not_stop : (a b k : Kind) → longer a b ≡ Some k → is_stop b ≡ false
+not_stop : (a b k : TokenKind) → longer a b ≡ Some k → is_stop b ≡ false
 not_stop a b k e = elim (cases_Bool (is_stop b)) [ inl h ↦ absurd (none_some (longer a b) k (longer_stop a b h) e) | inr h ↦ h ]
 
-space_no_end : (k : Kind) (b : Bool) → (is_space k && b) ≡ true → is_end k ≡ false
+space_no_end : (k : TokenKind) (b : Bool) → (is_space k && b) ≡ true → is_end k ≡ false
 space_no_end Space b h = refl
 space_no_end _ b h = cc
 
@@ -145,7 +145,7 @@ module _ (L : ℕ → ℕ) where
       (λ is. cond_both (is_space t.kind && absorbs next.kind) (Some next) None (λ o. Joins L next.line ts o)
       (λ too. (h, let P : ℕ → Type 0 = λ k. Fine L k ts in subst P (f.0.linked (space_no_end t.kind (absorbs next.kind) too)) f.1)) (λ too. tt))
 
-  with_kind_joins : (next t : Token) (ts : List Token) (o : Option Kind) → longer t.kind next.kind ≡ o → Fits L next.line next → Fine L next.line (t ∷ ts) → Joins L next.line ts (with_kind t next o)
+  with_kind_joins : (next t : Token) (ts : List Token) (o : Option TokenKind) → longer t.kind next.kind ≡ o → Fits L next.line next → Fine L next.line (t ∷ ts) → Joins L next.line ts (with_kind t next o)
   with_kind_joins next t ts None e h f = without_space_joins next t ts h f
   with_kind_joins next t ts (Some k) e h f =
       let link : t.line ≡ next.line = f.0.linked (not_end t.kind next.kind k e) in
@@ -213,11 +213,11 @@ turned L n (t ∷ ts) tail f h c =
     subst P (sym (ap (λ l. l ++ tail) (reverse-append (t ∷ []) ts) ∙ append_assoc (reverse ts) (t ∷ []) tail))
     (turned L t.line ts (t ∷ tail) f.1 refl (f.0.positive, f.0.counts, links_by L n t tail f.0 h, c))
 
-named_end : (source : List ℕ) (t : Token) (k : Kind) → is_end (with_name source t k) ≡ false → is_end k ≡ false
+named_end : (source : List ℕ) (t : Token) (k : TokenKind) → is_end (with_name source t k) ≡ false → is_end k ≡ false
 named_end source t Symbol h = refl
 named_end source t _ h = h
 
-named_stop : (source : List ℕ) (t : Token) (k : Kind) → is_stop (with_name source t k) ≡ false → is_stop k ≡ false
+named_stop : (source : List ℕ) (t : Token) (k : TokenKind) → is_stop (with_name source t k) ≡ false → is_stop k ≡ false
 named_stop source t Symbol h = refl
 named_stop source t _ h = h
 

@@ -3,18 +3,18 @@ use Rattle.std.proofs.Common.{◌≡◌, ap, refl, ℕ, ◌+◌, ◌<◌, ◌≤
 use Rattle.std.specs.Prelude.{reverse}
 use Rattle.std.specs.List.{AllByRecursion}
 use Rattle.std.proofs.lemmas.Bool.{cases_eq}
-use Rattle.pal_text.specs.declared.cut.Close.{Close}
+use Rattle.pal_text.specs.declared.statement.PartEnd.{PartEnd}
 use Rattle.pal_text.specs.declared.lines.Line.{Line}
 use Rattle.pal_text.specs.declared.names.Name.{Name}
 use Rattle.pal_text.specs.Lines.{all_lines}
 use Rattle.pal_text.specs.Names.{part_tokens}
 use Rattle.pal_text.specs.Statements.{Piece, pieces}
 use Rattle.pal_text.proofs.Rises.{all_append, all_reverse}
-use Rattle.pal_acts.specs.declared.act.Join.{Join}
+use Rattle.pal_acts.specs.declared.act.SignedTerm.{SignedTerm}
 use Rattle.pal_acts.specs.declared.act.Act.{Act}
 use Rattle.pal_acts.specs.declared.act.Act.TheVariants as act
 use Rattle.pal_acts.specs.declared.act.SourcePlace.{SourcePlace}
-use Rattle.pal_acts.specs.declared.code.Code.{Code}
+use Rattle.pal_acts.specs.declared.fault_code.FaultCode.{FaultCode}
 use Rattle.pal_acts.specs.Acts.{PlacedAct, placed, place}
 use Rattle.pal_acts.specs.Values.{Values, known}
 use Rattle.pal_acts.specs.Meaning.{location}
@@ -68,12 +68,12 @@ all_more : (lines others : List TextLine) (acts : List PlacedAct) → ((p : Sour
 all_more lines others [] k h = tt
 all_more lines others (a ∷ acts) k h = (by_more lines others a.place a.act (k a.place) h.0, all_more lines others acts k h.1)
 
-idle_stands : (lines : List TextLine) (p : SourcePlace) (e : List Join) (a : Act) → (a ≡ act.Word → ⊥) → Stands lines (placed p e a)
+idle_stands : (lines : List TextLine) (p : SourcePlace) (e : List SignedTerm) (a : Act) → (a ≡ act.Word → ⊥) → Stands lines (placed p e a)
 idle_stands lines p e act.Word h = absurd (h refl)
 idle_stands lines p e _ h = tt
 
 -- the acts of a part stand on its lines
-does_stands : (n : ℕ) (last : Bool) (source : List ℕ) (lines : List TextLine) (r r' : Radix) (l : ℕ) (ps : List Piece) (acts : List PlacedAct) (c : Close)
+does_stands : (n : ℕ) (last : Bool) (source : List ℕ) (lines : List TextLine) (r r' : Radix) (l : ℕ) (ps : List Piece) (acts : List PlacedAct) (c : PartEnd)
     → ((m : ℕ) → 1 ≤ m → m ≤ lines_to source c.stop → IsListed (place n m) lines) → Fairs source ps → Marks l ps → Does n last source r ps acts r' c → AllByRecursion (Stands lines) acts
 does_stands n last source lines r r' l ps acts c listed fair marks (ends q p qs tags said d reads e) =
     let stopped = stops source n last q (radix_after q said.form) p.mark.line (p ∷ qs) (statement_acts (place n p.mark.line) (base q) last source tags said) d fair (omega arith, marks.1) (ends q p qs tags said d reads e) in
@@ -86,7 +86,7 @@ does_stands n last source lines r r' l ps acts c listed fair marks (goes_on q q'
     (λ js w. let at = on_line source p tags said d fair.0 reads stopped w in listed p.mark.line at.0 at.1))
     (does_stands n last source lines (radix_after q said.form) q' p.mark.line qs more d listed fair.1 marks.1 h)
 
-part_stands : (n : ℕ) (last : Bool) (source : List ℕ) (r r' : Radix) (acts : List PlacedAct) (c : Close) → PartDoes n last r source acts r' c → AllByRecursion (Stands (part_lines n source c)) acts
+part_stands : (n : ℕ) (last : Bool) (source : List ℕ) (r r' : Radix) (acts : List PlacedAct) (c : PartEnd) → PartDoes n last r source acts r' c → AllByRecursion (Stands (part_lines n source c)) acts
 part_stands n last source r r' acts c does =
     does_stands n last source (part_lines n source c) r r' 0 (pieces 0 0 (part_tokens source)) acts c
     (λ m first top. text_listed n m 1 source (all_lines (take c.stop source)) first (omega (arith, top))) (part_fair source) (part_marks source) does
@@ -108,11 +108,11 @@ reads_stand n r parts acts lines (next_part m q q' p ps mine more ls c does e h)
 abbrev AllListed : List TextLine → List PlacedWord → Type 0
 AllListed lines ws = AllByRecursion (λ w. IsListed w.place lines) ws
 
-word_listed : (lines : List TextLine) (p : SourcePlace) (at : ℕ) (value : Result ℕ Code) (ws : List PlacedWord) → IsListed p lines → AllListed lines ws → AllListed lines (with_word p at (Some value) ws)
+word_listed : (lines : List TextLine) (p : SourcePlace) (at : ℕ) (value : Result ℕ FaultCode) (ws : List PlacedWord) → IsListed p lines → AllListed lines ws → AllListed lines (with_word p at (Some value) ws)
 word_listed lines p at (Ok w) ws h all = (h, all)
 word_listed lines p at (Err c) ws h all = all
 
-and_word_listed : (lines : List TextLine) (σ : Values) (here : ℕ) (p : SourcePlace) (e : List Join) (a : Act) (ws : List PlacedWord) → StandsBy lines p a → AllListed lines ws → AllListed lines (with_word p here (word_of σ here e a) ws)
+and_word_listed : (lines : List TextLine) (σ : Values) (here : ℕ) (p : SourcePlace) (e : List SignedTerm) (a : Act) (ws : List PlacedWord) → StandsBy lines p a → AllListed lines ws → AllListed lines (with_word p here (word_of σ here e a) ws)
 and_word_listed lines σ here p e act.Word ws h all = word_listed lines p here (word_value σ here e) ws h all
 and_word_listed lines σ here p e _ ws h all = all
 

@@ -2,9 +2,9 @@
 use Rattle.std.proofs.Common.{◌≡◌, ◌∙◌, sym, ap, refl, subst, ℕ, ◌+◌, List, [], ◌∷◌, ◌++◌, Bool, Option, Some, None, Result, Ok, Err, inl, inr, ◌⊎◌, length}
 use Rattle.std.specs.Prelude.{IfOk, IfErr, MatchResult, codes}
 use Rattle.pal_text.specs.declared.tokens.Token.{Token}
-use Rattle.pal_text.specs.declared.cut.Statement.{Statement}
-use Rattle.pal_text.specs.declared.cut.Close.{Close}
-use Rattle.pal_text.specs.declared.cut.Ending.{Ending}
+use Rattle.pal_text.specs.declared.statement.Statement.{Statement}
+use Rattle.pal_text.specs.declared.statement.PartEnd.{PartEnd}
+use Rattle.pal_text.specs.declared.statement.Ending.{Ending}
 use Rattle.pal_text.specs.declared.names.Name.{Name}
 use Rattle.pal_text.specs.Grammar.{Said, IsStatement}
 use Rattle.pal_text.specs.Names.{part_tokens}
@@ -12,7 +12,7 @@ use Rattle.pal_text.specs.Statements.{Piece, pieces, own, Fills, closing, Breaks
 use Rattle.pal_text.proofs.Readings.{one_said}
 use Rattle.pal_text.proofs.Unique.{one_line}
 use Rattle.pal_acts.specs.declared.act.Act.TheVariants as act
-use Rattle.pal_acts.specs.declared.code.Code.TheVariants.{IllegalCharacter}
+use Rattle.pal_acts.specs.declared.fault_code.FaultCode.TheVariants.{IllegalCharacter}
 use Rattle.pal_acts.specs.Sources.{IsSource, all_words}
 use Rattle.pal_acts.specs.Values.{known}
 use Rattle.pal_acts.specs.declared.act.PlacedWord.{PlacedWord}
@@ -43,19 +43,19 @@ one_some o x y e f = let both : Some x ≡ Some y = sym e ∙ f in cc
 some_same : {X : Type 0} (x y : X) → Some x ≡ Some y → x ≡ y
 some_same x y e = cc
 
-abbrev ending_in : Close → Ending
+abbrev ending_in : PartEnd → Ending
 ending_in c = c.ending
 
 -- the pieces of a part have one list of acts, and no fault
 module _ (n : ℕ) (last : Bool) (source : List ℕ) where
-  abbrev after : Piece → Said → Option Close
+  abbrev after : Piece → Said → Option PartEnd
   after p said = closing (length source) (own (part_tokens source) p) p.mark said.form
 
-  ends_not_on : (p : Piece) (tags others : List Token) (said other : Said) (c : Close) → IsStatement (own (part_tokens source) p) tags said → IsStatement (own (part_tokens source) p) others other
+  ends_not_on : (p : Piece) (tags others : List Token) (said other : Said) (c : PartEnd) → IsStatement (own (part_tokens source) p) tags said → IsStatement (own (part_tokens source) p) others other
       → after p said ≡ Some c → after p other ≡ None → ⊥
   ends_not_on p tags others said other c s t e h = none_some (after p other) c h (ap (after p) (sym (one_said (own (part_tokens source) p) tags others said other s t).1) ∙ e)
 
-  pub does_one : (r r1 r2 : Radix) (ps : List Piece) (acts others : List PlacedAct) (c d : Close) → Does n last source r ps acts r1 c → Does n last source r ps others r2 d → (acts ≡ others) × (r1 ≡ r2) × (c ≡ d)
+  pub does_one : (r r1 r2 : Radix) (ps : List Piece) (acts others : List PlacedAct) (c d : PartEnd) → Does n last source r ps acts r1 c → Does n last source r ps others r2 d → (acts ≡ others) × (r1 ≡ r2) × (c ≡ d)
   does_one r r1 r2 ps acts others c d (ends q p qs tags said c' s e) (ends q' p' qs' tags' said' d' t f) =
       let same : (tags ≡ tags') × (said ≡ said') = one_said (own (part_tokens source) p) tags tags' said said' s t in (
         λ i. statement_acts (place n p.mark.line) (base q) last source (same.0 i) (same.1 i),
@@ -77,7 +77,7 @@ module _ (n : ℕ) (last : Bool) (source : List ℕ) where
   forms_are p tags said s h f =
       ap (closing (length source) (own (part_tokens source) p) p.mark) (ap (λ (s : Statement). s.form) f.is ∙ ap (λ (s : Said). s.form) (one_said (own (part_tokens source) p) f.names tags f.said said f.reads h).1)
 
-  pub does_sound : (r r' : Radix) (ps : List Piece) (acts : List PlacedAct) (c : Close) (line : ℕ) → Does n last source r ps acts r' c → Breaks (part_tokens source) (length source) ps line → ⊥
+  pub does_sound : (r r' : Radix) (ps : List Piece) (acts : List PlacedAct) (c : PartEnd) (line : ℕ) → Does n last source r ps acts r' c → Breaks (part_tokens source) (length source) ps line → ⊥
   does_sound r r' ps acts c line (ends q p qs tags said c' s e) (here p' qs' k) = k tags said s
   does_sound r r' ps acts c line (ends q p qs tags said c' s e) (later p' qs' t m f g k) = none_some (after p said) c' (sym (forms_are p tags said t s f) ∙ g) e
   does_sound r r' ps acts c line (goes_on q q' p qs tags said more c' s e h) (here p' qs' k) = k tags said s

@@ -3,7 +3,7 @@ use Rattle.std.proofs.Common.{◌≡◌, ◌∙◌, sym, ap, refl, subst, ℕ, �
 use Rattle.std.specs.Prelude.{reverse, codes}
 use Rattle.std.specs.List.{AllByRecursion}
 use Rattle.std.proofs.lemmas.List.{reverse-append, append-nil}
-use Rattle.pal_text.specs.declared.cut.Close.{Close}
+use Rattle.pal_text.specs.declared.statement.PartEnd.{PartEnd}
 use Rattle.pal_text.specs.declared.lines.Line.{Line}
 use Rattle.pal_text.specs.declared.names.Name.{Name}
 use Rattle.pal_text.specs.Lines.{all_lines}
@@ -11,9 +11,9 @@ use Rattle.pal_text.specs.Names.{part_tokens}
 use Rattle.pal_text.specs.Statements.{Piece, pieces}
 use Rattle.pal_acts.specs.declared.act.Act.{Act}
 use Rattle.pal_acts.specs.declared.act.Act.TheVariants as act
-use Rattle.pal_acts.specs.declared.act.Join.{Join}
+use Rattle.pal_acts.specs.declared.act.SignedTerm.{SignedTerm}
 use Rattle.pal_acts.specs.declared.act.SourcePlace.{SourcePlace}
-use Rattle.pal_acts.specs.declared.code.Code.{Code}
+use Rattle.pal_acts.specs.declared.fault_code.FaultCode.{FaultCode}
 use Rattle.pal_acts.specs.Acts.{PlacedAct, place}
 use Rattle.pal_acts.specs.Values.{Values, known}
 use Rattle.pal_acts.specs.Meaning.{location}
@@ -50,7 +50,7 @@ at_after : (p : SourcePlace) (xs tail : List PlacedAct) → AllByRecursion (IsAt
 at_after p [] tail all h = h
 at_after p (x ∷ xs) tail all h = let P : SourcePlace → Type 0 = λ q. Upto p q × ActsAfter q (xs ++ tail) in subst P (sym all.0) (upto_refl p, at_after p xs tail all.1 h)
 
-does_after : (n : ℕ) (last : Bool) (source : List ℕ) (r r' : Radix) (l : ℕ) (ps : List Piece) (acts later : List PlacedAct) (c : Close)
+does_after : (n : ℕ) (last : Bool) (source : List ℕ) (r r' : Radix) (l : ℕ) (ps : List Piece) (acts later : List PlacedAct) (c : PartEnd)
     → Marks l ps → Does n last source r ps acts r' c → ((m : ℕ) → ActsAfter (place n m) later) → ActsAfter (place n l) (acts ++ later)
 does_after n last source r r' l ps acts later c marks (ends q p qs tags said d reads e) k =
     let at : SourcePlace = place n p.mark.line in
@@ -100,11 +100,11 @@ words_higher : (p q : SourcePlace) (ws : List PlacedWord) → Upto p q → Words
 words_higher p q [] h a = tt
 words_higher p q (w ∷ ws) h a = (upto_trans w.place p q a.0 h, a.1)
 
-word_upto : (p q : SourcePlace) (at : ℕ) (value : Result ℕ Code) (ws : List PlacedWord) → Upto q p → WordsUpto q ws → WordsUpto p (with_word q at (Some value) ws)
+word_upto : (p q : SourcePlace) (at : ℕ) (value : Result ℕ FaultCode) (ws : List PlacedWord) → Upto q p → WordsUpto q ws → WordsUpto p (with_word q at (Some value) ws)
 word_upto p q at (Ok w) ws h a = (h, a)
 word_upto p q at (Err c) ws h a = words_higher q p ws h a
 
-and_word_upto : (σ : Values) (here : ℕ) (p q : SourcePlace) (e : List Join) (a : Act) (ws : List PlacedWord) → Upto q p → WordsUpto q ws → WordsUpto p (with_word q here (word_of σ here e a) ws)
+and_word_upto : (σ : Values) (here : ℕ) (p q : SourcePlace) (e : List SignedTerm) (a : Act) (ws : List PlacedWord) → Upto q p → WordsUpto q ws → WordsUpto p (with_word q here (word_of σ here e a) ws)
 and_word_upto σ here p q e act.Word ws h w = word_upto p q here (word_value σ here e) ws h w
 and_word_upto σ here p q e _ ws h w = words_higher q p ws h w
 
@@ -136,7 +136,7 @@ text_after : (n m k : ℕ) (source : List ℕ) (ls : List Line) (later : List Te
 text_after n m k source [] later lt f = f m
 text_after n m k source (l ∷ ls) later lt f = (inr (refl, lt), text_after n k (k + 1) source ls later (omega arith) f)
 
-part_lines_after : (p : SourcePlace) (n : ℕ) (source : List ℕ) (c : Close) (later : List TextLine) → p.part < n → ((i : ℕ) → LinesAfter (place n i) later) → LinesAfter p (part_lines n source c ++ later)
+part_lines_after : (p : SourcePlace) (n : ℕ) (source : List ℕ) (c : PartEnd) (later : List TextLine) → p.part < n → ((i : ℕ) → LinesAfter (place n i) later) → LinesAfter p (part_lines n source c ++ later)
 part_lines_after p n source c later lt f =
     lines_weaker p (place n 0) (part_lines n source c ++ later) (inl lt) (text_after n 0 1 source (all_lines (take c.stop source)) later (omega arith) f)
 

@@ -4,17 +4,17 @@ use Rattle.std.specs.Prelude.{nat_eq, map, OnOk}
 use Rattle.std.specs.List.{AllByRecursion}
 use Rattle.std.proofs.lemmas.Bool.{ne_eqb}
 use Rattle.std.proofs.lemmas.List.{take_all}
-use Rattle.pal_text.specs.declared.tokens.Kind.{Kind}
-use Rattle.pal_text.specs.declared.tokens.Kind.TheVariants as kind
+use Rattle.pal_text.specs.declared.tokens.TokenKind.{TokenKind}
+use Rattle.pal_text.specs.declared.tokens.TokenKind.TheVariants as kind
 use Rattle.pal_text.specs.declared.tokens.Token.{Token}
-use Rattle.pal_text.specs.declared.cut.Statement.{Statement}
+use Rattle.pal_text.specs.declared.statement.Statement.{Statement}
 use Rattle.pal_text.specs.Grammar.{is_direction, Said, IsStatement, nothing, origin, assign, assign_direction, decimal, octal, pause, word, tagged}
 use Rattle.pal_text.proofs.Rises.{all_take, all_drop}
-use Rattle.pal_acts.specs.declared.act.Join.{Join}
+use Rattle.pal_acts.specs.declared.act.SignedTerm.{SignedTerm}
 use Rattle.pal_acts.specs.declared.act.Act.{Act}
 use Rattle.pal_acts.specs.declared.act.Act.TheVariants as act
 use Rattle.pal_acts.specs.declared.act.SourcePlace.{SourcePlace}
-use Rattle.pal_acts.specs.declared.code.Code.{Code}
+use Rattle.pal_acts.specs.declared.fault_code.FaultCode.{FaultCode}
 use Rattle.pal_acts.specs.Acts.{PlacedAct, placed}
 use Rattle.pal_asm.specs.Expressions.{expression}
 use Rattle.pal_asm.specs.Acts.{tag_by, tag_act, said_acts, acts_with, statement_acts}
@@ -23,7 +23,7 @@ use Rattle.pal_asm.specs.SourceInCode.{Says, names_in, after_tags, operand_by, a
 record Apart (ts names : List Token) (said : Said) : Type 0 where
   names_are : names_in (length names) ts ≡ names
   operand_is : operand_by said.form (after_tags (length names) ts) ≡ said.operand
-  body_is : (p : SourcePlace) (last : Bool) (source : List ℕ) (js : List Join) → body_by p last source (after_tags (length names) ts) said.form js ≡ said_acts p last source said.name js said.form
+  body_is : (p : SourcePlace) (last : Bool) (source : List ℕ) (js : List SignedTerm) → body_by p last source (after_tags (length names) ts) said.form js ≡ said_acts p last source said.name js said.form
 
 no_names : (ts : List Token) → names_in 0 ts ≡ []
 no_names [] = refl
@@ -35,12 +35,12 @@ no_tags [] = refl
 no_tags (t ∷ []) = refl
 no_tags (t ∷ u ∷ ts) = refl
 
-direction_by : (k : Kind) (p : SourcePlace) (source : List ℕ) (t : Token) (js : List Join) → is_direction k ≡ true → assign_by p source t js k ≡ placed p js act.AssignDirection ∷ []
+direction_by : (k : TokenKind) (p : SourcePlace) (source : List ℕ) (t : Token) (js : List SignedTerm) → is_direction k ≡ true → assign_by p source t js k ≡ placed p js act.AssignDirection ∷ []
 direction_by kind.Symbol p source t js h = cc
 direction_by _ p source t js h = refl
 
 -- a statement without a tag
-bare : (ts : List Token) (said : Said) → operand_by said.form ts ≡ said.operand → ((p : SourcePlace) (last : Bool) (source : List ℕ) (js : List Join) → body_by p last source ts said.form js ≡ said_acts p last source said.name js said.form) → Apart ts [] said
+bare : (ts : List Token) (said : Said) → operand_by said.form ts ≡ said.operand → ((p : SourcePlace) (last : Bool) (source : List ℕ) (js : List SignedTerm) → body_by p last source ts said.form js ≡ said_acts p last source said.name js said.form) → Apart ts [] said
 bare ts said h k = record {
   names_are = no_names ts;
   operand_is = ap (operand_by said.form) (no_tags ts) ∙ h;
@@ -76,12 +76,12 @@ module _ (ts : List Token) (s : Statement) (says : Says ts s) where
   parts : Apart ts says.names says.said
   parts = apart ts says.names says.said says.reads
 
-  expression_is : (b : ℕ) (source : List ℕ) (r : Result (List Join) Code) (body tokens : List Token) → body ≡ after_tags s.tags ts → tokens ≡ operand_by s.form body → r ≡ expression b source tokens → expression b source (says.said.operand) ≡ r
+  expression_is : (b : ℕ) (source : List ℕ) (r : Result (List SignedTerm) FaultCode) (body tokens : List Token) → body ≡ after_tags s.tags ts → tokens ≡ operand_by s.form body → r ≡ expression b source tokens → expression b source (says.said.operand) ≡ r
   expression_is b source r body tokens after is reads =
       sym (reads ∙ ap (expression b source) (is ∙ (λ i. operand_by (says.form i) (after i)) ∙ ap (λ n. operand_by says.said.form (after_tags n ts)) says.tags ∙ parts.operand_is))
 
   -- its numbers are good
-  pub kept_all : (b : ℕ) (last : Bool) (source : List ℕ) (p : SourcePlace) (js : List Join) (body tokens : List Token) (old mid new : List PlacedAct) → body ≡ after_tags s.tags ts → tokens ≡ operand_by s.form body
+  pub kept_all : (b : ℕ) (last : Bool) (source : List ℕ) (p : SourcePlace) (js : List SignedTerm) (body tokens : List Token) (old mid new : List PlacedAct) → body ≡ after_tags s.tags ts → tokens ≡ operand_by s.form body
       → Ok js ≡ expression b source tokens → mid ≡ old ++ map (tag_act p source) (names_in s.tags ts) → new ≡ mid ++ body_by p last source body s.form js
       → new ≡ old ++ statement_acts p b last source says.names says.said
   kept_all b last source p js body tokens old mid new after is reads tags rest =
@@ -93,7 +93,7 @@ module _ (ts : List Token) (s : Statement) (says : Says ts s) where
       ∙ ap (λ r. old ++ acts_with p last source says.names says.said r) (sym (expression_is b source (Ok js) body tokens after is reads))
 
   -- one is bad
-  pub kept_none : (b : ℕ) (last : Bool) (source : List ℕ) (p : SourcePlace) (c : Code) (body tokens : List Token) (old new : List PlacedAct) → body ≡ after_tags s.tags ts → tokens ≡ operand_by s.form body
+  pub kept_none : (b : ℕ) (last : Bool) (source : List ℕ) (p : SourcePlace) (c : FaultCode) (body tokens : List Token) (old new : List PlacedAct) → body ≡ after_tags s.tags ts → tokens ≡ operand_by s.form body
       → Err c ≡ expression b source tokens → new ≡ old ++ placed p [] (act.Wrong c) ∷ [] → new ≡ old ++ statement_acts p b last source says.names says.said
   kept_none b last source p c body tokens old new after is reads kept =
       kept ∙ ap (λ r. old ++ acts_with p last source says.names says.said r) (sym (expression_is b source (Err c) body tokens after is reads))

@@ -5,13 +5,13 @@ use Rattle.std.specs.List.{AllByRecursion}
 use Rattle.std.proofs.lemmas.Bool.{cases_Bool}
 use Rattle.std.proofs.lemmas.List.{length-reverse}
 use Rattle.std.proofs.Math.Seq.{take-append_seam, drop-append_seam, take-length}
-use Rattle.pal_text.specs.declared.tokens.Kind.{Kind}
-use Rattle.pal_text.specs.declared.tokens.Kind.TheVariants as kind
+use Rattle.pal_text.specs.declared.tokens.TokenKind.{TokenKind}
+use Rattle.pal_text.specs.declared.tokens.TokenKind.TheVariants as kind
 use Rattle.pal_text.specs.declared.tokens.Token.{Token}
 use Rattle.pal_text.specs.declared.grammar.Form.{Form}
 use Rattle.pal_text.specs.declared.grammar.Form.TheVariants as form
-use Rattle.pal_text.specs.declared.cut.Close.{Close}
-use Rattle.pal_text.specs.declared.cut.Ending.TheVariants as ending
+use Rattle.pal_text.specs.declared.statement.PartEnd.{PartEnd}
+use Rattle.pal_text.specs.declared.statement.Ending.TheVariants as ending
 use Rattle.pal_text.specs.Grammar.{is_expression, Said, IsStatement, nothing, origin, assign, assign_direction, decimal, octal, pause, word, tagged}
 use Rattle.pal_text.specs.Names.{part_tokens}
 use Rattle.pal_text.specs.Tokens.{is_end}
@@ -53,7 +53,7 @@ abbrev Inner : List Token → Type 0
 Inner ts = AllByRecursion (λ t. is_end t.kind ≡ false) ts
 
 -- what ends no statement is no stop either
-no_stop : (k : Kind) → is_end k ≡ false → is_stop k ≡ false
+no_stop : (k : TokenKind) → is_end k ≡ false → is_stop k ≡ false
 no_stop kind.End h = absurd (let both : true ≡ false = h in cc)
 no_stop _ h = refl
 
@@ -78,7 +78,7 @@ pub record Fair (L : ℕ → ℕ) (tokens : List Token) (p : Piece) : Type 0 whe
   pub positive : 1 ≤ p.mark.line
   pub dollar : is_dollar p.mark.kind ≡ true → p.mark.line ≤ L p.mark.end
 
-dollar_no_stop : (k : Kind) → is_dollar k ≡ true → is_stop k ≡ false
+dollar_no_stop : (k : TokenKind) → is_dollar k ≡ true → is_stop k ≡ false
 dollar_no_stop kind.Dollar h = refl
 dollar_no_stop _ h = cc
 
@@ -111,14 +111,14 @@ pieces_fair L tokens b xs (t ∷ ts) first at e f a i c = elim (cases_Bool (is_e
 -- ---- statements
 
 -- a part ends by its last byte, or after this line
-abbrev pub Stopped : (ℕ → ℕ) → ℕ → ℕ → Close → Type 0
+abbrev pub Stopped : (ℕ → ℕ) → ℕ → ℕ → PartEnd → Type 0
 Stopped L size n c = (c.stop ≡ size) ⊎ (n ≤ L c.stop)
 
-abbrev Bound : (ℕ → ℕ) → ℕ → ℕ → Option Close → Type 0
+abbrev Bound : (ℕ → ℕ) → ℕ → ℕ → Option PartEnd → Type 0
 Bound L size m None = Unit {0}
 Bound L size m (Some d) = Stopped L size m d
 
-dollar_bound : (L : ℕ → ℕ) (size m stop : ℕ) (b : Bool) (o : Option Close) → (b ≡ true → m ≤ L stop) → Bound L size m o → Bound L size m (if b then Some (closed ending.Dollar stop) else o)
+dollar_bound : (L : ℕ → ℕ) (size m stop : ℕ) (b : Bool) (o : Option PartEnd) → (b ≡ true → m ≤ L stop) → Bound L size m o → Bound L size m (if b then Some (closed ending.Dollar stop) else o)
 dollar_bound L size m stop true o h k = inr (h refl)
 dollar_bound L size m stop false o h k = k
 
@@ -148,15 +148,15 @@ module _ (source : List ℕ) where
   pub part_fair : Fairs (pieces 0 0 (part_tokens source))
   part_fair = pieces_fair L (part_tokens source) [] [] (part_tokens source) 0 0 refl refl refl tt (part_chain source)
 
-  stopped_lower : (m n : ℕ) (c : Close) → m ≤ n → Stopped L (length source) n c → Stopped L (length source) m c
+  stopped_lower : (m n : ℕ) (c : PartEnd) → m ≤ n → Stopped L (length source) n c → Stopped L (length source) m c
   stopped_lower m n c h (inl e) = inl e
   stopped_lower m n c h (inr k) = inr (omega arith)
 
-  bound_by : (m : ℕ) (o : Option Close) (c : Close) → Bound L (length source) m o → o ≡ Some c → Stopped L (length source) m c
-  bound_by m o c h e = let P : Option Close → Type 0 = λ x. Bound L (length source) m x in subst P e h
+  bound_by : (m : ℕ) (o : Option PartEnd) (c : PartEnd) → Bound L (length source) m o → o ≡ Some c → Stopped L (length source) m c
+  bound_by m o c h e = let P : Option PartEnd → Type 0 = λ x. Bound L (length source) m x in subst P e h
 
   -- the lines up to the end of a part go to that of each of its pieces, if it doesn't end by its last byte
-  pub stops : (n : ℕ) (last : Bool) (r r' : Radix) (l : ℕ) (ps : List Piece) (acts : List PlacedAct) (c : Close) → Fairs ps → Marks l ps → Does n last source r ps acts r' c → Stopped L (length source) l c
+  pub stops : (n : ℕ) (last : Bool) (r r' : Radix) (l : ℕ) (ps : List Piece) (acts : List PlacedAct) (c : PartEnd) → Fairs ps → Marks l ps → Does n last source r ps acts r' c → Stopped L (length source) l c
   stops n last r r' l ps acts c fair marks (ends q p qs tags said d reads e) =
       let mine : List Token = own (part_tokens source) p in
       stopped_lower l p.mark.line d marks.0 (bound_by p.mark.line (closing (length source) mine p.mark said.form) d
@@ -165,7 +165,7 @@ module _ (source : List ℕ) where
       stopped_lower l p.mark.line d marks.0 (stops n last (radix_after q said.form) q' p.mark.line qs more d fair.1 marks.1 h)
 
   -- a word is on a line of the bytes up to there
-  pub on_line : (p : Piece) (tags : List Token) (said : Said) (c : Close) → Fair L (part_tokens source) p → IsStatement (own (part_tokens source) p) tags said → Stopped L (length source) p.mark.line c → said.form ≡ form.Word
+  pub on_line : (p : Piece) (tags : List Token) (said : Said) (c : PartEnd) → Fair L (part_tokens source) p → IsStatement (own (part_tokens source) p) tags said → Stopped L (length source) p.mark.line c → said.form ≡ form.Word
       → (1 ≤ p.mark.line) × (p.mark.line ≤ lines_to source c.stop)
   on_line p tags said c fair reads (inl e) w =
       let mine : List Token = own (part_tokens source) p in

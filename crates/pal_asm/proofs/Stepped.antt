@@ -2,9 +2,9 @@
 use Rattle.std.proofs.Common.{◌≡◌, ◌∙◌, sym, ap, subst, ℕ, ◌+◌, List, [], ◌∷◌, ◌++◌, append_assoc, length, Some, None, Option}
 use Rattle.std.proofs.lemmas.List.{append-nil}
 use Rattle.pal_text.specs.declared.tokens.Token.{Token}
-use Rattle.pal_text.specs.declared.cut.Statement.{Statement}
-use Rattle.pal_text.specs.declared.cut.Close.{Close}
-use Rattle.pal_text.specs.declared.reader.Found.{Found}
+use Rattle.pal_text.specs.declared.statement.Statement.{Statement}
+use Rattle.pal_text.specs.declared.statement.PartEnd.{PartEnd}
+use Rattle.pal_text.specs.declared.reader.DelimitedStatement.{DelimitedStatement}
 use Rattle.pal_text.specs.declared.fault.StatementFault.{StatementFault}
 use Rattle.pal_text.specs.declared.fault.StatementFault.TheVariants.{Illegal, NoMemory}
 use Rattle.pal_text.specs.Grammar.{IsStatement}
@@ -22,27 +22,27 @@ use Rattle.pal_asm.specs.Sources.{PartDoes}
 use Rattle.pal_asm.specs.SourceInCode.{Says, IsRead, StopsPart}
 
 -- the acts so far: where the part has ended so, all of them, and else those of the pieces that are left follow
-abbrev Came : NumberedPart → Radix → Radix → ℕ → Option Close → List PlacedAct → Type 0
+abbrev Came : NumberedPart → Radix → Radix → ℕ → Option PartEnd → List PlacedAct → Type 0
 Came part before r n None acts =
-    ((more : List PlacedAct) (r' : Radix) (c : Close) → Does part.number part.last part.source.now r (rest part.source.now n) more r' c → PartDoes part.number part.last before part.source.now (acts ++ more) r' c)
+    ((more : List PlacedAct) (r' : Radix) (c : PartEnd) → Does part.number part.last part.source.now r (rest part.source.now n) more r' c → PartDoes part.number part.last before part.source.now (acts ++ more) r' c)
     × ((line : ℕ) → Breaks (part_tokens part.source.now) (length part.source.now) (rest part.source.now n) line → IsIllegal part.source.now line)
 Came part before r n (Some c) acts = PartDoes part.number part.last before part.source.now acts r c
 
 -- the statements of the first n tokens were read, and what they do is kept
-pub record Stepped (part : NumberedPart) (before radix : Radix) (old new : List PlacedAct) (n : ℕ) (close : Option Close) : Type 0 where
+pub record Stepped (part : NumberedPart) (before radix : Radix) (old new : List PlacedAct) (n : ℕ) (close : Option PartEnd) : Type 0 where
   pub acts : List PlacedAct
   pub came : Came part before radix n close acts
   pub new_is : new ≡ old ++ acts
 
-pub stepped_none : (part : NumberedPart) (before : Radix) (old : List PlacedAct) (n : ℕ) (close : Option Close) → n ≡ 0 → close ≡ None → Stepped part before before old old n close
+pub stepped_none : (part : NumberedPart) (before : Radix) (old : List PlacedAct) (n : ℕ) (close : Option PartEnd) → n ≡ 0 → close ≡ None → Stepped part before before old old n close
 stepped_none part before old n close zero' none =
     let begun : Came part before before 0 None [] = (λ more r' c h. h, λ line h. h) in
     let P : ℕ → Type 0 = λ k. Came part before before k None [] in
-    let Q : Option Close → Type 0 = λ o. Came part before before n o [] in
+    let Q : Option PartEnd → Type 0 = λ o. Came part before before n o [] in
     record { acts = []; came = subst Q (sym none) (subst P (sym zero') begun); new_is = sym (append-nil old) }
 
 -- what was found, as what its tokens say
-abbrev pub says_by : (source : List ℕ) (n m : ℕ) (found : Found) (mine seen : List Token) (after : Option Close) → IsNext source n found mine m after → seen ≡ mine → Says seen found.statement
+abbrev pub says_by : (source : List ℕ) (n m : ℕ) (found : DelimitedStatement) (mine seen : List Token) (after : Option PartEnd) → IsNext source n found mine m after → seen ≡ mine → Says seen found.statement
 says_by source n m found mine seen after next is = record {
   names = next.fills.names;
   said = next.fills.said;
@@ -51,7 +51,7 @@ says_by source n m found mine seen after next is = record {
   form = ap (λ (s : Statement). s.form) next.fills.is;
 }
 
-came_by : (part : NumberedPart) (before r : Radix) (n m : ℕ) (p : Piece) (s : Statement) (f : Fills (part_tokens part.source.now) p s) (acts : List PlacedAct) (o : Option Close) → p ∷ rest part.source.now m ≡ rest part.source.now n
+came_by : (part : NumberedPart) (before r : Radix) (n m : ℕ) (p : Piece) (s : Statement) (f : Fills (part_tokens part.source.now) p s) (acts : List PlacedAct) (o : Option PartEnd) → p ∷ rest part.source.now m ≡ rest part.source.now n
     → closing (length part.source.now) (own (part_tokens part.source.now) p) p.mark s.form ≡ o → Came part before r n None acts
     → Came part before (radix_after r f.said.form) m o (acts ++ statement_acts (place part.number p.mark.line) (base r) part.last part.source.now f.names f.said)
 came_by part before r n m p s f acts (Some c) same e g =
@@ -74,7 +74,7 @@ came_by part before r n m p s f acts None same e g =
     )
 
 -- one statement more
-pub stepped_more : (part : NumberedPart) (before r r' : Radix) (old mid new : List PlacedAct) (n m : ℕ) (close after : Option Close) (found : Found) (mine : List Token) → Stepped part before r old mid n close
+pub stepped_more : (part : NumberedPart) (before r r' : Radix) (old mid new : List PlacedAct) (n m : ℕ) (close after : Option PartEnd) (found : DelimitedStatement) (mine : List Token) → Stepped part before r old mid n close
     → close ≡ None → (next : IsNext part.source.now n found mine m after)
     → new ≡ mid ++ statement_acts (place part.number found.statement.line) (base r) part.last part.source.now next.fills.names next.fills.said → r' ≡ radix_after r found.statement.form
     → Stepped part before r' old new m after
@@ -82,7 +82,7 @@ stepped_more part before r r' old mid new n m close after found mine st going ne
     let source : List ℕ = part.source.now in
     let p : Piece = piece n found.statement.last found.mark in
     let X : ℕ → List PlacedAct = λ line. statement_acts (place part.number line) (base r) part.last source next.fills.names next.fills.said in
-    let R : Option Close → Type 0 = λ o. Came part before r n o st.acts in
+    let R : Option PartEnd → Type 0 = λ o. Came part before r n o st.acts in
     let S : Radix → Type 0 = λ q. Came part before q m after (st.acts ++ X found.mark.line) in
     let closes : closing (length source) (own (part_tokens source) p) found.mark found.statement.form ≡ after = ap (λ l. closing (length source) l found.mark found.statement.form) (sym next.own_is) ∙ sym next.close_is in
     let radix_is : r' ≡ radix_after r next.fills.said.form = turns ∙ ap (λ (s : Statement). radix_after r s.form) next.fills.is in
@@ -93,17 +93,17 @@ stepped_more part before r r' old mid new n m close after found mine st going ne
     }
 
 -- the part has ended
-pub stepped_all : (part : NumberedPart) (before r : Radix) (old new : List PlacedAct) (n : ℕ) (close : Option Close) (c : Close) → Stepped part before r old new n close → close ≡ Some c → IsRead part before old new (record { radix = r; close = c })
+pub stepped_all : (part : NumberedPart) (before r : Radix) (old new : List PlacedAct) (n : ℕ) (close : Option PartEnd) (c : PartEnd) → Stepped part before r old new n close → close ≡ Some c → IsRead part before old new (record { radix = r; close = c })
 stepped_all part before r old new n close c st is =
-    let R : Option Close → Type 0 = λ o. Came part before r n o st.acts in
+    let R : Option PartEnd → Type 0 = λ o. Came part before r n o st.acts in
     record { acts = st.acts; does = subst R is st.came; new_is = st.new_is }
 
 -- the next statement has no form
-stuck : (part : NumberedPart) (before r : Radix) (old new : List PlacedAct) (n : ℕ) (close : Option Close) (fault : StatementFault) → Stepped part before r old new n close → close ≡ None → StopsAt part.source.now n fault
+stuck : (part : NumberedPart) (before r : Radix) (old new : List PlacedAct) (n : ℕ) (close : Option PartEnd) (fault : StatementFault) → Stepped part before r old new n close → close ≡ None → StopsAt part.source.now n fault
     → StopsPart part.source.now old new fault
 stuck part before r old new n close (Illegal line) st going b =
     let source : List ℕ = part.source.now in
-    let R : Option Close → Type 0 = λ o. Came part before r n o st.acts in
+    let R : Option PartEnd → Type 0 = λ o. Came part before r n o st.acts in
     let P : List Piece → Type 0 = λ ps. Breaks (part_tokens source) (length source) ps line in
     let p : Piece = b.0 in
     let Q : ℕ → Type 0 = λ k. Breaks (part_tokens source) (length source) (p ∷ rest source (p.last + 1)) k in

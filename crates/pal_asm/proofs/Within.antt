@@ -8,7 +8,7 @@ use Rattle.pal_text.specs.declared.tokens.Token.{Token}
 use Rattle.pal_text.specs.declared.grammar.Form.{Form}
 use Rattle.pal_text.specs.declared.grammar.Form.TheVariants as form
 use Rattle.pal_text.proofs.Rises.{all_drop}
-use Rattle.pal_acts.specs.declared.code.Code.TheVariants.{TooLong}
+use Rattle.pal_acts.specs.declared.fault_code.FaultCode.TheVariants.{TooLong}
 use Rattle.pal_asm.specs.SourceInCode.{after_tags, operand_by}
 use Rattle.pal_asm.specs.Sources.{fault_at, first_long, size_fault, texts}
 

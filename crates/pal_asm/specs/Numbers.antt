@@ -1,8 +1,8 @@
 -- Numbers as they are written.
 use Rattle.std.specs.Prelude.{ℕ, ◌+◌, ◌-◌, ◌*◌, ◌^◌, Bool, ◌&&◌, nat_le, nat_lt, if◌then◌else◌, List, [], ◌∷◌, length, Result, Ok, Err}
 use Rattle.std.specs.List.{list_all}
-use Rattle.pal_acts.specs.declared.code.Code.{Code}
-use Rattle.pal_acts.specs.declared.code.Code.TheVariants.{IllegalCharacter, NumberTooLarge}
+use Rattle.pal_acts.specs.declared.fault_code.FaultCode.{FaultCode}
+use Rattle.pal_acts.specs.declared.fault_code.FaultCode.TheVariants.{IllegalCharacter, NumberTooLarge}
 use Rattle.pal_text.specs.Characters.{char}
 use Rattle.pal_text.specs.declared.grammar.Form.{Form}
 use Rattle.pal_text.specs.declared.grammar.Form.TheVariants as form
@@ -30,7 +30,7 @@ abbrev pub is_digit_of : ℕ → ℕ → Bool
 is_digit_of b c = nat_le (char "0") c && nat_lt (c - char "0") b
 
 -- The number that these digits spell. That each is a digit of the base is asked first, and then whether the number is a word.
-abbrev pub number : ℕ → List ℕ → Result ℕ Code
+abbrev pub number : ℕ → List ℕ → Result ℕ FaultCode
 number b cs =
     if list_all (is_digit_of b) cs then (if nat_lt (worth b cs) 4096 then Ok (worth b cs) else Err NumberTooLarge) else
     Err IllegalCharacter

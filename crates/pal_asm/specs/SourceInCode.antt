@@ -1,11 +1,11 @@
 -- What a source does as it is kept in memory, for the private contracts below `assemble`.
 use Rattle.std.specs.Prelude.{◌≡◌, ℕ, ◌+◌, ◌-◌, Bool, ◌||◌, ◌&&◌, nat_eq, nat_lt, if◌then◌else◌, List, [], ◌∷◌, ◌++◌, length, map, drop, Result, Ok, Err}
-use Rattle.pal_text.specs.declared.tokens.Kind.{Kind}
-use Rattle.pal_text.specs.declared.tokens.Kind.TheVariants as kind
+use Rattle.pal_text.specs.declared.tokens.TokenKind.{TokenKind}
+use Rattle.pal_text.specs.declared.tokens.TokenKind.TheVariants as kind
 use Rattle.pal_text.specs.declared.tokens.Token.{Token}
 use Rattle.pal_text.specs.declared.grammar.Form.{Form}
 use Rattle.pal_text.specs.declared.grammar.Form.TheVariants as form
-use Rattle.pal_text.specs.declared.cut.Statement.{Statement}
+use Rattle.pal_text.specs.declared.statement.Statement.{Statement}
 use Rattle.pal_text.specs.declared.fault.StatementFault.{StatementFault}
 use Rattle.pal_text.specs.declared.fault.StatementFault.TheVariants as text
 use Rattle.pal_text.specs.declared.names.Name.{Name}
@@ -13,11 +13,11 @@ use Rattle.pal_text.specs.Characters.{characters}
 use Rattle.pal_text.specs.Grammar.{Said, IsStatement}
 use Rattle.pal_text.specs.Lines.{all_lines}
 use Rattle.pal_text.specs.Parts.{IsIllegal}
-use Rattle.pal_acts.specs.declared.act.Join.{Join}
+use Rattle.pal_acts.specs.declared.act.SignedTerm.{SignedTerm}
 use Rattle.pal_acts.specs.declared.act.Act.TheVariants as act
 use Rattle.pal_acts.specs.declared.act.SourcePlace.{SourcePlace}
 use Rattle.pal_acts.specs.declared.act.PlacedWord.{PlacedWord}
-use Rattle.pal_acts.specs.declared.code.Code.{Code}
+use Rattle.pal_acts.specs.declared.fault_code.FaultCode.{FaultCode}
 use Rattle.pal_acts.specs.declared.assembly.ActsFault.{ActsFault}
 use Rattle.pal_acts.specs.declared.assembly.ActsFault.TheVariants as refused
 use Rattle.pal_acts.specs.Acts.{PlacedAct, placed, place}
@@ -37,7 +37,7 @@ use Rattle.pal_asm.specs.Sources.{fault_at, TextLine, text_lines, PartDoes, Read
 use Rattle.pal_asm.specs.Listings.{is_at, line_text, without_front}
 
 -- An expression that was read into these terms, or what is wrong with it.
-abbrev pub read_of : List Join → Result (Unit {0}) Code → Result (List Join) Code
+abbrev pub read_of : List SignedTerm → Result (Unit {0}) FaultCode → Result (List SignedTerm) FaultCode
 read_of js (Ok _) = Ok js
 read_of js (Err c) = Err c
 
@@ -69,16 +69,16 @@ operand_by form.Word ts = ts
 operand_by _ ts = []
 
 -- What an assignment does, by what its first token is.
-abbrev pub assign_by : SourcePlace → List ℕ → Token → List Join → Kind → List PlacedAct
+abbrev pub assign_by : SourcePlace → List ℕ → Token → List SignedTerm → TokenKind → List PlacedAct
 assign_by p source t js kind.Symbol = placed p js (act.Assign (name_of source t)) ∷ []
 assign_by p source t js _ = placed p js act.AssignDirection ∷ []
 
-abbrev pub assign_acts : SourcePlace → List ℕ → List Token → List Join → List PlacedAct
+abbrev pub assign_acts : SourcePlace → List ℕ → List Token → List SignedTerm → List PlacedAct
 assign_acts p source [] js = []
 assign_acts p source (t ∷ ts) js = assign_by p source t js t.kind
 
 -- What the tokens after the tags do in a statement of this form.
-abbrev pub body_by : SourcePlace → Bool → List ℕ → List Token → Form → List Join → List PlacedAct
+abbrev pub body_by : SourcePlace → Bool → List ℕ → List Token → Form → List SignedTerm → List PlacedAct
 body_by p last source ts form.Origin js = placed p js act.Origin ∷ []
 body_by p last source ts form.Assign js = assign_acts p source ts js
 body_by p last source ts form.Word js = placed p js act.Word ∷ []

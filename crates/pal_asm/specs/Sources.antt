@@ -1,8 +1,8 @@
 -- What a source means, and what its fault is.
 use Rattle.std.specs.Prelude.{◌≡◌, ◌≢◌, ℕ, ◌+◌, Bool, ◌||◌, nat_eq, nat_lt, if◌then◌else◌, List, [], ◌∷◌, ◌++◌, length, map, take, slice_range, Option, Some, None, ◌⊎◌}
 use Rattle.std.specs.Borrow.{Bor}
-use Rattle.pal_text.specs.declared.cut.Close.{Close}
-use Rattle.pal_text.specs.declared.cut.Ending.TheVariants.{Dollar}
+use Rattle.pal_text.specs.declared.statement.PartEnd.{PartEnd}
+use Rattle.pal_text.specs.declared.statement.Ending.TheVariants.{Dollar}
 use Rattle.pal_text.specs.declared.lines.Line.{Line}
 use Rattle.pal_text.specs.declared.names.Name.{Name}
 use Rattle.pal_text.specs.Lines.{all_lines}
@@ -12,8 +12,8 @@ use Rattle.pal_text.specs.Parts.{IsIllegal}
 use Rattle.pal_acts.specs.declared.act.Act.TheVariants as act
 use Rattle.pal_acts.specs.declared.act.SourcePlace.{SourcePlace}
 use Rattle.pal_acts.specs.declared.act.PlacedWord.{PlacedWord}
-use Rattle.pal_acts.specs.declared.code.Code.{Code}
-use Rattle.pal_acts.specs.declared.code.Code.TheVariants.{IllegalCharacter, TooLong}
+use Rattle.pal_acts.specs.declared.fault_code.FaultCode.{FaultCode}
+use Rattle.pal_acts.specs.declared.fault_code.FaultCode.TheVariants.{IllegalCharacter, TooLong}
 use Rattle.pal_acts.specs.Acts.{PlacedAct, placed, place}
 use Rattle.pal_acts.specs.Sources.{IsSource, all_words}
 use Rattle.pal_acts.specs.Values.{known}
@@ -26,7 +26,7 @@ use Rattle.pal_asm.specs.declared.fault.AssembleFault.TheVariants.{Source, NoMem
 use Rattle.pal_asm.specs.Acts.{Does}
 
 -- The fault with this code at this part and line.
-abbrev pub fault_at : Code → ℕ → ℕ → PalFault
+abbrev pub fault_at : FaultCode → ℕ → ℕ → PalFault
 fault_at code part line = record { code = code; part = part; line = line }
 
 -- The fault of the first part that is too long, at its line 0, where the first of these has this number.
@@ -49,11 +49,11 @@ text_lines part n source [] = []
 text_lines part n source (l ∷ ls) = record { place = place part n; bytes = slice_range source l.start l.end } ∷ text_lines part (n + 1) source ls
 
 -- The lines of a part up to where it ends.
-abbrev pub part_lines : ℕ → List ℕ → Close → List TextLine
+abbrev pub part_lines : ℕ → List ℕ → PartEnd → List TextLine
 part_lines n source c = text_lines n 1 source (all_lines (take c.stop source))
 
 -- The acts of a part with this number, where numbers are written so before it. Then they are written so, and the part ends so.
-abbrev pub PartDoes : ℕ → Bool → Radix → List ℕ → List PlacedAct → Radix → Close → Type 0
+abbrev pub PartDoes : ℕ → Bool → Radix → List ℕ → List PlacedAct → Radix → PartEnd → Type 0
 PartDoes n last r source acts r' c = Does n last source r (pieces 0 0 (part_tokens source)) acts r' c
 
 -- These parts, the first of which has this number, have these acts and these lines.
@@ -62,9 +62,9 @@ pub data Reads : ℕ → Radix → List (List ℕ) → List PlacedAct → List T
   -- a statement without a form is that one fault in the place of its part, and nothing after it is looked at
   broken : (n : ℕ) (r : Radix) (p : List ℕ) (ps : List (List ℕ)) (line : ℕ) → IsIllegal p line → Reads n r (p ∷ ps) (placed (place n line) [] (act.Wrong IllegalCharacter) ∷ []) []
   -- nor is anything after a dollar sign
-  last_part : (n : ℕ) (r r' : Radix) (p : List ℕ) (ps : List (List ℕ)) (acts : List PlacedAct) (c : Close) → PartDoes n (nat_eq (length ps) 0) r p acts r' c → c.ending ≡ Dollar
+  last_part : (n : ℕ) (r r' : Radix) (p : List ℕ) (ps : List (List ℕ)) (acts : List PlacedAct) (c : PartEnd) → PartDoes n (nat_eq (length ps) 0) r p acts r' c → c.ending ≡ Dollar
       → Reads n r (p ∷ ps) acts (part_lines n p c)
-  next_part : (n : ℕ) (r r' : Radix) (p : List ℕ) (ps : List (List ℕ)) (acts more : List PlacedAct) (lines : List TextLine) (c : Close) → PartDoes n (nat_eq (length ps) 0) r p acts r' c → c.ending ≢ Dollar
+  next_part : (n : ℕ) (r r' : Radix) (p : List ℕ) (ps : List (List ℕ)) (acts more : List PlacedAct) (lines : List TextLine) (c : PartEnd) → PartDoes n (nat_eq (length ps) 0) r p acts r' c → c.ending ≢ Dollar
       → Reads (n + 1) r' ps more lines → Reads n r (p ∷ ps) (acts ++ more) (part_lines n p c ++ lines)
 
 -- Parts whose sizes are good have acts and lines of which this holds.

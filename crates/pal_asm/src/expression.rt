@@ -9,22 +9,22 @@ ghost use Rattle.pal_asm.specs.Expressions.{sign_of, term, expression, name_of};
 ghost use Rattle.pal_asm.specs.SourceInCode.{read_of};
 
 use crate::number::{Radix, number_of};
-use pal_acts::{Code, Join, Sign, Term};
-use pal_text::{Kind, Name, Token};
+use pal_acts::{ExpressionTerm, FaultCode, Sign, SignedTerm};
+use pal_text::{Name, Token, TokenKind};
 use std::alloc::{AllocError, Allocator};
 
-fn joins_terms(kind: Kind) -> bool
+fn joins_terms(kind: TokenKind) -> bool
     ensures { result ≡ is_joiner kind }
 {
-    matches!(kind, Kind::Space | Kind::Plus | Kind::Minus)
+    matches!(kind, TokenKind::Space | TokenKind::Plus | TokenKind::Minus)
 }
 
-fn sign(kind: Kind) -> Sign
+fn sign(kind: TokenKind) -> Sign
     ensures { result ≡ sign_of kind }
 {
     match kind {
-        Kind::Plus => Sign::Plus,
-        Kind::Minus => Sign::Minus,
+        TokenKind::Plus => Sign::Plus,
+        TokenKind::Minus => Sign::Minus,
         _ => Sign::Or,
     }
 }
@@ -38,17 +38,17 @@ pub(crate) fn name(source: &[u8], token: Token) -> Name
 }
 
 /// The term of a token.
-fn term_of(radix: Radix, source: &[u8], token: Token) -> Result<Term, Code>
+fn term_of(radix: Radix, source: &[u8], token: Token) -> Result<ExpressionTerm, FaultCode>
     requires { IsWithin (length source.now) token }
     ensures { result ≡ term (base radix) source.now token }
 {
     match token.kind {
-        Kind::Number => match number_of(radix, &source[token.start..token.end]) {
-            Ok(word) => Ok(Term::Number(word)),
+        TokenKind::Number => match number_of(radix, &source[token.start..token.end]) {
+            Ok(word) => Ok(ExpressionTerm::Number(word)),
             Err(code) => Err(code),
         },
-        Kind::Here => Ok(Term::Here),
-        _ => Ok(Term::Symbol(name(source, token))),
+        TokenKind::Here => Ok(ExpressionTerm::Here),
+        _ => Ok(ExpressionTerm::Symbol(name(source, token))),
     }
 }
 
@@ -58,8 +58,8 @@ pub(crate) fn read_expression<A: Allocator>(
     radix: Radix,
     source: &[u8],
     tokens: &[Token],
-    joins: &mut Vec<Join, A>,
-) -> Result<Result<(), Code>, AllocError>
+    joins: &mut Vec<SignedTerm, A>,
+) -> Result<Result<(), FaultCode>, AllocError>
     requires { AllByRecursion (IsWithin (length source.now)) tokens.now }
     ensures { IfOk result (λ read. read_of joins.new.items read ≡
         expression (base radix) source.now tokens.now) }
@@ -71,7 +71,7 @@ pub(crate) fn read_expression<A: Allocator>(
             joined_by = sign(token.kind);
         } else {
             match term_of(radix, source, *token) {
-                Ok(term) => joins.push(Join {
+                Ok(term) => joins.push(SignedTerm {
                     sign: joined_by,
                     term,
                 })?,

@@ -1,6 +1,6 @@
 //! Why a source is refused.
 
-use pal_acts::Code;
+use pal_acts::FaultCode;
 use thiserror::Error;
 
 /// The fault of a source: its code, and the part and the line where it stands, counted from 1.
@@ -8,7 +8,7 @@ use thiserror::Error;
 #[derive(Clone, Copy, PartialEq, Eq, Debug, Error)]
 #[error("{code} {part} {line}")]
 pub struct PalFault {
-    pub code: Code,
+    pub code: FaultCode,
     pub part: usize,
     pub line: usize,
 }

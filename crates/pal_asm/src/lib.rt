@@ -20,6 +20,6 @@ pub mod translation;
 
 pub use fault::{AssembleFault, ListingWriteFault, PalFault};
 pub use map::{MappedLine, SourceMap, map_source};
-pub use pal_acts::{Code, SymbolTable};
+pub use pal_acts::{FaultCode, SymbolTable};
 pub use program::{ListedProgram, assemble};
 pub use translation::{Translation, translate};

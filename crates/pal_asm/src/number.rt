@@ -4,7 +4,7 @@ ghost use Rattle.std.specs.Prelude.{◌≡◌, ◌≤◌, ◌<◌, ◌+◌, ◌-
 ghost use Rattle.pal_text.specs.Characters.{char, characters};
 ghost use Rattle.pal_asm.specs.Numbers.{base, radix_after, is_digit_of, number};
 
-use pal_acts::Code;
+use pal_acts::FaultCode;
 use pal_text::Form;
 use pal_text::characters::is_character_code;
 use word12::Word;
@@ -73,7 +73,7 @@ fn digit_of(base: u16, code: u8) -> Option<u16>
 ///
 /// `IllegalCharacter` where a character is no digit in this radix, and else `NumberTooLarge` where
 /// the number is above 4095.
-pub(crate) fn number_of(radix: Radix, bytes: &[u8]) -> Result<Word, Code>
+pub(crate) fn number_of(radix: Radix, bytes: &[u8]) -> Result<Word, FaultCode>
     ensures { result ≡ number (base radix) (characters bytes.now) }
 {
     let base = radix.base();
@@ -83,12 +83,12 @@ pub(crate) fn number_of(radix: Radix, bytes: &[u8]) -> Result<Word, Code>
         if is_character_code(code) {
             match digit_of(base, code) {
                 Some(digit) => value = with_digit(base, value, digit),
-                None => return Err(Code::IllegalCharacter),
+                None => return Err(FaultCode::IllegalCharacter),
             }
         }
     }
     match Word::new(value) {
         Some(word) => Ok(word),
-        None => Err(Code::NumberTooLarge),
+        None => Err(FaultCode::NumberTooLarge),
     }
 }

@@ -8,8 +8,8 @@ ghost use Rattle.pal_asm.specs.SourceInCode.{lines_of_fronts, IsRead, StopsPart,
 use crate::number::Radix;
 use crate::part_text::PartText;
 use crate::statement::{NumberedPart, keep_statement};
-use pal_acts::{Act, Acts, Code, Join, SourcePlace};
-use pal_text::{Close, Ending, Next, StatementFault, StatementReader};
+use pal_acts::{Act, Acts, FaultCode, SignedTerm, SourcePlace};
+use pal_text::{Ending, PartEnd, PartItem, StatementFault, StatementReader};
 use std::alloc::{AllocError, Allocator};
 
 /// What comes after a part: the next one, with numbers written so, or nothing.
@@ -23,7 +23,7 @@ pub(crate) enum Continuation {
 #[derive(Clone, Copy)]
 pub(crate) struct ReadingState {
     pub(crate) radix: Radix,
-    pub(crate) close: Close,
+    pub(crate) close: PartEnd,
 }
 
 /// Keeps what the statements do that a reader at the front of a part reads, one after another. The
@@ -32,7 +32,7 @@ fn keep_read<A: Allocator + Copy>(
     before: Radix,
     part: &NumberedPart<'_>,
     reader: &mut StatementReader<'_, A>,
-    joins: &mut Vec<Join, A>,
+    joins: &mut Vec<SignedTerm, A>,
     acts: &mut Acts<A>,
 ) -> Result<ReadingState, StatementFault>
     requires source { reader.old.source ≡ part.now.source.now }
@@ -43,7 +43,7 @@ fn keep_read<A: Allocator + Copy>(
     let mut radix = before;
     loop {
         match reader.read_next()? {
-            Next::Statement(found) => {
+            PartItem::Statement(found) => {
                 let statement = found.statement;
                 let kept = keep_statement(part, radix, reader.tokens(), statement, joins, acts);
                 let Ok(()) = kept else {
@@ -51,7 +51,7 @@ fn keep_read<A: Allocator + Copy>(
                 };
                 radix = radix.after(statement.form);
             }
-            Next::End(close) => return Ok(ReadingState { radix, close }),
+            PartItem::End(close) => return Ok(ReadingState { radix, close }),
         }
     }
 }
@@ -103,7 +103,7 @@ fn read_part<'s, A: Allocator + Copy>(
                 part: part.number,
                 line,
             };
-            acts.keep(place, Act::Wrong(Code::IllegalCharacter), &[])?;
+            acts.keep(place, Act::Wrong(FaultCode::IllegalCharacter), &[])?;
             Ok(Continuation::NoPart)
         }
         Err(StatementFault::NoMemory) => Err(AllocError),

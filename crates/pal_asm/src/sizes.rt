@@ -4,7 +4,7 @@ ghost use Rattle.std.specs.Prelude.{◌≡◌};
 ghost use Rattle.pal_asm.specs.Sources.{first_long, size_fault, texts};
 
 use crate::fault::PalFault;
-use pal_acts::Code;
+use pal_acts::FaultCode;
 use pal_text::LONGEST;
 
 /// How many parts a source may have.
@@ -17,7 +17,7 @@ fn long_part(parts: &[&[u8]]) -> Option<PalFault>
     for (at, part) in parts.iter().enumerate() {
         if part.len() > LONGEST {
             return Some(PalFault {
-                code: Code::TooLong,
+                code: FaultCode::TooLong,
                 part: at + 1,
                 line: 0,
             });
@@ -32,7 +32,7 @@ pub(crate) fn fault_of_sizes(parts: &[&[u8]]) -> Option<PalFault>
 {
     if parts.is_empty() || parts.len() > MOST_PARTS {
         return Some(PalFault {
-            code: Code::TooLong,
+            code: FaultCode::TooLong,
             part: 0,
             line: 0,
         });

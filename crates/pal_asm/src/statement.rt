@@ -10,8 +10,8 @@ ghost use Rattle.pal_asm.specs.SourceInCode.{Says, names_in, after_tags, operand
 
 use crate::expression::{name, read_expression};
 use crate::number::Radix;
-use pal_acts::{Act, Acts, Code, Join, SourcePlace};
-use pal_text::{Form, Kind, Statement, Token};
+use pal_acts::{Act, Acts, FaultCode, SignedTerm, SourcePlace};
+use pal_text::{Form, Statement, Token, TokenKind};
 use std::alloc::{AllocError, Allocator};
 
 /// A part of a source: its number, whether it is the last one, and its bytes.
@@ -28,8 +28,8 @@ fn tag_of(source: &[u8], token: Token) -> Act
     ensures { result ≡ tag_by source.now token token.kind }
 {
     match token.kind {
-        Kind::Symbol => Act::Tag(name(source, token)),
-        _ => Act::Wrong(Code::DuplicateTag),
+        TokenKind::Symbol => Act::Tag(name(source, token)),
+        _ => Act::Wrong(FaultCode::DuplicateTag),
     }
 }
 
@@ -90,7 +90,7 @@ fn keep_assignment<A: Allocator>(
     source: &[u8],
     place: SourcePlace,
     tokens: &[Token],
-    joins: &[Join],
+    joins: &[SignedTerm],
     acts: &mut Acts<A>,
 ) -> Result<(), AllocError>
     requires { AllByRecursion (IsWithin (length source.now)) tokens.now }
@@ -99,7 +99,7 @@ fn keep_assignment<A: Allocator>(
 {
     match tokens {
         [] => Ok(()),
-        [first, ..] if first.kind == Kind::Symbol => {
+        [first, ..] if first.kind == TokenKind::Symbol => {
             acts.keep(place, Act::Assign(name(source, *first)), joins)
         }
         [_, ..] => acts.keep(place, Act::AssignDirection, joins),
@@ -112,7 +112,7 @@ fn keep_body<A: Allocator>(
     place: SourcePlace,
     tokens: &[Token],
     form: Form,
-    joins: &[Join],
+    joins: &[SignedTerm],
     acts: &mut Acts<A>,
 ) -> Result<(), AllocError>
     requires { AllByRecursion (IsWithin (length part.now.source.now)) tokens.now }
@@ -135,7 +135,7 @@ pub(crate) fn keep_statement<A: Allocator>(
     radix: Radix,
     tokens: &[Token],
     statement: Statement,
-    joins: &mut Vec<Join, A>,
+    joins: &mut Vec<SignedTerm, A>,
     acts: &mut Acts<A>,
 ) -> Result<(), AllocError>
     requires within { AllByRecursion (IsWithin (length part.now.source.now)) tokens.now }

@@ -14,7 +14,7 @@ use crate::reading::read_source;
 use crate::sizes::fault_of_sizes;
 use bin_tape::Image;
 use instruct::Profile;
-use pal_acts::{Acts, ActsFault, Assembled, SymbolTable, Symbols, permanent_table};
+use pal_acts::{Acts, ActsFault, Assembly, SymbolTable, Symbols, permanent_table};
 use std::alloc::Allocator;
 
 /// A refusal of acts as that of their source.
@@ -36,7 +36,7 @@ fn assemble_acts<'p, A: Allocator + Copy>(
     alloc: A,
     permanent: &'p SymbolTable<A>,
     acts: &Acts<A>,
-) -> Result<Assembled<'p, A>, AssembleFault>
+) -> Result<Assembly<'p, A>, AssembleFault>
     ensures found { IfOk result (λ found. IsSource permanent.now.entries 1024 acts.now
         found.symbols.own.entries found.image) }
     ensures refused { IfErr result (RefusesActs permanent.now.entries acts.now) }
@@ -71,11 +71,11 @@ impl<A: Allocator + Copy> Translation<A> {
 }
 
 /// A translation, by what was assembled.
-fn translation_of<A: Allocator + Copy>(found: Assembled<'_, A>) -> Translation<A>
+fn translation_of<A: Allocator + Copy>(found: Assembly<'_, A>) -> Translation<A>
     ensures image { image_in result ≡ found.entry.image }
     ensures symbols { symbols_in result ≡ found.entry.symbols.own.entries }
 {
-    let Assembled { symbols, image } = found;
+    let Assembly { symbols, image } = found;
     let Symbols { own, .. } = symbols;
     Translation { image, own }
 }

@@ -7,7 +7,7 @@ use crate::pieces::name_of;
 use crate::statement::FaultyStatement;
 use crate::symbols::{Source, letters_of, push_line_of, push_written, written};
 use pal_acts::Name;
-use pal_text::{Kind, Token};
+use pal_text::{Token, TokenKind};
 use std::alloc::{AllocError, Allocator};
 use word12::Word;
 
@@ -111,9 +111,9 @@ fn about_given<A: Allocator + Copy>(
 ) -> Result<Option<Finding<A>>, AllocError> {
     let name = Name::new(written(source, occurrence));
     let direction = match name.kind() {
-        Kind::Decimal => "DECIMAL",
-        Kind::Octal => "OCTAL",
-        Kind::Pause => "PAUSE",
+        TokenKind::Decimal => "DECIMAL",
+        TokenKind::Octal => "OCTAL",
+        TokenKind::Pause => "PAUSE",
         _ => {
             return match before.symbols.get(&name) {
                 Some(had) if had != value => {
@@ -143,7 +143,7 @@ pub(crate) fn about_tags<A: Allocator + Copy>(
     faulty: &FaultyStatement<A>,
 ) -> Result<Option<Finding<A>>, AllocError> {
     for token in faulty.tags() {
-        if token.kind == Kind::Symbol {
+        if token.kind == TokenKind::Symbol {
             let occurrence = occurrence_of(faulty, *token);
             let found = about_given(alloc, source, before, occurrence, before.here)?;
             if found.is_some() {
@@ -201,7 +201,7 @@ pub(crate) fn about_room<A: Allocator + Copy>(
 ) -> Result<Option<Finding<A>>, AllocError> {
     for token in &faulty.tokens {
         let name = name_of(source.bytes(faulty.part), *token);
-        if token.kind == Kind::Symbol && before.symbols.get(&name).is_none() {
+        if token.kind == TokenKind::Symbol && before.symbols.get(&name).is_none() {
             return Ok(Some(about_new(alloc, source, occurrence_of(faulty, *token))?));
         }
     }

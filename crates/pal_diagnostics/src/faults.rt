@@ -9,9 +9,9 @@ use crate::references::{about_reference, put_undefined};
 use crate::statement::{Act, FaultyStatement, faulty_of};
 use crate::symbols::{Source, source_of};
 use instruct::Profile;
-use pal_acts::{Code, SourcePlace, permanent_table};
+use pal_acts::{FaultCode, SourcePlace, permanent_table};
 use pal_asm::PalFault;
-use pal_text::Kind;
+use pal_text::TokenKind;
 use std::alloc::{AllocError, Allocator};
 
 /// How many faults are told at most.
@@ -48,16 +48,16 @@ fn finding_of<A: Allocator + Copy>(
     faulty: &FaultyStatement<A>,
 ) -> Result<Option<Finding<A>>, AllocError> {
     match faulty.code {
-        Code::IllegalCharacter | Code::NumberTooLarge => {
+        FaultCode::IllegalCharacter | FaultCode::NumberTooLarge => {
             let bytes = source.bytes(faulty.part);
             about_text(alloc, bytes, &faulty.tokens, before.is_decimal)
         }
-        Code::DuplicateTag => about_tags(alloc, source, before, faulty),
-        Code::Redefined => about_assignment(alloc, source, before, faulty),
-        Code::IllegalReference => about_reference(alloc, source, before, known, faulty),
-        Code::TableFull => about_room(alloc, source, before, faulty),
-        Code::PauseInLastPart => about_pause(alloc, faulty),
-        Code::Undefined | Code::TooLong => Ok(None),
+        FaultCode::DuplicateTag => about_tags(alloc, source, before, faulty),
+        FaultCode::Redefined => about_assignment(alloc, source, before, faulty),
+        FaultCode::IllegalReference => about_reference(alloc, source, before, known, faulty),
+        FaultCode::TableFull => about_room(alloc, source, before, faulty),
+        FaultCode::PauseInLastPart => about_pause(alloc, faulty),
+        FaultCode::Undefined | FaultCode::TooLong => Ok(None),
     }
 }
 
@@ -70,7 +70,7 @@ fn put_findings<A: Allocator + Copy>(
     faulty: &FaultyStatement<A>,
     findings: &mut Vec<Finding<A>, A>,
 ) -> Result<(), AllocError> {
-    if faulty.code == Code::Undefined {
+    if faulty.code == FaultCode::Undefined {
         return put_undefined(alloc, source, before, known, faulty, findings);
     }
     match finding_of(alloc, source, before, known, faulty)? {
@@ -134,7 +134,7 @@ fn push_finding<A: Allocator + Copy>(
 /// Where the tag ends that begins at this place.
 fn end_of_tag<A: Allocator>(faulty: &FaultyStatement<A>, start: usize) -> usize {
     for token in faulty.tags() {
-        if token.kind == Kind::Comma && token.start > start {
+        if token.kind == TokenKind::Comma && token.start > start {
             return token.end;
         }
     }
@@ -144,8 +144,8 @@ fn end_of_tag<A: Allocator>(faulty: &FaultyStatement<A>, start: usize) -> usize 
 /// What stands in the place of a statement's body that is left out.
 fn placeholder_of<A: Allocator>(bytes: &[u8], faulty: &FaultyStatement<A>) -> u8 {
     match faulty.code {
-        Code::PauseInLastPart => b'$',
-        Code::Redefined => b' ',
+        FaultCode::PauseInLastPart => b'$',
+        FaultCode::Redefined => b' ',
         _ if faulty.loses_location(bytes) => b' ',
         _ => b'0',
     }
@@ -159,7 +159,7 @@ fn leave_out<A: Allocator>(
     marked: usize,
     is_again: bool,
 ) {
-    if faulty.code == Code::DuplicateTag {
+    if faulty.code == FaultCode::DuplicateTag {
         let end = end_of_tag(faulty, marked);
         return replace(bytes, marked, end, b' ');
     }
@@ -197,8 +197,8 @@ fn is_told<A: Allocator>(
     is_again: bool,
 ) -> bool {
     match faulty.code {
-        Code::DuplicateTag => true,
-        Code::IllegalReference => !is_again && !course.is_astray,
+        FaultCode::DuplicateTag => true,
+        FaultCode::IllegalReference => !is_again && !course.is_astray,
         _ => !is_again,
     }
 }
@@ -305,7 +305,7 @@ pub fn push_faults<A: Allocator + Copy>(
             break;
         }
         push_next(alloc, text, &source, &mut copies, fault, &mut course)?;
-        if fault.code == Code::TableFull {
+        if fault.code == FaultCode::TableFull {
             break;
         }
     }

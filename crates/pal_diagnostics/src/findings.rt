@@ -4,8 +4,8 @@ use crate::forms::{FaultText, UNFINISHED, about, end_of_small, misplaced};
 use crate::lines::{bytes_between, push_characters};
 use crate::meanings::number_of;
 use crate::pieces::{tokens_from, told_kind};
-use pal_acts::Code;
-use pal_text::{Kind, Name, Token};
+use pal_acts::FaultCode;
+use pal_text::{Name, Token, TokenKind};
 use std::alloc::{AllocError, Allocator};
 
 /// What is said about a fault: the bytes of its part that are marked, what is wrong, and what to change.
@@ -166,11 +166,11 @@ fn about_number<A: Allocator + Copy>(
     is_decimal: bool,
 ) -> Result<Option<Finding<A>>, AllocError> {
     for token in tokens {
-        if token.kind == Kind::Number {
+        if token.kind == TokenKind::Number {
             let digits = bytes_between(bytes, token.start, token.end);
             match number_of(is_decimal, digits) {
                 Ok(_) => {}
-                Err(Code::NumberTooLarge) => {
+                Err(FaultCode::NumberTooLarge) => {
                     return Ok(Some(about_large(alloc, bytes, *token, is_decimal)?));
                 }
                 Err(_) => return Ok(Some(about_digits(alloc, bytes, *token)?)),

@@ -1,7 +1,7 @@
 //! What is not allowed in a statement.
 
 use crate::pieces::{count_front_tokens, count_tag_tokens, tokens_from, told_kind};
-use pal_text::{Kind, Token};
+use pal_text::{Token, TokenKind};
 
 /// What is wrong with a token, after the token's text, and what to change.
 #[derive(Clone, Copy)]
@@ -11,13 +11,19 @@ pub(crate) struct FaultText {
 }
 
 /// Whether a token of this kind is a term.
-fn is_term(kind: Kind) -> bool {
-    matches!(kind, Kind::Symbol | Kind::Number | Kind::Here)
+fn is_term(kind: TokenKind) -> bool {
+    matches!(
+        kind,
+        TokenKind::Symbol | TokenKind::Number | TokenKind::Here
+    )
 }
 
 /// Whether a token of this kind gives a direction, and is a statement by itself.
-fn is_direction(kind: Kind) -> bool {
-    matches!(kind, Kind::Decimal | Kind::Octal | Kind::Pause)
+fn is_direction(kind: TokenKind) -> bool {
+    matches!(
+        kind,
+        TokenKind::Decimal | TokenKind::Octal | TokenKind::Pause
+    )
 }
 
 /// The place among these tokens of the first that has none in an expression; their number, where the
@@ -27,8 +33,8 @@ fn misplaced_in_expression(bytes: &[u8], tokens: &[Token]) -> Option<usize> {
     for (at, token) in tokens.iter().enumerate() {
         let kind = told_kind(bytes, *token);
         let fits = match kind {
-            Kind::Plus | Kind::Minus => !wants_term || at == 0,
-            Kind::Space => !wants_term,
+            TokenKind::Plus | TokenKind::Minus => !wants_term || at == 0,
+            TokenKind::Space => !wants_term,
             _ => is_term(kind) && wants_term,
         };
         if !fits {
@@ -85,41 +91,41 @@ fn about_character(code: u8) -> FaultText {
 }
 
 /// What is said about a token of this kind that has no place; of a character by its code.
-pub(crate) fn about(kind: Kind, code: u8) -> FaultText {
+pub(crate) fn about(kind: TokenKind, code: u8) -> FaultText {
     match kind {
-        Kind::Mixed => FaultText {
+        TokenKind::Mixed => FaultText {
             wrong: "begins with a digit but contains a letter",
             advice: "a number has only digits, and a symbol begins with a letter",
         },
-        Kind::Decimal | Kind::Octal | Kind::Pause => FaultText {
+        TokenKind::Decimal | TokenKind::Octal | TokenKind::Pause => FaultText {
             wrong: "is not a term",
             advice: "make it a statement of its own, after ; or on a line of its own",
         },
-        Kind::Space => FaultText {
+        TokenKind::Space => FaultText {
             wrong: "is not allowed here",
             advice: "remove it",
         },
-        Kind::Comma => FaultText {
+        TokenKind::Comma => FaultText {
             wrong: "is not allowed here",
             advice: "a tag is a symbol and a comma, before everything else in its statement",
         },
-        Kind::Equals => FaultText {
+        TokenKind::Equals => FaultText {
             wrong: "is not allowed here",
             advice: "an assignment is a symbol, = and its value, and nothing else",
         },
-        Kind::Star => FaultText {
+        TokenKind::Star => FaultText {
             wrong: "is not allowed here",
             advice: "* sets the location, and only tags may come before it; there is no multiplication",
         },
-        Kind::Plus | Kind::Minus => FaultText {
+        TokenKind::Plus | TokenKind::Minus => FaultText {
             wrong: "has no term before it",
             advice: "write a term between the two signs, or remove one of them",
         },
-        Kind::Symbol | Kind::Number | Kind::Here => FaultText {
+        TokenKind::Symbol | TokenKind::Number | TokenKind::Here => FaultText {
             wrong: "is not joined to the term before it",
             advice: "write a space, + or - between two terms",
         },
-        Kind::Other | Kind::End | Kind::Dollar => about_character(code),
+        TokenKind::Other | TokenKind::End | TokenKind::Dollar => about_character(code),
     }
 }
 

@@ -3,8 +3,10 @@
 use crate::lines::bytes_between;
 use crate::pieces::{name_of, tokens_from};
 use indexmap::IndexMap;
-use pal_acts::{Code, Join, Name, Sign, SourcePlace, SymbolTable, Symbols, Term};
-use pal_text::{Ending, Form, Kind, Statement, TextFault, Token, statements};
+use pal_acts::{
+    ExpressionTerm, FaultCode, Name, Sign, SignedTerm, SourcePlace, SymbolTable, Symbols,
+};
+use pal_text::{Ending, Form, Statement, TextFault, Token, TokenKind, statements};
 use std::alloc::{AllocError, Allocator};
 use word12::Word;
 
@@ -38,7 +40,7 @@ pub(crate) const NOWHERE: SourcePlace = SourcePlace {
 /// # Errors
 ///
 /// The fault of a digit that the radix lacks, or else that of a number above 4095.
-pub(crate) fn number_of(is_decimal: bool, digits: &[u8]) -> Result<Word, Code> {
+pub(crate) fn number_of(is_decimal: bool, digits: &[u8]) -> Result<Word, FaultCode> {
     let base = if is_decimal { 10 } else { 8 };
     let mut value = 0usize;
     for byte in digits {
@@ -46,7 +48,7 @@ pub(crate) fn number_of(is_decimal: bool, digits: &[u8]) -> Result<Word, Code> {
         if code.is_ascii_digit() {
             let digit = usize::from(code.saturating_sub(b'0'));
             if digit >= base {
-                return Err(Code::IllegalCharacter);
+                return Err(FaultCode::IllegalCharacter);
             }
             value = value.saturating_mul(base).saturating_add(digit);
         }
@@ -54,22 +56,22 @@ pub(crate) fn number_of(is_decimal: bool, digits: &[u8]) -> Result<Word, Code> {
     if value < 4096 {
         Ok(Word::from_index(value))
     } else {
-        Err(Code::NumberTooLarge)
+        Err(FaultCode::NumberTooLarge)
     }
 }
 
 /// The term of a token.
-fn term_of(is_decimal: bool, bytes: &[u8], token: Token) -> Term {
+fn term_of(is_decimal: bool, bytes: &[u8], token: Token) -> ExpressionTerm {
     match token.kind {
-        Kind::Number => {
+        TokenKind::Number => {
             let digits = bytes_between(bytes, token.start, token.end);
             match number_of(is_decimal, digits) {
-                Ok(word) => Term::Number(word),
-                Err(_) => Term::Number(Word::ZERO),
+                Ok(word) => ExpressionTerm::Number(word),
+                Err(_) => ExpressionTerm::Number(Word::ZERO),
             }
         }
-        Kind::Here => Term::Here,
-        _ => Term::Symbol(name_of(bytes, token)),
+        TokenKind::Here => ExpressionTerm::Here,
+        _ => ExpressionTerm::Symbol(name_of(bytes, token)),
     }
 }
 
@@ -79,17 +81,17 @@ pub(crate) fn terms_of<A: Allocator>(
     is_decimal: bool,
     bytes: &[u8],
     tokens: &[Token],
-) -> Result<Vec<Join, A>, AllocError> {
+) -> Result<Vec<SignedTerm, A>, AllocError> {
     let mut terms = Vec::new(alloc);
     let mut sign = Sign::Or;
     for token in tokens {
         match token.kind {
-            Kind::Plus => sign = Sign::Plus,
-            Kind::Minus => sign = Sign::Minus,
-            Kind::Space => sign = Sign::Or,
+            TokenKind::Plus => sign = Sign::Plus,
+            TokenKind::Minus => sign = Sign::Minus,
+            TokenKind::Space => sign = Sign::Or,
             _ => {
                 let term = term_of(is_decimal, bytes, *token);
-                terms.push(Join { sign, term })?;
+                terms.push(SignedTerm { sign, term })?;
                 sign = Sign::Or;
             }
         }
@@ -162,7 +164,7 @@ impl<'p, A: Allocator + Copy> Meanings<'p, A> {
     fn take_tags(&mut self, part: usize, bytes: &[u8], tags: &[Token]) -> Result<(), AllocError> {
         let here = self.here;
         for token in tags {
-            if token.kind == Kind::Symbol {
+            if token.kind == TokenKind::Symbol {
                 self.define_token(part, bytes, *token, here)?;
             }
         }

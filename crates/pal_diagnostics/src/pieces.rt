@@ -2,38 +2,41 @@
 
 use crate::lines::bytes_between;
 use pal_text::characters::is_character_code;
-use pal_text::{Kind, Name, Token};
+use pal_text::{Name, Token, TokenKind};
 use std::alloc::{AllocError, Allocator};
 
 /// What a character is by itself.
-fn kind_of(code: u8) -> Kind {
+fn kind_of(code: u8) -> TokenKind {
     match code {
-        b'A'..=b'Z' => Kind::Symbol,
-        b'0'..=b'9' => Kind::Number,
-        b'.' => Kind::Here,
-        b' ' | b'\t' => Kind::Space,
-        b',' => Kind::Comma,
-        b'=' => Kind::Equals,
-        b'+' => Kind::Plus,
-        b'-' => Kind::Minus,
-        b'*' => Kind::Star,
-        _ => Kind::Other,
+        b'A'..=b'Z' => TokenKind::Symbol,
+        b'0'..=b'9' => TokenKind::Number,
+        b'.' => TokenKind::Here,
+        b' ' | b'\t' => TokenKind::Space,
+        b',' => TokenKind::Comma,
+        b'=' => TokenKind::Equals,
+        b'+' => TokenKind::Plus,
+        b'-' => TokenKind::Minus,
+        b'*' => TokenKind::Star,
+        _ => TokenKind::Other,
     }
 }
 
 /// Whether a space beside a token of this kind does not count.
-fn absorbs_spaces(kind: Kind) -> bool {
-    matches!(kind, Kind::Comma | Kind::Equals | Kind::Plus | Kind::Minus)
+fn absorbs_spaces(kind: TokenKind) -> bool {
+    matches!(
+        kind,
+        TokenKind::Comma | TokenKind::Equals | TokenKind::Plus | TokenKind::Minus
+    )
 }
 
 /// What a token of this kind is with a character of that kind after it, where they are one token.
-fn longer(kind: Kind, next: Kind) -> Option<Kind> {
+fn longer(kind: TokenKind, next: TokenKind) -> Option<TokenKind> {
     match (kind, next) {
-        (Kind::Symbol, Kind::Symbol | Kind::Number) => Some(Kind::Symbol),
-        (Kind::Number, Kind::Number) => Some(Kind::Number),
-        (Kind::Number, Kind::Symbol) => Some(Kind::Mixed),
-        (Kind::Mixed, Kind::Symbol | Kind::Number) => Some(Kind::Mixed),
-        (Kind::Space, Kind::Space) => Some(Kind::Space),
+        (TokenKind::Symbol, TokenKind::Symbol | TokenKind::Number) => Some(TokenKind::Symbol),
+        (TokenKind::Number, TokenKind::Number) => Some(TokenKind::Number),
+        (TokenKind::Number, TokenKind::Symbol) => Some(TokenKind::Mixed),
+        (TokenKind::Mixed, TokenKind::Symbol | TokenKind::Number) => Some(TokenKind::Mixed),
+        (TokenKind::Space, TokenKind::Space) => Some(TokenKind::Space),
         _ => None,
     }
 }
@@ -48,9 +51,9 @@ fn join(last: Token, next: Token) -> Option<Token> {
             end: next.end,
         });
     }
-    if next.kind == Kind::Space && absorbs_spaces(last.kind) {
+    if next.kind == TokenKind::Space && absorbs_spaces(last.kind) {
         Some(last)
-    } else if last.kind == Kind::Space && absorbs_spaces(next.kind) {
+    } else if last.kind == TokenKind::Space && absorbs_spaces(next.kind) {
         Some(next)
     } else {
         None
@@ -61,7 +64,7 @@ fn join(last: Token, next: Token) -> Option<Token> {
 fn add<A: Allocator>(tokens: &mut Vec<Token, A>, next: Token) -> Result<(), AllocError> {
     match tokens.pop() {
         None => {
-            if next.kind != Kind::Space {
+            if next.kind != TokenKind::Space {
                 tokens.push(next)?;
             }
         }
@@ -79,7 +82,7 @@ fn add<A: Allocator>(tokens: &mut Vec<Token, A>, next: Token) -> Result<(), Allo
 /// Takes a space off the end of tokens.
 fn drop_space<A: Allocator>(tokens: &mut Vec<Token, A>) {
     let count = tokens.len();
-    if count > 0 && tokens[count - 1].kind == Kind::Space {
+    if count > 0 && tokens[count - 1].kind == TokenKind::Space {
         tokens.truncate(count - 1);
     }
 }
@@ -110,9 +113,9 @@ pub(crate) fn tokens_in<A: Allocator>(
 }
 
 /// What a token is: a symbol told by its name.
-pub(crate) fn told_kind(bytes: &[u8], token: Token) -> Kind {
+pub(crate) fn told_kind(bytes: &[u8], token: Token) -> TokenKind {
     match token.kind {
-        Kind::Symbol => name_of(bytes, token).kind(),
+        TokenKind::Symbol => name_of(bytes, token).kind(),
         kind => kind,
     }
 }
@@ -135,8 +138,8 @@ pub(crate) fn count_tag_tokens(tokens: &[Token]) -> usize {
     let mut count = 0usize;
     for (at, token) in tokens.iter().enumerate() {
         match token.kind {
-            Kind::Symbol if at % 2 == 0 => {}
-            Kind::Comma if at % 2 == 1 => count = at + 1,
+            TokenKind::Symbol if at % 2 == 0 => {}
+            TokenKind::Comma if at % 2 == 1 => count = at + 1,
             _ => break,
         }
     }
@@ -146,8 +149,9 @@ pub(crate) fn count_tag_tokens(tokens: &[Token]) -> usize {
 /// How many tokens stand before the expression of a statement without tags: a star, or a symbol and `=`.
 pub(crate) fn count_front_tokens(body: &[Token]) -> usize {
     match body {
-        [first, ..] if first.kind == Kind::Star => 1,
-        [first, second, ..] if first.kind == Kind::Symbol && second.kind == Kind::Equals => 2,
+        [first, ..] if first.kind == TokenKind::Star => 1,
+        [first, second, ..]
+            if first.kind == TokenKind::Symbol && second.kind == TokenKind::Equals => 2,
         _ => 0,
     }
 }

@@ -6,7 +6,7 @@ use crate::meanings::{Meanings, terms_of};
 use crate::pieces::{name_of, tokens_from};
 use crate::statement::{Act, FaultyStatement};
 use crate::symbols::{Source, push_defined, push_undefined_advice};
-use pal_text::{Kind, Token};
+use pal_text::{Token, TokenKind};
 use std::alloc::{AllocError, Allocator};
 use word12::Word;
 
@@ -50,7 +50,7 @@ pub(crate) fn put_undefined<A: Allocator + Copy>(
 ) -> Result<(), AllocError> {
     let is_word = faulty.act() == Act::Other;
     for token in faulty.operand() {
-        if token.kind == Kind::Symbol {
+        if token.kind == TokenKind::Symbol {
             let name = name_of(source.bytes(faulty.part), *token);
             let value = if is_word {
                 known.symbols.get(&name)
@@ -75,7 +75,7 @@ struct Reference<'t> {
 
 /// Whether a token is this symbol.
 fn is_symbol(bytes: &[u8], token: Token, letters: [u8; 6]) -> bool {
-    token.kind == Kind::Symbol && name_of(bytes, token).letters == letters
+    token.kind == TokenKind::Symbol && name_of(bytes, token).letters == letters
 }
 
 /// What stands after an operation with these tokens.
@@ -89,7 +89,7 @@ fn reference_of<'t>(bytes: &[u8], tokens: &'t [Token]) -> Reference<'t> {
         let [space, mark, rest @ ..] = found.address else {
             break;
         };
-        if space.kind != Kind::Space {
+        if space.kind != TokenKind::Space {
             break;
         }
         if !found.is_indirect && is_symbol(bytes, *mark, *b"I     ") {
@@ -107,7 +107,7 @@ fn reference_of<'t>(bytes: &[u8], tokens: &'t [Token]) -> Reference<'t> {
 /// The tokens of an address without a space in front.
 fn without_space(tokens: &[Token]) -> &[Token] {
     match tokens {
-        [first, rest @ ..] if first.kind == Kind::Space => rest,
+        [first, rest @ ..] if first.kind == TokenKind::Space => rest,
         _ => tokens,
     }
 }
@@ -136,7 +136,7 @@ fn push_address<A: Allocator>(
     address: &[Token],
     value: Word,
 ) -> Result<(), AllocError> {
-    let is_number = matches!(address, [only] if only.kind == Kind::Number);
+    let is_number = matches!(address, [only] if only.kind == TokenKind::Number);
     if !is_number {
         let (start, end) = span_of(address);
         push_characters(text, bytes_between(bytes, start, end))?;

@@ -3,16 +3,16 @@
 use crate::copies::statement_end;
 use crate::pieces::{count_front_tokens, count_tag_tokens, name_of, tokens_from, tokens_in};
 use crate::symbols::moves_location;
-use pal_acts::{Code, SourcePlace};
+use pal_acts::{FaultCode, SourcePlace};
 use pal_asm::PalFault;
-use pal_text::{Kind, Line, Token, lines_of};
+use pal_text::{Line, Token, TokenKind, lines_of};
 use std::alloc::{AllocError, Allocator};
 
 /// A statement that has a fault: the fault's code, the number of its part, counted from 0, its part and its
 /// line in the copies, counted from 1, where it begins and ends in its part, and its tokens.
 #[derive(Drop)]
 pub(crate) struct FaultyStatement<A: Allocator> {
-    pub(crate) code: Code,
+    pub(crate) code: FaultCode,
     pub(crate) part: usize,
     pub(crate) place: SourcePlace,
     pub(crate) start: usize,
@@ -58,8 +58,8 @@ impl<A: Allocator> FaultyStatement<A> {
     pub(crate) fn loses_location(&self, bytes: &[u8]) -> bool {
         match self.body() {
             [first, ..] => {
-                first.kind == Kind::Star
-                    || (first.kind == Kind::Symbol && moves_location(&name_of(bytes, *first)))
+                first.kind == TokenKind::Star
+                    || (first.kind == TokenKind::Symbol && moves_location(&name_of(bytes, *first)))
             }
             [] => false,
         }
@@ -70,7 +70,7 @@ impl<A: Allocator> FaultyStatement<A> {
         let body = self.body();
         match body {
             [] => Act::Nothing,
-            [first, ..] if first.kind == Kind::Star => Act::SetsLocation,
+            [first, ..] if first.kind == TokenKind::Star => Act::SetsLocation,
             _ if count_front_tokens(body) == 2 => Act::Assigns,
             _ => Act::Other,
         }

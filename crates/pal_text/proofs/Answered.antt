@@ -7,10 +7,10 @@ use Rattle.pal_text.specs.declared.tokens.Token.{Token}
 use Rattle.pal_text.specs.declared.grammar.Form.{Form}
 use Rattle.pal_text.specs.declared.grammar.Form.TheVariants as form
 use Rattle.pal_text.specs.declared.grammar.Shape.{Shape}
-use Rattle.pal_text.specs.declared.cut.Statement.{Statement}
-use Rattle.pal_text.specs.declared.cut.Ending.{Ending}
-use Rattle.pal_text.specs.declared.cut.Ending.TheVariants as ending
-use Rattle.pal_text.specs.declared.cut.Close.{Close}
+use Rattle.pal_text.specs.declared.statement.Statement.{Statement}
+use Rattle.pal_text.specs.declared.statement.Ending.{Ending}
+use Rattle.pal_text.specs.declared.statement.Ending.TheVariants as ending
+use Rattle.pal_text.specs.declared.statement.PartEnd.{PartEnd}
 use Rattle.pal_text.specs.declared.lines.Line.{Line}
 use Rattle.pal_text.specs.Tokens.{runs, is_end, counted, end_token}
 use Rattle.pal_text.specs.Names.{named, part_tokens}
@@ -53,7 +53,7 @@ part_closed source =
     subst P (sym is) (pieces_closed (length source) 0 0 (map (named source) (reverse before)) (named source last) refl (length-reverse source))
 
 -- a part doesn't go on after its last byte
-by_tests : (size : ℕ) (d : Close) (dollar last : Bool) → last ≡ true → (if dollar then Some d else (if last then Some (closed ending.Bytes size) else None)) ≡ None → ⊥
+by_tests : (size : ℕ) (d : PartEnd) (dollar last : Bool) → last ≡ true → (if dollar then Some d else (if last then Some (closed ending.Bytes size) else None)) ≡ None → ⊥
 by_tests size d true last h e = cc
 by_tests size d false true h e = cc
 by_tests size d false false h e = cc
@@ -65,7 +65,7 @@ closes_there size ts mark _ h e = by_tests size (closed ending.Dollar mark.end) 
 module _ (tokens : List Token) (size : ℕ) where
   -- pieces are statements up to one by which the part ends, or there is a first one that is none
   abbrev pub Answers : List Piece → Type 0
-  Answers ps = ((ss : List Statement) × (c : Close) × Stand tokens size ps ss c) ⊎ ((line : ℕ) × Breaks tokens size ps line)
+  Answers ps = ((ss : List Statement) × (c : PartEnd) × Stand tokens size ps ss c) ⊎ ((line : ℕ) × Breaks tokens size ps line)
 
   after_one : (p : Piece) (ps : List Piece) (s : Statement) → Fills tokens p s → closing size (own tokens p) p.mark s.form ≡ None → Answers ps → Answers (p ∷ ps)
   after_one p ps s f e (inl r) = inl (s ∷ r.0, r.1, goes_on p ps s r.0 r.1 f e r.2)
@@ -75,7 +75,7 @@ module _ (tokens : List Token) (size : ℕ) where
   by_rest p [] s f e h rest = absurd (closes_there size (own tokens p) p.mark s.form h e)
   by_rest p (q ∷ ps) s f e h rest = after_one p (q ∷ ps) s f e (rest h)
 
-  by_closing : (p : Piece) (ps : List Piece) (s : Statement) → Fills tokens p s → (o : Option Close) → closing size (own tokens p) p.mark s.form ≡ o → IsClosed size (p ∷ ps) → (IsClosed size ps → Answers ps) → Answers (p ∷ ps)
+  by_closing : (p : Piece) (ps : List Piece) (s : Statement) → Fills tokens p s → (o : Option PartEnd) → closing size (own tokens p) p.mark s.form ≡ o → IsClosed size (p ∷ ps) → (IsClosed size ps → Answers ps) → Answers (p ∷ ps)
   by_closing p ps s f (Some c) e h rest = inl (s ∷ [], c, ends p ps s c f e)
   by_closing p ps s f None e h rest = by_rest p ps s f e h rest
 

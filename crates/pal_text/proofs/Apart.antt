@@ -4,30 +4,30 @@ use Rattle.std.specs.Prelude.{nat_eq}
 use Rattle.std.proofs.lemmas.Bool.{cases_Bool}
 use Rattle.pal_text.specs.declared.characters.Meaning.{Meaning}
 use Rattle.pal_text.specs.declared.characters.Meaning.TheVariants.{Ignored, LineEnd, Character}
-use Rattle.pal_text.specs.declared.tokens.Kind.{Kind}
-use Rattle.pal_text.specs.declared.tokens.Kind.TheVariants.{Symbol, Number, Mixed, Space, End, Dollar}
+use Rattle.pal_text.specs.declared.tokens.TokenKind.{TokenKind}
+use Rattle.pal_text.specs.declared.tokens.TokenKind.TheVariants.{Symbol, Number, Mixed, Space, End, Dollar}
 use Rattle.pal_text.specs.declared.tokens.Token.{Token}
 use Rattle.pal_text.specs.Characters.{line, in_comment, meaning_after}
 use Rattle.pal_text.specs.Tokens.{is_space, absorbs, longer, token, kind_of, end_token, is_end}
 use Rattle.pal_text.specs.Adding.{with_kind, joined, one_or_both, added, grown, tokens, ended}
 use Rattle.pal_text.specs.Scan.{IsCut, trimmed}
 
-longer_end : (k n : Kind) → is_end k ≡ true → longer k n ≡ None
+longer_end : (k n : TokenKind) → is_end k ≡ true → longer k n ≡ None
 longer_end End n h = refl
 longer_end Dollar n h = refl
 longer_end _ n h = cc
 
-absorbs_end : (k : Kind) → is_end k ≡ true → absorbs k ≡ true
+absorbs_end : (k : TokenKind) → is_end k ≡ true → absorbs k ≡ true
 absorbs_end End h = refl
 absorbs_end Dollar h = refl
 absorbs_end _ h = cc
 
-no_space_end : (k : Kind) → is_end k ≡ true → is_space k ≡ false
+no_space_end : (k : TokenKind) → is_end k ≡ true → is_space k ≡ false
 no_space_end End h = refl
 no_space_end Dollar h = refl
 no_space_end _ h = cc
 
-pub longer_to_end : (k n : Kind) → is_end n ≡ true → longer k n ≡ None
+pub longer_to_end : (k n : TokenKind) → is_end n ≡ true → longer k n ≡ None
 longer_to_end Symbol End h = refl
 longer_to_end Number End h = refl
 longer_to_end Mixed End h = refl

@@ -2,7 +2,7 @@
 use Rattle.std.proofs.Common.{ℕ, ◌+◌, Bool, true, false, ◌||◌, if◌then◌else◌, List, ◌∷◌}
 use Rattle.std.specs.Prelude.{nat_eq}
 use Rattle.pal_text.specs.declared.characters.Meaning.{Meaning}
-use Rattle.pal_text.specs.declared.tokens.Kind.TheVariants.{End}
+use Rattle.pal_text.specs.declared.tokens.TokenKind.TheVariants.{End}
 use Rattle.pal_text.specs.declared.tokens.Token.{Token}
 use Rattle.pal_text.specs.declared.lines.Line.{Line}
 use Rattle.pal_text.specs.Characters.{char, after}

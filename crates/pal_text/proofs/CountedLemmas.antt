@@ -5,8 +5,8 @@ use Rattle.std.specs.Option.{option_map_or}
 use Rattle.std.proofs.lemmas.Bool.{cases_Bool}
 use Rattle.pal_text.specs.declared.characters.Meaning.{Meaning}
 use Rattle.pal_text.specs.declared.characters.Meaning.TheVariants.{Ignored, LineEnd, Character}
-use Rattle.pal_text.specs.declared.tokens.Kind.{Kind}
-use Rattle.pal_text.specs.declared.tokens.Kind.TheVariants.{Symbol, Number, Mixed, Space, End}
+use Rattle.pal_text.specs.declared.tokens.TokenKind.{TokenKind}
+use Rattle.pal_text.specs.declared.tokens.TokenKind.TheVariants.{Symbol, Number, Mixed, Space, End}
 use Rattle.pal_text.specs.declared.tokens.Token.{Token}
 use Rattle.pal_text.specs.Characters.{line, in_comment, meaning_after}
 use Rattle.pal_text.specs.Tokens.{is_space, longer, kind_of, token, with_next, runs, absorbs, absorbs_after, counted, end_token, all_tokens}
@@ -17,29 +17,29 @@ use Rattle.pal_text.proofs.Apart.{longer_to_end}
 use Rattle.pal_text.proofs.ByMeaning.{runs_with}
 
 -- Runs with one more character, by the kind that the last one becomes.
-abbrev lengthened : Token → Token → List Token → Option Kind → List Token
+abbrev lengthened : Token → Token → List Token → Option TokenKind → List Token
 lengthened next last ts o = option_map_or (λ k. record last { kind = k; end = next.end } ∷ ts) o (next ∷ last ∷ ts)
 
 -- ---- kinds
 
-space_absorbs : (k : Kind) → is_space k ≡ true → absorbs k ≡ false
+space_absorbs : (k : TokenKind) → is_space k ≡ true → absorbs k ≡ false
 space_absorbs Space h = refl
 space_absorbs _ h = cc
 
-spaces_join : (k n : Kind) → is_space k ≡ true → is_space n ≡ true → longer k n ≡ Some Space
+spaces_join : (k n : TokenKind) → is_space k ≡ true → is_space n ≡ true → longer k n ≡ Some Space
 spaces_join Space Space h e = refl
 spaces_join _ _ h e = cc
 
-space_ends : (k n : Kind) → is_space k ≡ true → is_space n ≡ false → longer k n ≡ None
+space_ends : (k n : TokenKind) → is_space k ≡ true → is_space n ≡ false → longer k n ≡ None
 space_ends Space Space h e = cc
 space_ends Space _ h e = refl
 space_ends _ n h e = cc
 
-absorbing_no_space : (k : Kind) → absorbs k ≡ true → is_space k ≡ false
+absorbing_no_space : (k : TokenKind) → absorbs k ≡ true → is_space k ≡ false
 absorbing_no_space Space h = cc
 absorbing_no_space _ h = refl
 
-absorbing_alone : (k n : Kind) → absorbs k ≡ true → longer k n ≡ None
+absorbing_alone : (k n : TokenKind) → absorbs k ≡ true → longer k n ≡ None
 absorbing_alone Symbol n h = cc
 absorbing_alone Number n h = cc
 absorbing_alone Mixed n h = cc
@@ -47,11 +47,11 @@ absorbing_alone Space n h = cc
 absorbing_alone _ n h = refl
 
 -- a longer token is no space, and absorbs as little
-abbrev Alike : Kind → Option Kind → Type 0
+abbrev Alike : TokenKind → Option TokenKind → Type 0
 Alike k None = Unit {0}
 Alike k (Some l) = (is_space l ≡ false) × (absorbs l ≡ absorbs k)
 
-longer_alike : (k n : Kind) → is_space k ≡ false → Alike k (longer k n)
+longer_alike : (k n : TokenKind) → is_space k ≡ false → Alike k (longer k n)
 longer_alike Symbol Symbol h = (refl, refl)
 longer_alike Symbol Number h = (refl, refl)
 longer_alike Number Number h = (refl, refl)
@@ -63,7 +63,7 @@ longer_alike _ _ h = tt
 
 -- ---- spaces
 
-abbrev run_of : Kind → Token → Token → Token
+abbrev run_of : TokenKind → Token → Token → Token
 run_of k t next = record { kind = k; line = t.line; start = t.start; end = next.end }
 
 stays : (f : Bool) (t : Token) (ts : List Token) → is_space t.kind ≡ false → counted f (t ∷ ts) ≡ t ∷ counted (absorbs t.kind) ts
@@ -92,7 +92,7 @@ last_space t next b h e a = (λ i. if e i && absorbs t.kind then Some t else if 
 -- ---- one more character
 
 -- after a run that is no space
-after_run : (next t : Token) (ts : List Token) (o : Option Kind) → is_space t.kind ≡ false → Alike t.kind o → one_or_both next t (counted (absorbs t.kind) ts) (with_kind t next o) ≡ counted false (lengthened next t ts o)
+after_run : (next t : Token) (ts : List Token) (o : Option TokenKind) → is_space t.kind ≡ false → Alike t.kind o → one_or_both next t (counted (absorbs t.kind) ts) (with_kind t next o) ≡ counted false (lengthened next t ts o)
 after_run next t ts (Some k) h l =
     ap (λ b. run_of k t next ∷ counted b ts) (sym l.1) ∙ sym (stays false (run_of k t next) ts l.0)
 after_run next t ts None h l =

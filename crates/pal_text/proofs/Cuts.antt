@@ -8,12 +8,12 @@ use Rattle.std.proofs.lemmas.List.{length-take-le, take-append-drop}
 use Rattle.std.proofs.Math.Seq.{take-append-add}
 use Rattle.pal_text.specs.declared.tokens.Token.{Token}
 use Rattle.pal_text.specs.declared.grammar.Shape.{Shape}
-use Rattle.pal_text.specs.declared.cut.Statement.{Statement}
-use Rattle.pal_text.specs.declared.cut.Close.{Close}
-use Rattle.pal_text.specs.declared.reader.Found.{Found}
-use Rattle.pal_text.specs.declared.reader.Next.{Next}
-use Rattle.pal_text.specs.declared.reader.Next.TheVariants.{End}
-use Rattle.pal_text.specs.declared.reader.Next.TheVariants as found_next
+use Rattle.pal_text.specs.declared.statement.Statement.{Statement}
+use Rattle.pal_text.specs.declared.statement.PartEnd.{PartEnd}
+use Rattle.pal_text.specs.declared.reader.DelimitedStatement.{DelimitedStatement}
+use Rattle.pal_text.specs.declared.reader.PartItem.{PartItem}
+use Rattle.pal_text.specs.declared.reader.PartItem.TheVariants.{End}
+use Rattle.pal_text.specs.declared.reader.PartItem.TheVariants as found_next
 use Rattle.pal_text.specs.declared.fault.StatementFault.{StatementFault}
 use Rattle.pal_text.specs.declared.fault.StatementFault.TheVariants.{Illegal, NoMemory}
 use Rattle.pal_text.specs.Faults.{fault_of}
@@ -33,9 +33,9 @@ abbrev pub left : List Token → ℕ → ℕ → List Piece
 left tokens first at = pieces first at (drop at tokens)
 
 -- the statements so far: where the part has ended so, all of them, and else those that are left follow
-abbrev pub Reached : List Token → ℕ → ℕ → Option Close → List Statement → Type 0
+abbrev pub Reached : List Token → ℕ → ℕ → Option PartEnd → List Statement → Type 0
 Reached tokens size n None statements =
-    ((ss : List Statement) (c : Close) → Stand tokens size (left tokens n n) ss c → Stand tokens size (pieces 0 0 tokens) (statements ++ ss) c)
+    ((ss : List Statement) (c : PartEnd) → Stand tokens size (left tokens n n) ss c → Stand tokens size (pieces 0 0 tokens) (statements ++ ss) c)
     × ((line : ℕ) → Breaks tokens size (left tokens n n) line → Breaks tokens size (pieces 0 0 tokens) line)
 Reached tokens size n (Some c) statements = Stand tokens size (pieces 0 0 tokens) statements c
 
@@ -52,7 +52,7 @@ made_fills tokens first at t s h =
     record { names = r.names; said = r.said; reads = r.reads; is = λ i. record { line = t.line; first = first; last = at; tags = r.tags i; form = r.form i } }
 
 -- one statement more
-reached_by : (tokens : List Token) (size n m : ℕ) (p : Piece) (s : Statement) (statements : List Statement) (o : Option Close) → p ∷ left tokens m m ≡ left tokens n n → Fills tokens p s → closing size (own tokens p) p.mark s.form ≡ o
+reached_by : (tokens : List Token) (size n m : ℕ) (p : Piece) (s : Statement) (statements : List Statement) (o : Option PartEnd) → p ∷ left tokens m m ≡ left tokens n n → Fills tokens p s → closing size (own tokens p) p.mark s.form ≡ o
     → Reached tokens size n None statements → Reached tokens size m o (statements ++ s ∷ [])
 reached_by tokens size n m p s statements (Some c) same fills e r =
     let P : List Piece → Type 0 = λ ps. Stand tokens size ps (s ∷ []) c in
@@ -67,34 +67,34 @@ reached_by tokens size n m p s statements None same fills e r = (
       r.1 line (subst P same (later p (left tokens m m) s line fills e after))),
 )
 
-pub reached_next : (source : List ℕ) (n m : ℕ) (found : Found) (mine : List Token) (close after : Option Close) (statements : List Statement) → close ≡ None → IsNext source n found mine m after
+pub reached_next : (source : List ℕ) (n m : ℕ) (found : DelimitedStatement) (mine : List Token) (close after : Option PartEnd) (statements : List Statement) → close ≡ None → IsNext source n found mine m after
     → Reached (part_tokens source) (length source) n close statements → Reached (part_tokens source) (length source) m after (statements ++ found.statement ∷ [])
 reached_next source n m found mine close after statements going next r =
     let tokens : List Token = part_tokens source in
     let p : Piece = piece n found.statement.last found.mark in
-    let R : Option Close → Type 0 = λ o. Reached tokens (length source) n o statements in
+    let R : Option PartEnd → Type 0 = λ o. Reached tokens (length source) n o statements in
     reached_by tokens (length source) n m p found.statement statements after (sym next.rest_is) next.fills
     (ap (λ l. closing (length source) l found.mark found.statement.form) (sym next.own_is) ∙ sym next.close_is) (subst R going r)
 
 -- the part has ended
-pub stands_end : (source : List ℕ) (n : ℕ) (close : Option Close) (statements : List Statement) (c : Close) → close ≡ Some c → Reached (part_tokens source) (length source) n close statements
+pub stands_end : (source : List ℕ) (n : ℕ) (close : Option PartEnd) (statements : List Statement) (c : PartEnd) → close ≡ Some c → Reached (part_tokens source) (length source) n close statements
     → Stand (part_tokens source) (length source) (pieces 0 0 (part_tokens source)) statements c
 stands_end source n close statements c is r =
-    let R : Option Close → Type 0 = λ o. Reached (part_tokens source) (length source) n o statements in
+    let R : Option PartEnd → Type 0 = λ o. Reached (part_tokens source) (length source) n o statements in
     subst R is r
 
 -- the next piece is no statement
-pub breaks_next : (source : List ℕ) (n line : ℕ) (close : Option Close) (statements : List Statement) → close ≡ None → IsBroken source n line → Reached (part_tokens source) (length source) n close statements
+pub breaks_next : (source : List ℕ) (n line : ℕ) (close : Option PartEnd) (statements : List Statement) → close ≡ None → IsBroken source n line → Reached (part_tokens source) (length source) n close statements
     → IsIllegal source line
 breaks_next source n line close statements going b r =
-    let R : Option Close → Type 0 = λ o. Reached (part_tokens source) (length source) n o statements in
+    let R : Option PartEnd → Type 0 = λ o. Reached (part_tokens source) (length source) n o statements in
     let P : List Piece → Type 0 = λ ps. Breaks (part_tokens source) (length source) ps line in
     let p : Piece = b.0 in
     let Q : ℕ → Type 0 = λ k. Breaks (part_tokens source) (length source) (p ∷ rest source (p.last + 1)) k in
     let open' = subst R going r in
     open'.1 line (subst P (sym b.1) (subst Q (sym b.3) (here p (rest source (p.last + 1)) b.2)))
 
-faults_next : (source : List ℕ) (n : ℕ) (close : Option Close) (statements : List Statement) (e : StatementFault) → close ≡ None → StopsAt source n e → Reached (part_tokens source) (length source) n close statements
+faults_next : (source : List ℕ) (n : ℕ) (close : Option PartEnd) (statements : List Statement) (e : StatementFault) → close ≡ None → StopsAt source n e → Reached (part_tokens source) (length source) n close statements
     → IsFault source (fault_of e)
 faults_next source n close statements (Illegal line) going b r = breaks_next source n line close statements going b r
 faults_next source n close statements NoMemory going b r = tt
@@ -147,7 +147,7 @@ placed_longer : (tokens more : List Token) (ss : List Statement) → length toke
 placed_longer tokens more [] h all = tt
 placed_longer tokens more (s ∷ ss) h all = (record { forward = all.0.forward; inside = omega (arith, all.0.inside) }, placed_longer tokens more ss h all.1)
 
-pub held_next : (source : List ℕ) (n m : ℕ) (found : Found) (mine tokens more : List Token) (close : Option Close) (statements all : List Statement) → IsNext source n found mine m close → Held source n tokens statements
+pub held_next : (source : List ℕ) (n m : ℕ) (found : DelimitedStatement) (mine tokens more : List Token) (close : Option PartEnd) (statements all : List Statement) → IsNext source n found mine m close → Held source n tokens statements
     → more ≡ tokens ++ mine ++ found.mark ∷ [] → all ≡ statements ++ found.statement ∷ [] → Held source m more all
 held_next source n m found mine tokens more close statements all next h e f =
     let ts : List Token = part_tokens source in
@@ -181,19 +181,19 @@ held_next source n m found mine tokens more close statements all next h e f =
     }
 
 -- fewer pieces are left after each
-pub rest_falls : (source : List ℕ) (n m : ℕ) (found : Found) (mine : List Token) (close : Option Close) → IsNext source n found mine m close → length (rest source m) < length (rest source n)
+pub rest_falls : (source : List ℕ) (n m : ℕ) (found : DelimitedStatement) (mine : List Token) (close : Option PartEnd) → IsNext source n found mine m close → length (rest source m) < length (rest source n)
 rest_falls source n m found mine close next = omega (arith, ap length next.rest_is)
 
 -- what a reader of these bytes found
-pub found_at : (old new : Progress) (source : List ℕ) (o : Next) (found : Found) → old.source ≡ source → o ≡ found_next.Statement found → Finds old o new → (old.close ≡ None) × IsNext source old.count found new.own new.count new.close
+pub found_at : (old new : Progress) (source : List ℕ) (o : PartItem) (found : DelimitedStatement) → old.source ≡ source → o ≡ found_next.Statement found → Finds old o new → (old.close ≡ None) × IsNext source old.count found new.own new.count new.close
 found_at old new source o found same is h =
-    let P : Next → Type 0 = λ x. Finds old x new in
+    let P : PartItem → Type 0 = λ x. Finds old x new in
     let Q : List ℕ → Type 0 = λ s. IsNext s old.count found new.own new.count new.close in
     let k = subst P is h in
     (k.0, subst Q same k.1)
 
-pub ended_so : (old new : Progress) (o : Next) (c : Close) → o ≡ End c → Finds old o new → old.close ≡ Some c
-ended_so old new o c is h = let P : Next → Type 0 = λ x. Finds old x new in let k = subst P is h in k.0
+pub ended_so : (old new : Progress) (o : PartItem) (c : PartEnd) → o ≡ End c → Finds old o new → old.close ≡ Some c
+ended_so old new o c is h = let P : PartItem → Type 0 = λ x. Finds old x new in let k = subst P is h in k.0
 
 pub fault_at : (old : Progress) (source : List ℕ) (statements : List Statement) (e : StatementFault) → old.source ≡ source → BreaksNext old e → Reached (part_tokens source) (length source) old.count old.close statements → IsFault source (fault_of e)
 fault_at old source statements e same h r = let P : List ℕ → Type 0 = λ x. StopsAt x old.count e in faults_next source old.count old.close statements e h.0 (subst P same h.1) r
@@ -202,7 +202,7 @@ pub on_ok : {X E : Type 0} (r : Result X E) (P : Type 0) → OnOk r P → is_ok 
 on_ok (Ok x) P h is = h
 on_ok (Err e) P h is = cc
 
-pub reached_at : (source : List ℕ) (n : ℕ) (close : Option Close) (ss ts : List Statement) → ts ≡ ss → Reached (part_tokens source) (length source) n close ss → Reached (part_tokens source) (length source) n close ts
+pub reached_at : (source : List ℕ) (n : ℕ) (close : Option PartEnd) (ss ts : List Statement) → ts ≡ ss → Reached (part_tokens source) (length source) n close ss → Reached (part_tokens source) (length source) n close ts
 reached_at source n close ss ts e h = let P : List Statement → Type 0 = λ l. Reached (part_tokens source) (length source) n close l in subst P (sym e) h
 
 -- the error that is handed on

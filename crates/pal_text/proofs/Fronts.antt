@@ -5,10 +5,10 @@ use Rattle.std.specs.List.{AllByRecursion}
 use Rattle.std.proofs.lemmas.List.{take_more, reverse-append, reverse-reverse, length-reverse, length-take-le}
 use Rattle.std.proofs.Math.Seq.{set-append_seam}
 use Rattle.std.proofs.lemmas.Bool.{cases_Bool}
-use Rattle.pal_text.specs.declared.tokens.Kind.{Kind}
-use Rattle.pal_text.specs.declared.tokens.Kind.TheVariants as kind
+use Rattle.pal_text.specs.declared.tokens.TokenKind.{TokenKind}
+use Rattle.pal_text.specs.declared.tokens.TokenKind.TheVariants as kind
 use Rattle.pal_text.specs.declared.tokens.Token.{Token}
-use Rattle.pal_text.specs.declared.scan.Brings.TheVariants.{Nothing, Feed, End, Comment, One}
+use Rattle.pal_text.specs.declared.scan.CodeEffect.TheVariants.{Nothing, Feed, End, Comment, One}
 use Rattle.pal_text.specs.declared.scan.Place.{Place}
 use Rattle.pal_text.specs.declared.scan.Run.{Run}
 use Rattle.pal_text.specs.Characters.{code, returned, in_comment, line}
@@ -38,13 +38,13 @@ kept_at source at h k =
     let e : front source (at + 1) ≡ get_or source at 0 ∷ front source at = next_front source at h in
     record { tokens_are = ap tokens e ∙ k.tokens_are; line_is = ap line e ∙ k.line_is; returned_is = ap returned e ∙ k.returned_is; comment_is = ap in_comment e ∙ k.comment_is }
 
-record GrowsAt (source : List ℕ) (at : ℕ) (k : Kind) : Type 0 where
+record GrowsAt (source : List ℕ) (at : ℕ) (k : TokenKind) : Type 0 where
   tokens_are : tokens (front source (at + 1)) ≡ added (token k (line (front source at)) at) (tokens (front source at))
   line_is : line (front source (at + 1)) ≡ line (front source at)
   returned_is : returned (front source (at + 1)) ≡ false
   comment_is : in_comment (front source (at + 1)) ≡ false
 
-grows_at : (source : List ℕ) (at : ℕ) (k : Kind) → at < length source → Grows (front source at) (get_or source at 0) k → GrowsAt source at k
+grows_at : (source : List ℕ) (at : ℕ) (k : TokenKind) → at < length source → Grows (front source at) (get_or source at 0) k → GrowsAt source at k
 grows_at source at k h g =
     let e : front source (at + 1) ≡ get_or source at 0 ∷ front source at = next_front source at h in
     record {
@@ -54,16 +54,16 @@ grows_at source at k h g =
       comment_is = ap in_comment e ∙ g.comment_is;
     }
 
-pub grown_outside : (source : List ℕ) (at : ℕ) (k : Kind) → at < length source → in_comment (front source at) ≡ false → brings (code (get_or source at 0)) ≡ One k → IsOutside source (at + 1)
+pub grown_outside : (source : List ℕ) (at : ℕ) (k : TokenKind) → at < length source → in_comment (front source at) ≡ false → brings (code (get_or source at 0)) ≡ One k → IsOutside source (at + 1)
 grown_outside source at k h c b =
     let g : GrowsAt source at k = grows_at source at k h (one_grows (front source at) (get_or source at 0) k c b) in
     record { inside = omega arith; comment_is = g.comment_is; returned_is = g.returned_is }
 
 -- a token of letters and digits goes on
-word_on : (k j k' : Kind) (n m start end at : ℕ) (ts : List Token) → longer k j ≡ Some k' → added (token j m at) (spanned k n start end ∷ ts) ≡ spanned k' n start (at + 1) ∷ ts
+word_on : (k j k' : TokenKind) (n m start end at : ℕ) (ts : List Token) → longer k j ≡ Some k' → added (token j m at) (spanned k n start end ∷ ts) ≡ spanned k' n start (at + 1) ∷ ts
 word_on k j k' n m start end at ts h = ap (λ o. one_or_both (token j m at) (spanned k n start end) ts (with_kind (spanned k n start end) (token j m at) o)) h
 
-word_stays : (k j k' : Kind) → is_word k ≡ true → longer k j ≡ Some k' → is_word k' ≡ true
+word_stays : (k j k' : TokenKind) → is_word k ≡ true → longer k j ≡ Some k' → is_word k' ≡ true
 word_stays kind.Symbol kind.Symbol k' h e = cc
 word_stays kind.Symbol kind.Number k' h e = cc
 word_stays kind.Number kind.Symbol k' h e = cc
@@ -72,13 +72,13 @@ word_stays kind.Mixed kind.Symbol k' h e = cc
 word_stays kind.Mixed kind.Number k' h e = cc
 word_stays _ _ k' h e = cc
 
-pub word_digit : (k : Kind) → is_word k ≡ true → longer k kind.Number ≡ Some k
+pub word_digit : (k : TokenKind) → is_word k ≡ true → longer k kind.Number ≡ Some k
 word_digit kind.Symbol h = refl
 word_digit kind.Number h = refl
 word_digit kind.Mixed h = refl
 word_digit _ h = cc
 
-pub run_none : (source : List ℕ) (k : Kind) (end from : ℕ) (run : Run) → run.at < length source → brings (code (get_or source run.at 0)) ≡ Nothing → IsRun source k end from run
+pub run_none : (source : List ℕ) (k : TokenKind) (end from : ℕ) (run : Run) → run.at < length source → brings (code (get_or source run.at 0)) ≡ Nothing → IsRun source k end from run
     → IsRun source k end from (record { kind = run.kind; end = run.end; at = run.at + 1 })
 run_none source k end from run h b r =
     let q : KeptAt source run.at = kept_at source run.at h (nothing_kept (front source run.at) (get_or source run.at 0) b) in
@@ -90,7 +90,7 @@ run_none source k end from run h b r =
       tokens_are = λ n start ts e. q.tokens_are ∙ r.tokens_are n start ts e;
     }
 
-pub run_one : (source : List ℕ) (k : Kind) (end from : ℕ) (run : Run) (j k' : Kind) → run.at < length source → brings (code (get_or source run.at 0)) ≡ One j → longer run.kind j ≡ Some k'
+pub run_one : (source : List ℕ) (k : TokenKind) (end from : ℕ) (run : Run) (j k' : TokenKind) → run.at < length source → brings (code (get_or source run.at 0)) ≡ One j → longer run.kind j ≡ Some k'
     → IsRun source k end from run → IsRun source k end from (record { kind = k'; end = run.at + 1; at = run.at + 1 })
 run_one source k end from run j k' h b more r =
     let g : GrowsAt source run.at j = grows_at source run.at j h (one_grows (front source run.at) (get_or source run.at 0) j r.outside.comment_is b) in
@@ -114,7 +114,7 @@ put_last items ts t y count is n =
 all_turned : {X : Type 0} (P : X → Type 0) (xs : List X) → AllByRecursion P xs → AllByRecursion P (reverse (reverse xs))
 all_turned P xs h = all_reverse P (reverse xs) (all_reverse P xs h)
 
-word_open : (k : Kind) → is_word k ≡ true → is_end k ≡ false
+word_open : (k : TokenKind) → is_word k ≡ true → is_end k ≡ false
 word_open kind.End h = cc
 word_open kind.Dollar h = cc
 word_open _ h = refl
@@ -215,7 +215,7 @@ abbrev OpenOne : Option Token → Type 0
 OpenOne None = Unit {0}
 OpenOne (Some t) = IsOpen t
 
-longer_open : (k n k' : Kind) → longer k n ≡ Some k' → is_end k' ≡ false
+longer_open : (k n k' : TokenKind) → longer k n ≡ Some k' → is_end k' ≡ false
 longer_open kind.Symbol kind.Symbol k' h = cc
 longer_open kind.Symbol kind.Number k' h = cc
 longer_open kind.Number kind.Number k' h = cc
@@ -235,7 +235,7 @@ open_space t next o n = elim (cases_Bool (is_space next.kind && absorbs t.kind))
       ]))
 ]
 
-open_kind : (t next : Token) (o : Option Kind) → longer t.kind next.kind ≡ o → IsOpen t → IsOpen next → OpenOne (with_kind t next o)
+open_kind : (t next : Token) (o : Option TokenKind) → longer t.kind next.kind ≡ o → IsOpen t → IsOpen next → OpenOne (with_kind t next o)
 open_kind t next None e a b = open_space t next a b
 open_kind t next (Some k) e a b = longer_open t.kind next.kind k e
 
@@ -250,7 +250,7 @@ added_open next [] n h = elim (cases_Bool (is_space next.kind)) [
 ]
 added_open next (t ∷ ts) n h = open_both next t ts (joined t next) (open_kind t next (longer t.kind next.kind) refl h.0 n) n h
 
-pub reading_added : (source : List ℕ) (place : Place) (at : ℕ) (was : Bool) (own more : List Token) (k : Kind) → IsPlaceIn source place → at < length source → brings (code (get_or source at 0)) ≡ One k
+pub reading_added : (source : List ℕ) (place : Place) (at : ℕ) (was : Bool) (own more : List Token) (k : TokenKind) → IsPlaceIn source place → at < length source → brings (code (get_or source at 0)) ≡ One k
     → Reading source place at was own → reverse more ≡ added (token k place.line at) (reverse own) → tokens (front source (at + 1)) ≡ reverse more ++ tokens (front source place.at)
 reading_added source place at was own more k p h b r e =
     let g : GrowsAt source at k = grows_at source at k h (one_grows (front source at) (get_or source at 0) k r.2 b) in
@@ -260,7 +260,7 @@ reading_added source place at was own more k p h b r e =
     ∙ added_apart (token k place.line at) (reverse own) (tokens (front source place.at)) p.cut
     ∙ sym (ap (λ l. l ++ tokens (front source place.at)) e)
 
-pub reading_one : (source : List ℕ) (place : Place) (at to : ℕ) (was : Bool) (own more grown : List Token) (k : Kind) → IsPlaceIn source place → at < length source → brings (code (get_or source at 0)) ≡ One k
+pub reading_one : (source : List ℕ) (place : Place) (at to : ℕ) (was : Bool) (own more grown : List Token) (k : TokenKind) → IsPlaceIn source place → at < length source → brings (code (get_or source at 0)) ≡ One k
     → Reading source place at was own → more ≡ reverse (added (token k place.line at) (reverse own)) → IsOnward source (at + 1) to more grown → Reading source place to false grown
 reading_one source place at to was own more grown k p h b r e o =
     let g : GrowsAt source at k = grows_at source at k h (one_grows (front source at) (get_or source at 0) k r.2 b) in

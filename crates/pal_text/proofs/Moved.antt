@@ -8,9 +8,9 @@ use Rattle.std.proofs.lemmas.List.{reverse-append, length-reverse, length-drop, 
 use Rattle.std.proofs.Math.Seq.{take-append-add}
 use Rattle.pal_text.specs.declared.characters.Meaning.{Meaning}
 use Rattle.pal_text.specs.declared.characters.Meaning.TheVariants.{Ignored, LineEnd, Character}
-use Rattle.pal_text.specs.declared.scan.Brings.TheVariants.{Nothing}
-use Rattle.pal_text.specs.declared.tokens.Kind.{Kind}
-use Rattle.pal_text.specs.declared.tokens.Kind.TheVariants.{End}
+use Rattle.pal_text.specs.declared.scan.CodeEffect.TheVariants.{Nothing}
+use Rattle.pal_text.specs.declared.tokens.TokenKind.{TokenKind}
+use Rattle.pal_text.specs.declared.tokens.TokenKind.TheVariants.{End}
 use Rattle.pal_text.specs.declared.tokens.Token.{Token}
 use Rattle.pal_text.specs.Characters.{code, is_ignored, returned, meaning, meaning_after, in_comment, line, is_character, characters}
 use Rattle.pal_text.specs.Tokens.{is_space, absorbs, longer, token, kind_of, end_token}
@@ -64,7 +64,7 @@ module _ (k n : ℕ) where
   abbrev mv : Token → Token
   mv t = moved k n t
 
-  mv_token : (j : Kind) (l at : ℕ) → k ≤ at → token j l (at + n) ≡ mv (token j l at)
+  mv_token : (j : TokenKind) (l at : ℕ) → k ≤ at → token j l (at + n) ≡ mv (token j l at)
   mv_token j l at h = ap (λ e. at_places (token j l at) (at + n) e) (let e : at + n + 1 ≡ at + 1 + n = omega arith in e) ∙ sym (moved_after k n (token j l at) h)
 
   without_moved : (t next : Token) → without_space (mv t) (mv next) ≡ maybe mv (without_space t next)
@@ -85,7 +85,7 @@ module _ (k n : ℕ) where
     | inr not_is ↦ ap (λ c. if c && nat_le (at + 1) k then at + 1 else at + 1 + n) not_is
   ]
 
-  joined_moved : (t : Token) (j : Kind) (l at : ℕ) (o : Option Kind) → k ≤ at → with_kind (mv t) (mv (token j l at)) o ≡ maybe mv (with_kind t (token j l at) o)
+  joined_moved : (t : Token) (j : TokenKind) (l at : ℕ) (o : Option TokenKind) → k ≤ at → with_kind (mv t) (mv (token j l at)) o ≡ maybe mv (with_kind t (token j l at) o)
   joined_moved t j l at None h = without_moved t (token j l at)
   joined_moved t j l at (Some k') h =
       let one : Token = record { kind = k'; line = t.line; start = t.start; end = at + 1 } in
@@ -96,7 +96,7 @@ module _ (k n : ℕ) where
   both_moved next t ts None = refl
   both_moved next t ts (Some one) = refl
 
-  added_moved : (j : Kind) (l at : ℕ) (ts : List Token) → k ≤ at → added (mv (token j l at)) (map mv ts) ≡ map mv (added (token j l at) ts)
+  added_moved : (j : TokenKind) (l at : ℕ) (ts : List Token) → k ≤ at → added (mv (token j l at)) (map mv ts) ≡ map mv (added (token j l at) ts)
   added_moved j l at [] h = elim (cases_Bool (is_space j)) [
     | inl space ↦ (let P : Bool → Type 0 = λ b. (if b then [] else mv (token j l at) ∷ []) ≡ map mv (if b then [] else token j l at ∷ []) in subst P (sym space) refl)
     | inr other ↦ (let P : Bool → Type 0 = λ b. (if b then [] else mv (token j l at) ∷ []) ≡ map mv (if b then [] else token j l at ∷ []) in subst P (sym other) refl)
@@ -104,7 +104,7 @@ module _ (k n : ℕ) where
   added_moved j l at (t ∷ ts) h =
       ap (one_or_both (mv (token j l at)) (mv t) (map mv ts)) (joined_moved t j l at (longer t.kind j) h) ∙ both_moved (token j l at) t ts (joined t (token j l at))
 
-  pub put_moved : (j : Kind) (l at : ℕ) (ts : List Token) → k ≤ at → added (token j l (at + n)) (map mv ts) ≡ map mv (added (token j l at) ts)
+  pub put_moved : (j : TokenKind) (l at : ℕ) (ts : List Token) → k ≤ at → added (token j l (at + n)) (map mv ts) ≡ map mv (added (token j l at) ts)
   put_moved j l at ts h = ap (λ x. added x (map mv ts)) (mv_token j l at h) ∙ added_moved j l at ts h
 
   grown_moved : (at l : ℕ) (c : Bool) (m : Meaning) (ts : List Token) → k ≤ at → grown (at + n) l c m (map mv ts) ≡ map mv (grown at l c m ts)
@@ -176,7 +176,7 @@ without_spans n t next h g =
     cond_both (is_space next.kind && absorbs t.kind) (Some t) (if is_space t.kind && absorbs next.kind then Some next else None) (λ o. OneSpans n o) (λ is. h)
     (λ is. cond_both (is_space t.kind && absorbs next.kind) (Some next) None (λ o. OneSpans n o) (λ too. g) (λ too. tt))
 
-kind_spans : (at l : ℕ) (t : Token) (j : Kind) (o : Option Kind) → Spans at t → OneSpans (at + 1) (with_kind t (token j l at) o)
+kind_spans : (at l : ℕ) (t : Token) (j : TokenKind) (o : Option TokenKind) → Spans at t → OneSpans (at + 1) (with_kind t (token j l at) o)
 kind_spans at l t j None h = without_spans (at + 1) t (token j l at) (h.0, omega (arith, h.1)) (omega arith, omega arith)
 kind_spans at l t j (Some k') h = (omega (arith, h.0, h.1), omega arith)
 
@@ -184,7 +184,7 @@ both_span : (n : ℕ) (next t : Token) (ts : List Token) (o : Option Token) → 
 both_span n next t ts None g h all o = (g, (h, all))
 both_span n next t ts (Some one) g h all o = (o, all)
 
-added_span : (at l : ℕ) (j : Kind) (ts : List Token) → AllSpan at ts → AllSpan (at + 1) (added (token j l at) ts)
+added_span : (at l : ℕ) (j : TokenKind) (ts : List Token) → AllSpan at ts → AllSpan (at + 1) (added (token j l at) ts)
 added_span at l j [] h = cond_both (is_space j) [] (token j l at ∷ []) (λ ts. AllSpan (at + 1) ts) (λ is. tt) (λ is. ((omega arith, omega arith), tt))
 added_span at l j (t ∷ ts) h =
     both_span (at + 1) (token j l at) t ts (joined t (token j l at)) (omega arith, omega arith) (h.0.0, omega (arith, h.0.1)) (span_more at ts h.1) (kind_spans at l t j (longer t.kind j) h.0)

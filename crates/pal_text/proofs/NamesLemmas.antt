@@ -7,7 +7,7 @@ use Rattle.pal_text.specs.Characters.{code, is_character, characters}
 use Rattle.std.proofs.lemmas.Bool.{cases_Bool}
 use Rattle.std.proofs.lemmas.Bool.Decides.{nat_tests}
 use Rattle.std.specs.Prelude.{nat_eq}
-use Rattle.pal_text.specs.declared.tokens.Kind.TheVariants.{Symbol}
+use Rattle.pal_text.specs.declared.tokens.TokenKind.TheVariants.{Symbol}
 use Rattle.pal_text.specs.Tokens.{is_letter}
 use Rattle.pal_text.specs.Names.{name, named_kind, begins_none}
 

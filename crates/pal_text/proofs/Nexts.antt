@@ -9,17 +9,17 @@ use Rattle.std.proofs.lemmas.List.{reverse-append, reverse-reverse, length-rever
 use Rattle.std.proofs.Math.Seq.{drop-append_seam, take-append_seam}
 use Rattle.pal_text.specs.declared.characters.Meaning.{Meaning}
 use Rattle.pal_text.specs.declared.characters.Meaning.TheVariants.{Ignored, LineEnd, Character}
-use Rattle.pal_text.specs.declared.tokens.Kind.{Kind}
-use Rattle.pal_text.specs.declared.tokens.Kind.TheVariants as kind
+use Rattle.pal_text.specs.declared.tokens.TokenKind.{TokenKind}
+use Rattle.pal_text.specs.declared.tokens.TokenKind.TheVariants as kind
 use Rattle.pal_text.specs.declared.tokens.Token.{Token}
 use Rattle.pal_text.specs.declared.grammar.Form.{Form}
 use Rattle.pal_text.specs.declared.grammar.Form.TheVariants as form
 use Rattle.pal_text.specs.declared.grammar.Shape.{Shape}
 use Rattle.pal_text.specs.declared.scan.Place.{Place}
-use Rattle.pal_text.specs.declared.cut.Close.{Close}
-use Rattle.pal_text.specs.declared.reader.Found.{Found}
-use Rattle.pal_text.specs.declared.reader.Standing.{Standing}
-use Rattle.pal_text.specs.declared.reader.Standing.TheVariants.{Begins, Ended}
+use Rattle.pal_text.specs.declared.statement.PartEnd.{PartEnd}
+use Rattle.pal_text.specs.declared.reader.DelimitedStatement.{DelimitedStatement}
+use Rattle.pal_text.specs.declared.reader.ReaderState.{ReaderState}
+use Rattle.pal_text.specs.declared.reader.ReaderState.TheVariants.{Begins, Ended}
 use Rattle.pal_text.specs.Characters.{code, returned, in_comment, line, meaning_after}
 use Rattle.pal_text.specs.Tokens.{is_space, token, kind_of, end_token, is_end}
 use Rattle.pal_text.specs.Adding.{joined, one_or_both, added, grown, tokens, ended, all_read}
@@ -174,11 +174,11 @@ mark_start source n at = elim (cases_Bool (nat_eq at (length source))) [
   | inr other ↦ ap (λ b. (if b then end_mark source n at else token (mark_kind (code (get_or source at 0))) n at).start) other
 ]
 
-some_none : (b : Bool) (c : Close) → (if b then Some c else None) ≡ None → b ≡ false
+some_none : (b : Bool) (c : PartEnd) → (if b then Some c else None) ≡ None → b ≡ false
 some_none true c e = cc
 some_none false c e = refl
 
-past_dollar : (b : Bool) (c : Close) (o : Option Close) → (if b then Some c else o) ≡ None → o ≡ None
+past_dollar : (b : Bool) (c : PartEnd) (o : Option PartEnd) → (if b then Some c else o) ≡ None → o ≡ None
 past_dollar true c o e = cc
 past_dollar false c o e = e
 
@@ -186,7 +186,7 @@ bytes_left : (size : ℕ) (ts : List Token) (m : Token) (f : Form) → closing s
 bytes_left size ts m form.Pause e = cc
 bytes_left size ts m _ e = some_none (nat_eq m.start size) _ (past_dollar (is_dollar m.kind) _ _ e)
 
-pub goes_inside : (source : List ℕ) (n at : ℕ) (ts : List Token) (m : Token) (f : Form) (close : Option Close) → m ≡ mark source n at → at ≤ length source → close ≡ closing (length source) ts m f → close ≡ None → at < length source
+pub goes_inside : (source : List ℕ) (n at : ℕ) (ts : List Token) (m : Token) (f : Form) (close : Option PartEnd) → m ≡ mark source n at → at ≤ length source → close ≡ closing (length source) ts m f → close ≡ None → at < length source
 goes_inside source n at ts m f close is inside closes none =
     let start : m.start ≡ at = (let start_in : Token → ℕ = λ t. t.start in ap start_in is) ∙ mark_start source n at in
     inside_of at (length source) (ap (λ k. nat_eq k (length source)) (sym start) ∙ bytes_left (length source) ts m f (sym closes ∙ none)) inside
@@ -218,7 +218,7 @@ raw_within source place raw m k =
     all_left (IsWithin (length source)) raw (m ∷ reverse k.more) (all_right (IsWithin (length source)) (reverse (tokens (front source place.at))) (raw ++ m ∷ reverse k.more) all)
 
 -- names leave what ends a statement
-with_name_end : (source : List ℕ) (t : Token) (k : Kind) → is_end k ≡ true → with_name source t k ≡ k
+with_name_end : (source : List ℕ) (t : Token) (k : TokenKind) → is_end k ≡ true → with_name source t k ≡ k
 with_name_end source t kind.End h = refl
 with_name_end source t kind.Dollar h = refl
 with_name_end source t _ h = cc
@@ -232,7 +232,7 @@ direction_open false true c = refl
 direction_open false false true = refl
 direction_open false false false = refl
 
-pub with_name_open : (source : List ℕ) (t : Token) (k : Kind) → is_end k ≡ false → is_end (with_name source t k) ≡ false
+pub with_name_open : (source : List ℕ) (t : Token) (k : TokenKind) → is_end k ≡ false → is_end (with_name source t k) ≡ false
 with_name_open source t kind.Symbol h =
     let letters : List ℕ = name (bytes_of source t) in
     direction_open (pointwise nat_eq letters (codes "DECIMA")) (pointwise nat_eq letters (codes "OCTAL ")) (pointwise nat_eq letters (codes "PAUSE "))
@@ -317,14 +317,14 @@ back items now new n f e is size =
     written_back items new n (sym size) (ap length same ∙ length-map items f ∙ sym size) ∙ same
 
 -- what is found
-abbrev pub found_of : ℕ → ℕ → Token → Shape → Found
+abbrev pub found_of : ℕ → ℕ → Token → Shape → DelimitedStatement
 found_of count size m s = record { statement = made count (count + size) m s; mark = m }
 
-ended_as : (o : Option Close) (next : Place) → ended_at (stands_by o next) ≡ o
+ended_as : (o : Option PartEnd) (next : Place) → ended_at (stands_by o next) ≡ o
 ended_as None next = refl
 ended_as (Some c) next = refl
 
-pub next_found : (source : List ℕ) (count size : ℕ) (raw own_tokens read_tokens closed_tokens : List Token) (m : Token) (s : Shape) (close : Option Close) (next : Place) (standing : Standing) → Stands source count (map (named source) raw) m
+pub next_found : (source : List ℕ) (count size : ℕ) (raw own_tokens read_tokens closed_tokens : List Token) (m : Token) (s : Shape) (close : Option PartEnd) (next : Place) (standing : ReaderState) → Stands source count (map (named source) raw) m
     → own_tokens ≡ map (named source) raw → read_tokens ≡ own_tokens → closed_tokens ≡ own_tokens → size ≡ length raw
     → shape 0 read_tokens ≡ Some s → close ≡ closing (length source) closed_tokens m s.form → standing ≡ stands_by close next
     → IsNext source count (found_of count size m s) own_tokens (count + size + 1) (ended_at standing)
@@ -386,18 +386,18 @@ left_at source place count p n none =
     pieces_some count count (map (named source) (reverse k.more)) (named source k.mark) (ap (λ t. is_end t.kind) (named_mark source k.mark k.is_mark) ∙ k.is_mark) (sym (ap (pieces count count) here) ∙ none)
 
 -- where the reader stands
-stands_on : (source : List ℕ) (n : ℕ) (o : Option Close) (next : Place) → (o ≡ None → StandsAt source n (Begins next)) → StandsAt source n (stands_by o next)
+stands_on : (source : List ℕ) (n : ℕ) (o : Option PartEnd) (next : Place) → (o ≡ None → StandsAt source n (Begins next)) → StandsAt source n (stands_by o next)
 stands_on source n None next h = h refl
 stands_on source n (Some c) next h = tt
 
-pub next_stands : (source : List ℕ) (count size : ℕ) (raw : List Token) (close : Option Close) (next : Place) (standing : Standing) → size ≡ length raw → standing ≡ stands_by close next
+pub next_stands : (source : List ℕ) (count size : ℕ) (raw : List Token) (close : Option PartEnd) (next : Place) (standing : ReaderState) → size ≡ length raw → standing ≡ stands_by close next
     → (close ≡ None → StandsAt source (count + length raw + 1) (Begins next)) → StandsAt source (count + size + 1) standing
 next_stands source count size raw close next standing n is h =
-    let P : Standing → Type 0 = λ s. StandsAt source (count + size + 1) s in
+    let P : ReaderState → Type 0 = λ s. StandsAt source (count + size + 1) s in
     let Q : ℕ → Type 0 = λ w. StandsAt source (count + w + 1) (stands_by close next) in
     subst P (sym is) (subst Q (sym n) (stands_on source (count + length raw + 1) close next h))
 
 -- where the part hasn't ended, a piece is left
-pub piece_left : (source : List ℕ) (count : ℕ) (standing : Standing) → StandsAt source count standing → ended_at standing ≡ None → rest source count ≢ []
+pub piece_left : (source : List ℕ) (count : ℕ) (standing : ReaderState) → StandsAt source count standing → ended_at standing ≡ None → rest source count ≢ []
 piece_left source count (Begins place) h is none = left_at source place count h.0 h.1 none
 piece_left source count (Ended c) h is none = cc

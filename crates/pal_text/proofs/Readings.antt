@@ -2,8 +2,8 @@
 use Rattle.std.proofs.Common.{◌≡◌, ◌∙◌, sym, ap, refl, ℕ, ◌+◌, List, [], ◌∷◌, Bool, true, false, ◌&&◌, if◌then◌else◌, Option, Some, None, inl, inr, arith, ◌≤◌, ◌-◌, length, take, drop, get_or, subst}
 use Rattle.std.proofs.lemmas.List.{take_all}
 use Rattle.std.proofs.lemmas.Bool.{cases_Bool}
-use Rattle.pal_text.specs.declared.tokens.Kind.{Kind}
-use Rattle.pal_text.specs.declared.tokens.Kind.TheVariants as kind
+use Rattle.pal_text.specs.declared.tokens.TokenKind.{TokenKind}
+use Rattle.pal_text.specs.declared.tokens.TokenKind.TheVariants as kind
 use Rattle.pal_text.specs.declared.tokens.Token.{Token}
 use Rattle.pal_text.specs.declared.grammar.Form.{Form}
 use Rattle.pal_text.specs.declared.grammar.Form.TheVariants as form
@@ -21,15 +21,15 @@ strip (x ∷ y ∷ xs) n d e h t =
     let all : take (length (x ∷ y ∷ xs) - 2) xs ≡ xs = take_all (length (x ∷ y ∷ xs) - 2) xs (omega arith) in
     ap (λ b. if b then shape (n + 1) xs else shaped n (body (x ∷ y ∷ xs))) t ∙ ap (λ l. shape (n + 1) l) (sym all)
 
-is_star-Star : (k : Kind) → is_star k ≡ true → k ≡ kind.Star
+is_star-Star : (k : TokenKind) → is_star k ≡ true → k ≡ kind.Star
 is_star-Star kind.Star h = refl
 is_star-Star _ h = cc
 
-is_equals-Equals : (k : Kind) → is_equals k ≡ true → k ≡ kind.Equals
+is_equals-Equals : (k : TokenKind) → is_equals k ≡ true → k ≡ kind.Equals
 is_equals-Equals kind.Equals h = refl
 is_equals-Equals _ h = cc
 
-is_comma-Comma : (k : Kind) → is_comma k ≡ true → k ≡ kind.Comma
+is_comma-Comma : (k : TokenKind) → is_comma k ≡ true → k ≡ kind.Comma
 is_comma-Comma kind.Comma h = refl
 is_comma-Comma _ h = cc
 
@@ -59,17 +59,17 @@ saying tags s = record { tags = tags; said = s }
 abbrev if_said : List Token → Said → Option Said
 if_said e s = if is_expression e then Some s else None
 
-abbrev assigned_by : Kind → Token → List Token → Said
+abbrev assigned_by : TokenKind → Token → List Token → Said
 assigned_by kind.Symbol t e = Assign t e
 assigned_by _ t e = AssignDirection e
 
-abbrev direction_said : Kind → Option Said
+abbrev direction_said : TokenKind → Option Said
 direction_said kind.Decimal = Some Decimal
 direction_said kind.Octal = Some Octal
 direction_said kind.Pause = Some Pause
 direction_said _ = None
 
-abbrev single_by : Kind → Token → Option Said
+abbrev single_by : TokenKind → Token → Option Said
 single_by k t = if is_term k then Some (Word (t ∷ [])) else direction_said k
 
 abbrev body_said : List Token → Option Said
@@ -103,13 +103,13 @@ means_expression ts e s q holds h = elim (cases_Bool (is_expression e)) [
   | inr bad ↦ cc (sym h ∙ ap (λ t. if t then Some q else None) bad)
 ]
 
-means_direction : (t : Token) (k : Kind) (s : Said) → t.kind ≡ k → direction_said k ≡ Some s → IsStatement (t ∷ []) [] s
+means_direction : (t : Token) (k : TokenKind) (s : Said) → t.kind ≡ k → direction_said k ≡ Some s → IsStatement (t ∷ []) [] s
 means_direction t kind.Decimal s is h = means (t ∷ []) s Decimal h (decimal t is)
 means_direction t kind.Octal s is h = means (t ∷ []) s Octal h (octal t is)
 means_direction t kind.Pause s is h = means (t ∷ []) s Pause h (pause t is)
 means_direction t _ s is h = cc
 
-term_no_sign : (k : Kind) → is_term k ≡ true → is_sign k ≡ false
+term_no_sign : (k : TokenKind) → is_term k ≡ true → is_sign k ≡ false
 term_no_sign kind.Plus h = cc
 term_no_sign kind.Minus h = cc
 term_no_sign _ h = refl
@@ -124,7 +124,7 @@ means_single t s h = elim (cases_Bool (is_term t.kind)) [
   | inr bad ↦ means_direction t t.kind s refl (sym (ap (λ b. if b then Some (Word (t ∷ [])) else direction_said t.kind) bad) ∙ h)
 ]
 
-means_assigned : (t u : Token) (ts : List Token) (k : Kind) → t.kind ≡ k → is_name k ≡ true → u.kind ≡ kind.Equals → is_expression ts ≡ true → IsStatement (t ∷ u ∷ ts) [] (assigned_by k t ts)
+means_assigned : (t u : Token) (ts : List Token) (k : TokenKind) → t.kind ≡ k → is_name k ≡ true → u.kind ≡ kind.Equals → is_expression ts ≡ true → IsStatement (t ∷ u ∷ ts) [] (assigned_by k t ts)
 means_assigned t u ts kind.Symbol is h e x = assign t u ts is e x
 means_assigned t u ts _ is h e x = assign_direction t u ts (ap is_direction is ∙ h) e x
 
@@ -169,46 +169,46 @@ sound (t ∷ u ∷ ts) r h = elim (cases_Bool (is_tag t.kind u.kind)) [
 
 -- ---- each statement is read
 
-term_no_star : (k : Kind) → is_term k ≡ true → is_star k ≡ false
+term_no_star : (k : TokenKind) → is_term k ≡ true → is_star k ≡ false
 term_no_star kind.Star h = cc
 term_no_star _ h = refl
 
-sign_no_star : (k : Kind) → is_sign k ≡ true → is_star k ≡ false
+sign_no_star : (k : TokenKind) → is_sign k ≡ true → is_star k ≡ false
 sign_no_star kind.Star h = cc
 sign_no_star _ h = refl
 
-sign_no_name : (k : Kind) → is_sign k ≡ true → is_name k ≡ false
+sign_no_name : (k : TokenKind) → is_sign k ≡ true → is_name k ≡ false
 sign_no_name kind.Plus h = refl
 sign_no_name kind.Minus h = refl
 sign_no_name _ h = cc
 
-joiner_no_comma : (k : Kind) → is_joiner k ≡ true → is_comma k ≡ false
+joiner_no_comma : (k : TokenKind) → is_joiner k ≡ true → is_comma k ≡ false
 joiner_no_comma kind.Comma h = cc
 joiner_no_comma _ h = refl
 
-joiner_no_equals : (k : Kind) → is_joiner k ≡ true → is_equals k ≡ false
+joiner_no_equals : (k : TokenKind) → is_joiner k ≡ true → is_equals k ≡ false
 joiner_no_equals kind.Equals h = cc
 joiner_no_equals _ h = refl
 
-direction_name : (k : Kind) → is_direction k ≡ true → is_name k ≡ true
+direction_name : (k : TokenKind) → is_direction k ≡ true → is_name k ≡ true
 direction_name kind.Symbol h = refl
 direction_name _ h = h
 
-direction_no_star : (k : Kind) → is_direction k ≡ true → is_star k ≡ false
+direction_no_star : (k : TokenKind) → is_direction k ≡ true → is_star k ≡ false
 direction_no_star kind.Star h = cc
 direction_no_star _ h = refl
 
-direction_assigned : (k : Kind) (t : Token) (e : List Token) → is_direction k ≡ true → assigned_by k t e ≡ AssignDirection e
+direction_assigned : (k : TokenKind) (t : Token) (e : List Token) → is_direction k ≡ true → assigned_by k t e ≡ AssignDirection e
 direction_assigned kind.Symbol t e h = cc
 direction_assigned _ t e h = refl
 
 -- how an expression of two or more tokens begins
-record Begins (k j : Kind) : Type 0 where
+record Begins (k j : TokenKind) : Type 0 where
   no_star : is_star k ≡ false
   no_tag : is_tag k j ≡ false
   no_value : (is_name k && is_equals j) ≡ false
 
-begins_by_sign : (k j : Kind) → is_sign k ≡ true → Begins k j
+begins_by_sign : (k j : TokenKind) → is_sign k ≡ true → Begins k j
 begins_by_sign k j s = record {
   no_star = sign_no_star k s;
   no_tag = first_fails (is_name k) (is_comma j) (sign_no_name k s);
@@ -290,11 +290,11 @@ chosen false x y p q h k = k
 if_form : (e : List Token) (f : Form) (s : Said) → f ≡ s.form → if_expression e f ≡ form_in (if_said e s)
 if_form e f s h = chosen (is_expression e) (Some f) None (Some s) None (ap Some h) refl
 
-assigned_form : (k : Kind) (t : Token) (e : List Token) → form.Assign ≡ (assigned_by k t e).form
+assigned_form : (k : TokenKind) (t : Token) (e : List Token) → form.Assign ≡ (assigned_by k t e).form
 assigned_form kind.Symbol t e = refl
 assigned_form _ t e = refl
 
-single_form : (k : Kind) (t : Token) → single k ≡ form_in (single_by k t)
+single_form : (k : TokenKind) (t : Token) → single k ≡ form_in (single_by k t)
 single_form kind.Symbol t = refl
 single_form _ t = refl
 

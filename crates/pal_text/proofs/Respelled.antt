@@ -6,8 +6,8 @@ use Rattle.std.proofs.lemmas.Bool.{cases_Bool, cond_both, cond-true, cond-false}
 use Rattle.std.proofs.lemmas.List.{reverse-append, reverse-reverse, length-reverse, take_all, take_at, drop_at}
 use Rattle.pal_text.specs.declared.characters.Meaning.{Meaning}
 use Rattle.pal_text.specs.declared.characters.Meaning.TheVariants.{Ignored, LineEnd, Character}
-use Rattle.pal_text.specs.declared.tokens.Kind.{Kind}
-use Rattle.pal_text.specs.declared.tokens.Kind.TheVariants.{Symbol, Number, Mixed, Space, End}
+use Rattle.pal_text.specs.declared.tokens.TokenKind.{TokenKind}
+use Rattle.pal_text.specs.declared.tokens.TokenKind.TheVariants.{Symbol, Number, Mixed, Space, End}
 use Rattle.pal_text.specs.declared.tokens.Token.{Token}
 use Rattle.pal_text.specs.Characters.{code, is_ignored, returned, meaning, meaning_after, in_comment, line, characters}
 use Rattle.pal_text.specs.Tokens.{is_space, absorbs, longer, token, kind_of, end_token, is_end}
@@ -22,7 +22,7 @@ use Rattle.pal_text.proofs.Rises.{all_reverse}
 use Rattle.pal_text.proofs.ByMeaning.{comment_by, line_by}
 
 -- a token alone
-abbrev sole : Kind → ℕ → Token
+abbrev sole : TokenKind → ℕ → Token
 sole k n = record { kind = k; line = 1; start = 0; end = n }
 
 -- these bytes of a token are that token alone
@@ -112,13 +112,13 @@ character_any r r' b x h = character_by (is_ignored (code b)) (nat_eq (code b) 1
 unreturned : (r r' : Bool) (b x : ℕ) → meaning r b ≡ Character x → returned_by r' b ≡ false
 unreturned r r' b x h = returned_none (is_ignored (code b)) (nat_eq (code b) 13) (nat_eq (code b) 10) (nat_eq (code b) 9) r r' (code b) x h
 
-longer_no_space : (k j k' : Kind) → longer k j ≡ Some k' → is_space k' ≡ false → is_space k ≡ false
+longer_no_space : (k j k' : TokenKind) → longer k j ≡ Some k' → is_space k' ≡ false → is_space k ≡ false
 longer_no_space Space Space k' e h = cc
 longer_no_space Space _ k' e h = cc
 longer_no_space _ j k' e h = refl
 
 -- what goes on ends no statement
-longer_open : (k j k' : Kind) → longer k j ≡ Some k' → is_end k ≡ true → ⊥
+longer_open : (k j k' : TokenKind) → longer k j ≡ Some k' → is_end k ≡ true → ⊥
 longer_open Symbol j k' e h = cc
 longer_open Number j k' e h = cc
 longer_open Mixed j k' e h = cc
@@ -152,7 +152,7 @@ module _ (f : List ℕ) (b : ℕ) (t : Token) (l : Live f t) where
   size_is = omega (arith, ap length front_is, length-append s l.spelled.earlier, l.spelled.before)
 
   -- and which goes onto the token
-  live_grows : (x : ℕ) (k' : Kind) → meaning_after f b ≡ Character x → (in_comment f || nat_eq x 47) ≡ false → longer t.kind (kind_of x) ≡ Some k'
+  live_grows : (x : ℕ) (k' : TokenKind) → meaning_after f b ≡ Character x → (in_comment f || nat_eq x 47) ≡ false → longer t.kind (kind_of x) ≡ Some k'
       → Live (b ∷ f) (record { kind = k'; line = t.line; start = t.start; end = length f + 1 })
   live_grows x k' e plain more =
       let old : Token = sole t.kind (length l.spelled.bytes) in
@@ -265,7 +265,7 @@ module _ (f : List ℕ) (b : ℕ) where
         (λ too. (starts, all_on f b ts h.1))
         (λ too. (starts, ((λ a. final_on f b t (stays f t (h.0 a))), all_on f b ts h.1))))
 
-    spell_kind : (t : Token) (ts : List Token) (o : Option Kind) → longer t.kind (kind_of x) ≡ o → Spell f (t ∷ ts) → Spell (b ∷ f) (one_or_both next t ts (with_kind t next o))
+    spell_kind : (t : Token) (ts : List Token) (o : Option TokenKind) → longer t.kind (kind_of x) ≡ o → Spell f (t ∷ ts) → Spell (b ∷ f) (one_or_both next t ts (with_kind t next o))
     spell_kind t ts None is h = spell_without t ts is h
     spell_kind t ts (Some k') is h = (
       (λ a. elim (h.0 (longer_no_space t.kind (kind_of x) k' is a)) [
@@ -307,7 +307,7 @@ range_middle : (xs ys zs : List ℕ) (first last : ℕ) → length xs ≡ first 
 range_middle xs ys zs first last h k =
     ap (take (last - first)) (drop_at xs (ys ++ zs) first h) ∙ take_at ys zs (last - first) (omega (arith, k))
 
-told_alone : (source : List ℕ) (t : Token) (k : Kind) → is_space (with_name source t k) ≡ false → is_space k ≡ false
+told_alone : (source : List ℕ) (t : Token) (k : TokenKind) → is_space (with_name source t k) ≡ false → is_space k ≡ false
 told_alone source t Symbol h = refl
 told_alone source t _ h = h
 

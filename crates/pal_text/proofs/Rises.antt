@@ -6,8 +6,8 @@ use Rattle.std.proofs.lemmas.Bool.{cases_Bool}
 use Rattle.std.proofs.lemmas.List.{length-reverse, reverse-reverse, map-append, take_at}
 use Rattle.pal_text.specs.declared.characters.Meaning.{Meaning}
 use Rattle.pal_text.specs.declared.characters.Meaning.TheVariants.{Ignored, LineEnd, Character}
-use Rattle.pal_text.specs.declared.tokens.Kind.{Kind}
-use Rattle.pal_text.specs.declared.tokens.Kind.TheVariants.{End}
+use Rattle.pal_text.specs.declared.tokens.TokenKind.{TokenKind}
+use Rattle.pal_text.specs.declared.tokens.TokenKind.TheVariants.{End}
 use Rattle.pal_text.specs.declared.tokens.Token.{Token}
 use Rattle.pal_text.specs.Characters.{line, in_comment, meaning_after}
 use Rattle.pal_text.specs.Tokens.{is_space, absorbs, longer, token, kind_of, end_token}
@@ -43,7 +43,7 @@ without_space_joins n next t ts r = elim (cases_Bool (is_space next.kind && abso
       ]))
 ]
 
-with_kind_joins : (n : ℕ) (next t : Token) (ts : List Token) (o : Option Kind) → IsOrdered n (next ∷ t ∷ ts) → Joins n ts (with_kind t next o)
+with_kind_joins : (n : ℕ) (next t : Token) (ts : List Token) (o : Option TokenKind) → IsOrdered n (next ∷ t ∷ ts) → Joins n ts (with_kind t next o)
 unfolding Joins
 with_kind_joins n next t ts None r = without_space_joins n next t ts r
 with_kind_joins n next t ts (Some k) r = (omega (arith, r.0, r.2.0, r.2.1), r.1, r.2.2)

@@ -6,10 +6,10 @@ use Rattle.std.proofs.lemmas.Bool.{cond_both}
 use Rattle.std.proofs.lemmas.List.{reverse-append, reverse-reverse, length-reverse, length-map, map-append}
 use Rattle.pal_text.specs.declared.characters.Meaning.{Meaning}
 use Rattle.pal_text.specs.declared.characters.Meaning.TheVariants.{Ignored, LineEnd, Character}
-use Rattle.pal_text.specs.declared.tokens.Kind.{Kind}
-use Rattle.pal_text.specs.declared.tokens.Kind.TheVariants as kind
+use Rattle.pal_text.specs.declared.tokens.TokenKind.{TokenKind}
+use Rattle.pal_text.specs.declared.tokens.TokenKind.TheVariants as kind
 use Rattle.pal_text.specs.declared.tokens.Token.{Token}
-use Rattle.pal_text.specs.declared.scan.Brings.TheVariants.{One}
+use Rattle.pal_text.specs.declared.scan.CodeEffect.TheVariants.{One}
 use Rattle.pal_text.specs.declared.scan.Place.{Place}
 use Rattle.pal_text.specs.Characters.{code, line, in_comment, meaning_after}
 use Rattle.pal_text.specs.Tokens.{is_space, absorbs, longer, token, kind_of, end_token, is_end}
@@ -26,10 +26,10 @@ use Rattle.pal_text.proofs.Rises.{all_reverse}
 use Rattle.pal_text.proofs.Steps.{one_grows}
 
 -- a token that isn't a space and ends no statement
-abbrev Begins : Kind → Type 0
+abbrev Begins : TokenKind → Type 0
 Begins k = (is_space k ≡ false) × (is_end k ≡ false)
 
-abbrev KindBegins : Option Kind → Type 0
+abbrev KindBegins : Option TokenKind → Type 0
 KindBegins None = Unit {0}
 KindBegins (Some k) = Begins k
 
@@ -38,7 +38,7 @@ OneBegins None = Unit {0}
 OneBegins (Some t) = Begins t.kind
 
 -- with one more character it is another such token
-longer_begins : (k n : Kind) → is_space k ≡ false → KindBegins (longer k n)
+longer_begins : (k n : TokenKind) → is_space k ≡ false → KindBegins (longer k n)
 longer_begins kind.Symbol kind.Symbol h = (refl, refl)
 longer_begins kind.Symbol kind.Number h = (refl, refl)
 longer_begins kind.Number kind.Number h = (refl, refl)
@@ -57,7 +57,7 @@ without_begins t next h =
     cond_both (is_space next.kind && absorbs t.kind) (Some t) (if is_space t.kind && absorbs next.kind then Some next else None) (λ o. OneBegins o) (λ is. h)
     (λ is. subst (λ o. OneBegins o) (sym (ap (λ b. if b && absorbs next.kind then Some next else None) h.0)) tt)
 
-kind_begins : (t next : Token) (o : Option Kind) → KindBegins o → Begins t.kind → OneBegins (with_kind t next o)
+kind_begins : (t next : Token) (o : Option TokenKind) → KindBegins o → Begins t.kind → OneBegins (with_kind t next o)
 kind_begins t next None k h = without_begins t next h
 kind_begins t next (Some k') k h = k
 
@@ -155,7 +155,7 @@ abbrev NoSpace : Option Token → Type 0
 NoSpace None = Unit {0}
 NoSpace (Some t) = is_space t.kind ≡ false
 
-kind_no_space : (t next : Token) (o : Option Kind) → KindBegins o → is_space t.kind ≡ false → NoSpace (with_kind t next o)
+kind_no_space : (t next : Token) (o : Option TokenKind) → KindBegins o → is_space t.kind ≡ false → NoSpace (with_kind t next o)
 kind_no_space t next (Some k) h n = h.0
 kind_no_space t next None h n =
     cond_both (is_space next.kind && absorbs t.kind) (Some t) (if is_space t.kind && absorbs next.kind then Some next else None) (λ o. NoSpace o) (λ is. n)
@@ -216,7 +216,7 @@ next_begun next ts n o (inl none) =
 next_begun next ts n o (inr some) = added_begun next ts some
 
 -- memory was refused for a token of the statement at a place
-pub token_refused : (source : List ℕ) (place : Place) (at : ℕ) (was : Bool) (own : List Token) (k : Kind) → IsPlaceIn source place → at < length source → brings (code (get_or source at 0)) ≡ One k
+pub token_refused : (source : List ℕ) (place : Place) (at : ℕ) (was : Bool) (own : List Token) (k : TokenKind) → IsPlaceIn source place → at < length source → brings (code (get_or source at 0)) ≡ One k
     → Reading source place at was own → (own ≡ [] → is_space k ≡ false) → HasToken source (length (tokens (front source place.at)))
 token_refused source place at was own k p h b r plain =
     let cut_before : List Token = tokens (front source place.at) in

@@ -4,8 +4,8 @@ use Rattle.std.specs.Prelude.{map, reverse, slice_range}
 use Rattle.std.specs.List.{AllByRecursion}
 use Rattle.std.proofs.lemmas.Bool.{cases_Bool}
 use Rattle.std.proofs.lemmas.List.{reverse-append, map-append, drop-append-le, take-append-le, length-drop, length-reverse}
-use Rattle.pal_text.specs.declared.tokens.Kind.{Kind}
-use Rattle.pal_text.specs.declared.tokens.Kind.TheVariants.{Symbol}
+use Rattle.pal_text.specs.declared.tokens.TokenKind.{TokenKind}
+use Rattle.pal_text.specs.declared.tokens.TokenKind.TheVariants.{Symbol}
 use Rattle.pal_text.specs.declared.tokens.Token.{Token}
 use Rattle.pal_text.specs.Adding.{tokens, ended}
 use Rattle.pal_text.specs.Names.{IsWithin, name, named_kind, bytes_of, with_name, named, part_tokens}
@@ -24,7 +24,7 @@ range_front xs more first last h k =
     let room : last - first ≤ length (drop first xs) = omega (arith, length-drop first xs) in
     ap (take (last - first)) (drop-append-le first xs more (omega arith)) ∙ take-append-le (last - first) (drop first xs) more room
 
-pub told_alike : (a b : List ℕ) (t u : Token) (k : Kind) → name (bytes_of a t) ≡ name (bytes_of b u) → with_name a t k ≡ with_name b u k
+pub told_alike : (a b : List ℕ) (t u : Token) (k : TokenKind) → name (bytes_of a t) ≡ name (bytes_of b u) → with_name a t k ≡ with_name b u k
 told_alike a b t u Symbol e = ap named_kind e
 told_alike a b t u _ e = refl
 

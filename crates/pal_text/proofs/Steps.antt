@@ -4,11 +4,11 @@ use Rattle.std.specs.Prelude.{nat_eq}
 use Rattle.std.proofs.lemmas.Bool.{cases_Bool, eqb-true}
 use Rattle.pal_text.specs.declared.characters.Meaning.{Meaning}
 use Rattle.pal_text.specs.declared.characters.Meaning.TheVariants.{Ignored, LineEnd, Character}
-use Rattle.pal_text.specs.declared.tokens.Kind.{Kind}
-use Rattle.pal_text.specs.declared.tokens.Kind.TheVariants as kind
+use Rattle.pal_text.specs.declared.tokens.TokenKind.{TokenKind}
+use Rattle.pal_text.specs.declared.tokens.TokenKind.TheVariants as kind
 use Rattle.pal_text.specs.declared.tokens.Token.{Token}
-use Rattle.pal_text.specs.declared.scan.Brings.{Brings}
-use Rattle.pal_text.specs.declared.scan.Brings.TheVariants.{Nothing, Feed, End, Comment, One}
+use Rattle.pal_text.specs.declared.scan.CodeEffect.{CodeEffect}
+use Rattle.pal_text.specs.declared.scan.CodeEffect.TheVariants.{Nothing, Feed, End, Comment, One}
 use Rattle.pal_text.specs.Characters.{code, is_ignored, returned, meaning, in_comment, line}
 use Rattle.pal_text.specs.Tokens.{kind_of, token, is_end}
 use Rattle.pal_text.specs.Adding.{added, grown, tokens}
@@ -16,7 +16,7 @@ use Rattle.pal_text.specs.Scan.{returned_by, of_kind, brings, is_line_code, mark
 use Rattle.pal_text.proofs.ByMeaning.{comment_by, line_by}
 
 -- the same by the answers to the tests of a code, which are: ignored, a return, a feed, a tab, a slash
-brings_by : Bool → Bool → Bool → Bool → Bool → Kind → Brings
+brings_by : Bool → Bool → Bool → Bool → Bool → TokenKind → CodeEffect
 brings_by ig cr lf ta sl k = if ig then Nothing else if cr then End else if lf then Feed else if ta then One kind.Space else if sl then Comment else of_kind k
 
 meaning_by : Bool → Bool → Bool → Bool → Bool → ℕ → Meaning
@@ -25,38 +25,38 @@ meaning_by ig cr lf ta r c = if ig then Ignored else if cr then LineEnd else if 
 returned_from : Bool → Bool → Bool → Bool → Bool
 returned_from ig cr lf r = if cr then true else if ig || lf then r else false
 
-mark_by : Bool → Bool → Kind → Kind
+mark_by : Bool → Bool → TokenKind → TokenKind
 mark_by cr lf k = if cr || lf then kind.End else k
 
 past_by : Bool → Bool → ℕ → ℕ
 past_by cr lf n = if cr || lf then n + 1 else n
 
 -- the kind that ends no statement
-one_is : (k k' : Kind) → of_kind k ≡ One k' → (k ≡ k') × (is_end k ≡ false)
+one_is : (k k' : TokenKind) → of_kind k ≡ One k' → (k ≡ k') × (is_end k ≡ false)
 one_is k k' h = elim (cases_Bool (is_end k)) [
   | inl ends ↦ cc (sym (ap (λ b. if b then End else One k) ends) ∙ h)
   | inr other ↦ (cc (sym (ap (λ b. if b then End else One k) other) ∙ h), other)
 ]
 
-end_is : (k : Kind) → of_kind k ≡ End → is_end k ≡ true
+end_is : (k : TokenKind) → of_kind k ≡ End → is_end k ≡ true
 end_is k h = elim (cases_Bool (is_end k)) [
   | inl ends ↦ ends
   | inr other ↦ cc (sym (ap (λ b. if b then End else One k) other) ∙ h)
 ]
 
-no_slash : (k : Kind) → of_kind k ≡ Comment → ⊥
+no_slash : (k : TokenKind) → of_kind k ≡ Comment → ⊥
 no_slash k h = elim (cases_Bool (is_end k)) [
   | inl ends ↦ cc (sym (ap (λ b. if b then End else One k) ends) ∙ h)
   | inr other ↦ cc (sym (ap (λ b. if b then End else One k) other) ∙ h)
 ]
 
-no_nothing : (k : Kind) → of_kind k ≡ Nothing → ⊥
+no_nothing : (k : TokenKind) → of_kind k ≡ Nothing → ⊥
 no_nothing k h = elim (cases_Bool (is_end k)) [
   | inl ends ↦ cc (sym (ap (λ b. if b then End else One k) ends) ∙ h)
   | inr other ↦ cc (sym (ap (λ b. if b then End else One k) other) ∙ h)
 ]
 
-no_feed : (k : Kind) → of_kind k ≡ Feed → ⊥
+no_feed : (k : TokenKind) → of_kind k ≡ Feed → ⊥
 no_feed k h = elim (cases_Bool (is_end k)) [
   | inl ends ↦ cc (sym (ap (λ b. if b then End else One k) ends) ∙ h)
   | inr other ↦ cc (sym (ap (λ b. if b then End else One k) other) ∙ h)
@@ -129,7 +129,7 @@ line_ends_by false false true ta r c a b e h = ap (λ x. if x then Ignored else 
 line_ends_by false false false ta r c a b e h = cc
 
 -- one character
-record Brought (m : Meaning) (k : Kind) (after : Bool) : Type 0 where
+record Brought (m : Meaning) (k : TokenKind) (after : Bool) : Type 0 where
   character : ℕ
   meaning_is : m ≡ Character character
   kind_is : kind_of character ≡ k
@@ -137,7 +137,7 @@ record Brought (m : Meaning) (k : Kind) (after : Bool) : Type 0 where
   ends_none : is_end k ≡ false
   returned_is : after ≡ false
 
-one_by : (ig cr lf ta sl r : Bool) (c : ℕ) (k : Kind) → nat_eq c 47 ≡ sl → brings_by ig cr lf ta sl (kind_of c) ≡ One k → Brought (meaning_by ig cr lf ta r c) k (returned_from ig cr lf r)
+one_by : (ig cr lf ta sl r : Bool) (c : ℕ) (k : TokenKind) → nat_eq c 47 ≡ sl → brings_by ig cr lf ta sl (kind_of c) ≡ One k → Brought (meaning_by ig cr lf ta r c) k (returned_from ig cr lf r)
 unfolding brings_by meaning_by returned_from
 one_by true cr lf ta sl r c k e h = cc
 one_by false true lf ta sl r c k e h = cc
@@ -226,14 +226,14 @@ unfolding brings_by
 feed_closes f b e h was = closes_by f b e (fed_by (is_ignored (code b)) (nat_eq (code b) 13) (nat_eq (code b) 10) (nat_eq (code b) 9) (nat_eq (code b) 47) (returned f) (code b) was h)
 
 -- one character of a token
-pub record Grows (f : List ℕ) (b : ℕ) (k : Kind) : Type 0 where
+pub record Grows (f : List ℕ) (b : ℕ) (k : TokenKind) : Type 0 where
   pub tokens_are : tokens (b ∷ f) ≡ added (token k (line f) (length f)) (tokens f)
   pub line_is : line (b ∷ f) ≡ line f
   pub returned_is : returned (b ∷ f) ≡ false
   pub comment_is : in_comment (b ∷ f) ≡ false
   pub ends_none : is_end k ≡ false
 
-grows_by : (f : List ℕ) (b : ℕ) (k : Kind) → in_comment f ≡ false → Brought (meaning (returned f) b) k (returned_by (returned f) b) → Grows f b k
+grows_by : (f : List ℕ) (b : ℕ) (k : TokenKind) → in_comment f ≡ false → Brought (meaning (returned f) b) k (returned_by (returned f) b) → Grows f b k
 grows_by f b k e h = record {
   tokens_are = ap (λ x. grown (length f) (line f) x (meaning (returned f) b) (tokens f)) e
       ∙ ap (λ m. grown (length f) (line f) false m (tokens f)) h.meaning_is
@@ -245,7 +245,7 @@ grows_by f b k e h = record {
   ends_none = h.ends_none;
 }
 
-pub one_grows : (f : List ℕ) (b : ℕ) (k : Kind) → in_comment f ≡ false → brings (code b) ≡ One k → Grows f b k
+pub one_grows : (f : List ℕ) (b : ℕ) (k : TokenKind) → in_comment f ≡ false → brings (code b) ≡ One k → Grows f b k
 unfolding brings_by meaning_by returned_from
 one_grows f b k e h = grows_by f b k e (one_by (is_ignored (code b)) (nat_eq (code b) 13) (nat_eq (code b) 10) (nat_eq (code b) 9) (nat_eq (code b) 47) (returned f) (code b) k refl h)
 

@@ -1,9 +1,9 @@
 -- A part has one reading, or one fault, and not both.
 use Rattle.std.proofs.Common.{◌≡◌, ◌∙◌, sym, ap, refl, subst, ℕ, List, [], ◌∷◌, Option, Some, None, length, take}
 use Rattle.pal_text.specs.declared.tokens.Token.{Token}
-use Rattle.pal_text.specs.declared.cut.Statement.{Statement}
-use Rattle.pal_text.specs.declared.cut.Close.{Close}
-use Rattle.pal_text.specs.declared.cut.Ending.{Ending}
+use Rattle.pal_text.specs.declared.statement.Statement.{Statement}
+use Rattle.pal_text.specs.declared.statement.PartEnd.{PartEnd}
+use Rattle.pal_text.specs.declared.statement.Ending.{Ending}
 use Rattle.pal_text.specs.declared.lines.Line.{Line}
 use Rattle.pal_text.specs.Lines.{all_lines}
 use Rattle.pal_text.specs.Names.{part_tokens}
@@ -25,13 +25,13 @@ none_some o x e f = let both : None ≡ Some x = sym e ∙ f in cc
 
 -- after a statement a part ends, or goes on
 module _ (tokens : List Token) (size : ℕ) where
-  abbrev after : Piece → Statement → Option Close
+  abbrev after : Piece → Statement → Option PartEnd
   after p s = closing size (own tokens p) p.mark s.form
 
-  ends_not_on : (p : Piece) (s t : Statement) (c : Close) → Fills tokens p s → Fills tokens p t → after p s ≡ Some c → after p t ≡ None → ⊥
+  ends_not_on : (p : Piece) (s t : Statement) (c : PartEnd) → Fills tokens p s → Fills tokens p t → after p s ≡ Some c → after p t ≡ None → ⊥
   ends_not_on p s t c f g e h = none_some (after p t) c h (ap (after p) (sym (one_statement tokens p s t f g)) ∙ e)
 
-  pub one_reading : (ps : List Piece) (ss ts : List Statement) (c d : Close) → Stand tokens size ps ss c → Stand tokens size ps ts d → (ss ≡ ts) × (c ≡ d)
+  pub one_reading : (ps : List Piece) (ss ts : List Statement) (c d : PartEnd) → Stand tokens size ps ss c → Stand tokens size ps ts d → (ss ≡ ts) × (c ≡ d)
   one_reading ps ss ts c d (ends p qs s c' f e) (ends p' qs' t d' g h) =
       let same : s ≡ t = one_statement tokens p s t f g in
       (λ i. same i ∷ [], some_same c' d' (sym e ∙ ap (after p) same ∙ h))
@@ -48,7 +48,7 @@ module _ (tokens : List Token) (size : ℕ) where
   one_fault ps m n (later p qs s m' f e r) (here p' qs' k) = absurd (k f.names f.said f.reads)
   one_fault ps m n (later p qs s m' f e r) (later p' qs' t n' g k q) = one_fault qs m' n' r q
 
-  pub not_both : (ps : List Piece) (ss : List Statement) (c : Close) (n : ℕ) → Stand tokens size ps ss c → Breaks tokens size ps n → ⊥
+  pub not_both : (ps : List Piece) (ss : List Statement) (c : PartEnd) (n : ℕ) → Stand tokens size ps ss c → Breaks tokens size ps n → ⊥
   not_both ps ss c n (ends p qs s c' f e) (here p' qs' k) = k f.names f.said f.reads
   not_both ps ss c n (ends p qs s c' f e) (later p' qs' t n' g h r) = ends_not_on p s t c' f g e h
   not_both ps ss c n (goes_on p qs s rs c' f e q) (here p' qs' k) = k f.names f.said f.reads
@@ -60,8 +60,8 @@ agrees source tokens tokens' ss ss' lines lines' e e' h k =
     let same : tokens' ≡ tokens = k.tokens_are ∙ sym h.tokens_are in
     let P : List Token → Type 0 = λ ts. Stand ts (length source) (pieces 0 0 ts) ss' (closed e' k.stop) in
     let r : (ss ≡ ss') × (closed e h.stop ≡ closed e' k.stop) = one_reading tokens (length source) (pieces 0 0 tokens) ss ss' (closed e h.stop) (closed e' k.stop) h.statements_are (subst P same k.statements_are) in
-    let stop_in : Close → ℕ = λ c. c.stop in
-    let ending_in : Close → Ending = λ c. c.ending in
+    let stop_in : PartEnd → ℕ = λ c. c.stop in
+    let ending_in : PartEnd → Ending = λ c. c.ending in
     (sym same, r.0, h.lines_are ∙ ap (λ n. all_lines (take n source)) (ap stop_in r.1) ∙ sym k.lines_are, ap ending_in r.1)
 
 -- a part that has a reading has no fault

@@ -3,8 +3,8 @@
 use Rattle.std.specs.Prelude.{ℕ, Bool, ◌||◌, ◌&&◌, if◌then◌else◌, List, [], ◌∷◌, length, reverse, Option, Some, None, nat_eq}
 use Rattle.pal_text.specs.declared.characters.Meaning.{Meaning}
 use Rattle.pal_text.specs.declared.characters.Meaning.TheVariants.{Ignored, LineEnd, Character}
-use Rattle.pal_text.specs.declared.tokens.Kind.{Kind}
-use Rattle.pal_text.specs.declared.tokens.Kind.TheVariants.{End}
+use Rattle.pal_text.specs.declared.tokens.TokenKind.{TokenKind}
+use Rattle.pal_text.specs.declared.tokens.TokenKind.TheVariants.{End}
 use Rattle.pal_text.specs.declared.tokens.Token.{Token}
 use Rattle.pal_text.specs.Characters.{char, line, in_comment, meaning_after}
 use Rattle.pal_text.specs.Tokens.{is_space, longer, absorbs, kind_of, token, end_token}
@@ -15,7 +15,7 @@ without_space last next =
     if is_space next.kind && absorbs last.kind then Some last else
     if is_space last.kind && absorbs next.kind then Some next else None
 
-abbrev pub with_kind : Token → Token → Option Kind → Option Token
+abbrev pub with_kind : Token → Token → Option TokenKind → Option Token
 with_kind last next (Some k) = Some (record { kind = k; line = last.line; start = last.start; end = next.end })
 with_kind last next None = without_space last next
 

@@ -1,33 +1,33 @@
 -- The grammar of a statement, on the whole list of its tokens.
 use Rattle.std.specs.Prelude.{◌≡◌, Bool, true, false, ◌&&◌, if◌then◌else◌, List, [], ◌∷◌, Option, Some, None}
-use Rattle.pal_text.specs.declared.tokens.Kind.{Kind}
-use Rattle.pal_text.specs.declared.tokens.Kind.TheVariants as kind
+use Rattle.pal_text.specs.declared.tokens.TokenKind.{TokenKind}
+use Rattle.pal_text.specs.declared.tokens.TokenKind.TheVariants as kind
 use Rattle.pal_text.specs.declared.tokens.Token.{Token}
 use Rattle.pal_text.specs.declared.grammar.Form.{Form}
 use Rattle.pal_text.specs.declared.grammar.Form.TheVariants as form
 use Rattle.pal_text.specs.Tokens.{is_sign}
 
 -- A number, a symbol or the current location. DECIMAL, OCTAL and PAUSE are no terms.
-abbrev pub is_term : Kind → Bool
+abbrev pub is_term : TokenKind → Bool
 is_term kind.Symbol = true
 is_term kind.Number = true
 is_term kind.Here = true
 is_term _ = false
 
 -- What stands between two terms.
-abbrev pub is_joiner : Kind → Bool
+abbrev pub is_joiner : TokenKind → Bool
 is_joiner kind.Space = true
 is_joiner k = is_sign k
 
 -- A token of this kind is one of the words DECIMAL, OCTAL and PAUSE, which direct the assembler.
-abbrev pub is_direction : Kind → Bool
+abbrev pub is_direction : TokenKind → Bool
 is_direction kind.Decimal = true
 is_direction kind.Octal = true
 is_direction kind.Pause = true
 is_direction _ = false
 
 -- What may be a tag or be assigned by its form, though DECIMAL, OCTAL and PAUSE can't be given a value.
-abbrev pub is_name : Kind → Bool
+abbrev pub is_name : TokenKind → Bool
 is_name kind.Symbol = true
 is_name k = is_direction k
 

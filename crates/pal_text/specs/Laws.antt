@@ -2,11 +2,11 @@
 use Rattle.std.specs.Prelude.{◌≡◌, ◌≢◌, ℕ, ◌+◌, ◌-◌, Bool, true, false, ◌||◌, ◌&&◌, if◌then◌else◌, List, [], ◌∷◌, ◌++◌, length, map, reverse, nat_lt, nat_le, nat_eq, ◌⊎◌}
 use Rattle.std.specs.List.{AllByRecursion}
 use Rattle.pal_text.specs.declared.characters.Meaning.TheVariants.{LineEnd}
-use Rattle.pal_text.specs.declared.tokens.Kind.{Kind}
-use Rattle.pal_text.specs.declared.tokens.Kind.TheVariants.{End}
+use Rattle.pal_text.specs.declared.tokens.TokenKind.{TokenKind}
+use Rattle.pal_text.specs.declared.tokens.TokenKind.TheVariants.{End}
 use Rattle.pal_text.specs.declared.tokens.Token.{Token}
-use Rattle.pal_text.specs.declared.cut.Statement.{Statement}
-use Rattle.pal_text.specs.declared.cut.Ending.{Ending}
+use Rattle.pal_text.specs.declared.statement.Statement.{Statement}
+use Rattle.pal_text.specs.declared.statement.Ending.{Ending}
 use Rattle.pal_text.specs.declared.lines.Line.{Line}
 use Rattle.pal_text.specs.Characters.{char, code, is_ignored, meaning_after, in_comment, characters}
 use Rattle.pal_text.specs.Tokens.{is_space, tokens, is_end}
@@ -15,7 +15,7 @@ use Rattle.pal_text.specs.Statements.{Piece, pieces, Fills}
 use Rattle.pal_text.specs.Parts.{IsPart, IsIllegal}
 
 -- The tokens of a part that is one token of so many bytes: that token, and the part's end.
-abbrev pub alone : Kind → ℕ → List Token
+abbrev pub alone : TokenKind → ℕ → List Token
 alone k size = record { kind = k; line = 1; start = 0; end = size } ∷ record { kind = End; line = 1; start = size; end = size } ∷ []
 
 -- The bytes of a token, read as a part of their own, are that token again, save for a space, whose place counts, and for the

@@ -1,8 +1,8 @@
 -- Symbols by their first six characters.
 use Rattle.std.specs.Prelude.{ℕ, ◌≤◌, Bool, ◌&&◌, ◌||◌, not, if◌then◌else◌, List, ◌++◌, map, take, replicate, slice_range, nat_eq, codes}
 use Rattle.std.specs.Cmp.Lexicographic.{pointwise}
-use Rattle.pal_text.specs.declared.tokens.Kind.{Kind}
-use Rattle.pal_text.specs.declared.tokens.Kind.TheVariants.{Symbol, Decimal, Octal, Pause}
+use Rattle.pal_text.specs.declared.tokens.TokenKind.{TokenKind}
+use Rattle.pal_text.specs.declared.tokens.TokenKind.TheVariants.{Symbol, Decimal, Octal, Pause}
 use Rattle.pal_text.specs.declared.tokens.Token.{Token}
 use Rattle.pal_text.specs.Characters.{char, characters}
 use Rattle.pal_text.specs.Tokens.{is_letter, all_tokens}
@@ -12,7 +12,7 @@ abbrev pub name : List ℕ → List ℕ
 name bytes = take 6 (characters bytes ++ replicate 6 (char " "))
 
 -- DECIMAL, OCTAL and PAUSE are told by their names. Every other symbol is an ordinary one.
-abbrev pub named_kind : List ℕ → Kind
+abbrev pub named_kind : List ℕ → TokenKind
 named_kind letters =
     if pointwise nat_eq letters (codes "DECIMA") then Decimal else
     if pointwise nat_eq letters (codes "OCTAL ") then Octal else
@@ -33,7 +33,7 @@ bytes_of source t = slice_range source t.start t.end
 
 -- The kind of a token of this part whose characters give it this one: a symbol is told by its name, whether it is
 -- DECIMAL, OCTAL, PAUSE or an ordinary one, and any other kind stays.
-abbrev pub with_name : List ℕ → Token → Kind → Kind
+abbrev pub with_name : List ℕ → Token → TokenKind → TokenKind
 with_name source t Symbol = named_kind (name (bytes_of source t))
 with_name source t k = k
 

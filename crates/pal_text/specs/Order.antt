@@ -1,7 +1,7 @@
 -- Where tokens, statements and lines stand.
 use Rattle.std.specs.Prelude.{ℕ, ◌≤◌, ◌<◌, List, [], ◌∷◌, length}
 use Rattle.pal_text.specs.declared.tokens.Token.{Token}
-use Rattle.pal_text.specs.declared.cut.Statement.{Statement}
+use Rattle.pal_text.specs.declared.statement.Statement.{Statement}
 use Rattle.pal_text.specs.declared.lines.Line.{Line}
 
 -- Tokens, the newest first, stand before this place, each before those that are newer.

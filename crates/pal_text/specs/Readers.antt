@@ -1,12 +1,12 @@
 -- The statements of a part, one after another.
 use Rattle.std.specs.Prelude.{◌≡◌, ℕ, ◌+◌, false, List, [], ◌∷◌, Option, Some, None, drop, length, slice_get, slice_range}
 use Rattle.pal_text.specs.declared.tokens.Token.{Token}
-use Rattle.pal_text.specs.declared.cut.Close.{Close}
+use Rattle.pal_text.specs.declared.statement.PartEnd.{PartEnd}
 use Rattle.pal_text.specs.declared.fault.StatementFault.{StatementFault}
 use Rattle.pal_text.specs.declared.fault.StatementFault.TheVariants.{Illegal, NoMemory}
-use Rattle.pal_text.specs.declared.reader.Next.{Next}
-use Rattle.pal_text.specs.declared.reader.Next.TheVariants as next
-use Rattle.pal_text.specs.declared.reader.Found.{Found}
+use Rattle.pal_text.specs.declared.reader.PartItem.{PartItem}
+use Rattle.pal_text.specs.declared.reader.PartItem.TheVariants as next
+use Rattle.pal_text.specs.declared.reader.DelimitedStatement.{DelimitedStatement}
 use Rattle.pal_text.specs.Names.{part_tokens}
 use Rattle.pal_text.specs.Progress.{Progress}
 use Rattle.pal_text.specs.Tokens.{is_end}
@@ -18,7 +18,7 @@ rest source n = pieces n n (drop n (part_tokens source))
 
 -- The next piece, after n tokens, is this statement, whose tokens these are; m tokens stand before what follows it, and the
 -- part has ended so then, if it has.
-pub record IsNext (source : List ℕ) (n : ℕ) (found : Found) (own : List Token) (m : ℕ) (close : Option Close) : Type 0 where
+pub record IsNext (source : List ℕ) (n : ℕ) (found : DelimitedStatement) (own : List Token) (m : ℕ) (close : Option PartEnd) : Type 0 where
   pub rest_is : rest source n ≡ piece n found.statement.last found.mark ∷ rest source m
   pub fills : Fills (part_tokens source) (piece n found.statement.last found.mark) found.statement
   pub own_is : own ≡ slice_range (part_tokens source) n found.statement.last
@@ -26,7 +26,7 @@ pub record IsNext (source : List ℕ) (n : ℕ) (found : Found) (own : List Toke
   pub close_is : close ≡ closing (length source) own found.mark found.statement.form
 
 -- What a reader finds: the next statement, where the part hasn't ended, or how it has.
-abbrev pub Finds : Progress → Next → Progress → Type 0
+abbrev pub Finds : Progress → PartItem → Progress → Type 0
 Finds old (next.Statement found) new = (old.close ≡ None) × IsNext old.source old.count found new.own new.count new.close
 Finds old (next.End c) new = (old.close ≡ Some c) × (new.close ≡ Some c) × (new.count ≡ old.count) × (new.own ≡ [])
 

@@ -2,16 +2,16 @@
 -- what stands in a source or among a statement's own tokens.
 use Rattle.std.specs.Prelude.{◌≡◌, ℕ, ◌+◌, ◌≤◌, ◌<◌, Bool, true, false, ◌||◌, if◌then◌else◌, List, [], ◌∷◌, ◌++◌, Option, Some, None, length, reverse, take, get_or, nat_eq}
 use Rattle.std.specs.List.{AllByRecursion}
-use Rattle.pal_text.specs.declared.tokens.Kind.{Kind}
-use Rattle.pal_text.specs.declared.tokens.Kind.TheVariants as kind
+use Rattle.pal_text.specs.declared.tokens.TokenKind.{TokenKind}
+use Rattle.pal_text.specs.declared.tokens.TokenKind.TheVariants as kind
 use Rattle.pal_text.specs.declared.tokens.Token.{Token}
-use Rattle.pal_text.specs.declared.scan.Brings.{Brings}
-use Rattle.pal_text.specs.declared.scan.Brings.TheVariants.{Nothing, Feed, End, Comment, One}
+use Rattle.pal_text.specs.declared.scan.CodeEffect.{CodeEffect}
+use Rattle.pal_text.specs.declared.scan.CodeEffect.TheVariants.{Nothing, Feed, End, Comment, One}
 use Rattle.pal_text.specs.declared.scan.Place.{Place}
 use Rattle.pal_text.specs.declared.scan.Run.{Run}
-use Rattle.pal_text.specs.declared.cut.Close.{Close}
-use Rattle.pal_text.specs.declared.reader.Standing.{Standing}
-use Rattle.pal_text.specs.declared.reader.Standing.TheVariants.{Begins, Ended}
+use Rattle.pal_text.specs.declared.statement.PartEnd.{PartEnd}
+use Rattle.pal_text.specs.declared.reader.ReaderState.{ReaderState}
+use Rattle.pal_text.specs.declared.reader.ReaderState.TheVariants.{Begins, Ended}
 use Rattle.pal_text.specs.Characters.{char, code, is_ignored, returned, in_comment, line}
 use Rattle.pal_text.specs.Tokens.{is_space, kind_of, token, is_end}
 use Rattle.pal_text.specs.Adding.{added, tokens}
@@ -21,11 +21,11 @@ use Rattle.pal_text.specs.Adding.{added, tokens}
 abbrev pub returned_by : Bool → ℕ → Bool
 returned_by before b = if nat_eq (code b) (char "\r") then true else if is_ignored (code b) || nat_eq (code b) (char "\n") then before else false
 
-abbrev pub of_kind : Kind → Brings
+abbrev pub of_kind : TokenKind → CodeEffect
 of_kind k = if is_end k then End else One k
 
 -- What a code brings to a statement outside a comment.
-abbrev pub brings : ℕ → Brings
+abbrev pub brings : ℕ → CodeEffect
 brings c =
     if is_ignored c then Nothing else
     if nat_eq c (char "\r") then End else
@@ -38,7 +38,7 @@ abbrev pub is_line_code : ℕ → Bool
 is_line_code c = nat_eq c (char "\r") || nat_eq c (char "\n")
 
 -- The kind of the token that a byte brings that ends a statement.
-abbrev pub mark_kind : ℕ → Kind
+abbrev pub mark_kind : ℕ → TokenKind
 mark_kind c = if is_line_code c then kind.End else kind_of c
 
 -- The line after such a byte.
@@ -104,12 +104,12 @@ pub record IsPlaceIn (source : List ℕ) (place : Place) : Type 0 where
   pub cut : IsCut (tokens (front source place.at))
 
 -- Where a reader stands after a statement by which the part ends so, if it does; else the next one begins there.
-abbrev pub stands_by : Option Close → Place → Standing
+abbrev pub stands_by : Option PartEnd → Place → ReaderState
 stands_by (Some c) next = Ended c
 stands_by None next = Begins next
 
 -- Where the part hasn't ended, so many tokens stand before the next statement.
-abbrev pub StandsAt : List ℕ → ℕ → Standing → Type 0
+abbrev pub StandsAt : List ℕ → ℕ → ReaderState → Type 0
 StandsAt source count (Begins place) = IsPlaceIn source place × (count ≡ length (tokens (front source place.at)))
 StandsAt source count (Ended c) = Unit {0}
 
@@ -120,17 +120,17 @@ pub record IsOwn (source : List ℕ) (place : Place) (at : ℕ) (own : List Toke
   pub ends_none : AllByRecursion IsOpen own
 
 -- A letter or a digit may go onto such a token.
-abbrev pub is_word : Kind → Bool
+abbrev pub is_word : TokenKind → Bool
 is_word kind.Symbol = true
 is_word kind.Number = true
 is_word kind.Mixed = true
 is_word _ = false
 
-abbrev pub spanned : Kind → ℕ → ℕ → ℕ → Token
+abbrev pub spanned : TokenKind → ℕ → ℕ → ℕ → Token
 spanned k n start end = record { kind = k; line = n; start = start; end = end }
 
 -- A token of letters and digits went on from a place.
-pub record IsRun (source : List ℕ) (k : Kind) (end from : ℕ) (run : Run) : Type 0 where
+pub record IsRun (source : List ℕ) (k : TokenKind) (end from : ℕ) (run : Run) : Type 0 where
   pub outside : IsOutside source run.at
   pub forward : from ≤ run.at
   pub word : is_word run.kind ≡ true

@@ -1,19 +1,19 @@
 -- The statements of a part, by its tokens in order.
 use Rattle.std.specs.Prelude.{◌≡◌, ℕ, ◌+◌, Bool, true, false, if◌then◌else◌, List, [], ◌∷◌, Option, Some, None, length, nat_eq, slice_range}
-use Rattle.pal_text.specs.declared.tokens.Kind.{Kind}
-use Rattle.pal_text.specs.declared.tokens.Kind.TheVariants.{Dollar}
+use Rattle.pal_text.specs.declared.tokens.TokenKind.{TokenKind}
+use Rattle.pal_text.specs.declared.tokens.TokenKind.TheVariants.{Dollar}
 use Rattle.pal_text.specs.declared.tokens.Token.{Token}
 use Rattle.pal_text.specs.declared.grammar.Form.{Form}
 use Rattle.pal_text.specs.declared.grammar.Form.TheVariants as form
-use Rattle.pal_text.specs.declared.cut.Statement.{Statement}
-use Rattle.pal_text.specs.declared.cut.Ending.{Ending}
-use Rattle.pal_text.specs.declared.cut.Ending.TheVariants as ending
-use Rattle.pal_text.specs.declared.cut.Close.{Close}
+use Rattle.pal_text.specs.declared.statement.Statement.{Statement}
+use Rattle.pal_text.specs.declared.statement.Ending.{Ending}
+use Rattle.pal_text.specs.declared.statement.Ending.TheVariants as ending
+use Rattle.pal_text.specs.declared.statement.PartEnd.{PartEnd}
 use Rattle.pal_text.specs.Tokens.{is_end}
 use Rattle.pal_text.specs.Grammar.{Said, IsStatement}
 
 -- A token of this kind is a dollar sign, which ends the part after its statement.
-abbrev pub is_dollar : Kind → Bool
+abbrev pub is_dollar : TokenKind → Bool
 is_dollar Dollar = true
 is_dollar _ = false
 
@@ -53,21 +53,21 @@ last_end n [] = n
 last_end n (t ∷ ts) = last_end t.end ts
 
 -- A part ends by this, after so many of its bytes.
-abbrev pub closed : Ending → ℕ → Close
+abbrev pub closed : Ending → ℕ → PartEnd
 closed e n = record { ending = e; stop = n }
 
 -- Where a part of so many bytes ends by a statement with these tokens: after the word PAUSE, after a dollar sign, or at its
 -- last byte. None where it goes on.
-abbrev pub closing : ℕ → List Token → Token → Form → Option Close
+abbrev pub closing : ℕ → List Token → Token → Form → Option PartEnd
 closing size own mark form.Pause = Some (closed ending.Pause (last_end mark.start own))
 closing size own mark _ =
     if is_dollar mark.kind then Some (closed ending.Dollar mark.end) else
     if nat_eq mark.start size then Some (closed ending.Bytes size) else None
 
 -- The statements of a part of so many bytes, whose pieces these are: one after another up to the one by which the part ends so.
-pub data Stand (tokens : List Token) (size : ℕ) : List Piece → List Statement → Close → Type 0 where
-  ends : (p : Piece) (ps : List Piece) (s : Statement) (c : Close) → Fills tokens p s → closing size (own tokens p) p.mark s.form ≡ Some c → Stand tokens size (p ∷ ps) (s ∷ []) c
-  goes_on : (p : Piece) (ps : List Piece) (s : Statement) (ss : List Statement) (c : Close) → Fills tokens p s → closing size (own tokens p) p.mark s.form ≡ None
+pub data Stand (tokens : List Token) (size : ℕ) : List Piece → List Statement → PartEnd → Type 0 where
+  ends : (p : Piece) (ps : List Piece) (s : Statement) (c : PartEnd) → Fills tokens p s → closing size (own tokens p) p.mark s.form ≡ Some c → Stand tokens size (p ∷ ps) (s ∷ []) c
+  goes_on : (p : Piece) (ps : List Piece) (s : Statement) (ss : List Statement) (c : PartEnd) → Fills tokens p s → closing size (own tokens p) p.mark s.form ≡ None
       → Stand tokens size ps ss c → Stand tokens size (p ∷ ps) (s ∷ ss) c
 
 -- The first piece that is no statement is on this line, and the part doesn't end before it.

@@ -2,8 +2,8 @@
 -- tokens have the newest first here, but for `all_tokens`.
 use Rattle.std.specs.Prelude.{ℕ, ◌+◌, Bool, true, false, ◌||◌, ◌&&◌, if◌then◌else◌, List, [], ◌∷◌, length, reverse, Option, Some, None, nat_eq, nat_le}
 use Rattle.std.specs.Option.{option_map_or}
-use Rattle.pal_text.specs.declared.tokens.Kind.{Kind}
-use Rattle.pal_text.specs.declared.tokens.Kind.TheVariants.{Symbol, Number, Mixed, Here, Space, Comma, Equals, Plus, Minus, Star, End, Dollar, Other}
+use Rattle.pal_text.specs.declared.tokens.TokenKind.{TokenKind}
+use Rattle.pal_text.specs.declared.tokens.TokenKind.TheVariants.{Symbol, Number, Mixed, Here, Space, Comma, Equals, Plus, Minus, Star, End, Dollar, Other}
 use Rattle.pal_text.specs.declared.tokens.Token.{Token}
 use Rattle.pal_text.specs.Characters.{char, line, in_comment, meaning_after, after}
 
@@ -16,7 +16,7 @@ abbrev pub is_digit : ℕ → Bool
 is_digit c = nat_le (char "0") c && nat_le c (char "9")
 
 -- What a character begins, by its code.
-abbrev pub kind_of : ℕ → Kind
+abbrev pub kind_of : ℕ → TokenKind
 kind_of c =
     if is_letter c then Symbol else
     if is_digit c then Number else
@@ -31,13 +31,13 @@ kind_of c =
     if nat_eq c (char "$") then Dollar else Other
 
 -- A token of this kind is a run of spaces; a tab is read as a space.
-abbrev pub is_space : Kind → Bool
+abbrev pub is_space : TokenKind → Bool
 is_space Space = true
 is_space _ = false
 
 -- Letters and digits that stand together are one token, and so are spaces. Here the kind of a token becomes that of the
 -- token with one more character, where the character goes onto it.
-abbrev pub longer : Kind → Kind → Option Kind
+abbrev pub longer : TokenKind → TokenKind → Option TokenKind
 longer Symbol Symbol = Some Symbol
 longer Symbol Number = Some Symbol
 longer Number Number = Some Number
@@ -48,7 +48,7 @@ longer Space Space = Some Space
 longer _ _ = None
 
 -- A token of one byte at a place.
-abbrev pub token : Kind → ℕ → ℕ → Token
+abbrev pub token : TokenKind → ℕ → ℕ → Token
 token k n at = record { kind = k; line = n; start = at; end = at + 1 }
 
 -- Runs with one more character: it goes onto the last one, or stands after it.
@@ -61,23 +61,23 @@ with_next next (last ∷ ts) = option_map_or (λ k. record last { kind = k; end 
 abbrev pub runs : List ℕ → List Token
 runs [] = []
 runs (b ∷ before) =
-    let here : Kind → List Token = λ k. with_next (token k (line before) (length before)) (runs before) in
+    let here : TokenKind → List Token = λ k. with_next (token k (line before) (length before)) (runs before) in
     after (runs before) (here End) (λ c. if in_comment before || nat_eq c (char "/") then runs before else here (kind_of c)) (meaning_after before b)
 
 -- A token of this kind is a plus or a minus sign.
-abbrev pub is_sign : Kind → Bool
+abbrev pub is_sign : TokenKind → Bool
 is_sign Plus = true
 is_sign Minus = true
 is_sign _ = false
 
 -- The end of a line or of the part, a semicolon and a dollar sign: these end a statement.
-abbrev pub is_end : Kind → Bool
+abbrev pub is_end : TokenKind → Bool
 is_end End = true
 is_end Dollar = true
 is_end _ = false
 
 -- Spaces beside these don't count: , = + - and the ends of a statement.
-abbrev pub absorbs : Kind → Bool
+abbrev pub absorbs : TokenKind → Bool
 absorbs Comma = true
 absorbs Equals = true
 absorbs k = is_sign k || is_end k

@@ -5,7 +5,7 @@ ghost use Rattle.pal_text.specs.Tokens.{is_sign};
 ghost use Rattle.pal_text.specs.Grammar.{is_term, is_joiner, is_name, is_terms, is_expression};
 ghost use Rattle.pal_text.specs.Reading.{is_tag, is_star, is_equals, single, if_expression, body, shape};
 
-use crate::tokens::{Kind, Token};
+use crate::tokens::{Token, TokenKind};
 
 /// What a statement does after its tags.
 #[derive(Clone, Copy, PartialEq, Eq, Debug)]
@@ -33,49 +33,52 @@ pub struct Shape {
     pub form: Form,
 }
 
-fn term(kind: Kind) -> bool
+fn term(kind: TokenKind) -> bool
     ensures { result ≡ is_term kind }
 {
-    matches!(kind, Kind::Symbol | Kind::Number | Kind::Here)
+    matches!(
+        kind,
+        TokenKind::Symbol | TokenKind::Number | TokenKind::Here
+    )
 }
 
-fn joiner(kind: Kind) -> bool
+fn joiner(kind: TokenKind) -> bool
     ensures { result ≡ is_joiner kind }
 {
-    matches!(kind, Kind::Space | Kind::Plus | Kind::Minus)
+    matches!(kind, TokenKind::Space | TokenKind::Plus | TokenKind::Minus)
 }
 
-fn sign(kind: Kind) -> bool
+fn sign(kind: TokenKind) -> bool
     ensures { result ≡ is_sign kind }
 {
-    matches!(kind, Kind::Plus | Kind::Minus)
+    matches!(kind, TokenKind::Plus | TokenKind::Minus)
 }
 
-fn star(kind: Kind) -> bool
+fn star(kind: TokenKind) -> bool
     ensures { result ≡ is_star kind }
 {
-    matches!(kind, Kind::Star)
+    matches!(kind, TokenKind::Star)
 }
 
-fn equals(kind: Kind) -> bool
+fn equals(kind: TokenKind) -> bool
     ensures { result ≡ is_equals kind }
 {
-    matches!(kind, Kind::Equals)
+    matches!(kind, TokenKind::Equals)
 }
 
-fn named(kind: Kind) -> bool
+fn named(kind: TokenKind) -> bool
     ensures { result ≡ is_name kind }
 {
     matches!(
         kind,
-        Kind::Symbol | Kind::Decimal | Kind::Octal | Kind::Pause
+        TokenKind::Symbol | TokenKind::Decimal | TokenKind::Octal | TokenKind::Pause
     )
 }
 
-fn tag(first: Kind, second: Kind) -> bool
+fn tag(first: TokenKind, second: TokenKind) -> bool
     ensures { result ≡ is_tag first second }
 {
-    named(first) && matches!(second, Kind::Comma)
+    named(first) && matches!(second, TokenKind::Comma)
 }
 
 /// Whether these are terms with a joiner between each two.
@@ -105,14 +108,14 @@ fn expression(tokens: &[Token]) -> bool
     }
 }
 
-fn single_form(kind: Kind) -> Option<Form>
+fn single_form(kind: TokenKind) -> Option<Form>
     ensures { result ≡ single kind }
 {
     match kind {
-        Kind::Symbol | Kind::Number | Kind::Here => Some(Form::Word),
-        Kind::Decimal => Some(Form::Decimal),
-        Kind::Octal => Some(Form::Octal),
-        Kind::Pause => Some(Form::Pause),
+        TokenKind::Symbol | TokenKind::Number | TokenKind::Here => Some(Form::Word),
+        TokenKind::Decimal => Some(Form::Decimal),
+        TokenKind::Octal => Some(Form::Octal),
+        TokenKind::Pause => Some(Form::Pause),
         _ => None,
     }
 }

@@ -6,7 +6,6 @@
 #![tactic(auto)]
 
 pub mod characters;
-pub mod cut;
 pub mod fault;
 pub mod grammar;
 pub mod laws;
@@ -15,13 +14,14 @@ pub mod names;
 pub mod part;
 pub mod reader;
 mod scan;
+pub mod statement;
 pub mod tokens;
 
-pub use cut::{Close, Ending, Statement};
 pub use fault::{StatementFault, TextFault};
 pub use grammar::Form;
 pub use lines::{Line, lines_of};
 pub use names::Name;
 pub use part::{LONGEST, Part, statements};
-pub use reader::{Found, Next, StatementReader};
-pub use tokens::{Kind, Token};
+pub use reader::{DelimitedStatement, PartItem, StatementReader};
+pub use statement::{Ending, PartEnd, Statement};
+pub use tokens::{Token, TokenKind};

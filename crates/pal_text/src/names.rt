@@ -5,7 +5,7 @@ ghost use Rattle.std.specs.List.{AllByRecursion};
 ghost use Rattle.pal_text.specs.Names.{name, named_kind, with_name, begins_none, named, IsWithin};
 
 use crate::characters::is_character_code;
-use crate::tokens::{Kind, Token};
+use crate::tokens::{Token, TokenKind};
 use std::hash::{Hash, Hasher};
 
 /// A symbol as it counts: its first six characters, with spaces after a shorter one.
@@ -59,17 +59,17 @@ impl Name {
     }
 
     /// What a symbol of this name is: one of the three that give directions, or an ordinary one.
-    pub fn kind(self) -> Kind
+    pub fn kind(self) -> TokenKind
         ensures { result ≡ named_kind self.letters }
     {
         if self == DECIMAL {
-            Kind::Decimal
+            TokenKind::Decimal
         } else if self == OCTAL {
-            Kind::Octal
+            TokenKind::Octal
         } else if self == PAUSE {
-            Kind::Pause
+            TokenKind::Pause
         } else {
-            Kind::Symbol
+            TokenKind::Symbol
         }
     }
 }
@@ -82,22 +82,22 @@ fn begins_no_direction(code: u8) -> bool
 }
 
 /// What a symbol with these bytes is. Its name is made only where it may be a direction's.
-fn symbol_kind(bytes: &[u8]) -> Kind
+fn symbol_kind(bytes: &[u8]) -> TokenKind
     ensures { result ≡ named_kind (name bytes.now) }
 {
     match bytes {
-        [first, ..] if begins_no_direction(*first % 0o200) => Kind::Symbol,
+        [first, ..] if begins_no_direction(*first % 0o200) => TokenKind::Symbol,
         _ => Name::new(bytes).kind(),
     }
 }
 
 /// What a token is, a symbol told by its name.
-fn told_kind(source: &[u8], token: Token) -> Kind
+fn told_kind(source: &[u8], token: Token) -> TokenKind
     requires { IsWithin (length source.now) token }
     ensures { result ≡ with_name source.now token token.kind }
 {
     match token.kind {
-        Kind::Symbol => symbol_kind(&source[token.start..token.end]),
+        TokenKind::Symbol => symbol_kind(&source[token.start..token.end]),
         kind => kind,
     }
 }

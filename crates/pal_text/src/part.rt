@@ -10,14 +10,14 @@ ghost use Rattle.pal_text.specs.Faults.{fault_of};
 ghost use Rattle.pal_text.specs.Statements.{closed, pieces, Stand};
 ghost use Rattle.pal_text.specs.Parts.{IsPart, IsIllegal, IsFault, past};
 ghost use Rattle.pal_text.specs.declared.tokens.Token.{Token as Tokened};
-ghost use Rattle.pal_text.specs.declared.cut.Statement.{Statement as Stated};
-ghost use Rattle.pal_text.specs.declared.cut.Ending.{Ending as Ended};
+ghost use Rattle.pal_text.specs.declared.statement.Statement.{Statement as Stated};
+ghost use Rattle.pal_text.specs.declared.statement.Ending.{Ending as Ended};
 ghost use Rattle.pal_text.specs.declared.lines.Line.{Line as Lined};
 
-use crate::cut::{Close, Ending, Statement};
 use crate::fault::{StatementFault, TextFault};
 use crate::lines::{Line, lines_of};
-use crate::reader::{Found, Next, StatementReader};
+use crate::reader::{DelimitedStatement, PartItem, StatementReader};
+use crate::statement::{Ending, PartEnd, Statement};
 use crate::tokens::Token;
 use std::alloc::{AllocError, Allocator};
 
@@ -71,7 +71,7 @@ fn keep<A: Allocator>(
     tokens: &mut Vec<Token, A>,
     statements: &mut Vec<Statement, A>,
     own: &[Token],
-    found: &Found,
+    found: &DelimitedStatement,
 ) -> Result<(), AllocError>
     ensures tokens { OnOk result (tokens.new.items ≡ tokens.old.items ++ own.now ++
         found.now.mark ∷ []) }
@@ -90,7 +90,7 @@ fn gather<A: Allocator + Copy>(
     reader: &mut StatementReader<'_, A>,
     tokens: &mut Vec<Token, A>,
     statements: &mut Vec<Statement, A>,
-) -> Result<Close, StatementFault>
+) -> Result<PartEnd, StatementFault>
     requires front { (reader.old.count ≡ 0) × (reader.old.close ≡ None) }
     requires empty { (tokens.old.items ≡ []) × (statements.old.items ≡ []) }
     ensures closes { IfOk result (λ close. Stand (part_tokens reader.old.source)
@@ -105,12 +105,12 @@ fn gather<A: Allocator + Copy>(
 {
     loop {
         match reader.read_next()? {
-            Next::Statement(found) => {
+            PartItem::Statement(found) => {
                 if keep(tokens, statements, reader.tokens(), &found).is_err() {
                     return Err(StatementFault::NoMemory);
                 }
             }
-            Next::End(close) => return Ok(close),
+            PartItem::End(close) => return Ok(close),
         }
     }
 }

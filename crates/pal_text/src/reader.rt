@@ -7,58 +7,58 @@ ghost use Rattle.pal_text.specs.Adding.{tokens};
 ghost use Rattle.pal_text.specs.Scan.{front, next_place, IsPlaceIn, stands_by, StandsAt};
 ghost use Rattle.pal_text.specs.Progress.{ended_at};
 ghost use Rattle.pal_text.specs.Readers.{rest, IsNext, Finds, StopsAt, BreaksNext};
-ghost use Rattle.pal_text.specs.declared.cut.Close.{Close as Closed};
-ghost use Rattle.pal_text.specs.declared.reader.Next.TheVariants.{End};
+ghost use Rattle.pal_text.specs.declared.statement.PartEnd.{PartEnd as Closed};
+ghost use Rattle.pal_text.specs.declared.reader.PartItem.TheVariants.{End};
 
-use crate::cut::{Close, Statement, close_of};
 use crate::fault::StatementFault;
 use crate::grammar::shape_of;
 use crate::names::name_tokens;
 use crate::scan::{Place, drop_space, mark_at, place_after, read_own};
+use crate::statement::{PartEnd, Statement, close_of};
 use crate::tokens::Token;
 use std::alloc::Allocator;
 use std::marker::Model;
 
 /// A statement that was read, and the token that ends it.
 #[derive(Clone, Copy)]
-pub struct Found {
+pub struct DelimitedStatement {
     pub statement: Statement,
     pub mark: Token,
 }
 
 /// What comes next in a part.
 #[derive(Clone, Copy)]
-pub enum Next {
+pub enum PartItem {
     /// A statement.
-    Statement(Found),
+    Statement(DelimitedStatement),
     /// No statement: the part has ended so.
-    End(Close),
+    End(PartEnd),
 }
 
 /// Where a reader stands: where the next statement begins, or how the part has ended.
 #[derive(Clone, Copy)]
-enum Standing {
+enum ReaderState {
     Begins(Place),
-    Ended(Close),
+    Ended(PartEnd),
 }
 
 /// A statement that was read, and where the reader stands after it.
 #[derive(Clone, Copy)]
 struct Step {
-    found: Found,
-    next: Standing,
+    found: DelimitedStatement,
+    next: ReaderState,
 }
 
 /// Where a reader stands after a statement that ends on this line, at this place, and by which the
 /// part ends so, if it does.
-fn standing_after(source: &[u8], close: Option<Close>, line: usize, at: usize) -> Standing
+fn standing_after(source: &[u8], close: Option<PartEnd>, line: usize, at: usize) -> ReaderState
     requires inside { close ≡ None → at < length source.now }
     requires small { line ≤ 65536 + 1 }
     ensures { result ≡ stands_by close (next_place source.now line at) }
 {
     match close {
-        Some(close) => Standing::Ended(close),
-        None => Standing::Begins(place_after(source, line, at)),
+        Some(close) => ReaderState::Ended(close),
+        None => ReaderState::Begins(place_after(source, line, at)),
     }
 }
 
@@ -101,7 +101,7 @@ fn read_statement<A: Allocator>(
     let close = close_of(source.len(), own, mark, shape.form);
     let next = standing_after(source, close, place.line, stop);
     Ok(Step {
-        found: Found { statement, mark },
+        found: DelimitedStatement { statement, mark },
         next,
     })
 }
@@ -114,7 +114,7 @@ fn read_statement<A: Allocator>(
 #[derive(Drop)]
 pub struct StatementReader<'s, A: Allocator + Copy> {
     source: &'s [u8],
-    standing: Standing,
+    standing: ReaderState,
     count: usize,
     tokens: Vec<Token, A>,
 }
@@ -150,7 +150,7 @@ impl<'s, A: Allocator + Copy> StatementReader<'s, A> {
     {
         StatementReader {
             source,
-            standing: Standing::Begins(Place {
+            standing: ReaderState::Begins(Place {
                 at: 0,
                 line: 1,
                 returned: false,
@@ -175,7 +175,7 @@ impl<'s, A: Allocator + Copy> StatementReader<'s, A> {
     /// `Illegal` with the line of the next statement where that has no form, and `NoMemory` where
     /// memory was refused, which is wanted only where the statement has a token. The next read then
     /// begins at the same statement.
-    pub fn read_next(&mut self) -> Result<Next, StatementFault>
+    pub fn read_next(&mut self) -> Result<PartItem, StatementFault>
         ensures source { self.new.source ≡ self.old.source }
         ensures found { IfOk result (λ next. Finds self.old next self.new) }
         // Where the part has ended it says so, and nothing else, so also whenever it is asked again,
@@ -191,14 +191,14 @@ impl<'s, A: Allocator + Copy> StatementReader<'s, A> {
     {
         self.tokens.clear();
         let place = match self.standing {
-            Standing::Begins(place) => place,
-            Standing::Ended(close) => return Ok(Next::End(close)),
+            ReaderState::Begins(place) => place,
+            ReaderState::Ended(close) => return Ok(PartItem::End(close)),
         };
         match read_statement(self.source, &place, self.count, &mut self.tokens) {
             Ok(step) => {
                 self.standing = step.next;
                 self.count = step.found.statement.last + 1;
-                Ok(Next::Statement(step.found))
+                Ok(PartItem::Statement(step.found))
             }
             Err(fault) => {
                 self.tokens.clear();

@@ -2,7 +2,7 @@
 
 ghost use Rattle.std.specs.Prelude.{◌≡◌, ◌≤◌, ◌<◌, ◌+◌, ◌^◌, false, true, List, [], length, reverse, OnOk, OnErr, IfOk, get_or, Some};
 ghost use Rattle.pal_text.specs.declared.tokens.Token.{Token as Tokened};
-ghost use Rattle.pal_text.specs.declared.tokens.Kind.TheVariants.{Symbol};
+ghost use Rattle.pal_text.specs.declared.tokens.TokenKind.TheVariants.{Symbol};
 ghost use Rattle.pal_text.specs.Tokens.{is_letter, longer};
 ghost use Rattle.pal_text.specs.Adding.{tokens};
 ghost use Rattle.pal_text.specs.Characters.{code, line, returned, in_comment};
@@ -10,7 +10,7 @@ ghost use Rattle.pal_text.specs.Readers.{HasToken};
 ghost use Rattle.pal_text.specs.Scan.{trimmed, mark, next_place, brings, is_line_code, mark_kind, line_past, front, IsStop, IsQuiet, IsOutside, IsPlaceIn, IsOwn, is_word, IsRun, IsOnward};
 
 use crate::characters::{FORM_FEED, NULL, RUBOUT};
-use crate::tokens::{Kind, Token, add, is_a_space, kind_for};
+use crate::tokens::{Token, TokenKind, add, is_a_space, kind_for};
 use std::alloc::{AllocError, Allocator};
 
 /// Where a statement begins: at this byte, on this line, counted from 1. `returned` says whether
@@ -24,7 +24,7 @@ pub(crate) struct Place {
 
 /// What a code brings to a statement outside a comment.
 #[derive(Clone, Copy)]
-pub(crate) enum Brings {
+pub(crate) enum CodeEffect {
     /// Nothing.
     Nothing,
     /// A line feed: nothing after a carriage return, and else the statement's end.
@@ -34,14 +34,14 @@ pub(crate) enum Brings {
     /// The front of a comment.
     Comment,
     /// One character of a token of this kind.
-    One(Kind),
+    One(TokenKind),
 }
 
 /// A token of letters and digits as far as it was read: its kind and end, and the place of the
 /// next byte.
 #[derive(Clone, Copy)]
 pub(crate) struct Run {
-    pub(crate) kind: Kind,
+    pub(crate) kind: TokenKind,
     pub(crate) end: usize,
     pub(crate) at: usize,
 }
@@ -55,26 +55,26 @@ fn is_letter(code: u8) -> bool
 
 /// What this code brings. Most codes are letters, so they are asked for first.
 #[inline(always)]
-fn brought(code: u8) -> Brings
+fn effect_of_code(code: u8) -> CodeEffect
     ensures { result ≡ brings code }
 {
     if is_letter(code) {
-        return Brings::One(Kind::Symbol);
+        return CodeEffect::One(TokenKind::Symbol);
     }
     match code {
-        NULL | FORM_FEED | RUBOUT => Brings::Nothing,
-        b'\r' | b';' | b'$' => Brings::End,
-        b'\n' => Brings::Feed,
-        b'/' => Brings::Comment,
-        b'0'..=b'9' => Brings::One(Kind::Number),
-        b'\t' | b' ' => Brings::One(Kind::Space),
-        b'.' => Brings::One(Kind::Here),
-        b',' => Brings::One(Kind::Comma),
-        b'=' => Brings::One(Kind::Equals),
-        b'+' => Brings::One(Kind::Plus),
-        b'-' => Brings::One(Kind::Minus),
-        b'*' => Brings::One(Kind::Star),
-        _ => Brings::One(Kind::Other),
+        NULL | FORM_FEED | RUBOUT => CodeEffect::Nothing,
+        b'\r' | b';' | b'$' => CodeEffect::End,
+        b'\n' => CodeEffect::Feed,
+        b'/' => CodeEffect::Comment,
+        b'0'..=b'9' => CodeEffect::One(TokenKind::Number),
+        b'\t' | b' ' => CodeEffect::One(TokenKind::Space),
+        b'.' => CodeEffect::One(TokenKind::Here),
+        b',' => CodeEffect::One(TokenKind::Comma),
+        b'=' => CodeEffect::One(TokenKind::Equals),
+        b'+' => CodeEffect::One(TokenKind::Plus),
+        b'-' => CodeEffect::One(TokenKind::Minus),
+        b'*' => CodeEffect::One(TokenKind::Star),
+        _ => CodeEffect::One(TokenKind::Other),
     }
 }
 
@@ -101,25 +101,28 @@ fn comment_end(source: &[u8], from: usize) -> usize
 }
 
 /// Whether a letter or a digit may go onto a token of this kind.
-fn goes_on(kind: Kind) -> bool
+fn goes_on(kind: TokenKind) -> bool
     ensures { result ≡ is_word kind }
 {
-    matches!(kind, Kind::Symbol | Kind::Number | Kind::Mixed)
+    matches!(
+        kind,
+        TokenKind::Symbol | TokenKind::Number | TokenKind::Mixed
+    )
 }
 
 /// The kind of a token of letters and digits with one more letter.
-fn with_letter(kind: Kind) -> Kind
+fn with_letter(kind: TokenKind) -> TokenKind
     requires { is_word kind ≡ true }
     ensures { longer kind Symbol ≡ Some result }
 {
     match kind {
-        Kind::Number => Kind::Mixed,
+        TokenKind::Number => TokenKind::Mixed,
         _ => kind,
     }
 }
 
 /// Reads on while a token of letters and digits goes on.
-fn run_on(source: &[u8], kind: Kind, end: usize, from: usize) -> Run
+fn run_on(source: &[u8], kind: TokenKind, end: usize, from: usize) -> Run
     requires outside { IsOutside source.now from }
     requires word { is_word kind ≡ true }
     ensures { IsRun source.now kind end from result }
@@ -130,13 +133,13 @@ fn run_on(source: &[u8], kind: Kind, end: usize, from: usize) -> Run
         at: from,
     };
     while run.at < source.len() {
-        match brought(source[run.at] % 0o200) {
-            Brings::One(Kind::Symbol) => {
+        match effect_of_code(source[run.at] % 0o200) {
+            CodeEffect::One(TokenKind::Symbol) => {
                 run.kind = with_letter(run.kind);
                 run.end = run.at + 1;
             }
-            Brings::One(Kind::Number) => run.end = run.at + 1,
-            Brings::Nothing => {}
+            CodeEffect::One(TokenKind::Number) => run.end = run.at + 1,
+            CodeEffect::Nothing => {}
             _ => return run,
         }
         run.at += 1;
@@ -184,17 +187,17 @@ pub(crate) fn read_own<A: Allocator>(
     let mut returned = place.returned;
     let mut at = place.at;
     while at < source.len() {
-        match brought(source[at] % 0o200) {
-            Brings::Nothing => at += 1,
-            Brings::Feed => {
+        match effect_of_code(source[at] % 0o200) {
+            CodeEffect::Nothing => at += 1,
+            CodeEffect::Feed => {
                 if !returned {
                     return Ok(at);
                 }
                 at += 1;
             }
-            Brings::End => return Ok(at),
-            Brings::Comment => return Ok(comment_end(source, at + 1)),
-            Brings::One(kind) => {
+            CodeEffect::End => return Ok(at),
+            CodeEffect::Comment => return Ok(comment_end(source, at + 1)),
+            CodeEffect::One(kind) => {
                 let next = Token {
                     kind,
                     line: place.line,
@@ -227,7 +230,7 @@ pub(crate) fn mark_at(source: &[u8], line: usize, at: usize) -> Token
 {
     if at == source.len() {
         return Token {
-            kind: Kind::End,
+            kind: TokenKind::End,
             line,
             start: at,
             end: at,
@@ -235,7 +238,7 @@ pub(crate) fn mark_at(source: &[u8], line: usize, at: usize) -> Token
     }
     let code = source[at] % 0o200;
     let kind = if is_line_end(code) {
-        Kind::End
+        TokenKind::End
     } else {
         kind_for(code)
     };

@@ -9,7 +9,7 @@ use std::alloc::{AllocError, Allocator};
 
 /// What a token is.
 #[derive(Clone, Copy, PartialEq, Eq, Debug)]
-pub enum Kind {
+pub enum TokenKind {
     /// A letter, and letters and digits after it.
     Symbol,
     /// The symbol DECIMAL.
@@ -48,67 +48,72 @@ pub enum Kind {
 /// at `start` up to the one before `end`.
 #[derive(Clone, Copy)]
 pub struct Token {
-    pub kind: Kind,
+    pub kind: TokenKind,
     pub line: usize,
     pub start: usize,
     pub end: usize,
 }
 
-pub(crate) fn kind_for(code: u8) -> Kind
+pub(crate) fn kind_for(code: u8) -> TokenKind
     ensures { result ≡ kind_of code }
 {
     match code {
-        b'A'..=b'Z' => Kind::Symbol,
-        b'0'..=b'9' => Kind::Number,
-        b'.' => Kind::Here,
-        b' ' => Kind::Space,
-        b',' => Kind::Comma,
-        b'=' => Kind::Equals,
-        b'+' => Kind::Plus,
-        b'-' => Kind::Minus,
-        b'*' => Kind::Star,
-        b';' => Kind::End,
-        b'$' => Kind::Dollar,
-        _ => Kind::Other,
+        b'A'..=b'Z' => TokenKind::Symbol,
+        b'0'..=b'9' => TokenKind::Number,
+        b'.' => TokenKind::Here,
+        b' ' => TokenKind::Space,
+        b',' => TokenKind::Comma,
+        b'=' => TokenKind::Equals,
+        b'+' => TokenKind::Plus,
+        b'-' => TokenKind::Minus,
+        b'*' => TokenKind::Star,
+        b';' => TokenKind::End,
+        b'$' => TokenKind::Dollar,
+        _ => TokenKind::Other,
     }
 }
 
-pub(crate) fn is_a_space(kind: Kind) -> bool
+pub(crate) fn is_a_space(kind: TokenKind) -> bool
     ensures { result ≡ is_space kind }
 {
-    matches!(kind, Kind::Space)
+    matches!(kind, TokenKind::Space)
 }
 
 /// Whether a space beside a token of this kind doesn't count.
-fn absorbs_spaces(kind: Kind) -> bool
+fn absorbs_spaces(kind: TokenKind) -> bool
     ensures { result ≡ absorbs kind }
 {
     matches!(
         kind,
-        Kind::Comma | Kind::Equals | Kind::Plus | Kind::Minus | Kind::End | Kind::Dollar
+        TokenKind::Comma
+            | TokenKind::Equals
+            | TokenKind::Plus
+            | TokenKind::Minus
+            | TokenKind::End
+            | TokenKind::Dollar
     )
 }
 
 /// The kind of a token with one more character, where the character goes onto it.
-fn longer_kind(kind: Kind, next: Kind) -> Option<Kind>
+fn longer_kind(kind: TokenKind, next: TokenKind) -> Option<TokenKind>
     ensures { result ≡ longer kind next }
 {
     match kind {
-        Kind::Symbol => match next {
-            Kind::Symbol | Kind::Number => Some(Kind::Symbol),
+        TokenKind::Symbol => match next {
+            TokenKind::Symbol | TokenKind::Number => Some(TokenKind::Symbol),
             _ => None,
         },
-        Kind::Number => match next {
-            Kind::Number => Some(Kind::Number),
-            Kind::Symbol => Some(Kind::Mixed),
+        TokenKind::Number => match next {
+            TokenKind::Number => Some(TokenKind::Number),
+            TokenKind::Symbol => Some(TokenKind::Mixed),
             _ => None,
         },
-        Kind::Mixed => match next {
-            Kind::Symbol | Kind::Number => Some(Kind::Mixed),
+        TokenKind::Mixed => match next {
+            TokenKind::Symbol | TokenKind::Number => Some(TokenKind::Mixed),
             _ => None,
         },
-        Kind::Space => match next {
-            Kind::Space => Some(Kind::Space),
+        TokenKind::Space => match next {
+            TokenKind::Space => Some(TokenKind::Space),
             _ => None,
         },
         _ => None,

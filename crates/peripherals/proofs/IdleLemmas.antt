@@ -10,7 +10,7 @@ use Rattle.peripherals.specs.declared.Seen.TheVariants.{NotEnabled, Ran, Halted,
 use Rattle.peripherals.specs.Devices.{Reader, Writer, WorldState, Instructs, answer_of, word_at_pc}
 use Rattle.peripherals.specs.Events.{Steps, done, read, with_devices}
 use Rattle.peripherals.specs.Laws.{IdleEventsChangeNothing, UnsupportedStepsChangeNothing}
-use Rattle.peripherals.specs.Seen.{seen_of_step}
+use Rattle.peripherals.specs.EventOutcomes.{seen_of_step}
 use Rattle.peripherals.proofs.OneLemmas.{not_carried}
 
 idle_writer : (d : Writer) → d.busy ≡ false → done d ≡ d

@@ -8,7 +8,7 @@ use Rattle.peripherals.specs.Devices.{WorldState}
 use Rattle.peripherals.specs.declared.Event.TheVariants.{Step}
 use Rattle.peripherals.specs.declared.Seen.TheVariants.{Unsupported}
 use Rattle.peripherals.specs.Events.{Happens}
-use Rattle.peripherals.specs.Seen.{is_enabled, seen_of}
+use Rattle.peripherals.specs.EventOutcomes.{is_enabled, seen_of}
 use Rattle.peripherals.specs.EventText.{Spells, Fails}
 
 -- An event leads to no other world.

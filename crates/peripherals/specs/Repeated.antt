@@ -1,13 +1,13 @@
 -- Events as they are gathered from lines. Private contracts alone cite this.
 use Rattle.std.specs.Prelude.{ℕ, ◌≡◌, ◌+◌, ◌<◌, ◌≤◌, List, ◌++◌, length, replicate, Some}
 use Rattle.peripherals.specs.declared.Event.{Event}
-use Rattle.peripherals.specs.declared.event_text.Repeated.{Repeated}
+use Rattle.peripherals.specs.declared.event_text.RepeatedEvent.{RepeatedEvent}
 use Rattle.peripherals.specs.declared.event_text.EventsFault.{EventsFault}
 use Rattle.peripherals.specs.declared.event_text.EventsFault.TheVariants.{BadLine, TooMany, NoMemory}
 use Rattle.peripherals.specs.EventText.{most_events, line_events}
 
 -- the list of so many events
-abbrev pub repeated : Repeated → List Event
+abbrev pub repeated : RepeatedEvent → List Event
 repeated more = replicate more.times more.event
 
 -- To so many events these aren't added: they are too many, or, where memory is refused, some.

@@ -8,12 +8,12 @@ use Rattle.processor.specs.declared.fetch.DecodedInstruction.{DecodedInstruction
 use Rattle.processor.specs.declared.fetch.DecodedInstruction.TheVariants as fetch
 use Rattle.processor.specs.Steps.{state_of}
 use Rattle.peripherals.specs.Devices.{Writer, Devices, WorldState, answer_to, devices_after}
-use Rattle.peripherals.specs.declared.devices.Outlet.{Outlet}
+use Rattle.peripherals.specs.declared.devices.OutputDevice.{OutputDevice}
 use Rattle.peripherals.specs.declared.devices.Panel.{Panel}
 use Rattle.peripherals.specs.declared.world.World.{World}
 
 -- A printer or a punch with what it has put out.
-abbrev pub writer_of : Outlet → List ℕ → Writer
+abbrev pub writer_of : OutputDevice → List ℕ → Writer
 writer_of o output = record { flag = o.flag; busy = o.busy; output = output }
 
 -- The devices of a panel, with what was printed and punched.

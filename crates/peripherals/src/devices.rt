@@ -35,7 +35,7 @@ pub struct Reader {
 
 /// The state of a printer or a punch, apart from what it has put out.
 #[derive(Clone, Copy, PartialEq, Eq, Debug)]
-pub struct Outlet {
+pub struct OutputDevice {
     /// The device is ready for a byte, as far as the program was told.
     pub flag: bool,
     /// A byte is under way.
@@ -48,11 +48,11 @@ pub struct Panel {
     /// The teletype's keyboard.
     pub keyboard: Keyboard,
     /// The teletype's printer.
-    pub printer: Outlet,
+    pub printer: OutputDevice,
     /// The high-speed reader.
     pub reader: Reader,
     /// The high-speed punch.
-    pub punch: Outlet,
+    pub punch: OutputDevice,
     /// What the switches show.
     pub switches: Word,
 }
@@ -64,7 +64,7 @@ impl Panel {
             flag: false,
             buffer: 0,
         },
-        printer: Outlet {
+        printer: OutputDevice {
             flag: false,
             busy: false,
         },
@@ -73,7 +73,7 @@ impl Panel {
             buffer: 0,
             fetching: false,
         },
-        punch: Outlet {
+        punch: OutputDevice {
             flag: false,
             busy: false,
         },
@@ -133,12 +133,12 @@ impl Panel {
     }
 }
 
-impl Outlet {
+impl OutputDevice {
     /// The flag is cleared and a byte is under way.
     fn begin(&mut self)
         ensures { self.new ≡ record { flag = false; busy = true } }
     {
-        *self = Outlet {
+        *self = OutputDevice {
             flag: false,
             busy: true,
         };
@@ -153,7 +153,7 @@ impl Outlet {
         if !self.busy {
             return Seen::NotEnabled;
         }
-        *self = Outlet {
+        *self = OutputDevice {
             flag: true,
             busy: false,
         };

@@ -38,7 +38,7 @@ pub enum EventsFault {
 
 /// One event, some times over.
 #[derive(Clone, Copy)]
-struct Repeated {
+struct RepeatedEvent {
     event: Event,
     times: u32,
 }
@@ -89,7 +89,7 @@ struct EventList<A: Allocator> {
 
 impl<A: Allocator> EventList<A> {
     /// Appends an event some times over, where there aren't too many then.
-    fn append(&mut self, more: Repeated) -> Result<(), EventsFault>
+    fn append(&mut self, more: RepeatedEvent) -> Result<(), EventsFault>
         ensures appended { OnOk result
             (self.new.events.items ≡ self.old.events.items ++ repeated more) }
         ensures few { OnOk result (vec_len self.old.events + more.times ≤ most_events) }
@@ -125,12 +125,12 @@ impl<A: Allocator> LineTaker for EventList<A> {
 }
 
 /// The events of a line, if it isn't bad.
-fn read_line(line: &[u8]) -> Option<Repeated>
+fn read_line(line: &[u8]) -> Option<RepeatedEvent>
     ensures { option_map repeated result ≡ line_events line.now }
 {
     let mut words = Words::of(line);
     let Some(name) = words.next() else {
-        return Some(Repeated {
+        return Some(RepeatedEvent {
             event: Event::Step,
             times: 0,
         });
@@ -145,10 +145,10 @@ fn read_line(line: &[u8]) -> Option<Repeated>
 }
 
 /// One event, once.
-fn once(event: Option<Event>) -> Option<Repeated>
+fn once(event: Option<Event>) -> Option<RepeatedEvent>
     ensures { option_map repeated result ≡ option_map (λ e. e ∷ []) event }
 {
-    event.map(|event| Repeated { event, times: 1 })
+    event.map(|event| RepeatedEvent { event, times: 1 })
 }
 
 /// The event of a line of one word.
@@ -169,7 +169,7 @@ fn event_named(name: &[u8]) -> Option<Event>
 }
 
 /// The events of a line of two words.
-fn events_numbered(name: &[u8], number: &[u8]) -> Option<Repeated>
+fn events_numbered(name: &[u8], number: &[u8]) -> Option<RepeatedEvent>
     ensures { option_map repeated result ≡ events_numbered name.now number.now }
 {
     if text::is(name, "step") {
@@ -186,12 +186,12 @@ fn events_numbered(name: &[u8], number: &[u8]) -> Option<Repeated>
 }
 
 /// So many steps, from 1 to 1000000.
-fn steps(number: &[u8]) -> Option<Repeated>
+fn steps(number: &[u8]) -> Option<RepeatedEvent>
     ensures { option_map repeated result
         ≡ option_map (λ n. replicate n Step) (decimal_between 1 most_events number.now) }
 {
     let times = text::decimal_between(1, MOST_EVENTS, number)?;
-    Some(Repeated {
+    Some(RepeatedEvent {
         event: Event::Step,
         times,
     })

@@ -14,7 +14,7 @@ mod world;
 ghost use Rattle.std.specs.Prelude.{◌≡◌};
 ghost use Rattle.processor.specs.Cells.{cell_of};
 
-pub use devices::{Keyboard, Outlet, Panel, Reader};
+pub use devices::{Keyboard, OutputDevice, Panel, Reader};
 pub use event_text::{EventsFault, events};
 pub use operator::Operator;
 use processor::Memory;

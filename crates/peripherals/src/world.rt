@@ -7,7 +7,7 @@ ghost use Rattle.processor.specs.Steps.{state_of};
 ghost use Rattle.peripherals.specs.declared.Event.{Event};
 ghost use Rattle.peripherals.specs.Events.{Happens, IsLoaded, completed};
 ghost use Rattle.peripherals.specs.Loading.{image_of, laid, loaded};
-ghost use Rattle.peripherals.specs.Seen.{seen_of, puts_out};
+ghost use Rattle.peripherals.specs.EventOutcomes.{seen_of, puts_out};
 ghost use Rattle.peripherals.specs.World.{view, profile_of, devices_of, prints, punches, does_print, does_punch, put_out};
 
 use crate::devices::{Keyboard, Panel};

@@ -4,7 +4,7 @@ use Rattle.std.specs.Prelude.{slice_get, is_none, IsTrue}
 use Rattle.peripherals.specs.declared.Event.{Event}
 use Rattle.peripherals.specs.declared.Event.TheVariants.{Step as Instruct, Key, PrinterDone, ReaderDone, PunchDone, Switches, Continue}
 use Rattle.peripherals.specs.Devices.{WorldState}
-use Rattle.peripherals.specs.Seen.{puts_out}
+use Rattle.peripherals.specs.EventOutcomes.{puts_out}
 use Rattle.declaration.specs.Declaration.{Declaration}
 use Rattle.policy.specs.Runs.{DeclaredEvents, HappensDeclared, calls_by}
 use Rattle.policy.specs.Watching.{LeadsTo, StepPutsOut}

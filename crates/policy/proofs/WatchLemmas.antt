@@ -11,7 +11,7 @@ use Rattle.peripherals.specs.declared.Event.{Event}
 use Rattle.peripherals.specs.declared.Event.TheVariants.{Step as Instruct, Key, PrinterDone, ReaderDone, PunchDone, Switches, Continue}
 use Rattle.peripherals.specs.Devices.{WorldState, answer_of}
 use Rattle.peripherals.specs.Events.{Happens}
-use Rattle.peripherals.specs.Seen.{puts_out}
+use Rattle.peripherals.specs.EventOutcomes.{puts_out}
 use Rattle.peripherals.proofs.OneLemmas.{one_world}
 use Rattle.processor.specs.declared.fetch.DecodedInstruction.{DecodedInstruction}
 use Rattle.declaration.specs.Declaration.{Declaration, IsDeclared}

@@ -6,7 +6,7 @@ use Rattle.processor.specs.Runs.{Image}
 use Rattle.peripherals.specs.declared.Event.{Event}
 use Rattle.peripherals.specs.declared.Event.TheVariants.{Step as Instruct, Continue}
 use Rattle.peripherals.specs.Devices.{WorldState}
-use Rattle.peripherals.specs.Seen.{puts_out}
+use Rattle.peripherals.specs.EventOutcomes.{puts_out}
 use Rattle.policy.specs.declared.rules.Rule.{Rule}
 use Rattle.declaration.specs.Declaration.{Declaration, IsDeclared}
 use Rattle.policy.specs.Calls.{Calls}

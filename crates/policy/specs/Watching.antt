@@ -7,7 +7,7 @@ use Rattle.peripherals.specs.declared.Event.TheVariants.{Step as Instruct}
 use Rattle.peripherals.specs.declared.Start.{Start}
 use Rattle.peripherals.specs.Devices.{WorldState}
 use Rattle.peripherals.specs.Loading.{loaded}
-use Rattle.peripherals.specs.Seen.{puts_out}
+use Rattle.peripherals.specs.EventOutcomes.{puts_out}
 use Rattle.policy.specs.declared.rules.Rule.{Rule}
 use Rattle.policy.specs.declared.watcher.Watched.{Watched}
 use Rattle.policy.specs.declared.watcher.Watched.TheVariants.{Clean, Broken}

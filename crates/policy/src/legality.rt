@@ -8,7 +8,7 @@ ghost use Rattle.processor.specs.Runs.{Image};
 ghost use Rattle.processor.specs.Steps.{state_of};
 ghost use Rattle.policy.specs.Calls.{current};
 ghost use Rattle.policy.specs.Rules.{KeepsCode, IsLegal, word_of};
-ghost use Rattle.declaration.specs.Kept.{meaning, assertion_of, place_assertion_of, return_assertion_of};
+ghost use Rattle.declaration.specs.DeclarationInCode.{meaning, assertion_of, place_assertion_of, return_assertion_of};
 ghost use Rattle.policy.specs.Watching.{IsLeastBroken};
 ghost use Rattle.policy.specs.OpenCalls.{open_calls};
 ghost use Rattle.policy.specs.Decided.{is_abandon, is_own, may_write_own, may_write, writes, calls_entry, finds_call, is_return, returns, may_load, reads, broken_by_reference, broken_by, is_so, each_holds, each_holds_by, holds_at_return, returns_hold, assertions_hold};

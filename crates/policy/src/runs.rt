@@ -3,9 +3,9 @@
 ghost use Rattle.std.specs.Prelude.{◌≡◌, IsTrue, IfOk, OnOk, OnErr};
 ghost use Rattle.peripherals.specs.Events.{IsLoaded};
 ghost use Rattle.peripherals.specs.Loading.{image_of};
-ghost use Rattle.peripherals.specs.Seen.{puts_out};
+ghost use Rattle.peripherals.specs.EventOutcomes.{puts_out};
 ghost use Rattle.peripherals.specs.World.{view, profile_of};
-ghost use Rattle.declaration.specs.Kept.{meaning};
+ghost use Rattle.declaration.specs.DeclarationInCode.{meaning};
 ghost use Rattle.policy.specs.Runs.{HappensDeclared};
 ghost use Rattle.policy.specs.Watching.{begun, LeadsTo, StepPutsOut};
 ghost use Rattle.policy.specs.WatchedSteps.{waits};

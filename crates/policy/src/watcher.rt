@@ -12,7 +12,7 @@ ghost use Rattle.declaration.specs.Declaration.{IsDeclared};
 ghost use Rattle.policy.specs.Calls.{calls_after};
 ghost use Rattle.policy.specs.Rules.{KeepsCode};
 ghost use Rattle.policy.specs.Runs.{IsSafe};
-ghost use Rattle.declaration.specs.Kept.{meaning};
+ghost use Rattle.declaration.specs.DeclarationInCode.{meaning};
 ghost use Rattle.policy.specs.OpenCalls.{open_calls, machine_of, calls_of};
 ghost use Rattle.policy.specs.Decided.{is_call, followed, IsCall};
 ghost use Rattle.policy.specs.Watching.{IsClean, BreaksAt, Tells, begun};

@@ -3,7 +3,7 @@ use Rattle.std.proofs.Common.{ℕ, ◌∙◌, List, Option, inl, inr}
 use Rattle.std.proofs.lemmas.Bool.{or_cases}
 use Rattle.wordset.specs.Words.{IsWithin, Words, union}
 use Rattle.declaration.specs.Declaration.{Declaration}
-use Rattle.declaration.specs.Kept.{Kept, meaning}
+use Rattle.declaration.specs.DeclarationInCode.{Kept, meaning}
 use Rattle.proposer.specs.Widenings.{Supersedes}
 use Rattle.proposer.specs.Widths.{IsAsWide, KeepsCell}
 use Rattle.proposer.specs.declared.Proposal.{Proposal}

@@ -3,10 +3,10 @@ use Rattle.std.specs.Prelude.{◌≡◌, ℕ, Bool, ⊤, List, Option, None, is_
 use Rattle.instruct.specs.declared.Profile.{Profile}
 use Rattle.peripherals.specs.Loading.{image_of}
 use Rattle.declaration.specs.Declaration.{IsDeclared}
-use Rattle.declaration.specs.Kept.{Kept, meaning, routines_of}
+use Rattle.declaration.specs.DeclarationInCode.{Kept, meaning, routines_of}
 use Rattle.declaration.specs.Text.{Declares, ListsRoutines}
 use Rattle.policy.specs.Runs.{IsSafe}
-use Rattle.certificate_lines.specs.Kept as certified
+use Rattle.certificate_lines.specs.CertificateInCode as certified
 use Rattle.certificate_lines.specs.Reading.{Text}
 use Rattle.certificate.specs.Exact.{AreLines}
 use Rattle.judge.specs.Conditions.{IsValid}

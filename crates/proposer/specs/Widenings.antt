@@ -2,7 +2,7 @@
 use Rattle.std.specs.Prelude.{ℕ, ◌≡◌, List, Option, ⊤}
 use Rattle.instruct.specs.declared.Profile.{Profile}
 use Rattle.declaration.specs.Declaration.{IsDeclared}
-use Rattle.declaration.specs.Kept.{Kept, meaning, routines_of}
+use Rattle.declaration.specs.DeclarationInCode.{Kept, meaning, routines_of}
 use Rattle.declaration.specs.Text.{Declares, ListsRoutines}
 use Rattle.peripherals.specs.declared.Event.{Event}
 use Rattle.proposer.specs.Obstacles.{IsObstacle}

@@ -4,9 +4,9 @@
 ghost use Rattle.std.specs.Prelude.{ℕ, ◌≡◌, ◌≢◌, ◌≤◌, List, Option, IfOk, IfErr, None, is_some, true};
 ghost use Rattle.analyser.specs.Versions.{IsVersionFor};
 ghost use Rattle.turns.specs.declared.GuessFault.TheVariants as guess_fault;
-ghost use Rattle.certificate_lines.specs.Kept as certified;
+ghost use Rattle.certificate_lines.specs.CertificateInCode as certified;
 ghost use Rattle.certificate.specs.Exact.{AreLines};
-ghost use Rattle.declaration.specs.Kept.{Kept, meaning, routines_of};
+ghost use Rattle.declaration.specs.DeclarationInCode.{Kept, meaning, routines_of};
 ghost use Rattle.declaration.specs.Text.{Declares, ListsRoutines};
 ghost use Rattle.judge.specs.Judged.{judged};
 ghost use Rattle.proposer.specs.Needed.{ReadsAreNeeded};
@@ -30,7 +30,7 @@ use control_flow::{Findings, Map, Tape, VariableSelection, explore_runs, push_re
 use declaration::{Declaration, DeclarationFault};
 pub use evidence::Evidence;
 use instruct::Profile;
-use judge::{Rooms, judge};
+use judge::{JudgeWorkspace, judge};
 pub use learning::Obstacle;
 use std::alloc::Allocator;
 pub use turns::{GuessFault, ProposeFault, Turns};
@@ -424,7 +424,7 @@ fn accepted<A: Allocator + Copy>(
     ensures spent { IfOk result (λ v. v ≢ TurnsSpent) }
     ensures faults { IfErr result IsTold }
 {
-    let Ok(mut rooms) = Rooms::boxed(alloc) else {
+    let Ok(mut rooms) = JudgeWorkspace::boxed(alloc) else {
         return Err(ProposeFault::NoMemory);
     };
     match judge(image, declaration, &certificate, &mut rooms) {

@@ -1,7 +1,7 @@
 //! Whether an obstacle is one, as far as the run that meets it and the tape show that.
 
 ghost use Rattle.std.specs.Prelude.{◌≡◌, take, true, IfOk};
-ghost use Rattle.declaration.specs.Kept.{meaning};
+ghost use Rattle.declaration.specs.DeclarationInCode.{meaning};
 ghost use Rattle.peripherals.specs.World.{profile_of, view};
 ghost use Rattle.proposer.specs.Obstacles.{IsObstacle, IsUnsupported, MeetsUnsupported};
 

@@ -1,7 +1,7 @@
 //! Widens a proposal that a run leaves.
 
 ghost use Rattle.std.specs.Prelude.{◌≡◌, ◌≤◌, IfOk, IfErr, IfSome};
-ghost use Rattle.declaration.specs.Kept.{meaning};
+ghost use Rattle.declaration.specs.DeclarationInCode.{meaning};
 ghost use Rattle.peripherals.specs.World.{profile_of};
 ghost use Rattle.proposer.specs.Proposals.{IsTold};
 ghost use Rattle.proposer.specs.Widenings.{HasProfile, IsDrafted, IsTaught, IsWidened, Supersedes};

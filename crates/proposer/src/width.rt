@@ -2,7 +2,7 @@
 
 ghost use Rattle.std.specs.Prelude.{ℕ, ◌≡◌, ◌<◌, true};
 ghost use Rattle.declaration.specs.Declaration.{Routine};
-ghost use Rattle.declaration.specs.Kept.{meaning};
+ghost use Rattle.declaration.specs.DeclarationInCode.{meaning};
 ghost use Rattle.wordset.specs.Words.{IsWithin, union};
 ghost use Rattle.proposer.specs.Widths.{IsAsWide, KeepsCell};
 

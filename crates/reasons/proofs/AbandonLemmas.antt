@@ -11,8 +11,8 @@ use Rattle.reasons.specs.Breaches.{MissesBeyond, OutcomeMisses, SomeOutcome}
 use Rattle.reasons.specs.Keeping.{Arrives, ArrivesBeyond}
 use Rattle.reasons.specs.Points.{IsSought, MissesAs}
 use Rattle.reasons.specs.Stuck.{is_landing_of_lines}
-use Rattle.reasons.specs.declared.breach.Landing.{Landing}
-use Rattle.reasons.specs.declared.sought.Sought.{Sought}
+use Rattle.reasons.specs.declared.violation.LandingFailure.{LandingFailure}
+use Rattle.reasons.specs.declared.filter.ReasonFilter.{ReasonFilter}
 use Rattle.reasons.proofs.SetLemmas.{in_difference}
 
 -- ---- beyond and elsewhere
@@ -43,13 +43,13 @@ arrives_split lines j r f set beyond others away is_others is_away here there a 
     by_test false q = here a lt (ap (λ (s : Words). s a) is_others ∙ and_not (set a) (beyond a) has q)
 
 -- What misses at one for which no calls are abandoned, and what misses at another as one of main's.
-pub misses_others : (s : Sought) (j : Case) (r : Routine) (f : Fact) (set beyond others : Words) (a : ℕ) (l : Landing) → others ≡ difference set beyond → others a ≡ true → MissesAs s j r a f l →
+pub misses_others : (s : ReasonFilter) (j : Case) (r : Routine) (f : Fact) (set beyond others : Words) (a : ℕ) (l : LandingFailure) → others ≡ difference set beyond → others a ≡ true → MissesAs s j r a f l →
     (set a ≡ true) × IsSought s (is_landing_of_lines l) × MissesBeyond (beyond a) j r a f l
 misses_others s j r f set beyond others a l is has misses =
     let both = in_difference others set beyond is a has in
     (both.0, misses.1, subst (λ b. MissesBeyond b j r a f l) (sym both.1) misses.0)
 
-pub misses_away : (s : Sought) (j : Case) (r : Routine) (f : Fact) (set beyond away : Words) (a : ℕ) (l : Landing) → away ≡ meet set beyond → away a ≡ true → MissesAs s j None a (as_main f) l →
+pub misses_away : (s : ReasonFilter) (j : Case) (r : Routine) (f : Fact) (set beyond away : Words) (a : ℕ) (l : LandingFailure) → away ≡ meet set beyond → away a ≡ true → MissesAs s j None a (as_main f) l →
     (set a ≡ true) × IsSought s (is_landing_of_lines l) × MissesBeyond (beyond a) j r a f l
 misses_away s j r f set beyond away a l is has misses =
     let both = both_of (set a) (beyond a) (sym (ap (λ (w : Words). w a) is) ∙ has) in
@@ -61,5 +61,5 @@ none_of None h = refl
 none_of (Some x) h = absurd (true≢false h)
 
 -- The reason that is told of an outcome that misses, by another name.
-pub missed_as : (j : Case) (r : Routine) (beyond : Words) (a : ℕ) (k l : Landing) (os : List Successor) → k ≡ l → SomeOutcome (OutcomeMisses j r beyond a k) os → SomeOutcome (OutcomeMisses j r beyond a l) os
+pub missed_as : (j : Case) (r : Routine) (beyond : Words) (a : ℕ) (k l : LandingFailure) (os : List Successor) → k ≡ l → SomeOutcome (OutcomeMisses j r beyond a k) os → SomeOutcome (OutcomeMisses j r beyond a l) os
 missed_as j r beyond a k l os is h = subst (λ x. SomeOutcome (OutcomeMisses j r beyond a x) os) is h

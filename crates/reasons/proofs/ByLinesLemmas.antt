@@ -22,17 +22,17 @@ use Rattle.reasons.specs.Landing.{Misses}
 use Rattle.reasons.specs.Points.{IsSought}
 use Rattle.reasons.specs.Reasons.{HasWrongWord, IsAskedFact, IsWrongExit, IsWrongWord}
 use Rattle.reasons.specs.Stuck.{EachFailsByLinesAlone, FailsByLinesAlone, NoneFailsBefore, place_asked, is_call_of_lines, is_landing_of_lines, is_of_lines, is_return_of_lines, is_word_of_lines}
-use Rattle.reasons.specs.declared.breach.Breach.{Breach}
-use Rattle.reasons.specs.declared.breach.Breach.TheVariants as breach
-use Rattle.reasons.specs.declared.breach.CallBreach.{CallBreach}
-use Rattle.reasons.specs.declared.breach.CallBreach.TheVariants as call
-use Rattle.reasons.specs.declared.breach.Landing.{Landing}
-use Rattle.reasons.specs.declared.breach.Landing.TheVariants.{NoFact, OtherBody, Excluded, ExcludedUnder, NotTaken, NotEntailed}
-use Rattle.reasons.specs.declared.breach.ReturnBreach.{ReturnBreach}
-use Rattle.reasons.specs.declared.breach.ReturnBreach.TheVariants as return
+use Rattle.reasons.specs.declared.violation.Violation.{Violation}
+use Rattle.reasons.specs.declared.violation.Violation.TheVariants as breach
+use Rattle.reasons.specs.declared.violation.CallViolation.{CallViolation}
+use Rattle.reasons.specs.declared.violation.CallViolation.TheVariants as call
+use Rattle.reasons.specs.declared.violation.LandingFailure.{LandingFailure}
+use Rattle.reasons.specs.declared.violation.LandingFailure.TheVariants.{NoFact, OtherBody, Excluded, ExcludedUnder, NotTaken, NotEntailed}
+use Rattle.reasons.specs.declared.violation.ReturnViolation.{ReturnViolation}
+use Rattle.reasons.specs.declared.violation.ReturnViolation.TheVariants as return
 use Rattle.reasons.specs.declared.reason.Reason.{Reason}
 use Rattle.reasons.specs.declared.reason.Reason.TheVariants as why
-use Rattle.reasons.specs.declared.sought.Sought.TheVariants.{NotOfLines}
+use Rattle.reasons.specs.declared.filter.ReasonFilter.TheVariants.{NotOfLines}
 use Rattle.reasons.specs.declared.stuck.TheConstants.{ORDER}
 use Rattle.reasons.proofs.RefuteLemmas.{asked_here, both, counting_refutes, declared_or, exit_refutes, few, moving_refutes, past_last, ranks_clash, some_denied_refutes, storing_refutes}
 
@@ -43,7 +43,7 @@ not_outside true j r a f arrives misses = misses.fails arrives
 not_outside false j r a f (inl idle) misses = misses.fails (inl idle)
 not_outside false j r a f (inr inside) misses = both (j.declaration.body r a) inside misses.left
 
-arrived : (lines : Bool) (j : Case) (r : Routine) (a : ℕ) (f : Fact) (l : Landing) → Arrives lines j r a f → Misses j r a f l → is_landing_of_lines l ≡ true
+arrived : (lines : Bool) (j : Case) (r : Routine) (a : ℕ) (f : Fact) (l : LandingFailure) → Arrives lines j r a f → Misses j r a f l → is_landing_of_lines l ≡ true
 arrived lines j r a f NoFact arrives misses = refl
 arrived lines j r a f OtherBody arrives misses = absurd (not_outside lines j r a f arrives misses)
 arrived lines j r a f (Excluded g) arrives misses = refl
@@ -61,11 +61,11 @@ one_arrives p [] i lt h = absurd (omega (arith, lt))
 one_arrives p (x ∷ xs) zero lt h = h.0
 one_arrives p (x ∷ xs) (suc i) lt h = one_arrives p xs i (omega (arith, lt)) h.1
 
-returned : (lines : Bool) (j : Case) (r : Routine) (a e o i : ℕ) (f : Fact) (l : Landing) → EachArrivesWith lines j r a (j.certificate.writes e) o f (exits_of j e o) → MissesAfter j r a e o i f l → is_landing_of_lines l ≡ true
+returned : (lines : Bool) (j : Case) (r : Routine) (a e o i : ℕ) (f : Fact) (l : LandingFailure) → EachArrivesWith lines j r a (j.certificate.writes e) o f (exits_of j e o) → MissesAfter j r a e o i f l → is_landing_of_lines l ≡ true
 returned lines j r a e o i f l arrives misses =
     arrived lines j r _ _ l (one_arrives (ArrivesWith lines j r a (j.certificate.writes e) o f) (exits_of j e o) i misses.there arrives misses.site) misses.misses
 
-call_kept : (lines : Bool) (j : Case) (r : Routine) (a : ℕ) (f : Fact) (e : ℕ) (b : CallBreach) → KeepsCall lines j r a f (condition_of_call b) e → CallBreaks j r a f e b → is_call_of_lines b ≡ true
+call_kept : (lines : Bool) (j : Case) (r : Routine) (a : ℕ) (f : Fact) (e : ℕ) (b : CallViolation) → KeepsCall lines j r a f (condition_of_call b) e → CallBreaks j r a f e b → is_call_of_lines b ≡ true
 call_kept lines j r a f e call.NoEntry keeps breaks = absurd (both (j.declaration.entry e) keeps.entry breaks)
 call_kept lines j r a f e call.NotListed keeps breaks = refl
 call_kept lines j r a f e (call.NotLower rank own) keeps breaks =
@@ -81,21 +81,21 @@ call_kept lines j r a f e (call.Returns o i l) keeps breaks = returned lines j r
 undeclared : (lines : Bool) (j : Case) (e o : ℕ) (f : Fact) → j.declaration.offset e o ≡ false → ReturnsAsDeclared lines j e f o → ⊥
 undeclared lines j e o f none h = both (j.declaration.offset e o) h.declared none
 
-return_kept : (lines : Bool) (j : Case) (r : Routine) (f : Fact) (e : ℕ) (b : ReturnBreach) → ReturnsThrough lines j r f e → ReturnBreaks j r f e b → is_return_of_lines b ≡ true
+return_kept : (lines : Bool) (j : Case) (r : Routine) (f : Fact) (e : ℕ) (b : ReturnViolation) → ReturnsThrough lines j r f e → ReturnBreaks j r f e b → is_return_of_lines b ≡ true
 return_kept lines j r f e return.OtherRoutine keeps breaks = absurd (breaks keeps.own)
 return_kept lines j r f e (return.NotDeclared o) keeps breaks = absurd (undeclared lines j e o f breaks.2 (keeps.each o breaks.0 breaks.1))
 return_kept lines j r f e (return.NotAllowed o l) keeps breaks = refl
 
-arrived_beyond : (away lines : Bool) (j : Case) (r : Routine) (a : ℕ) (f : Fact) (l : Landing) → ArrivesBeyond away lines j r a f → MissesBeyond away j r a f l → is_landing_of_lines l ≡ true
+arrived_beyond : (away lines : Bool) (j : Case) (r : Routine) (a : ℕ) (f : Fact) (l : LandingFailure) → ArrivesBeyond away lines j r a f → MissesBeyond away j r a f l → is_landing_of_lines l ≡ true
 arrived_beyond true lines j r a f l arrives misses = arrived lines j _ a _ l arrives misses
 arrived_beyond false lines j r a f l arrives misses = arrived lines j r a f l arrives misses
 
-outcome_kept : (lines : Bool) (j : Case) (r : Routine) (beyond : Words) (a : ℕ) (l : Landing) (o : Successor) → OutcomeArrives lines j r beyond o → OutcomeMisses j r beyond a l o → is_landing_of_lines l ≡ true
+outcome_kept : (lines : Bool) (j : Case) (r : Routine) (beyond : Words) (a : ℕ) (l : LandingFailure) (o : Successor) → OutcomeArrives lines j r beyond o → OutcomeMisses j r beyond a l o → is_landing_of_lines l ≡ true
 outcome_kept lines j r beyond a l (Goes next f) keeps misses = arrived_beyond (beyond a) lines j r a f l (keeps a misses.0 misses.1) misses.2
 outcome_kept lines j r beyond a l (CallsTo next f) keeps misses = absurd misses
 outcome_kept lines j r beyond a l (Returns f) keeps misses = absurd misses
 
-outcomes_kept : (lines : Bool) (j : Case) (r : Routine) (beyond : Words) (a : ℕ) (l : Landing) (os : List Successor) → EachSuccessor (OutcomeArrives lines j r beyond) os → SomeOutcome (OutcomeMisses j r beyond a l) os → is_landing_of_lines l ≡ true
+outcomes_kept : (lines : Bool) (j : Case) (r : Routine) (beyond : Words) (a : ℕ) (l : LandingFailure) (os : List Successor) → EachSuccessor (OutcomeArrives lines j r beyond) os → SomeOutcome (OutcomeMisses j r beyond a l) os → is_landing_of_lines l ≡ true
 outcomes_kept lines j r beyond a l [] keeps misses = absurd misses
 outcomes_kept lines j r beyond a l (o ∷ os) keeps (inl misses) = outcome_kept lines j r beyond a l o keeps.0 misses
 outcomes_kept lines j r beyond a l (o ∷ os) keeps (inr misses) = outcomes_kept lines j r beyond a l os keeps.1 misses
@@ -105,7 +105,7 @@ none_denied : (pl : Place) (f : Fact) (a : ℕ) (s : Subject) (w : ℕ) (hs : Li
 none_denied pl f a s w hs holds denied = some_denied_refutes pl f a s w hs denied holds
 
 -- A call keeps its condition where the word does.
-call_of_word : (lines : Bool) (j : Case) (r : Routine) (a : ℕ) (f : Fact) (m : Meaning) (e : ℕ) (b : CallBreach) → e < 4096 → called (place_in j r) f m e ≡ true →
+call_of_word : (lines : Bool) (j : Case) (r : Routine) (a : ℕ) (f : Fact) (m : Meaning) (e : ℕ) (b : CallViolation) → e < 4096 → called (place_in j r) f m e ≡ true →
     Keeps lines j r a f (condition_of_call b) m → KeepsCall lines j r a f (condition_of_call b) e
 call_of_word lines j r a f m e call.NoEntry lt is keeps = keeps.1 e lt is
 call_of_word lines j r a f m e call.NotListed lt is keeps = keeps.1 e lt is
@@ -118,7 +118,7 @@ call_of_word lines j r a f m e call.TooHigh lt is keeps = keeps e lt is
 call_of_word lines j r a f m e (call.Enters l) lt is keeps = keeps e lt is
 call_of_word lines j r a f m e (call.Returns o i l) lt is keeps = keeps e lt is
 
-word_kept : (lines : Bool) (j : Case) (r : Routine) (a : ℕ) (f : Fact) (m : Meaning) (b : Breach) → Keeps lines j r a f (condition_of b) m → Breaks j r a f m b → is_word_of_lines b ≡ true
+word_kept : (lines : Bool) (j : Case) (r : Routine) (a : ℕ) (f : Fact) (m : Meaning) (b : Violation) → Keeps lines j r a f (condition_of b) m → Breaks j r a f m b → is_word_of_lines b ≡ true
 word_kept lines j r a f m breach.NotSupported keeps breaks = absurd (breaks keeps)
 word_kept lines j r a f m (breach.WritesUndeclared b) keeps breaks = absurd (declared_or (j.declaration.variable b) (j.declaration.entry b) breaks.2 breaks.3 (keeps b breaks.0 breaks.1))
 word_kept lines j r a f m (breach.WritesEntry b) keeps breaks = absurd (breaks.3 keeps)
@@ -191,7 +191,7 @@ not_of_lines true h = sym h
 not_of_lines false h = refl
 
 -- A call does not break the condition on what is declared to hold.
-no_call : (b : CallBreach) → condition_of_call b ≡ V16 → ⊥
+no_call : (b : CallViolation) → condition_of_call b ≡ V16 → ⊥
 no_call call.NoEntry e = cc
 no_call call.NotListed e = cc
 no_call (call.NotLower rank own) e = cc
@@ -204,7 +204,7 @@ no_call (call.Enters l) e = cc
 no_call (call.Returns o i l) e = cc
 
 -- What breaks it is not of lines.
-held_breach : (b : Breach) → condition_of b ≡ V16 → is_word_of_lines b ≡ false
+held_breach : (b : Violation) → condition_of b ≡ V16 → is_word_of_lines b ≡ false
 held_breach (breach.WritesUnlisted c) e = absurd (sixth e)
   where
     sixth : V6 ≡ V16 → ⊥

@@ -22,8 +22,8 @@ use Rattle.facts.specs.Conditions.{EachIsHeldBy}
 use Rattle.reasons.specs.Breaches.{SomeDenied}
 use Rattle.reasons.specs.Points.{Denies}
 use Rattle.reasons.specs.Reasons.{IsAskedExit, IsWrongExit, SomeReturnDenied}
-use Rattle.reasons.specs.declared.breach.Breach.{Breach}
-use Rattle.reasons.specs.declared.breach.Breach.TheVariants as breach
+use Rattle.reasons.specs.declared.violation.Violation.{Violation}
+use Rattle.reasons.specs.declared.violation.Violation.TheVariants as breach
 use Rattle.reasons.specs.declared.reason.Reason.TheVariants as why
 
 -- What denies one assertion of a list denies one of the list.
@@ -36,7 +36,7 @@ denied_in g pl f a s w (y ∷ ys) zero x lt is h = elim (subst (λ z. SomeDenied
 ]
 denied_in g pl f a s w (y ∷ ys) (suc i) x lt is h = inr (denied_in g pl f a s w ys i x (omega (arith, lt)) is h)
 
-pub denies_in : {A : Type 0} (g : A → PlaceAssertion) (pl : Place) (f : Fact) (a : ℕ) (xs : List A) (i : ℕ) (x : A) (b : Breach) → i < length xs → x ≡ get_or xs i x →
+pub denies_in : {A : Type 0} (g : A → PlaceAssertion) (pl : Place) (f : Fact) (a : ℕ) (xs : List A) (i : ℕ) (x : A) (b : Violation) → i < length xs → x ≡ get_or xs i x →
     Denies pl f a (g x ∷ []) b → Denies pl f a (map g xs) b
 denies_in g pl f a xs i x (breach.DeniesAssertion s w) lt is h = denied_in g pl f a s w xs i x lt is h
 denies_in g pl f a xs i x _ lt is h = absurd h

@@ -18,11 +18,11 @@ use Rattle.reasons.specs.Keeping.{Arrives}
 use Rattle.reasons.specs.Landing.{IsLeft, IsLeftAt, Misses}
 use Rattle.reasons.specs.Points.{IsSought, MissesAs, counts_lines}
 use Rattle.reasons.specs.Stuck.{is_landing_of_lines, is_word_of_lines}
-use Rattle.reasons.specs.declared.breach.Breach.{Breach}
-use Rattle.reasons.specs.declared.breach.Landing.{Landing}
-use Rattle.reasons.specs.declared.breach.Landing.TheVariants.{OtherBody}
-use Rattle.reasons.specs.declared.sought.Sought.{Sought}
-use Rattle.reasons.specs.declared.sought.Sought.TheVariants.{Any, NotOfLines}
+use Rattle.reasons.specs.declared.violation.Violation.{Violation}
+use Rattle.reasons.specs.declared.violation.LandingFailure.{LandingFailure}
+use Rattle.reasons.specs.declared.violation.LandingFailure.TheVariants.{OtherBody}
+use Rattle.reasons.specs.declared.filter.ReasonFilter.{ReasonFilter}
+use Rattle.reasons.specs.declared.filter.ReasonFilter.TheVariants.{Any, NotOfLines}
 
 -- ---- one fact, or several
 
@@ -44,15 +44,15 @@ both_links p first second l lt = elim (cases_eq l 0) [
 
 -- ---- which reasons are looked for
 
-pub any_sought : (s : Sought) (b : Bool) → s ≡ Any → IsSought s b
+pub any_sought : (s : ReasonFilter) (b : Bool) → s ≡ Any → IsSought s b
 any_sought s true is = ap counts_lines is
 any_sought s false is = tt
 
-pub outside_sought : (s : Sought) (l : Landing) → l ≡ OtherBody → IsSought s (is_landing_of_lines l)
+pub outside_sought : (s : ReasonFilter) (l : LandingFailure) → l ≡ OtherBody → IsSought s (is_landing_of_lines l)
 outside_sought s l is = subst (λ x. IsSought s (is_landing_of_lines x)) (sym is) tt
 
 -- A reason that is not of lines is looked for.
-pub not_of_lines_sought : (s : Sought) (b : Bool) → b ≡ false → IsSought s b
+pub not_of_lines_sought : (s : ReasonFilter) (b : Bool) → b ≡ false → IsSought s b
 not_of_lines_sought s b is = subst (IsSought s) (sym is) tt
 
 -- ---- where a run arrives
@@ -61,10 +61,10 @@ pub idle_arrives : (lines : Bool) (j : Case) (r : Routine) (a : ℕ) (f : Fact) 
 idle_arrives true j r a f idle = inl idle
 idle_arrives false j r a f idle = inl idle
 
-pub landed_arrives : (s : Sought) (j : Case) (r : Routine) (a : ℕ) (f : Fact) → s ≡ Any → LandsAt j r a f → Arrives (counts_lines s) j r a f
+pub landed_arrives : (s : ReasonFilter) (j : Case) (r : Routine) (a : ℕ) (f : Fact) → s ≡ Any → LandsAt j r a f → Arrives (counts_lines s) j r a f
 landed_arrives s j r a f is h = subst (λ k. Arrives (counts_lines k) j r a f) (sym is) h
 
-pub inside_arrives : (s : Sought) (j : Case) (r : Routine) (a : ℕ) (f : Fact) → s ≡ NotOfLines → j.declaration.body r a ≡ true → Arrives (counts_lines s) j r a f
+pub inside_arrives : (s : ReasonFilter) (j : Case) (r : Routine) (a : ℕ) (f : Fact) → s ≡ NotOfLines → j.declaration.body r a ≡ true → Arrives (counts_lines s) j r a f
 inside_arrives s j r a f is here = subst (λ k. Arrives (counts_lines k) j r a f) (sym is) (inr here)
 
 -- What lands where it is not in the body is idle.
@@ -77,7 +77,7 @@ pub lands_here : (j : Case) (r : Routine) (a : ℕ) (k f : Fact) (pl : Place) (f
 lands_here j r a k f pl fs here same place among h =
     inr (here, subst (Lands (place_in j r) f) among (subst (λ (p : Place). Lands p f fs) place (subst (λ (x : Fact). Lands pl x fs) same h)))
 
-pub misses_equally : (s : Sought) (j : Case) {q r : Routine} {a b : ℕ} {f g : Fact} (l : Landing) → q ≡ r → a ≡ b → f ≡ g → MissesAs s j q a f l → MissesAs s j r b g l
+pub misses_equally : (s : ReasonFilter) (j : Case) {q r : Routine} {a b : ℕ} {f g : Fact} (l : LandingFailure) → q ≡ r → a ≡ b → f ≡ g → MissesAs s j q a f l → MissesAs s j r b g l
 misses_equally s j {q} {r} {a} {b} {f} {g} l same at fact h =
     subst (λ x. MissesAs s j x b g l) same (subst (λ x. MissesAs s j q x g l) at (subst (λ (x : Fact). MissesAs s j q a x l) fact h))
 
@@ -113,7 +113,7 @@ each_of_four p (w ∷ ws) xs ys zs h k l = (h.0, each_of_four p ws xs ys zs h.1 
 -- ---- returns of a callee
 
 -- What does not arrive after the exit at a place of a list that is that of the callee's exits.
-pub misses_after : (s : Sought) (j : Case) (r : Routine) (a e o i : ℕ) (f x : Fact) (written : Words) (xs : List Fact) (l : Landing) → o < 64 → xs ≡ exits_of j e o → written ≡ j.certificate.writes e → i < length xs → x ≡ fact_at xs i →
+pub misses_after : (s : ReasonFilter) (j : Case) (r : Routine) (a e o i : ℕ) (f x : Fact) (written : Words) (xs : List Fact) (l : LandingFailure) → o < 64 → xs ≡ exits_of j e o → written ≡ j.certificate.writes e → i < length xs → x ≡ fact_at xs i →
     x.sites a ≡ true → MissesAs s j r (plus (a + 1) o) (joined j.certificate.rules f x written) l → MissesAfter j r a e o i f l × IsSought s (is_landing_of_lines l)
 misses_after s j r a e o i f x written xs l small same writes lt is site h =
     let item : x ≡ fact_at (exits_of j e o) i = is ∙ ap (λ ys. fact_at ys i) same in
@@ -130,14 +130,14 @@ misses_after s j r a e o i f x written xs l small same writes lt is site h =
     )
 
 -- What is left of a fact, by equal parts.
-pub left_equally : {p q : Place} {k f : Fact} {xs ys : List Fact} → p ≡ q → k ≡ f → xs ≡ ys → (l : Landing) → IsLeft p k xs l → IsLeft q f ys l
+pub left_equally : {p q : Place} {k f : Fact} {xs ys : List Fact} → p ≡ q → k ≡ f → xs ≡ ys → (l : LandingFailure) → IsLeft p k xs l → IsLeft q f ys l
 left_equally {p} {q} {k} {f} {xs} {ys} place same among l h =
     subst (λ zs. IsLeft q f zs l) among (subst (λ (x : Place). IsLeft x f xs l) place (subst (λ (x : Fact). IsLeft p x xs l) same h))
 
 -- ---- words
 
 -- What a word breaks by itself is looked for.
-pub by_word_alone : (s : Sought) (r : Option Breach) (P : Breach → Type 0) → IfSome r P → IfSome r (λ b. is_word_of_lines b ≡ false) → IfSome r (λ b. P b × IsSought s (is_word_of_lines b))
+pub by_word_alone : (s : ReasonFilter) (r : Option Violation) (P : Violation → Type 0) → IfSome r P → IfSome r (λ b. is_word_of_lines b ≡ false) → IfSome r (λ b. P b × IsSought s (is_word_of_lines b))
 by_word_alone s None P h k = tt
 by_word_alone s (Some b) P h k = (h, not_of_lines_sought s (is_word_of_lines b) k)
 
@@ -151,7 +151,7 @@ starts_land j a pl fs t declared at place among h =
     (subst (λ xs. IsTrue t ↔ Lands (place_in j None) (start_fact j.image) xs) among (subst (λ (p : Place). IsTrue t ↔ Lands p (start_fact p.image) fs) place h))
 
 -- Why it does not.
-pub wrong_start : (j : Case) (a : ℕ) (pl : Place) (fs : List Fact) (l : Landing) → IsDeclared j.declaration → a ≡ j.declaration.start → pl ≡ place_in j None → fs ≡ facts_in j None a →
+pub wrong_start : (j : Case) (a : ℕ) (pl : Place) (fs : List Fact) (l : LandingFailure) → IsDeclared j.declaration → a ≡ j.declaration.start → pl ≡ place_in j None → fs ≡ facts_in j None a →
     (LandsAt j None j.declaration.start (start_fact j.image) → ⊥) → IsLeft pl (start_fact pl.image) fs l → Misses j None j.declaration.start (start_fact j.image) l
 wrong_start j a pl fs l declared at place among fails h =
     let same : start_fact pl.image ≡ start_fact j.image = ap (λ (p : Place). start_fact p.image) place in

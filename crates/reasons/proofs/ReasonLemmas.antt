@@ -30,8 +30,8 @@ use Rattle.facts.specs.declared.Condition.TheVariants.{V16}
 use Rattle.reasons.specs.Reasons.{Explains, HasWrongWord, IsWrongExit}
 use Rattle.reasons.specs.declared.reason.Reason.{Reason}
 use Rattle.reasons.specs.Landing.{ExcludesOne, IsLeft, IsLeftAt}
-use Rattle.reasons.specs.declared.breach.Landing.{Landing}
-use Rattle.reasons.specs.declared.breach.Landing.TheVariants.{NoFact, OtherBody, Excluded, ExcludedUnder, NotTaken, NotEntailed}
+use Rattle.reasons.specs.declared.violation.LandingFailure.{LandingFailure}
+use Rattle.reasons.specs.declared.violation.LandingFailure.TheVariants.{NoFact, OtherBody, Excluded, ExcludedUnder, NotTaken, NotEntailed}
 use Rattle.reasons.specs.Gaps.{IsBesideChain, IsCounterexample, SomeChain, SomeRelation}
 use Rattle.reasons.specs.declared.counterexample.Counterexample.{Counterexample}
 
@@ -161,7 +161,7 @@ chain_found pl a xs ys i x cell v w l all lt is same h =
 pub excludes_equally : (pl : Place) (x y : Fact) (g : Counterexample) (fs : List Fact) → x ≡ y → ExcludesOne (λ b. IsCounterexample pl x b g) fs → ExcludesOne (λ b. IsCounterexample pl y b g) fs
 excludes_equally pl x y g fs same h = subst (λ a. ExcludesOne (λ b. IsCounterexample pl a b g) fs) same h
 
-left_inside : (j : Case) (r : Routine) (a : ℕ) (f : Fact) (l : Landing) → j.declaration.body r a ≡ true → IsLeft (place_in j r) f (facts_in j r a) l → IsLeftAt j r a f l
+left_inside : (j : Case) (r : Routine) (a : ℕ) (f : Fact) (l : LandingFailure) → j.declaration.body r a ≡ true → IsLeft (place_in j r) f (facts_in j r a) l → IsLeftAt j r a f l
 left_inside j r a f NoFact here h = (here, h)
 left_inside j r a f OtherBody here h = absurd h
 left_inside j r a f (Excluded g) here h = (here, h)
@@ -170,7 +170,7 @@ left_inside j r a f (NotTaken l n v) here h = (here, h)
 left_inside j r a f NotEntailed here h = (here, h)
 
 -- What is left of a fact at an address of the body.
-pub left_here : (j : Case) (r : Routine) (a : ℕ) (k f : Fact) (pl : Place) (fs : List Fact) (l : Landing) → j.declaration.body r a ≡ true → k ≡ f → pl ≡ place_in j r → fs ≡ facts_in j r a →
+pub left_here : (j : Case) (r : Routine) (a : ℕ) (k f : Fact) (pl : Place) (fs : List Fact) (l : LandingFailure) → j.declaration.body r a ≡ true → k ≡ f → pl ≡ place_in j r → fs ≡ facts_in j r a →
     IsLeft pl k fs l → IsLeftAt j r a f l
 left_here j r a k f pl fs l here same place among h =
     left_inside j r a f l here

@@ -27,14 +27,14 @@ use Rattle.judge.specs.Conditions.{EachFact, IsPlaced, IsOfMain, HasSites, Lines
 use Rattle.reasons.specs.Breaches.{Breaks, CallBreaks, MissesAfter, MissesBeyond, NamesOwn, OutcomeMisses, ReturnBreaks, SomeDenied, SomeOutcome, condition_of, condition_of_call}
 use Rattle.reasons.specs.Reasons.{IsAskedFact, IsMisplaced, IsWrongExit, IsWrongStart, IsWrongWord, SomeReturnDenied, claimed_at}
 use Rattle.reasons.specs.Laws.{ExplainedFails}
-use Rattle.reasons.specs.declared.breach.Breach.{Breach}
-use Rattle.reasons.specs.declared.breach.Breach.TheVariants as breach
-use Rattle.reasons.specs.declared.breach.CallBreach.{CallBreach}
-use Rattle.reasons.specs.declared.breach.CallBreach.TheVariants as call
-use Rattle.reasons.specs.declared.breach.Landing.{Landing}
-use Rattle.reasons.specs.declared.breach.Landing.TheVariants.{OtherBody}
-use Rattle.reasons.specs.declared.breach.ReturnBreach.{ReturnBreach}
-use Rattle.reasons.specs.declared.breach.ReturnBreach.TheVariants as return
+use Rattle.reasons.specs.declared.violation.Violation.{Violation}
+use Rattle.reasons.specs.declared.violation.Violation.TheVariants as breach
+use Rattle.reasons.specs.declared.violation.CallViolation.{CallViolation}
+use Rattle.reasons.specs.declared.violation.CallViolation.TheVariants as call
+use Rattle.reasons.specs.declared.violation.LandingFailure.{LandingFailure}
+use Rattle.reasons.specs.declared.violation.LandingFailure.TheVariants.{OtherBody}
+use Rattle.reasons.specs.declared.violation.ReturnViolation.{ReturnViolation}
+use Rattle.reasons.specs.declared.violation.ReturnViolation.TheVariants as return
 use Rattle.reasons.specs.declared.reason.Reason.{Reason}
 use Rattle.reasons.specs.declared.reason.Reason.TheVariants as why
 
@@ -88,10 +88,10 @@ module _ (j : Case) (r : Routine) (a : ℕ) (f : Fact) (m : Meaning) (e : ℕ) (
   lands_after : EachTarget j r f m (λ x. LandsAfter j r a x f) → LandsAfter j r a e f
   lands_after h = target_of j r f m (λ x. LandsAfter j r a x f) e lt is h
 
-  after_refutes : (o i : ℕ) (l : Landing) → MissesAfter j r a e o i f l → LandsAfter j r a e f → ⊥
+  after_refutes : (o i : ℕ) (l : LandingFailure) → MissesAfter j r a e o i f l → LandsAfter j r a e f → ⊥
   after_refutes o i l h lands = h.misses.fails ((one_lands_after j r a e o f (exits_of j e o) i h.there (lands o h.offset)).0 h.site)
 
-  call_refutes : (b : CallBreach) → CallBreaks j r a f e b → HoldsFor j (condition_of_call b) r a f m → ⊥
+  call_refutes : (b : CallViolation) → CallBreaks j r a f e b → HoldsFor j (condition_of_call b) r a f m → ⊥
   call_refutes call.NoEntry h holds = both (j.declaration.entry e) (may_call holds.1).entry h
   call_refutes call.NotListed h holds = both (j.certificate.listed e) (may_call holds.1).listed h
   call_refutes (call.NotLower rank own) h holds =
@@ -128,12 +128,12 @@ own false x c e is = absurd (none_some e is)
 abbrev ReturnsRight : Case → Routine → Fact → ℕ → Type 0
 ReturnsRight j r f e = (r ≡ Some e) × ((o : ℕ) → o < 64 → f.offsets o ≡ true → MayReturn j e f o)
 
-own_refutes : (j : Case) (r : Routine) (f : Fact) (e : ℕ) (b : ReturnBreach) → ReturnBreaks j r f e b → ReturnsRight j r f e → ⊥
+own_refutes : (j : Case) (r : Routine) (f : Fact) (e : ℕ) (b : ReturnViolation) → ReturnBreaks j r f e b → ReturnsRight j r f e → ⊥
 own_refutes j r f e return.OtherRoutine h right = h right.0
 own_refutes j r f e (return.NotDeclared o) h right = both (j.declaration.offset e o) (right.1 o h.0 h.1).0 h.2
 own_refutes j r f e (return.NotAllowed o l) h right = h.2.fails (right.1 o h.0 h.1).1
 
-return_refutes : (j : Case) (r : Routine) (f : Fact) (e : ℕ) (b : ReturnBreach) (m : Meaning) → returned_through j.declaration m ≡ Some e →
+return_refutes : (j : Case) (r : Routine) (f : Fact) (e : ℕ) (b : ReturnViolation) (m : Meaning) → returned_through j.declaration m ≡ Some e →
     ReturnBreaks j r f e b → ReturnsWell j r f m → ⊥
 return_refutes j r f e b (Jmp i c) through h well =
     let way = own i (j.declaration.entry c) c e through in
@@ -145,16 +145,16 @@ return_refutes j r f e b _ through h well = absurd (none_some e through)
 
 -- ---- outcomes
 
-beyond_refutes : (away : Bool) (j : Case) (r : Routine) (b : ℕ) (f : Fact) (l : Landing) → MissesBeyond away j r b f l → LandsBeyond away j r b f → ⊥
+beyond_refutes : (away : Bool) (j : Case) (r : Routine) (b : ℕ) (f : Fact) (l : LandingFailure) → MissesBeyond away j r b f l → LandsBeyond away j r b f → ⊥
 beyond_refutes true j r b f l h lands = h.fails lands
 beyond_refutes false j r b f l h lands = h.fails lands
 
-outcome_refutes : (j : Case) (r : Routine) (m : Meaning) (b : ℕ) (l : Landing) (o : Successor) → OutcomeMisses j r (abandons j.declaration r m) b l o → SuccessorLands j r m o → ⊥
+outcome_refutes : (j : Case) (r : Routine) (m : Meaning) (b : ℕ) (l : LandingFailure) (o : Successor) → OutcomeMisses j r (abandons j.declaration r m) b l o → SuccessorLands j r m o → ⊥
 outcome_refutes j r m b l (Goes next f) h lands = beyond_refutes (abandons j.declaration r m b) j r b f l h.2 (lands b h.0 h.1)
 outcome_refutes j r m b l (CallsTo next f) h lands = absurd h
 outcome_refutes j r m b l (Returns f) h lands = absurd h
 
-outcomes_refute : (j : Case) (r : Routine) (m : Meaning) (b : ℕ) (l : Landing) (os : List Successor) → SomeOutcome (OutcomeMisses j r (abandons j.declaration r m) b l) os → EachSuccessor (SuccessorLands j r m) os → ⊥
+outcomes_refute : (j : Case) (r : Routine) (m : Meaning) (b : ℕ) (l : LandingFailure) (os : List Successor) → SomeOutcome (OutcomeMisses j r (abandons j.declaration r m) b l) os → EachSuccessor (SuccessorLands j r m) os → ⊥
 outcomes_refute j r m b l [] h lands = absurd h
 outcomes_refute j r m b l (o ∷ os) (inl h) lands = outcome_refutes j r m b l o h lands.0
 outcomes_refute j r m b l (o ∷ os) (inr h) lands = outcomes_refute j r m b l os h lands.1
@@ -216,7 +216,7 @@ counting_kept j r f m e names may =
 
 -- ---- words
 
-word_refutes : (j : Case) (r : Routine) (a : ℕ) (f : Fact) (w : ℕ) (b : Breach) → Breaks j r a f (meaning_of j.declaration.profile a w) b → HoldsFor j (condition_of b) r a f (meaning_of j.declaration.profile a w) → ⊥
+word_refutes : (j : Case) (r : Routine) (a : ℕ) (f : Fact) (w : ℕ) (b : Violation) → Breaks j r a f (meaning_of j.declaration.profile a w) b → HoldsFor j (condition_of b) r a f (meaning_of j.declaration.profile a w) → ⊥
 word_refutes j r a f w breach.NotSupported h holds = h holds
 word_refutes j r a f w (breach.WritesUndeclared b) h holds = declared_or (j.declaration.variable b) (j.declaration.entry b) h.2 h.3 (holds b h.0 h.1)
 word_refutes j r a f w (breach.WritesEntry b) h holds = h.3 holds

@@ -19,21 +19,21 @@ use Rattle.facts.specs.declared.Condition.TheVariants.{V3, V4, V5, V6, V7, V8, V
 use Rattle.certificate_lines.specs.Certificate.{writes_of}
 use Rattle.judge.specs.Landing.{Case, place_in, exits_of, called_from, abandons, as_main}
 use Rattle.reasons.specs.Landing.{Misses, MissesExit}
-use Rattle.reasons.specs.declared.breach.Landing.{Landing}
-use Rattle.reasons.specs.declared.breach.Landing.TheVariants.{OtherBody}
-use Rattle.reasons.specs.declared.breach.CallBreach.{CallBreach}
-use Rattle.reasons.specs.declared.breach.CallBreach.TheVariants as call
-use Rattle.reasons.specs.declared.breach.ReturnBreach.{ReturnBreach}
-use Rattle.reasons.specs.declared.breach.ReturnBreach.TheVariants as return
-use Rattle.reasons.specs.declared.breach.Breach.{Breach}
-use Rattle.reasons.specs.declared.breach.Breach.TheVariants as breach
+use Rattle.reasons.specs.declared.violation.LandingFailure.{LandingFailure}
+use Rattle.reasons.specs.declared.violation.LandingFailure.TheVariants.{OtherBody}
+use Rattle.reasons.specs.declared.violation.CallViolation.{CallViolation}
+use Rattle.reasons.specs.declared.violation.CallViolation.TheVariants as call
+use Rattle.reasons.specs.declared.violation.ReturnViolation.{ReturnViolation}
+use Rattle.reasons.specs.declared.violation.ReturnViolation.TheVariants as return
+use Rattle.reasons.specs.declared.violation.Violation.{Violation}
+use Rattle.reasons.specs.declared.violation.Violation.TheVariants as breach
 
 -- In a routine this is true of it.
 abbrev pub InRoutine : Routine → (ℕ → Type 0) → Type 0
 InRoutine r p = (e : ℕ) × (r ≡ Some e) × p e
 
 -- The condition that a call which breaks this fails.
-abbrev pub condition_of_call : CallBreach → Condition
+abbrev pub condition_of_call : CallViolation → Condition
 condition_of_call call.NoEntry = V7
 condition_of_call call.NotListed = V7
 condition_of_call (call.NotLower rank own) = V7
@@ -47,14 +47,14 @@ condition_of_call (call.Returns o i l) = V11
 
 -- The exit at this place among those of the callee for the offset has the address of the call among its sites, and what is joined
 -- of it and of the fact does not land, for this reason.
-pub record MissesAfter (j : Case) (r : Routine) (a e o i : ℕ) (f : Fact) (l : Landing) : Type 0 where
+pub record MissesAfter (j : Case) (r : Routine) (a e o i : ℕ) (f : Fact) (l : LandingFailure) : Type 0 where
   pub offset : o < 64
   pub there : i < length (exits_of j e o)
   pub site : (fact_at (exits_of j e o) i).sites a ≡ true
   pub misses : Misses j r (plus (a + 1) o) (joined j.certificate.rules f (fact_at (exits_of j e o) i) (j.certificate.writes e)) l
 
 -- What a call of e from the address a breaks.
-abbrev pub CallBreaks : Case → Routine → ℕ → Fact → ℕ → CallBreach → Type 0
+abbrev pub CallBreaks : Case → Routine → ℕ → Fact → ℕ → CallViolation → Type 0
 CallBreaks j r a f e call.NoEntry = j.declaration.entry e ≡ false
 CallBreaks j r a f e call.NotListed = j.certificate.listed e ≡ false
 CallBreaks j r a f e (call.NotLower rank own) =
@@ -70,19 +70,19 @@ CallBreaks j r a f e (call.Enters l) = Misses j (Some e) (plus e 1) (called_from
 CallBreaks j r a f e (call.Returns o i l) = MissesAfter j r a e o i f l
 
 -- What a return through e breaks.
-abbrev pub ReturnBreaks : Case → Routine → Fact → ℕ → ReturnBreach → Type 0
+abbrev pub ReturnBreaks : Case → Routine → Fact → ℕ → ReturnViolation → Type 0
 ReturnBreaks j r f e return.OtherRoutine = r ≡ Some e → ⊥
 ReturnBreaks j r f e (return.NotDeclared o) =
     (o < 64) × (f.offsets o ≡ true) × (j.declaration.offset e o ≡ false)
 ReturnBreaks j r f e (return.NotAllowed o l) = (o < 64) × (f.offsets o ≡ true) × MissesExit j e o f l
 
 -- The fact does not land at the address: in main's body as one of main's, where calls are abandoned for it; else in the same body.
-abbrev pub MissesBeyond : Bool → Case → Routine → ℕ → Fact → Landing → Type 0
+abbrev pub MissesBeyond : Bool → Case → Routine → ℕ → Fact → LandingFailure → Type 0
 MissesBeyond true j r a f l = Misses j None a (as_main f) l
 MissesBeyond false j r a f l = Misses j r a f l
 
 -- The outcome goes on at this address, and does not land there; these are the addresses for which all calls are abandoned.
-abbrev pub OutcomeMisses : Case → Routine → Words → ℕ → Landing → Successor → Type 0
+abbrev pub OutcomeMisses : Case → Routine → Words → ℕ → LandingFailure → Successor → Type 0
 OutcomeMisses j r beyond a l (Goes next f) = (a < 4096) × (next a ≡ true) × MissesBeyond (beyond a) j r a f l
 OutcomeMisses j r beyond a l (CallsTo next f) = ⊥
 OutcomeMisses j r beyond a l (Returns f) = ⊥
@@ -93,7 +93,7 @@ SomeOutcome p [] = ⊥
 SomeOutcome p (o ∷ os) = p o ⊎ SomeOutcome p os
 
 -- The condition that a word which breaks this fails.
-abbrev pub condition_of : Breach → Condition
+abbrev pub condition_of : Violation → Condition
 condition_of breach.NotSupported = V3
 condition_of (breach.WritesUndeclared c) = V5
 condition_of (breach.WritesEntry c) = V14
@@ -139,7 +139,7 @@ pub record LeavesForMain (j : Case) (r : Routine) (a : ℕ) (f : Fact) (m : Mean
   pub misses : SomeOutcome (OutcomeMisses j r (abandons j.declaration r m) b OtherBody) (outcomes_of (place_in j r) f a m)
 
 -- What a word of this meaning breaks at the address a of a fact in a routine's body.
-abbrev pub Breaks : Case → Routine → ℕ → Fact → Meaning → Breach → Type 0
+abbrev pub Breaks : Case → Routine → ℕ → Fact → Meaning → Violation → Type 0
 Breaks j r a f m breach.NotSupported = IsSupported m → ⊥
 Breaks j r a f m (breach.WritesUndeclared b) =
     (b < 4096) × (may_write (place_in j r) f m b ≡ true) × (j.declaration.variable b ≡ false) × (j.declaration.entry b ≡ false)

@@ -5,25 +5,25 @@ use Rattle.facts.specs.declared.Condition.TheVariants.{V3, V4, V5, V7, V9, V10, 
 use Rattle.judge.specs.Landing.{Case}
 use Rattle.judge.specs.declared.judging.Refusal.{Refusal}
 use Rattle.reasons.specs.Reasons.{Explains}
-use Rattle.reasons.specs.declared.breach.Landing.{Landing}
-use Rattle.reasons.specs.declared.breach.Landing.TheVariants.{OtherBody}
-use Rattle.reasons.specs.declared.breach.CallBreach.{CallBreach}
-use Rattle.reasons.specs.declared.breach.CallBreach.TheVariants as call
-use Rattle.reasons.specs.declared.breach.ReturnBreach.{ReturnBreach}
-use Rattle.reasons.specs.declared.breach.ReturnBreach.TheVariants as return
-use Rattle.reasons.specs.declared.breach.Breach.{Breach}
-use Rattle.reasons.specs.declared.breach.Breach.TheVariants as breach
+use Rattle.reasons.specs.declared.violation.LandingFailure.{LandingFailure}
+use Rattle.reasons.specs.declared.violation.LandingFailure.TheVariants.{OtherBody}
+use Rattle.reasons.specs.declared.violation.CallViolation.{CallViolation}
+use Rattle.reasons.specs.declared.violation.CallViolation.TheVariants as call
+use Rattle.reasons.specs.declared.violation.ReturnViolation.{ReturnViolation}
+use Rattle.reasons.specs.declared.violation.ReturnViolation.TheVariants as return
+use Rattle.reasons.specs.declared.violation.Violation.{Violation}
+use Rattle.reasons.specs.declared.violation.Violation.TheVariants as breach
 use Rattle.reasons.specs.declared.reason.Reason.{Reason}
 use Rattle.reasons.specs.declared.reason.Reason.TheVariants as why
 
 -- The run does not land since a fact is missing or too narrow.
-abbrev pub is_landing_of_lines : Landing → Bool
+abbrev pub is_landing_of_lines : LandingFailure → Bool
 is_landing_of_lines OtherBody = false
 is_landing_of_lines _ = true
 
 -- The call is wrong by lines: one is missing or too narrow, or lets the callee write the caller's entry. A rank that is not
 -- lower is no such thing: where there are ranks, a draft has them.
-abbrev pub is_call_of_lines : CallBreach → Bool
+abbrev pub is_call_of_lines : CallViolation → Bool
 is_call_of_lines call.NoEntry = false
 is_call_of_lines call.TooHigh = false
 is_call_of_lines (call.NotLower rank own) = false
@@ -32,13 +32,13 @@ is_call_of_lines (call.Returns o i l) = is_landing_of_lines l
 is_call_of_lines _ = true
 
 -- The return is wrong since an exit line is missing or too narrow.
-abbrev pub is_return_of_lines : ReturnBreach → Bool
+abbrev pub is_return_of_lines : ReturnViolation → Bool
 is_return_of_lines return.OtherRoutine = false
 is_return_of_lines (return.NotDeclared o) = false
 is_return_of_lines _ = true
 
 -- The word breaks the condition since a line is missing or too narrow.
-abbrev pub is_word_of_lines : Breach → Bool
+abbrev pub is_word_of_lines : Violation → Bool
 is_word_of_lines (breach.WritesUnlisted c) = true
 is_word_of_lines (breach.Calls e b) = is_call_of_lines b
 is_word_of_lines (breach.Returns e b) = is_return_of_lines b

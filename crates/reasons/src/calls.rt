@@ -11,13 +11,13 @@ ghost use Rattle.judge.specs.Points.{IsPoint, case_of, fact_asked};
 ghost use Rattle.reasons.specs.Keeping.{ArrivesBy, ArrivesWith, IsLowerIfListed, KeepsCallHere, KeepsCallsHere, KeepsHere};
 ghost use Rattle.reasons.specs.Points.{BreaksAs, CallBreaksAs, MissesAs, counts_lines};
 
-use crate::breach::{Breach, CallBreach, Landing};
+use crate::filter::ReasonFilter;
 use crate::outcomes::{misses, misses_here};
-use crate::rooms::WordRooms;
-use crate::sought::Sought;
+use crate::violation::{CallViolation, LandingFailure, Violation};
+use crate::workspace::WordWorkspace;
 use domain::Rules;
 use facts::{Condition, FactSource};
-use judge::{Claims, ExitsFor, NarrowedPoint, RoutineClaim};
+use judge::{Claims, NarrowedPoint, OffsetExits, RoutineClaim};
 use std::alloc::Allocator;
 use word12::Word;
 use wordset::WordSet;
@@ -35,16 +35,16 @@ fn last_site(rules: &Rules) -> usize
 /// A call that the rules on what may be called forbid.
 pub(crate) fn calls_wrongly<A: Allocator, C: Claims, M: Allocator>(
     point: &NarrowedPoint<'_, A, C>,
-    sought: Sought,
+    sought: ReasonFilter,
     word: Word,
-    rooms: &mut WordRooms<M>,
-) -> Option<Breach>
+    rooms: &mut WordWorkspace<M>,
+) -> Option<Violation>
     requires { IsPoint C.claims point.now }
     ensures found { IfSome result (BreaksAs sought C.claims point.now V7 word) }
     ensures none { IfNone result (KeepsHere (counts_lines sought) C.claims point.now V7 word) }
 {
     if point.place.steps_call_pointer(point.at, word) {
-        return Some(Breach::CallsThroughIndex);
+        return Some(Violation::CallsThroughIndex);
     }
     first_call(point, sought, Condition::V7, word, rooms)
 }
@@ -52,11 +52,11 @@ pub(crate) fn calls_wrongly<A: Allocator, C: Claims, M: Allocator>(
 /// The first call of a word that breaks a condition on calls.
 pub(crate) fn first_call<A: Allocator, C: Claims, M: Allocator>(
     point: &NarrowedPoint<'_, A, C>,
-    sought: Sought,
+    sought: ReasonFilter,
     condition: Condition,
     word: Word,
-    rooms: &mut WordRooms<M>,
-) -> Option<Breach>
+    rooms: &mut WordWorkspace<M>,
+) -> Option<Violation>
     requires { IsPoint C.claims point.now }
     ensures found { IfSome result (BreaksAs sought C.claims point.now condition word) }
     ensures none { IfNone result
@@ -68,7 +68,7 @@ pub(crate) fn first_call<A: Allocator, C: Claims, M: Allocator>(
         .put_called(point.fact, point.at, word, &mut callees);
     for entry in callees.iter() {
         if let Some(breach) = call_breaks(point, sought, condition, entry, rooms) {
-            return Some(Breach::Calls(entry, breach));
+            return Some(Violation::Calls(entry, breach));
         }
     }
     None
@@ -77,11 +77,11 @@ pub(crate) fn first_call<A: Allocator, C: Claims, M: Allocator>(
 /// What a call of an entry breaks of a condition.
 fn call_breaks<A: Allocator, C: Claims, M: Allocator>(
     point: &NarrowedPoint<'_, A, C>,
-    sought: Sought,
+    sought: ReasonFilter,
     condition: Condition,
     entry: Word,
-    rooms: &mut WordRooms<M>,
-) -> Option<CallBreach>
+    rooms: &mut WordWorkspace<M>,
+) -> Option<CallViolation>
     requires { IsPoint C.claims point.now }
     ensures found { IfSome result (CallBreaksAs sought C.claims point.now condition entry) }
     ensures none { IfNone result
@@ -100,19 +100,19 @@ fn call_breaks<A: Allocator, C: Claims, M: Allocator>(
 /// Why an address may not be called.
 fn may_not_call<A: Allocator, C: Claims>(
     point: &NarrowedPoint<'_, A, C>,
-    sought: Sought,
+    sought: ReasonFilter,
     entry: Word,
-) -> Option<CallBreach>
+) -> Option<CallViolation>
     requires { IsPoint C.claims point.now }
     ensures found { IfSome result (CallBreaksAs sought C.claims point.now V7 entry) }
     ensures none { IfNone result
         (KeepsCallHere (counts_lines sought) C.claims point.now V7 entry) }
 {
     if !point.place.declaration.is_entry(entry) {
-        return Some(CallBreach::NoEntry);
+        return Some(CallViolation::NoEntry);
     }
     if is_unlisted(point, sought, entry) {
-        return Some(CallBreach::NotListed);
+        return Some(CallViolation::NotListed);
     }
     is_not_lower(point, sought, entry)
 }
@@ -120,7 +120,7 @@ fn may_not_call<A: Allocator, C: Claims>(
 /// Whether an entry has no routine line, where lines count.
 fn is_unlisted<A: Allocator, C: Claims>(
     point: &NarrowedPoint<'_, A, C>,
-    sought: Sought,
+    sought: ReasonFilter,
     entry: Word,
 ) -> bool
     ensures yes { result ≡ true → (counts_lines sought ≡ true) ×
@@ -134,9 +134,9 @@ fn is_unlisted<A: Allocator, C: Claims>(
 /// Why the rank of a listed callee is not lower than that of the running routine, if that is listed.
 fn is_not_lower<A: Allocator, C: Claims>(
     point: &NarrowedPoint<'_, A, C>,
-    sought: Sought,
+    sought: ReasonFilter,
     entry: Word,
-) -> Option<CallBreach>
+) -> Option<CallViolation>
     ensures found { IfSome result (CallBreaksAs sought C.claims point.now V7 entry) }
     ensures none { IfNone result (IsLowerIfListed (case_of C.claims point.now).certificate
         point.now.place.routine entry) }
@@ -147,15 +147,15 @@ fn is_not_lower<A: Allocator, C: Claims>(
     if callee.rank < own.rank {
         return None;
     }
-    Some(CallBreach::NotLower(callee.rank, own.rank))
+    Some(CallViolation::NotLower(callee.rank, own.rank))
 }
 
 /// What of a callee the running routine's written set does not cover.
 fn is_not_covered<A: Allocator, C: Claims>(
     point: &NarrowedPoint<'_, A, C>,
-    sought: Sought,
+    sought: ReasonFilter,
     entry: Word,
-) -> Option<CallBreach>
+) -> Option<CallViolation>
     requires { IsPoint C.claims point.now }
     ensures found { IfSome result (CallBreaksAs sought C.claims point.now V8 entry) }
     ensures none { IfNone result
@@ -168,30 +168,30 @@ fn is_not_covered<A: Allocator, C: Claims>(
     let caller = point.claimed(running);
     let callee = point.claimed(entry);
     if callee.writes.contains(running) {
-        return Some(CallBreach::WritesCaller);
+        return Some(CallViolation::WritesCaller);
     }
     if !caller.writes.contains(entry) {
-        return Some(CallBreach::EntryNotWritten);
+        return Some(CallViolation::EntryNotWritten);
     }
     match callee.writes.minus(&caller.writes).first_from(0) {
         None => None,
-        Some(cell) => Some(CallBreach::Writes(cell)),
+        Some(cell) => Some(CallViolation::Writes(cell)),
     }
 }
 
 /// Why an entry may not be called from the address.
 fn is_no_site<A: Allocator, C: Claims>(
     point: &NarrowedPoint<'_, A, C>,
-    sought: Sought,
+    sought: ReasonFilter,
     entry: Word,
-) -> Option<CallBreach>
+) -> Option<CallViolation>
     requires { IsPoint C.claims point.now }
     ensures found { IfSome result (CallBreaksAs sought C.claims point.now V9 entry) }
     ensures none { IfNone result
         (KeepsCallHere (counts_lines sought) C.claims point.now V9 entry) }
 {
     if point.at.index() > last_site(&point.place.rules) {
-        return Some(CallBreach::TooHigh);
+        return Some(CallViolation::TooHigh);
     }
     if !sought.counts_lines() {
         return None;
@@ -199,22 +199,22 @@ fn is_no_site<A: Allocator, C: Claims>(
     if point.claimed(entry).sites.contains(point.at) {
         return None;
     }
-    Some(CallBreach::NoSite)
+    Some(CallViolation::NoSite)
 }
 
 /// Why a call does not land at the address after an entry.
 fn does_not_enter<A: Allocator, C: Claims, M: Allocator>(
     point: &NarrowedPoint<'_, A, C>,
-    sought: Sought,
+    sought: ReasonFilter,
     entry: Word,
-    rooms: &mut WordRooms<M>,
-) -> Option<CallBreach>
+    rooms: &mut WordWorkspace<M>,
+) -> Option<CallViolation>
     requires { IsPoint C.claims point.now }
     ensures found { IfSome result (CallBreaksAs sought C.claims point.now V10 entry) }
     ensures none { IfNone result
         (KeepsCallHere (counts_lines sought) C.claims point.now V10 entry) }
 {
-    let WordRooms { next, left, .. } = rooms;
+    let WordWorkspace { next, left, .. } = rooms;
     let callee = point.claimed(entry);
     point.put_called_from(next);
     match misses(
@@ -227,17 +227,17 @@ fn does_not_enter<A: Allocator, C: Claims, M: Allocator>(
         left,
     ) {
         None => None,
-        Some(landing) => Some(CallBreach::Enters(landing)),
+        Some(landing) => Some(CallViolation::Enters(landing)),
     }
 }
 
 /// Why the run does not land after a return that is claimed of an entry.
 fn does_not_return<A: Allocator, C: Claims, M: Allocator>(
     point: &NarrowedPoint<'_, A, C>,
-    sought: Sought,
+    sought: ReasonFilter,
     entry: Word,
-    rooms: &mut WordRooms<M>,
-) -> Option<CallBreach>
+    rooms: &mut WordWorkspace<M>,
+) -> Option<CallViolation>
     requires { IsPoint C.claims point.now }
     ensures found { IfSome result (CallBreaksAs sought C.claims point.now V11 entry) }
     ensures none { IfNone result
@@ -255,12 +255,12 @@ fn does_not_return<A: Allocator, C: Claims, M: Allocator>(
 /// Why the run does not land after a return by an offset, with the first of the exits for it with which it does not.
 fn does_not_return_by<A: Allocator, C: Claims, M: Allocator>(
     point: &NarrowedPoint<'_, A, C>,
-    sought: Sought,
+    sought: ReasonFilter,
     entry: Word,
     offset: usize,
     callee: &RoutineClaim,
-    rooms: &mut WordRooms<M>,
-) -> Option<CallBreach>
+    rooms: &mut WordWorkspace<M>,
+) -> Option<CallViolation>
     requires point { IsPoint C.claims point.now }
     requires offset { offset < 64 }
     requires sites { words callee.now.sites ≡ (case_of C.claims point.now).certificate.sites entry }
@@ -269,7 +269,7 @@ fn does_not_return_by<A: Allocator, C: Claims, M: Allocator>(
     ensures none { IfNone result (ArrivesBy (counts_lines sought) (case_of C.claims point.now)
         point.now.place.routine point.now.at entry offset (fact_asked point.now)) }
 {
-    let exits = ExitsFor {
+    let exits = OffsetExits {
         claims: point.claims,
         entry,
         offset,
@@ -278,7 +278,7 @@ fn does_not_return_by<A: Allocator, C: Claims, M: Allocator>(
     for index in 0..exits.len() {
         exits.put(index, &mut rooms.exit);
         if let Some(landing) = misses_with(point, sought, offset, &callee.writes, rooms) {
-            return Some(CallBreach::Returns(offset, index, landing));
+            return Some(CallViolation::Returns(offset, index, landing));
         }
     }
     None
@@ -287,11 +287,11 @@ fn does_not_return_by<A: Allocator, C: Claims, M: Allocator>(
 /// Why the run does not land after a return by an offset with what the exit at hand says, if the address is one of its sites.
 fn misses_with<A: Allocator, C: Claims, M: Allocator>(
     point: &NarrowedPoint<'_, A, C>,
-    sought: Sought,
+    sought: ReasonFilter,
     offset: usize,
     written: &WordSet,
-    rooms: &mut WordRooms<M>,
-) -> Option<Landing>
+    rooms: &mut WordWorkspace<M>,
+) -> Option<LandingFailure>
     requires point { IsPoint C.claims point.now }
     requires offset { offset < 64 }
     ensures site { IfSome result (λ l. (fact_in_code rooms.old.exit).sites point.now.at ≡ true) }
@@ -302,7 +302,7 @@ fn misses_with<A: Allocator, C: Claims, M: Allocator>(
         point.now.place.routine point.now.at (words written.now) offset (fact_asked point.now)
         (fact_in_code rooms.old.exit)) }
 {
-    let WordRooms {
+    let WordWorkspace {
         exit,
         next,
         left,

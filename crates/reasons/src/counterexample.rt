@@ -21,7 +21,7 @@ ghost use Rattle.facts.specs.PlaceInCode.{place_in_code};
 ghost use Rattle.reasons.specs.Gaps.{IsBesideChain, IsBeyond, IsCounterexample, IsLinkBeyond, IsSumBeyond};
 
 use domain::{BriefSet, CellSet, Chain, Location, Relation, ReturnOffsets, Rules, Sum};
-use facts::{Allowed, Fact, KnownFact, Place};
+use facts::{AllowedValues, Fact, KnownFact, Place};
 use std::alloc::Allocator;
 use word12::{Link, Word};
 use wordset::{Links, WordSet};
@@ -297,7 +297,7 @@ fn relation_gap<A: Allocator, K: KnownFact>(
 }
 
 /// The link with which a pair is allowed beside a word of a chain's cell that the chain does not give.
-fn link_beside(allowed: &Allowed<'_>, chain: &Chain, word: Word, ac: Word) -> Option<Link>
+fn link_beside(allowed: &AllowedValues<'_>, chain: &Chain, word: Word, ac: Word) -> Option<Link>
     ensures found { IfSome result (λ l. (l < 2) × (GivesIfAllowed (words allowed.now.accumulators.now)
         (links_of allowed.now.links) (map chain_of allowed.now.chains.now) (chain_of chain.now) word ac l → ⊥)) }
     ensures none { IfNone result ((l : ℕ) → l < 2 → GivesIfAllowed (words allowed.now.accumulators.now)
@@ -313,7 +313,7 @@ fn link_beside(allowed: &Allowed<'_>, chain: &Chain, word: Word, ac: Word) -> Op
 }
 
 /// A word of the accumulator and a link that are allowed beside a word of a chain's cell, and that the chain does not give.
-fn pair_beside(allowed: &Allowed<'_>, chain: &Chain, word: Word) -> Option<(Word, Link)>
+fn pair_beside(allowed: &AllowedValues<'_>, chain: &Chain, word: Word) -> Option<(Word, Link)>
     ensures found { IfSome result (λ p. (p.0 < 4096) × (p.1 < 2) × (GivesIfAllowed (words allowed.now.accumulators.now)
         (links_of allowed.now.links) (map chain_of allowed.now.chains.now) (chain_of chain.now) word p.0 p.1 → ⊥)) }
     ensures none { IfNone result (GivesAllowed (words allowed.now.accumulators.now)
@@ -332,7 +332,7 @@ fn pair_beside(allowed: &Allowed<'_>, chain: &Chain, word: Word) -> Option<(Word
 
 /// A word of a chain's cell, a word of the accumulator and a link that are possible together and that the chain does not give, where
 /// these are allowed and the cell may hold these words.
-fn beside(allowed: &Allowed<'_>, chain: &Chain, cells: &WordSet) -> Option<(Word, Word, Link)>
+fn beside(allowed: &AllowedValues<'_>, chain: &Chain, cells: &WordSet) -> Option<(Word, Word, Link)>
     ensures found { IfSome result (λ p. (p.0 < 4096) × (words cells.now p.0 ≡ true) × (p.1 < 4096) × (p.2 < 2) ×
         (GivesIfAllowed (words allowed.now.accumulators.now) (links_of allowed.now.links)
         (map chain_of allowed.now.chains.now) (chain_of chain.now) p.0 p.1 p.2 → ⊥)) }
@@ -362,7 +362,7 @@ fn known_beside<A: Allocator, K: KnownFact>(
     place.put_known(fact, &Location::Cell(chain.cell()), &mut cells);
     let mut accumulators = WordSet::all();
     place.put_known(fact, &Location::Accumulator, &mut accumulators);
-    let allowed = Allowed {
+    let allowed = AllowedValues {
         accumulators: &accumulators,
         links: fact.link(),
         chains: fact.chains(),

@@ -13,7 +13,7 @@ ghost use Rattle.reasons.specs.Breaches.{IsOutOfReach, NamesOwn};
 ghost use Rattle.reasons.specs.Points.{BreaksHere, meaning_here};
 ghost use Rattle.reasons.specs.Stuck.{is_word_of_lines};
 
-use crate::breach::Breach;
+use crate::violation::Violation;
 use crate::words::written;
 use domain::Location;
 use instruct::{Instruction, Operation, decode, refers_indirectly, target};
@@ -26,7 +26,7 @@ use wordset::WordSet;
 pub(crate) fn writes_entry<A: Allocator, C: Claims>(
     point: &NarrowedPoint<'_, A, C>,
     word: Word,
-) -> Option<Breach>
+) -> Option<Violation>
     requires { IsPoint C.claims point.now }
     ensures found { IfSome result (BreaksHere C.claims point.now V14 word) }
     ensures by_word { IfSome result (λ b. is_word_of_lines b ≡ false) }
@@ -40,7 +40,7 @@ pub(crate) fn writes_entry<A: Allocator, C: Claims>(
     }
     match first_entry(point, &written(point, word)) {
         None => None,
-        Some(cell) => Some(Breach::WritesEntry(cell)),
+        Some(cell) => Some(Violation::WritesEntry(cell)),
     }
 }
 
@@ -102,7 +102,7 @@ fn own_entry_named<A: Allocator, C: Claims>(
 fn changes_return<A: Allocator, C: Claims>(
     point: &NarrowedPoint<'_, A, C>,
     word: Word,
-) -> Option<Breach>
+) -> Option<Violation>
     requires point { IsPoint C.claims point.now }
     requires fails { HoldsHere C.claims point.now V14 word → ⊥ }
     ensures found { IfSome result (BreaksHere C.claims point.now V14 word) }
@@ -110,7 +110,7 @@ fn changes_return<A: Allocator, C: Claims>(
 {
     let entry = own_entry_named(point, word)?;
     match Operation::of(word) {
-        Operation::Isz => Some(Breach::CountsTooFar(entry)),
+        Operation::Isz => Some(Violation::CountsTooFar(entry)),
         Operation::Dca => moves_wrongly(point, word, entry),
         _ => None,
     }
@@ -121,7 +121,7 @@ fn moves_wrongly<A: Allocator, C: Claims>(
     point: &NarrowedPoint<'_, A, C>,
     word: Word,
     entry: Word,
-) -> Option<Breach>
+) -> Option<Violation>
     requires point { IsPoint C.claims point.now }
     requires own { NamesOwn (case_of C.claims point.now) point.now.place.routine Dca
         (meaning_here C.claims point.now word) entry }
@@ -129,7 +129,7 @@ fn moves_wrongly<A: Allocator, C: Claims>(
     ensures by_word { IfSome result (λ b. is_word_of_lines b ≡ false) }
 {
     if !point.place.declaration.may_move(entry) {
-        return Some(Breach::StoresInOwn(entry));
+        return Some(Violation::StoresInOwn(entry));
     }
     let mut known = WordSet::all();
     point
@@ -137,7 +137,7 @@ fn moves_wrongly<A: Allocator, C: Claims>(
         .put_words_known(point.fact, &Location::Accumulator, &mut known);
     match first_out_of_reach(point, &known) {
         None => None,
-        Some(found) => Some(Breach::MovesTooFar(entry, found.0, found.1)),
+        Some(found) => Some(Violation::MovesTooFar(entry, found.0, found.1)),
     }
 }
 

@@ -11,10 +11,10 @@ ghost use Rattle.facts.specs.PlaceInCode.{place_in_code};
 ghost use Rattle.reasons.specs.Gaps.{IsCounterexample};
 ghost use Rattle.reasons.specs.Landing.{ExcludesOne, IsLeft, IsNotTaken};
 
-use crate::breach::Landing;
 use crate::counterexample::{Counterexample, gap_between};
+use crate::violation::LandingFailure;
 use domain::{Location, Rules};
-use facts::{Fact, FactSource, KnownFact, LinkPart, Part, Place, cells_told};
+use facts::{Fact, FactPart, FactSource, KnownFact, LinkPart, Place, cells_told};
 use std::alloc::Allocator;
 use transfer::NextFact;
 use word12::{Link, Word};
@@ -40,7 +40,7 @@ pub(crate) fn one_excludes<A: Allocator, K: KnownFact, F: FactSource>(
 }
 
 /// The words of a name that some facts take of a part.
-fn words_taken<A: Allocator, P: Part, F: FactSource>(
+fn words_taken<A: Allocator, P: FactPart, F: FactSource>(
     place: &Place<'_, A>,
     part: &mut P,
     name: &Location,
@@ -62,7 +62,7 @@ fn words_taken<A: Allocator, P: Part, F: FactSource>(
 
 /// The least word of a name that a part may have and that none of some facts takes. Where it is told to be looked for of a name of
 /// which they take some words alone, there is none if they take none.
-fn word_left<A: Allocator, P: Part, F: FactSource>(
+fn word_left<A: Allocator, P: FactPart, F: FactSource>(
     place: &Place<'_, A>,
     part: &mut P,
     name: &Location,
@@ -84,7 +84,7 @@ fn word_left<A: Allocator, P: Part, F: FactSource>(
 }
 
 /// A word of one of some cells that none of some facts takes, where they take some of the cell's words.
-fn cell_left<A: Allocator, P: Part, F: FactSource>(
+fn cell_left<A: Allocator, P: FactPart, F: FactSource>(
     place: &Place<'_, A>,
     part: &mut P,
     cells: &WordSet,
@@ -106,7 +106,7 @@ fn cell_left<A: Allocator, P: Part, F: FactSource>(
 
 /// A word of a name that a part may have and that none of some facts takes: of a cell of which they take some words, or else of
 /// the accumulator.
-fn name_left<A: Allocator, P: Part, F: FactSource>(
+fn name_left<A: Allocator, P: FactPart, F: FactSource>(
     place: &Place<'_, A>,
     part: &mut P,
     among: &F,
@@ -128,13 +128,13 @@ fn name_left<A: Allocator, P: Part, F: FactSource>(
 }
 
 /// Why a part of a fact with one link does not land among several facts, where it does not.
-pub(crate) fn why_part_fails<A: Allocator, P: Part, F: FactSource>(
+pub(crate) fn why_part_fails<A: Allocator, P: FactPart, F: FactSource>(
     place: &Place<'_, A>,
     part: &mut P,
     link: Link,
     among: &F,
     given: &mut Fact,
-) -> Landing
+) -> LandingFailure
     requires fails { PartLands (place_in_code place.now) (P.part part.old) (F.facts among.now) → ⊥ }
     requires several { 1 < length (F.facts among.now) }
     ensures left { (f : said.Fact) → f.link link ≡ true →
@@ -143,8 +143,8 @@ pub(crate) fn why_part_fails<A: Allocator, P: Part, F: FactSource>(
     ensures kept { P.part part.new ≡ P.part part.old }
 {
     match name_left(place, part, among, given) {
-        None => Landing::NotEntailed,
-        Some((name, word)) => Landing::NotTaken(link, name, word),
+        None => LandingFailure::NotEntailed,
+        Some((name, word)) => LandingFailure::NotTaken(link, name, word),
     }
 }
 
@@ -155,7 +155,7 @@ fn why_link_fails<A: Allocator, F: FactSource>(
     link: Link,
     among: &F,
     given: &mut Fact,
-) -> Landing
+) -> LandingFailure
     requires fails { PartLands (place_in_code place.now) (part_in_code part.old) (F.facts among.now) → ⊥ }
     requires some { 0 < length (F.facts among.now) }
     ensures { (f : said.Fact) → f.link link ≡ true →
@@ -163,7 +163,7 @@ fn why_link_fails<A: Allocator, F: FactSource>(
         IsLeft (place_in_code place.now) f (F.facts among.now) result }
 {
     if let Some(gap) = one_excludes(place, part.fact(), among, given) {
-        return Landing::ExcludedUnder(link, gap);
+        return LandingFailure::ExcludedUnder(link, gap);
     }
     why_part_fails(place, part, link, among, given)
 }
@@ -176,7 +176,7 @@ fn why_under<A: Allocator, F: FactSource>(
     among: &F,
     part: &mut LinkPart,
     given: &mut Fact,
-) -> Option<Landing>
+) -> Option<LandingFailure>
     requires { 0 < length (F.facts among.now) }
     ensures found { IfSome result
         (IsLeft (place_in_code place.now) (fact_in_code fact.old) (F.facts among.now)) }
@@ -202,7 +202,7 @@ fn why_links<A: Allocator, F: FactSource>(
     among: &F,
     part: &mut LinkPart,
     given: &mut Fact,
-) -> Landing
+) -> LandingFailure
     requires fails { LandsBy said.OfSums (place_in_code place.now) (fact_in_code fact.old) (F.facts among.now) → ⊥ }
     requires some { 0 < length (F.facts among.now) }
     ensures left { IsLeft (place_in_code place.now) (fact_in_code fact.old) (F.facts among.now) result }
@@ -212,7 +212,7 @@ fn why_links<A: Allocator, F: FactSource>(
         return found;
     }
     match why_under(place, fact, Link::SET, among, part, given) {
-        None => Landing::NotEntailed,
+        None => LandingFailure::NotEntailed,
         Some(found) => found,
     }
 }
@@ -224,19 +224,19 @@ pub(crate) fn what_is_left<A: Allocator, F: FactSource>(
     among: &F,
     part: &mut LinkPart,
     given: &mut Fact,
-) -> Landing
+) -> LandingFailure
     requires { Lands (place_in_code place.now) (fact_in_code fact.old) (F.facts among.now) → ⊥ }
     ensures left { IsLeft (place_in_code place.now) (fact_in_code fact.old) (F.facts among.now) result }
     ensures kept { fact_in_code fact.new ≡ fact_in_code fact.old }
 {
     if among.len() == 0 {
-        return Landing::NoFact;
+        return LandingFailure::NoFact;
     }
     match &place.rules {
         Rules::OfSums => why_links(place, fact, among, part, given),
         Rules::OfEquations => match one_excludes(place, fact, among, given) {
-            None => Landing::NotEntailed,
-            Some(gap) => Landing::Excluded(gap),
+            None => LandingFailure::NotEntailed,
+            Some(gap) => LandingFailure::Excluded(gap),
         },
     }
 }

@@ -2,24 +2,24 @@
 //! rank, the site or the offset that breaks it.
 #![tactic(auto)]
 
-mod breach;
 mod calls;
 mod counterexample;
 mod entries;
+mod filter;
 mod landing;
 pub mod laws;
 mod lines;
 mod outcomes;
 mod reason;
 mod returns;
-mod rooms;
-mod sought;
 mod start;
 mod stuck;
+mod violation;
 mod words;
+mod workspace;
 
-pub use breach::{Breach, CallBreach, Landing, ReturnBreach};
 pub use counterexample::Counterexample;
 pub use reason::{Reason, why};
-pub use rooms::WhyRooms;
 pub use stuck::why_stuck;
+pub use violation::{CallViolation, LandingFailure, ReturnViolation, Violation};
+pub use workspace::ReasonWorkspace;

@@ -3,7 +3,7 @@
 ghost use Rattle.std.specs.Prelude.{ℕ, ◌≡◌, ◌<◌, true, false, length, IfNone, IfSome, None, Some};
 ghost use Rattle.wordset.specs.Words.{some_below};
 ghost use Rattle.certificate_lines.specs.Certificate.{names_routine};
-ghost use Rattle.declaration.specs.Kept.{routine_of};
+ghost use Rattle.declaration.specs.DeclarationInCode.{routine_of};
 ghost use Rattle.domain.specs.FactInCode.{fact_in_code};
 ghost use Rattle.domain.specs.Offsets.{offsets_in};
 ghost use Rattle.facts.specs.Landing.{fact_at};

@@ -14,16 +14,16 @@ ghost use Rattle.reasons.specs.Keeping.{Arrives, ArrivesBeyond, KeepsHere, Outco
 ghost use Rattle.reasons.specs.Landing.{Misses};
 ghost use Rattle.reasons.specs.Points.{BreaksAs, IsSought, JumpsToMain, MissesAs, counts_lines, meaning_here};
 ghost use Rattle.reasons.specs.Stuck.{is_landing_of_lines};
-ghost use Rattle.reasons.specs.declared.breach.Landing.TheVariants.{OtherBody};
+ghost use Rattle.reasons.specs.declared.violation.LandingFailure.TheVariants.{OtherBody};
 
-use crate::breach::{Breach, Landing};
+use crate::filter::ReasonFilter;
 use crate::landing::what_is_left;
-use crate::rooms::{LeftRooms, WordRooms};
-use crate::sought::Sought;
+use crate::violation::{LandingFailure, Violation};
+use crate::workspace::{RemainderWorkspace, WordWorkspace};
 use domain::{BriefSet, ReturnOffsets};
-use judge::{Claims, FactsAt, NarrowedPoint, place_of};
+use judge::{AddressFacts, Claims, NarrowedPoint, place_of};
 use std::alloc::Allocator;
-use transfer::{Kind, NextFact, Outcome, Outcomes};
+use transfer::{FactOutcome, NextFact, OutcomeKind, Outcomes};
 use word12::Word;
 use wordset::WordSet;
 
@@ -34,8 +34,8 @@ fn misses_body<A: Allocator, C: Claims>(
     sites: &WordSet,
     at: Word,
     known: &mut NextFact,
-    rooms: &mut LeftRooms,
-) -> Option<Landing>
+    rooms: &mut RemainderWorkspace,
+) -> Option<LandingFailure>
     requires point { IsPoint C.claims point.now }
     requires sites { words sites.now ≡ sites_of (case_of C.claims point.now).certificate owner.now }
     requires outside { (case_of C.claims point.now).declaration.body owner.now at ≡ false }
@@ -48,7 +48,7 @@ fn misses_body<A: Allocator, C: Claims>(
     if point.lands(owner, sites, at, known, &mut rooms.landing) {
         return None;
     }
-    Some(Landing::OtherBody)
+    Some(LandingFailure::OtherBody)
 }
 
 /// Why what is known does not land among the facts at an address of a routine's body, if it does not. It stays as it is.
@@ -58,8 +58,8 @@ fn misses_facts<A: Allocator, C: Claims>(
     sites: &WordSet,
     at: Word,
     known: &mut NextFact,
-    rooms: &mut LeftRooms,
-) -> Option<Landing>
+    rooms: &mut RemainderWorkspace,
+) -> Option<LandingFailure>
     requires point { IsPoint C.claims point.now }
     requires sites { words sites.now ≡ sites_of (case_of C.claims point.now).certificate owner.now }
     requires inside { (case_of C.claims point.now).declaration.body owner.now at ≡ true }
@@ -69,7 +69,7 @@ fn misses_facts<A: Allocator, C: Claims>(
         (LandsAt (case_of C.claims point.now) owner.now at (fact_in_code known.old)) }
     ensures kept { fact_in_code known.new ≡ fact_in_code known.old }
 {
-    let LeftRooms {
+    let RemainderWorkspace {
         landing,
         part,
         given,
@@ -83,7 +83,7 @@ fn misses_facts<A: Allocator, C: Claims>(
         owner,
         point.place.rules,
     );
-    let among = FactsAt {
+    let among = AddressFacts {
         claims: point.claims,
         at,
         sites,
@@ -96,13 +96,13 @@ fn misses_facts<A: Allocator, C: Claims>(
 /// it is.
 pub(crate) fn misses<A: Allocator, C: Claims>(
     point: &NarrowedPoint<'_, A, C>,
-    sought: Sought,
+    sought: ReasonFilter,
     owner: &Option<Word>,
     sites: &WordSet,
     at: Word,
     known: &mut NextFact,
-    rooms: &mut LeftRooms,
-) -> Option<Landing>
+    rooms: &mut RemainderWorkspace,
+) -> Option<LandingFailure>
     requires point { IsPoint C.claims point.now }
     requires sites { words sites.now ≡ sites_of (case_of C.claims point.now).certificate owner.now }
     ensures found { IfSome result
@@ -115,19 +115,19 @@ pub(crate) fn misses<A: Allocator, C: Claims>(
         return misses_body(point, owner, sites, at, known, rooms);
     }
     match sought {
-        Sought::Any => misses_facts(point, owner, sites, at, known, rooms),
-        Sought::NotOfLines => None,
+        ReasonFilter::Any => misses_facts(point, owner, sites, at, known, rooms),
+        ReasonFilter::NotOfLines => None,
     }
 }
 
 /// Why what is known does not land at an address of the same body, if it does not. It stays as it is.
 pub(crate) fn misses_here<A: Allocator, C: Claims>(
     point: &NarrowedPoint<'_, A, C>,
-    sought: Sought,
+    sought: ReasonFilter,
     at: Word,
     known: &mut NextFact,
-    rooms: &mut LeftRooms,
-) -> Option<Landing>
+    rooms: &mut RemainderWorkspace,
+) -> Option<LandingFailure>
     requires { IsPoint C.claims point.now }
     ensures found { IfSome result
         (MissesAs sought (case_of C.claims point.now) point.now.place.routine at (fact_in_code known.old)) }
@@ -149,11 +149,11 @@ pub(crate) fn misses_here<A: Allocator, C: Claims>(
 /// The first of some addresses at which what is known does not land, and why.
 fn misses_at<A: Allocator, C: Claims>(
     point: &NarrowedPoint<'_, A, C>,
-    sought: Sought,
+    sought: ReasonFilter,
     addresses: &WordSet,
     known: &mut NextFact,
-    rooms: &mut LeftRooms,
-) -> Option<(Word, Landing)>
+    rooms: &mut RemainderWorkspace,
+) -> Option<(Word, LandingFailure)>
     requires { IsPoint C.claims point.now }
     ensures found { IfSome result (λ found. (found.0 < 4096) × (words addresses.now found.0 ≡ true) ×
         MissesAs sought (case_of C.claims point.now) point.now.place.routine found.0 (fact_in_code known.old) found.1) }
@@ -172,11 +172,11 @@ fn misses_at<A: Allocator, C: Claims>(
 /// The first of some addresses of main's body at which what is known does not land, and why.
 fn misses_in_main<A: Allocator, C: Claims>(
     point: &NarrowedPoint<'_, A, C>,
-    sought: Sought,
+    sought: ReasonFilter,
     addresses: &WordSet,
     known: &mut NextFact,
-    rooms: &mut LeftRooms,
-) -> Option<(Word, Landing)>
+    rooms: &mut RemainderWorkspace,
+) -> Option<(Word, LandingFailure)>
     requires { IsPoint C.claims point.now }
     ensures found { IfSome result (λ found. (found.0 < 4096) × (words addresses.now found.0 ≡ true) ×
         MissesAs sought (case_of C.claims point.now) None found.0 (fact_in_code known.old) found.1) }
@@ -195,12 +195,12 @@ fn misses_in_main<A: Allocator, C: Claims>(
 /// one of main's facts, where all calls are abandoned for the address; else in the same body.
 fn misses_beyond<A: Allocator, C: Claims>(
     point: &NarrowedPoint<'_, A, C>,
-    sought: Sought,
+    sought: ReasonFilter,
     beyond: &WordSet,
     targets: &BriefSet,
     known: &mut NextFact,
-    rooms: &mut LeftRooms,
-) -> Option<(Word, Landing)>
+    rooms: &mut RemainderWorkspace,
+) -> Option<(Word, LandingFailure)>
     requires { IsPoint C.claims point.now }
     ensures found { IfSome result (λ found. (found.0 < 4096) × (brief_words targets.now found.0 ≡ true) ×
         IsSought sought (is_landing_of_lines found.1) × MissesBeyond (words beyond.now found.0)
@@ -222,11 +222,11 @@ fn misses_beyond<A: Allocator, C: Claims>(
 /// The first address at which an outcome goes on and does not land, and why. All calls are abandoned for some addresses.
 fn outcome_misses<A: Allocator, C: Claims>(
     point: &NarrowedPoint<'_, A, C>,
-    sought: Sought,
+    sought: ReasonFilter,
     beyond: &WordSet,
-    outcome: &mut Outcome,
-    rooms: &mut LeftRooms,
-) -> Option<(Word, Landing)>
+    outcome: &mut FactOutcome,
+    rooms: &mut RemainderWorkspace,
+) -> Option<(Word, LandingFailure)>
     requires { IsPoint C.claims point.now }
     ensures found { IfSome result (λ found. IsSought sought (is_landing_of_lines found.1) × SomeOutcome (OutcomeMisses (case_of C.claims point.now)
         point.now.place.routine (words beyond.now) found.0 found.1) (outcome_in outcome.old)) }
@@ -235,8 +235,8 @@ fn outcome_misses<A: Allocator, C: Claims>(
         (outcome_in outcome.old)) }
 {
     match &outcome.kind {
-        Kind::Nothing | Kind::Calls | Kind::Returns => None,
-        Kind::Goes => misses_beyond(
+        OutcomeKind::Nothing | OutcomeKind::Calls | OutcomeKind::Returns => None,
+        OutcomeKind::Goes => misses_beyond(
             point,
             sought,
             beyond,
@@ -250,11 +250,11 @@ fn outcome_misses<A: Allocator, C: Claims>(
 /// The same of the first two of some outcomes.
 fn first_two_miss<A: Allocator, C: Claims>(
     point: &NarrowedPoint<'_, A, C>,
-    sought: Sought,
+    sought: ReasonFilter,
     beyond: &WordSet,
     outcomes: &mut Outcomes,
-    rooms: &mut LeftRooms,
-) -> Option<(Word, Landing)>
+    rooms: &mut RemainderWorkspace,
+) -> Option<(Word, LandingFailure)>
     requires { IsPoint C.claims point.now }
     ensures found { IfSome result (λ found. IsSought sought (is_landing_of_lines found.1) × SomeOutcome (OutcomeMisses (case_of C.claims point.now)
         point.now.place.routine (words beyond.now) found.0 found.1) (outcome_in outcomes.old.first ++ outcome_in outcomes.old.second)) }
@@ -272,11 +272,11 @@ fn first_two_miss<A: Allocator, C: Claims>(
 /// The same of all of some outcomes.
 fn some_miss<A: Allocator, C: Claims>(
     point: &NarrowedPoint<'_, A, C>,
-    sought: Sought,
+    sought: ReasonFilter,
     beyond: &WordSet,
     outcomes: &mut Outcomes,
-    rooms: &mut LeftRooms,
-) -> Option<(Word, Landing)>
+    rooms: &mut RemainderWorkspace,
+) -> Option<(Word, LandingFailure)>
     requires { IsPoint C.claims point.now }
     ensures found { IfSome result (λ found. IsSought sought (is_landing_of_lines found.1) × SomeOutcome (OutcomeMisses (case_of C.claims point.now)
         point.now.place.routine (words beyond.now) found.0 found.1) (outcomes_in outcomes.old)) }
@@ -313,16 +313,16 @@ fn abandoned_by<A: Allocator, C: Claims>(point: &NarrowedPoint<'_, A, C>, word: 
 }
 
 /// Whether it is told that an address is not in the body.
-fn is_other_body(landing: &Landing) -> bool
+fn is_other_body(landing: &LandingFailure) -> bool
     ensures { result ≡ true → landing.now ≡ OtherBody }
 {
     match landing {
-        Landing::OtherBody => true,
-        Landing::NoFact => false,
-        Landing::Excluded(_) => false,
-        Landing::ExcludedUnder(_, _) => false,
-        Landing::NotTaken(_, _, _) => false,
-        Landing::NotEntailed => false,
+        LandingFailure::OtherBody => true,
+        LandingFailure::NoFact => false,
+        LandingFailure::Excluded(_) => false,
+        LandingFailure::ExcludedUnder(_, _) => false,
+        LandingFailure::NotTaken(_, _, _) => false,
+        LandingFailure::NotEntailed => false,
     }
 }
 
@@ -331,7 +331,7 @@ fn jumps_to_main<A: Allocator, C: Claims>(
     point: &NarrowedPoint<'_, A, C>,
     word: Word,
     at: Word,
-    landing: &Landing,
+    landing: &LandingFailure,
 ) -> bool
     requires { IsPoint C.claims point.now }
     ensures { result ≡ true → JumpsToMain (case_of C.claims point.now)
@@ -352,15 +352,15 @@ fn jumps_to_main<A: Allocator, C: Claims>(
 /// Where a word goes on and does not land.
 pub(crate) fn goes_on<A: Allocator, C: Claims, M: Allocator>(
     point: &NarrowedPoint<'_, A, C>,
-    sought: Sought,
+    sought: ReasonFilter,
     word: Word,
-    rooms: &mut WordRooms<M>,
-) -> Option<Breach>
+    rooms: &mut WordWorkspace<M>,
+) -> Option<Violation>
     requires { IsPoint C.claims point.now }
     ensures found { IfSome result (BreaksAs sought C.claims point.now V4 word) }
     ensures none { IfNone result (KeepsHere (counts_lines sought) C.claims point.now V4 word) }
 {
-    let WordRooms { outcomes, left, .. } = rooms;
+    let WordWorkspace { outcomes, left, .. } = rooms;
     point
         .place
         .put_outcomes(point.fact, point.at, word, outcomes);
@@ -368,9 +368,9 @@ pub(crate) fn goes_on<A: Allocator, C: Claims, M: Allocator>(
         None => None,
         Some(found) => {
             if jumps_to_main(point, word, found.0, &found.1) {
-                return Some(Breach::JumpsToMain(found.0));
+                return Some(Violation::JumpsToMain(found.0));
             }
-            Some(Breach::GoesOn(found.0, found.1))
+            Some(Violation::GoesOn(found.0, found.1))
         }
     }
 }

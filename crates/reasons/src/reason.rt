@@ -7,7 +7,7 @@ ghost use Rattle.facts.specs.Landing.{fact_at};
 ghost use Rattle.facts.specs.declared.Condition.TheVariants.{V1, V16};
 ghost use Rattle.facts.specs.Conditions.{EachIsHeldBy};
 ghost use Rattle.facts.specs.PlaceInCode.{place_in_code};
-ghost use Rattle.declaration.specs.Kept.{return_assertion_of};
+ghost use Rattle.declaration.specs.DeclarationInCode.{return_assertion_of};
 ghost use Rattle.domain.specs.FactInCode.{fact_in_code};
 ghost use Rattle.judge.specs.Asked.{ExitIsHeld, ExitsAreHeldBy};
 ghost use Rattle.judge.specs.Landing.{exits_of};
@@ -20,12 +20,12 @@ ghost use Rattle.reasons.specs.Points.{IsSought, counts_lines};
 ghost use Rattle.reasons.specs.Reasons.{Explains, HasWrongWord, IsWrongExit, SomeReturnDenied};
 ghost use Rattle.reasons.specs.Stuck.{is_of_lines};
 
-use crate::breach::{Breach, Landing};
+use crate::filter::ReasonFilter;
 use crate::lines::why_placed;
-use crate::rooms::WhyRooms;
-use crate::sought::Sought;
 use crate::start::why_start;
-use crate::words::first_breach;
+use crate::violation::{LandingFailure, Violation};
+use crate::words::first_violation;
+use crate::workspace::ReasonWorkspace;
 use bin_tape::Image;
 use declaration::{Declaration, Owner, ReturnAssertion, Subject};
 use facts::{Condition, Fact, NarrowedFact, Place};
@@ -40,7 +40,7 @@ use wordset::WordSet;
 #[derive(Clone, Copy, Debug)]
 pub enum Reason {
     /// V1: no fact at the start holds of every start, for this reason.
-    AtStart(Landing),
+    AtStart(LandingFailure),
     /// V2: a routine or exit line has the address, which is not an entry.
     LineAtNoEntry,
     /// V2: a fact has the address, which is in no body.
@@ -58,7 +58,7 @@ pub enum Reason {
     /// V3: by this fact so many words are possible, which are more than 64.
     TooManyWords(usize, usize),
     /// By this fact this word is possible, and breaks this.
-    ByWord(usize, Word, Breach),
+    ByWord(usize, Word, Violation),
     /// V16: by the exit for this offset at this place among those for it the subject may have this word, which is not among
     /// those that it is declared to have when the routine returns so.
     ExitDeniesAssertion(usize, usize, Subject, Word),
@@ -133,12 +133,12 @@ fn point_of<'a, A: Allocator, C: Claims>(
 /// looked for.
 fn why_fact<A: Allocator, C: Claims, M: Allocator>(
     case: &Case<'_, A, C>,
-    sought: Sought,
+    sought: ReasonFilter,
     body: &Body,
     condition: Condition,
     at: Word,
     index: usize,
-    rooms: &mut WhyRooms<M>,
+    rooms: &mut ReasonWorkspace<M>,
 ) -> Option<Reason>
     requires index { index < length ((C.claims case.now.claims.now).facts at) }
     requires stands { (case_kept C.claims case.now).declaration.body body.now.routine at ≡ true }
@@ -148,7 +148,7 @@ fn why_fact<A: Allocator, C: Claims, M: Allocator>(
     ensures none { IfNone result (FactsKeep (counts_lines sought) (case_kept C.claims case.now) condition
         body.now.routine at (fact_at ((C.claims case.now.claims.now).facts at) index ∷ [])) }
 {
-    let WhyRooms {
+    let ReasonWorkspace {
         claimed,
         fact,
         word,
@@ -160,18 +160,18 @@ fn why_fact<A: Allocator, C: Claims, M: Allocator>(
         return None;
     }
     let point = point_of(case.image, case.declaration, case.claims, body, at, fact);
-    first_breach(&point, sought, index, condition, word)
+    first_violation(&point, sought, index, condition, word)
 }
 
 /// Why a condition on words fails of the first fact at an address of a body of which it does, by a reason of those that are looked
 /// for.
 fn why_facts<A: Allocator, C: Claims, M: Allocator>(
     case: &Case<'_, A, C>,
-    sought: Sought,
+    sought: ReasonFilter,
     body: &Body,
     condition: Condition,
     at: Word,
-    rooms: &mut WhyRooms<M>,
+    rooms: &mut ReasonWorkspace<M>,
 ) -> Option<Reason>
     requires stands { (case_kept C.claims case.now).declaration.body body.now.routine at ≡ true }
     requires body { IsClaimedOf (C.claims case.now.claims.now) body.now }
@@ -192,10 +192,10 @@ fn why_facts<A: Allocator, C: Claims, M: Allocator>(
 /// Why a condition on words fails at an address, by a reason of those that are looked for.
 pub(crate) fn why_words<A: Allocator, C: Claims, M: Allocator>(
     case: &Case<'_, A, C>,
-    sought: Sought,
+    sought: ReasonFilter,
     condition: Condition,
     at: Word,
-    rooms: &mut WhyRooms<M>,
+    rooms: &mut ReasonWorkspace<M>,
 ) -> Option<Reason>
     ensures found { IfSome result (HasWrongWord (case_kept C.claims case.now) condition at) }
     ensures sought { IfSome result (λ reason. IsSought sought (is_of_lines reason)) }
@@ -261,7 +261,7 @@ fn why_exit<A: Allocator, C: Claims, M: Allocator>(
     offset: usize,
     index: usize,
     sites: &WordSet,
-    rooms: &mut WhyRooms<M>,
+    rooms: &mut ReasonWorkspace<M>,
 ) -> Option<Reason>
     requires offset { offset < 64 }
     requires index { index < length ((C.claims case.now.claims.now).exits entry offset) }
@@ -270,7 +270,7 @@ fn why_exit<A: Allocator, C: Claims, M: Allocator>(
     ensures none { IfNone result (ExitIsHeld (case_kept C.claims case.now) entry offset
         (fact_at (exits_of (case_kept C.claims case.now) entry offset) index)) }
 {
-    let WhyRooms { claimed, fact, .. } = rooms;
+    let ReasonWorkspace { claimed, fact, .. } = rooms;
     let rules = case.claims.rules();
     case.claims.put_exit(entry, offset, index, claimed);
     put_sites(&rules, sites, claimed);
@@ -290,7 +290,7 @@ fn why_exits_by<A: Allocator, C: Claims, M: Allocator>(
     case: &Case<'_, A, C>,
     entry: Word,
     offset: usize,
-    rooms: &mut WhyRooms<M>,
+    rooms: &mut ReasonWorkspace<M>,
 ) -> Option<Reason>
     requires { offset < 64 }
     ensures found { IfSome result (IsWrongExit (case_kept C.claims case.now) entry) }
@@ -309,7 +309,7 @@ fn why_exits_by<A: Allocator, C: Claims, M: Allocator>(
 fn why_exits<A: Allocator, C: Claims, M: Allocator>(
     case: &Case<'_, A, C>,
     entry: Word,
-    rooms: &mut WhyRooms<M>,
+    rooms: &mut ReasonWorkspace<M>,
 ) -> Option<Reason>
     ensures found { IfSome result (IsWrongExit (case_kept C.claims case.now) entry) }
     ensures none { IfNone result (ExitsAreHeld (case_kept C.claims case.now) entry) }
@@ -327,7 +327,7 @@ fn why_exits<A: Allocator, C: Claims, M: Allocator>(
 pub(crate) fn why_not_held<A: Allocator, C: Claims, M: Allocator>(
     case: &Case<'_, A, C>,
     at: Word,
-    rooms: &mut WhyRooms<M>,
+    rooms: &mut ReasonWorkspace<M>,
 ) -> Option<Reason>
     ensures found { IfSome result (λ reason. HasWrongWord (case_kept C.claims case.now) V16 at reason ⊎
         IsWrongExit (case_kept C.claims case.now) at reason) }
@@ -335,7 +335,7 @@ pub(crate) fn why_not_held<A: Allocator, C: Claims, M: Allocator>(
     ensures none { IfNone result (KeptOrUnowned true (case_kept C.claims case.now) V16 at ×
         ExitsAreHeld (case_kept C.claims case.now) at) }
 {
-    if let Some(reason) = why_words(case, Sought::Any, Condition::V16, at, rooms) {
+    if let Some(reason) = why_words(case, ReasonFilter::Any, Condition::V16, at, rooms) {
         return Some(reason);
     }
     why_exits(case, at, rooms)
@@ -365,7 +365,7 @@ pub fn why<A: Allocator, C: Claims, M: Allocator>(
     declaration: &Declaration<A>,
     claims: &C,
     refusal: &Refusal,
-    rooms: &mut WhyRooms<M>,
+    rooms: &mut ReasonWorkspace<M>,
 ) -> Option<Reason>
     ensures explained { IfSome result (Explains
         (judged image.now declaration.now (C.claims claims.now))
@@ -384,6 +384,6 @@ pub fn why<A: Allocator, C: Claims, M: Allocator>(
         Condition::V1 => why_at_start(&case, refusal.address, &mut rooms.claimed),
         Condition::V2 => why_placed(&case, refusal.address, &mut rooms.claimed),
         Condition::V16 => why_not_held(&case, refusal.address, rooms),
-        condition => why_words(&case, Sought::Any, condition, refusal.address, rooms),
+        condition => why_words(&case, ReasonFilter::Any, condition, refusal.address, rooms),
     }
 }

@@ -8,21 +8,21 @@ ghost use Rattle.reasons.specs.Keeping.{KeepsHere, ReturnsBy, ReturnsThrough};
 ghost use Rattle.reasons.specs.Landing.{MissesExit};
 ghost use Rattle.reasons.specs.Points.{BreaksAs, ReturnBreaksAs, counts_lines};
 
-use crate::breach::{Breach, Landing, ReturnBreach};
+use crate::filter::ReasonFilter;
 use crate::landing::what_is_left;
-use crate::rooms::{LeftRooms, WordRooms};
-use crate::sought::Sought;
-use judge::{Claims, ExitsFor, NarrowedPoint};
+use crate::violation::{LandingFailure, ReturnViolation, Violation};
+use crate::workspace::{RemainderWorkspace, WordWorkspace};
+use judge::{Claims, NarrowedPoint, OffsetExits};
 use std::alloc::Allocator;
 use word12::Word;
 
 /// A return that breaks the rules on returns.
 pub(crate) fn returns_wrongly<A: Allocator, C: Claims, M: Allocator>(
     point: &NarrowedPoint<'_, A, C>,
-    sought: Sought,
+    sought: ReasonFilter,
     word: Word,
-    rooms: &mut WordRooms<M>,
-) -> Option<Breach>
+    rooms: &mut WordWorkspace<M>,
+) -> Option<Violation>
     requires { IsPoint C.claims point.now }
     ensures found { IfSome result (BreaksAs sought C.claims point.now V12 word) }
     ensures none { IfNone result (KeepsHere (counts_lines sought) C.claims point.now V12 word) }
@@ -30,24 +30,24 @@ pub(crate) fn returns_wrongly<A: Allocator, C: Claims, M: Allocator>(
     let entry = point.place.returned_entry(point.at, word)?;
     match return_breaks(point, sought, entry, rooms) {
         None => None,
-        Some(breach) => Some(Breach::Returns(entry, breach)),
+        Some(breach) => Some(Violation::Returns(entry, breach)),
     }
 }
 
 /// What a return through an entry breaks.
 fn return_breaks<A: Allocator, C: Claims, M: Allocator>(
     point: &NarrowedPoint<'_, A, C>,
-    sought: Sought,
+    sought: ReasonFilter,
     entry: Word,
-    rooms: &mut WordRooms<M>,
-) -> Option<ReturnBreach>
+    rooms: &mut WordWorkspace<M>,
+) -> Option<ReturnViolation>
     requires { IsPoint C.claims point.now }
     ensures found { IfSome result (ReturnBreaksAs sought C.claims point.now entry) }
     ensures none { IfNone result (ReturnsThrough (counts_lines sought) (case_of C.claims point.now)
         point.now.place.routine (fact_asked point.now) entry) }
 {
     if !point.is_own(entry) {
-        return Some(ReturnBreach::OtherRoutine);
+        return Some(ReturnViolation::OtherRoutine);
     }
     for offset in 0..64usize {
         if let Some(breach) = returns_by(point, sought, entry, offset, rooms) {
@@ -60,11 +60,11 @@ fn return_breaks<A: Allocator, C: Claims, M: Allocator>(
 /// What a return through the running routine's entry by an offset breaks, if the fact has the offset.
 fn returns_by<A: Allocator, C: Claims, M: Allocator>(
     point: &NarrowedPoint<'_, A, C>,
-    sought: Sought,
+    sought: ReasonFilter,
     entry: Word,
     offset: usize,
-    rooms: &mut WordRooms<M>,
-) -> Option<ReturnBreach>
+    rooms: &mut WordWorkspace<M>,
+) -> Option<ReturnViolation>
     requires point { IsPoint C.claims point.now }
     requires own { point.now.place.routine ≡ Some entry }
     requires offset { offset < 64 }
@@ -80,14 +80,14 @@ fn returns_by<A: Allocator, C: Claims, M: Allocator>(
         .declaration
         .has_offset(entry, Word::from_index(offset))
     {
-        return Some(ReturnBreach::NotDeclared(offset));
+        return Some(ReturnViolation::NotDeclared(offset));
     }
     if !sought.counts_lines() {
         return None;
     }
     match misses_exits(point, entry, offset, rooms) {
         None => None,
-        Some(landing) => Some(ReturnBreach::NotAllowed(offset, landing)),
+        Some(landing) => Some(ReturnViolation::NotAllowed(offset, landing)),
     }
 }
 
@@ -96,23 +96,23 @@ fn misses_exits<A: Allocator, C: Claims, M: Allocator>(
     point: &NarrowedPoint<'_, A, C>,
     entry: Word,
     offset: usize,
-    rooms: &mut WordRooms<M>,
-) -> Option<Landing>
+    rooms: &mut WordWorkspace<M>,
+) -> Option<LandingFailure>
     requires point { IsPoint C.claims point.now }
     requires own { point.now.place.routine ≡ Some entry }
     requires offset { offset < 64 }
     ensures found { IfSome result (MissesExit (case_of C.claims point.now) entry offset (fact_asked point.now)) }
     ensures none { IfNone result (LandsAtExit (case_of C.claims point.now) entry offset (fact_asked point.now)) }
 {
-    let WordRooms { next, left, .. } = rooms;
-    let LeftRooms {
+    let WordWorkspace { next, left, .. } = rooms;
+    let RemainderWorkspace {
         landing,
         part,
         given,
     } = &mut **left;
     point.fact.is_within_room();
     next.copy_from(point.fact);
-    let exits = ExitsFor {
+    let exits = OffsetExits {
         claims: point.claims,
         entry,
         offset,

@@ -11,12 +11,12 @@ ghost use Rattle.judge.specs.Judged.{case_kept};
 ghost use Rattle.reasons.specs.Landing.{IsLeft};
 ghost use Rattle.reasons.specs.Reasons.{IsWrongStart};
 
-use crate::breach::Landing;
 use crate::landing::{one_excludes, why_part_fails};
 use crate::reason::Reason;
+use crate::violation::LandingFailure;
 use domain::Rules;
 use facts::{Fact, FactSource, Place, StartFact, start_part};
-use judge::{Case, Claims, FactsAt, place_of};
+use judge::{AddressFacts, Case, Claims, place_of};
 use std::alloc::Allocator;
 use word12::Link;
 use wordset::{Links, WordSet};
@@ -27,7 +27,7 @@ fn why_under<A: Allocator, F: FactSource>(
     link: Link,
     among: &F,
     given: &mut Fact,
-) -> Option<Landing>
+) -> Option<LandingFailure>
     requires some { 0 < length (F.facts among.now) }
     requires small { link < 2 }
     ensures found { IfSome result (IsLeft (place_in_code place.now)
@@ -40,7 +40,7 @@ fn why_under<A: Allocator, F: FactSource>(
     }
     let fact = StartFact::new(place.image, Links::one(link));
     if let Some(gap) = one_excludes(place, &fact, among, given) {
-        return Some(Landing::ExcludedUnder(link, gap));
+        return Some(LandingFailure::ExcludedUnder(link, gap));
     }
     let mut part = start_part(place.image, link);
     Some(why_part_fails(place, &mut part, link, among, given))
@@ -51,7 +51,7 @@ fn why_links<A: Allocator, F: FactSource>(
     place: &Place<'_, A>,
     among: &F,
     given: &mut Fact,
-) -> Landing
+) -> LandingFailure
     requires fails { LandsBy said.OfSums (place_in_code place.now)
         (start_fact (place_in_code place.now).image) (F.facts among.now) → ⊥ }
     requires some { 0 < length (F.facts among.now) }
@@ -62,7 +62,7 @@ fn why_links<A: Allocator, F: FactSource>(
         return found;
     }
     match why_under(place, Link::SET, among, given) {
-        None => Landing::NotEntailed,
+        None => LandingFailure::NotEntailed,
         Some(found) => found,
     }
 }
@@ -72,7 +72,7 @@ fn why_not_entailed<A: Allocator, F: FactSource>(
     place: &Place<'_, A>,
     among: &F,
     given: &mut Fact,
-) -> Landing
+) -> LandingFailure
     requires fails { LandsBy said.OfEquations (place_in_code place.now)
         (start_fact (place_in_code place.now).image) (F.facts among.now) → ⊥ }
     requires some { 0 < length (F.facts among.now) }
@@ -81,8 +81,8 @@ fn why_not_entailed<A: Allocator, F: FactSource>(
 {
     let fact = StartFact::new(place.image, Links::both());
     match one_excludes(place, &fact, among, given) {
-        None => Landing::NotEntailed,
-        Some(gap) => Landing::Excluded(gap),
+        None => LandingFailure::NotEntailed,
+        Some(gap) => LandingFailure::Excluded(gap),
     }
 }
 
@@ -91,14 +91,14 @@ fn what_starts_leave<A: Allocator, F: FactSource>(
     place: &Place<'_, A>,
     among: &F,
     given: &mut Fact,
-) -> Landing
+) -> LandingFailure
     requires { Lands (place_in_code place.now) (start_fact (place_in_code place.now).image)
         (F.facts among.now) → ⊥ }
     ensures { IsLeft (place_in_code place.now)
         (start_fact (place_in_code place.now).image) (F.facts among.now) result }
 {
     if among.len() == 0 {
-        return Landing::NoFact;
+        return LandingFailure::NoFact;
     }
     match &place.rules {
         Rules::OfSums => why_links(place, among, given),
@@ -118,7 +118,7 @@ pub(crate) fn why_start<A: Allocator, C: Claims>(
 {
     case.declaration.is_declared();
     let place = place_of(case.image, case.declaration, &None, case.claims.rules());
-    let among = FactsAt {
+    let among = AddressFacts {
         claims: case.claims,
         at: case.declaration.start(),
         sites: &WordSet::empty(),

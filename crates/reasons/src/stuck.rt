@@ -5,9 +5,9 @@ ghost use Rattle.judge.specs.Judged.{case_kept, judged};
 ghost use Rattle.reasons.specs.Reasons.{Explains};
 ghost use Rattle.reasons.specs.Stuck.{EachFailsByLinesAlone, FailsByLinesAlone, IsToldOf, NoneFailsBefore, is_of_lines};
 
+use crate::filter::ReasonFilter;
 use crate::reason::{Reason, why_not_held, why_words};
-use crate::rooms::WhyRooms;
-use crate::sought::Sought;
+use crate::workspace::ReasonWorkspace;
 use bin_tape::Image;
 use declaration::Declaration;
 use facts::Condition;
@@ -37,7 +37,7 @@ fn why_by_words<A: Allocator, C: Claims, M: Allocator>(
     case: &Case<'_, A, C>,
     condition: Condition,
     at: Word,
-    rooms: &mut WhyRooms<M>,
+    rooms: &mut ReasonWorkspace<M>,
 ) -> Option<Reason>
     ensures explained { IfSome result (Explains (case_kept C.claims case.now) condition at) }
     ensures by_words { IfSome result (λ reason. is_of_lines reason ≡ false) }
@@ -46,7 +46,7 @@ fn why_by_words<A: Allocator, C: Claims, M: Allocator>(
     case.declaration.is_declared();
     match condition {
         Condition::V16 => why_not_held(case, at, rooms),
-        _ => why_words(case, Sought::NotOfLines, condition, at, rooms),
+        _ => why_words(case, ReasonFilter::NotOfLines, condition, at, rooms),
     }
 }
 
@@ -59,7 +59,7 @@ pub fn why_stuck<A: Allocator, C: Claims, M: Allocator>(
     declaration: &Declaration<A>,
     claims: &C,
     at: Word,
-    rooms: &mut WhyRooms<M>,
+    rooms: &mut ReasonWorkspace<M>,
 ) -> Option<(Refusal, Reason)>
     // The condition fails where it is told to, since it is so.
     ensures explained { IfSome result (λ found. Explains

@@ -7,18 +7,18 @@ ghost use Rattle.facts.specs.Conditions.{may_write};
 ghost use Rattle.judge.specs.Landing.{place_in};
 ghost use Rattle.judge.specs.Points.{HoldsHere, IsPoint, case_of, fact_asked, possible_at};
 ghost use Rattle.reasons.specs.Keeping.{EachKeepsHere, KeepsHere, WordsKeepHere};
-ghost use Rattle.declaration.specs.Kept.{place_assertion_of};
+ghost use Rattle.declaration.specs.DeclarationInCode.{place_assertion_of};
 ghost use Rattle.reasons.specs.Points.{AreHeldHere, BreaksAs, BreaksHere, DeniesHere, IsWrongAs, counts_lines, meaning_here};
 ghost use Rattle.reasons.specs.Stuck.{is_word_of_lines};
 
-use crate::breach::Breach;
 use crate::calls::{calls_wrongly, first_call};
 use crate::entries::writes_entry;
+use crate::filter::ReasonFilter;
 use crate::outcomes::goes_on;
 use crate::reason::Reason;
 use crate::returns::returns_wrongly;
-use crate::rooms::WordRooms;
-use crate::sought::Sought;
+use crate::violation::Violation;
+use crate::workspace::WordWorkspace;
 use declaration::PlaceAssertion;
 use facts::Condition;
 use judge::{Claims, NarrowedPoint};
@@ -31,12 +31,12 @@ const MOST_WORDS: usize = 64;
 
 /// The first possible word that breaks a condition by a fact, which is the one at this place of those at the address, and what it
 /// breaks; or how many words are possible, where they are too many.
-pub(crate) fn first_breach<A: Allocator, C: Claims, M: Allocator>(
+pub(crate) fn first_violation<A: Allocator, C: Claims, M: Allocator>(
     point: &NarrowedPoint<'_, A, C>,
-    sought: Sought,
+    sought: ReasonFilter,
     index: usize,
     condition: Condition,
-    rooms: &mut WordRooms<M>,
+    rooms: &mut WordWorkspace<M>,
 ) -> Option<Reason>
     requires { IsPoint C.claims point.now }
     ensures found { IfSome result (IsWrongAs sought C.claims point.now index condition) }
@@ -52,10 +52,10 @@ pub(crate) fn first_breach<A: Allocator, C: Claims, M: Allocator>(
 /// How many words are possible, where they are too many; else the first that is not supported.
 fn too_many<A: Allocator, C: Claims, M: Allocator>(
     point: &NarrowedPoint<'_, A, C>,
-    sought: Sought,
+    sought: ReasonFilter,
     index: usize,
     possible: &WordSet,
-    rooms: &mut WordRooms<M>,
+    rooms: &mut WordWorkspace<M>,
 ) -> Option<Reason>
     requires point { IsPoint C.claims point.now }
     requires possible { words possible.now ≡ possible_at C.claims point.now }
@@ -72,11 +72,11 @@ fn too_many<A: Allocator, C: Claims, M: Allocator>(
 /// The first possible word that breaks a condition, and what it breaks.
 fn first_word<A: Allocator, C: Claims, M: Allocator>(
     point: &NarrowedPoint<'_, A, C>,
-    sought: Sought,
+    sought: ReasonFilter,
     index: usize,
     condition: Condition,
     possible: &WordSet,
-    rooms: &mut WordRooms<M>,
+    rooms: &mut WordWorkspace<M>,
 ) -> Option<Reason>
     requires point { IsPoint C.claims point.now }
     requires possible { words possible.now ≡ possible_at C.claims point.now }
@@ -84,7 +84,7 @@ fn first_word<A: Allocator, C: Claims, M: Allocator>(
     ensures none { IfNone result (EachKeepsHere (counts_lines sought) C.claims point.now condition) }
 {
     for word in possible.iter() {
-        if let Some(breach) = breach(point, sought, condition, word, rooms) {
+        if let Some(breach) = violation(point, sought, condition, word, rooms) {
             return Some(Reason::ByWord(index, word, breach));
         }
     }
@@ -92,13 +92,13 @@ fn first_word<A: Allocator, C: Claims, M: Allocator>(
 }
 
 /// What a word breaks of a condition.
-fn breach<A: Allocator, C: Claims, M: Allocator>(
+fn violation<A: Allocator, C: Claims, M: Allocator>(
     point: &NarrowedPoint<'_, A, C>,
-    sought: Sought,
+    sought: ReasonFilter,
     condition: Condition,
     word: Word,
-    rooms: &mut WordRooms<M>,
-) -> Option<Breach>
+    rooms: &mut WordWorkspace<M>,
+) -> Option<Violation>
     requires { IsPoint C.claims point.now }
     ensures found { IfSome result (BreaksAs sought C.claims point.now condition word) }
     ensures none { IfNone result (KeepsHere (counts_lines sought) C.claims point.now condition word) }
@@ -125,7 +125,7 @@ fn breach<A: Allocator, C: Claims, M: Allocator>(
 fn is_not_supported<A: Allocator, C: Claims>(
     point: &NarrowedPoint<'_, A, C>,
     word: Word,
-) -> Option<Breach>
+) -> Option<Violation>
     requires { IsPoint C.claims point.now }
     ensures found { IfSome result (BreaksHere C.claims point.now V3 word) }
     ensures by_word { IfSome result (λ b. is_word_of_lines b ≡ false) }
@@ -134,14 +134,14 @@ fn is_not_supported<A: Allocator, C: Claims>(
     if point.place.is_supported(word) {
         return None;
     }
-    Some(Breach::NotSupported)
+    Some(Violation::NotSupported)
 }
 
 /// That a word halts where no halt is declared.
 fn halts_undeclared<A: Allocator, C: Claims>(
     point: &NarrowedPoint<'_, A, C>,
     word: Word,
-) -> Option<Breach>
+) -> Option<Violation>
     requires { IsPoint C.claims point.now }
     ensures found { IfSome result (BreaksHere C.claims point.now V13 word) }
     ensures by_word { IfSome result (λ b. is_word_of_lines b ≡ false) }
@@ -150,7 +150,7 @@ fn halts_undeclared<A: Allocator, C: Claims>(
     if point.place.halts_are_declared(point.at, word) {
         return None;
     }
-    Some(Breach::HaltsUndeclared)
+    Some(Violation::HaltsUndeclared)
 }
 
 /// The cells that a word may write.
@@ -191,7 +191,7 @@ fn first_other<A: Allocator, C: Claims>(
 fn writes_undeclared<A: Allocator, C: Claims>(
     point: &NarrowedPoint<'_, A, C>,
     word: Word,
-) -> Option<Breach>
+) -> Option<Violation>
     requires { IsPoint C.claims point.now }
     ensures found { IfSome result (BreaksHere C.claims point.now V5 word) }
     ensures by_word { IfSome result (λ b. is_word_of_lines b ≡ false) }
@@ -200,16 +200,16 @@ fn writes_undeclared<A: Allocator, C: Claims>(
     let rest = written(point, word).minus(point.place.declaration.variables());
     match first_other(point, &rest) {
         None => None,
-        Some(cell) => Some(Breach::WritesUndeclared(cell)),
+        Some(cell) => Some(Violation::WritesUndeclared(cell)),
     }
 }
 
 /// A cell that a word may write and the running routine may not.
 fn writes_unlisted<A: Allocator, C: Claims>(
     point: &NarrowedPoint<'_, A, C>,
-    sought: Sought,
+    sought: ReasonFilter,
     word: Word,
-) -> Option<Breach>
+) -> Option<Violation>
     requires { IsPoint C.claims point.now }
     ensures found { IfSome result (BreaksAs sought C.claims point.now V6 word) }
     ensures none { IfNone result (KeepsHere (counts_lines sought) C.claims point.now V6 word) }
@@ -221,7 +221,7 @@ fn writes_unlisted<A: Allocator, C: Claims>(
     let listed = point.body.claim.writes.union(&WordSet::one(entry));
     match written(point, word).minus(&listed).first_from(0) {
         None => None,
-        Some(cell) => Some(Breach::WritesUnlisted(cell)),
+        Some(cell) => Some(Violation::WritesUnlisted(cell)),
     }
 }
 
@@ -230,7 +230,7 @@ fn writes_unlisted<A: Allocator, C: Claims>(
 fn reads_unlisted<A: Allocator, C: Claims>(
     point: &NarrowedPoint<'_, A, C>,
     word: Word,
-) -> Option<Breach>
+) -> Option<Violation>
     requires { IsPoint C.claims point.now }
     ensures found { IfSome result (BreaksHere C.claims point.now V15 word) }
     ensures by_word { IfSome result (λ b. is_word_of_lines b ≡ false) }
@@ -245,7 +245,7 @@ fn reads_unlisted<A: Allocator, C: Claims>(
     };
     match rest.first_from(0) {
         None => None,
-        Some(cell) => Some(Breach::ReadsUnlisted(cell)),
+        Some(cell) => Some(Violation::ReadsUnlisted(cell)),
     }
 }
 
@@ -253,7 +253,7 @@ fn reads_unlisted<A: Allocator, C: Claims>(
 fn denies_assertion<A: Allocator, C: Claims>(
     point: &NarrowedPoint<'_, A, C>,
     word: Word,
-) -> Option<Breach>
+) -> Option<Violation>
     requires { IsPoint C.claims point.now }
     ensures found { IfSome result (BreaksHere C.claims point.now V16 word) }
     ensures by_word { IfSome result (λ b. is_word_of_lines b ≡ false) }
@@ -266,7 +266,7 @@ fn denies_assertion<A: Allocator, C: Claims>(
 fn first_denied<A: Allocator, C: Claims>(
     point: &NarrowedPoint<'_, A, C>,
     holds: &[PlaceAssertion],
-) -> Option<Breach>
+) -> Option<Violation>
     requires { IsPoint C.claims point.now }
     ensures found { IfSome result (DeniesHere C.claims point.now (map place_assertion_of holds.now)) }
     ensures none { IfNone result (AreHeldHere C.claims point.now (map place_assertion_of holds.now)) }
@@ -283,7 +283,7 @@ fn first_denied<A: Allocator, C: Claims>(
 fn denied_here<A: Allocator, C: Claims>(
     point: &NarrowedPoint<'_, A, C>,
     holding: &PlaceAssertion,
-) -> Option<Breach>
+) -> Option<Violation>
     requires { IsPoint C.claims point.now }
     ensures found { IfSome result (DeniesHere C.claims point.now (place_assertion_of holding.now ∷ [])) }
     ensures none { IfNone result (AreHeldHere C.claims point.now (place_assertion_of holding.now ∷ [])) }
@@ -294,6 +294,6 @@ fn denied_here<A: Allocator, C: Claims>(
     let assertion = holding.assertion();
     match point.place.denied_word(point.fact, assertion) {
         None => None,
-        Some(denied) => Some(Breach::DeniesAssertion(*assertion.subject(), denied)),
+        Some(denied) => Some(Violation::DeniesAssertion(*assertion.subject(), denied)),
     }
 }

@@ -1,7 +1,7 @@
 //! What tells the facts at an address apart.
 
 ghost use Rattle.std.specs.Prelude.{◌≡◌, ◌≤◌, length};
-ghost use Rattle.certificate_lines.specs.Kept.{claims};
+ghost use Rattle.certificate_lines.specs.CertificateInCode.{claims};
 
 use crate::known_fact::KnownFact;
 use bin_tape::Image;

@@ -1,9 +1,9 @@
 //! The command that writes what a search for a certificate had found when it was stuck.
 
 ghost use Rattle.std.specs.Prelude.{◌≡◌, ◌++◌, ◌⊎◌, false, true, IfOk, OnErr};
-ghost use Rattle.declaration.specs.Kept.{meaning};
+ghost use Rattle.declaration.specs.DeclarationInCode.{meaning};
 ghost use Rattle.analyser.specs.Attempts.{IsDraft};
-ghost use Rattle.certificate_lines.specs.Kept.{claims};
+ghost use Rattle.certificate_lines.specs.CertificateInCode.{claims};
 ghost use Rattle.command_parts.specs.Answers.{IsLaterFault, ReadsTwo};
 ghost use Rattle.command_parts.specs.Faults.{fails_to_write};
 ghost use Rattle.command_parts.specs.Inputs.{input};
@@ -26,7 +26,7 @@ use diagnostics::verdicts::reason_context::reason_context_of;
 use diagnostics::verdicts::reason_text::push_why;
 use diagnostics::verdicts::verdict::condition_name;
 use judge::Refusal;
-use reasons::{Reason, WhyRooms, why_stuck};
+use reasons::{Reason, ReasonWorkspace, why_stuck};
 use std::alloc::{AllocError, Allocator};
 use streams::{ByteSink, ByteSource, put};
 use word12::Word;
@@ -75,7 +75,7 @@ fn below_stuck<A: Allocator + Copy, D: Allocator, C: Allocator>(
     notes: Option<&SourceNotes<A>>,
     given: Option<&[u8]>,
 ) -> Result<Vec<u8, A>, AllocError> {
-    let mut rooms = WhyRooms::boxed(alloc)?;
+    let mut rooms = ReasonWorkspace::boxed(alloc)?;
     let told = why_stuck(image, declaration, draft, at, &mut rooms);
     let lines = why_lines(alloc, image, declaration, draft, at, &told, given)?;
     let failing = match &told {

@@ -4,8 +4,8 @@ ghost use Rattle.std.specs.Prelude.{◌≡◌, [], length};
 ghost use Rattle.wordset.specs.Lanes.{words};
 ghost use Rattle.facts.specs.Landing.{fact_at};
 ghost use Rattle.peripherals.specs.Loading.{image_of};
-ghost use Rattle.declaration.specs.Kept.{meaning};
-ghost use Rattle.certificate_lines.specs.Kept.{claims};
+ghost use Rattle.declaration.specs.DeclarationInCode.{meaning};
+ghost use Rattle.certificate_lines.specs.CertificateInCode.{claims};
 ghost use Rattle.reports.specs.Kinds.{IsKind};
 ghost use Rattle.reports.specs.Shown.{ShowsFact, fact_of, is_even, unknown_of};
 

@@ -1,6 +1,6 @@
 //! What a report is made of.
 
-ghost use Rattle.declaration.specs.Kept.{meaning};
+ghost use Rattle.declaration.specs.DeclarationInCode.{meaning};
 ghost use Rattle.reports.specs.Kinds.{IsKind, IsOutside};
 
 use crate::fact_context::FactContext;

@@ -1,8 +1,8 @@
 //! The command that writes what a certificate says.
 
 ghost use Rattle.std.specs.Prelude.{◌≡◌, ◌++◌, false, IfOk, IfErr};
-ghost use Rattle.certificate_lines.specs.Kept.{meaning as text_of};
-ghost use Rattle.declaration.specs.Kept.{meaning};
+ghost use Rattle.certificate_lines.specs.CertificateInCode.{meaning as text_of};
+ghost use Rattle.declaration.specs.DeclarationInCode.{meaning};
 ghost use Rattle.command_parts.specs.Answers.{IsLaterFault, IsMemoryFault, WritesAnswer, output};
 ghost use Rattle.command_parts.specs.Faults.{fails_to_write};
 ghost use Rattle.command_parts.specs.Inputs.{input};
@@ -22,8 +22,8 @@ use diagnostics::verdicts::certificates::{ProgramWithCertificate, certified_from
 use diagnostics::verdicts::reason_context::reason_context_of;
 use diagnostics::verdicts::reason_text::push_why;
 use diagnostics::verdicts::verdict::{condition_name, verdict_line, verdict_status};
-use judge::{Refusal, Rooms, judge};
-use reasons::{Reason, WhyRooms, why};
+use judge::{JudgeWorkspace, Refusal, judge};
+use reasons::{Reason, ReasonWorkspace, why};
 use std::alloc::{AllocError, Allocator};
 use streams::{ByteSink, ByteSource};
 
@@ -38,7 +38,7 @@ fn reason_of<A: Allocator + Copy, D: Allocator, C: Allocator>(
     match verdict {
         Ok(()) => Ok(None),
         Err(refusal) => {
-            let mut rooms = WhyRooms::boxed(alloc)?;
+            let mut rooms = ReasonWorkspace::boxed(alloc)?;
             Ok(why(image, declaration, certificate, refusal, &mut rooms))
         }
     }
@@ -155,7 +155,7 @@ pub fn report_of<A: Allocator + Copy>(
 {
     let program = &certified.program;
     let (image, declaration) = (&program.image, &program.declaration);
-    let mut rooms = Rooms::boxed(alloc)?;
+    let mut rooms = JudgeWorkspace::boxed(alloc)?;
     let verdict = judge(image, declaration, &certified.certificate, &mut rooms);
     let line = verdict_line(alloc, declaration, &verdict)?;
     let rest = below(

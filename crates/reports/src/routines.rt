@@ -2,7 +2,7 @@
 
 ghost use Rattle.wordset.specs.Lanes.{words};
 ghost use Rattle.facts.specs.Landing.{fact_at};
-ghost use Rattle.certificate_lines.specs.Kept.{claims};
+ghost use Rattle.certificate_lines.specs.CertificateInCode.{claims};
 ghost use Rattle.reports.specs.Shown.{ShowsExit};
 
 use crate::fact_context::write_exit;

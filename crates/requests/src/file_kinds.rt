@@ -11,7 +11,7 @@ use pal_asm::PalFault;
 use std::alloc::Global;
 use std::fmt::Write;
 use std::rt::Files;
-use streams::standard::Reads;
+use streams::standard::StdReader;
 
 /// What is in a file, by the look of it.
 #[derive(Clone, Copy, PartialEq, Eq)]
@@ -56,7 +56,7 @@ fn is_of_source(line: &[u8]) -> bool {
 /// Whether bytes are a tape.
 #[inline(never)]
 fn is_tape(bytes: &[u8]) -> bool {
-    let mut frames = Reads::new(bytes);
+    let mut frames = StdReader::new(bytes);
     tape_from(&mut frames).is_ok()
 }
 

@@ -11,7 +11,7 @@ use std::alloc::Global;
 use std::fs;
 use std::io::{self, Printer};
 use std::rt::Files;
-use streams::standard::Reads;
+use streams::standard::StdReader;
 
 /// What a name of the command line stands for: `-` for standard input, otherwise a file.
 pub(crate) fn input_of<R: Files + Input>(
@@ -35,10 +35,10 @@ pub(crate) fn input_of<R: Files + Input>(
 pub fn open_input<R: Files + Input>(
     rt: &R,
     name: &str,
-) -> Result<Reads<Either<R::Reader, R::File>>, Fault>
+) -> Result<StdReader<Either<R::Reader, R::File>>, Fault>
     ensures { IfOk result (λ input. input.failed ≡ false) }
 {
-    Ok(Reads::new(input_of(rt, name)?))
+    Ok(StdReader::new(input_of(rt, name)?))
 }
 
 /// Whether an input can be read only once: standard input, a pipe, or another file that is neither plain nor a
@@ -70,7 +70,7 @@ pub(crate) fn has_bytes<R: Files>(rt: &R, name: &str) -> bool {
 pub fn open_parts<R: Files + Input>(
     rt: &R,
     names: &[&str],
-    parts: &mut Vec<Reads<Either<R::Reader, R::File>>>,
+    parts: &mut Vec<StdReader<Either<R::Reader, R::File>>>,
 ) -> Result<(), Fault>
     requires { AllByRecursion (λ input. input.failed ≡ false) parts.old.items }
     ensures { AllByRecursion (λ input. input.failed ≡ false) parts.new.items }
@@ -93,7 +93,7 @@ pub fn open_inputs<R: Files + Input>(
     rt: &R,
     alloc: Global,
     names: &[&str],
-) -> Result<Vec<Reads<Either<R::Reader, R::File>>>, Fault>
+) -> Result<Vec<StdReader<Either<R::Reader, R::File>>>, Fault>
     ensures { IfOk result (λ inputs. AllByRecursion (λ input. input.failed ≡ false) inputs.items) }
 {
     let mut inputs = Vec::new(alloc);

@@ -26,7 +26,7 @@ use std::alloc::Global;
 use std::io;
 use std::rt::Files;
 use streams::put;
-use streams::standard::{Reads, Writes};
+use streams::standard::{StdReader, StdWriter};
 
 /// The tape of a source that was read, and its lines.
 #[inline(never)]
@@ -100,7 +100,7 @@ fn carry_out<R: Files + Input + Print + Eprint>(
         Ok(named) => named,
         Err(misuse) => return Ok(tell_misuse(rt, &misuse.with_symbols())),
     };
-    let mut frames = Reads::new(source.numbered.tape.as_slice());
+    let mut frames = StdReader::new(source.numbered.tape.as_slice());
     match &asked.task {
         MachineTask::Run(run) => {
             let statements = SourceStatements {
@@ -118,7 +118,7 @@ fn carry_out<R: Files + Input + Print + Eprint>(
         }
         MachineTask::Dump(dump) => {
             let text = words_of(alloc, source, dump.profile)?;
-            put(&mut Writes::new(io::writer(rt)), &text)?;
+            put(&mut StdWriter::new(io::writer(rt)), &text)?;
             Ok(Status::Done)
         }
     }

@@ -10,7 +10,7 @@ use search_commands::verifying::{Answer, ProposalAnswer, answer_status};
 use std::alloc::Global;
 use std::io;
 use std::rt::Files;
-use streams::standard::Writes;
+use streams::standard::StdWriter;
 use streams::{put, read_at_most};
 
 /// What the first line of a certificate begins with, which says that a command of this program wrote it.
@@ -54,7 +54,7 @@ impl NamedText {
     /// Writes it to its file, which is whole or as it was.
     fn write<R: Files>(&self, rt: &R, alloc: Global) -> Result<(), Fault> {
         let mut file = ResultFile::new(rt, alloc, &self.path)?;
-        put(&mut Writes::new(&mut file), &self.text)?;
+        put(&mut StdWriter::new(&mut file), &self.text)?;
         match file.finish() {
             Ok(()) => Ok(()),
             Err(_) => Err(Fault::Device(DeviceFault::Write)),
@@ -100,7 +100,7 @@ fn save_all<R: Files + Input + Eprint>(
 
 /// Writes an answer to standard output.
 fn tell_answer<R: Print>(rt: &R, told: &[u8]) -> Result<(), Fault> {
-    Ok(put(&mut Writes::new(io::writer(rt)), told)?)
+    Ok(put(&mut StdWriter::new(io::writer(rt)), told)?)
 }
 
 /// Tells an answer, and writes these texts to their files. A yes is told once they are written, so it is not told
@@ -143,7 +143,7 @@ fn push_answer(
     let mut text = Vec::new(alloc);
     match answer {
         Answer::Yes(certificate) => {
-            certificate.write(&mut Writes::new(&mut text))?;
+            certificate.write(&mut StdWriter::new(&mut text))?;
             push_saved(
                 saved,
                 NamedText::new(alloc, name, CERTIFICATE_ENDING, text)?,

@@ -7,7 +7,7 @@ use command_parts::status::Fault;
 use either::Either;
 use std::io::{self, Printer};
 use std::rt::Files;
-use streams::standard::{Reads, Writes};
+use streams::standard::{StdReader, StdWriter};
 
 /// What an input that is left out gives.
 static NOTHING: &[u8] = b"";
@@ -47,22 +47,22 @@ impl<R: Eprint> io::Write for StandardError<'_, R> {
 }
 
 /// Standard error, as a sink of text.
-pub fn tell_to<'r, R: Eprint>(rt: &'r R) -> Writes<StandardError<'r, R>>
+pub fn tell_to<'r, R: Eprint>(rt: &'r R) -> StdWriter<StandardError<'r, R>>
     ensures { result.failed ≡ false }
 {
-    Writes::new(StandardError { to: rt })
+    StdWriter::new(StandardError { to: rt })
 }
 
 /// Opens an input that may be left out, and then gives no byte.
 pub fn open_input_if<R: Files + Input>(
     rt: &R,
     name: Option<&str>,
-) -> Result<Reads<Either<Either<R::Reader, R::File>, &'static [u8]>>, Fault>
+) -> Result<StdReader<Either<Either<R::Reader, R::File>, &'static [u8]>>, Fault>
     ensures { IfOk result (λ input. input.failed ≡ false) }
 {
     match name {
-        Some(name) => Ok(Reads::new(Either::Left(input_of(rt, name)?))),
-        None => Ok(Reads::new(Either::Right(NOTHING))),
+        Some(name) => Ok(StdReader::new(Either::Left(input_of(rt, name)?))),
+        None => Ok(StdReader::new(Either::Right(NOTHING))),
     }
 }
 
@@ -70,12 +70,12 @@ pub fn open_input_if<R: Files + Input>(
 pub fn report_to<'r, R: Print + Eprint>(
     rt: &'r R,
     is_taken: bool,
-) -> Writes<Either<Printer<'r, R>, StandardError<'r, R>>>
+) -> StdWriter<Either<Printer<'r, R>, StandardError<'r, R>>>
     ensures { result.failed ≡ false }
 {
     if is_taken {
-        Writes::new(Either::Right(StandardError { to: rt }))
+        StdWriter::new(Either::Right(StandardError { to: rt }))
     } else {
-        Writes::new(Either::Left(io::writer(rt)))
+        StdWriter::new(Either::Left(io::writer(rt)))
     }
 }

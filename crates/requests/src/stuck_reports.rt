@@ -12,7 +12,7 @@ use reports::reporting::ReportForm;
 use std::alloc::{AllocError, Global};
 use std::rt::Files;
 use streams::put;
-use streams::standard::Writes;
+use streams::standard::StdWriter;
 
 /// Why a search is stuck, with what the source says about its addresses, if there is one.
 fn why_in(
@@ -54,7 +54,7 @@ pub fn report_stuck<R: Files + Print>(
             None => None,
         },
     )?;
-    put(&mut Writes::new(&mut file), &bytes)?;
+    put(&mut StdWriter::new(&mut file), &bytes)?;
     let _status = finish(&mut file, Status::Done)?;
     Ok(())
 }

@@ -1,7 +1,7 @@
 //! The tree of kept states: those in which a program asks for an input after something new was seen.
 
 ghost use Rattle.std.specs.Prelude.{◌≡◌, OnOk};
-ghost use Rattle.declaration.specs.Kept.{meaning};
+ghost use Rattle.declaration.specs.DeclarationInCode.{meaning};
 ghost use Rattle.peripherals.specs.World.{profile_of};
 
 use crate::input_request::InputRequest;

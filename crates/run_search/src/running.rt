@@ -2,7 +2,7 @@
 //! step after step until one breaks a rule.
 
 ghost use Rattle.std.specs.Prelude.{◌≡◌, ◌≤◌};
-ghost use Rattle.declaration.specs.Kept.{meaning};
+ghost use Rattle.declaration.specs.DeclarationInCode.{meaning};
 ghost use Rattle.peripherals.specs.World.{profile_of};
 
 use crate::input_request::InputRequest;
@@ -14,7 +14,7 @@ use declaration::Declaration;
 use peripherals::{Event, NoMemory};
 use policy::Watcher;
 use std::alloc::Allocator;
-use turns::{Stepped, Turns, take_step};
+use turns::{StepVerdict, Turns, take_step};
 use word12::Word;
 
 /// After this many events without an input, a completion or a store a short run is over: the program waits.
@@ -265,9 +265,9 @@ impl<A: Allocator + Copy> Run<A> {
         ensures within { turns.new.spent ≤ turns.new.limit }
     {
         match take_step(watcher, declaration, turns)? {
-            Stepped::NoTurn => return Ok(Progress::Over),
-            Stepped::Broke => return Ok(Progress::Broken),
-            Stepped::Kept => self.extent.step(),
+            StepVerdict::NoTurn => return Ok(Progress::Over),
+            StepVerdict::Broke => return Ok(Progress::Broken),
+            StepVerdict::Kept => self.extent.step(),
         }
         match watcher.world().halted_at() {
             None => Ok(self.goes_on(watcher)),

@@ -1,7 +1,7 @@
 //! The search: run after run, until one breaks a rule.
 
 ghost use Rattle.std.specs.Prelude.{◌≡◌, ◌≤◌, IfOk, OnOk};
-ghost use Rattle.declaration.specs.Kept.{meaning};
+ghost use Rattle.declaration.specs.DeclarationInCode.{meaning};
 ghost use Rattle.peripherals.specs.World.{profile_of};
 
 use crate::assertions::asserted_places;

@@ -2,7 +2,7 @@
 //! quarter, and so on down to each input and each event by itself.
 
 ghost use Rattle.std.specs.Prelude.{◌≡◌, ◌≤◌};
-ghost use Rattle.declaration.specs.Kept.{meaning};
+ghost use Rattle.declaration.specs.DeclarationInCode.{meaning};
 ghost use Rattle.peripherals.specs.World.{profile_of};
 
 use crate::corpus::start_of;
@@ -14,7 +14,7 @@ use declaration::Declaration;
 use peripherals::NoMemory;
 use policy::Watcher;
 use std::alloc::Allocator;
-use turns::{Stepped, Turns, take_step};
+use turns::{StepVerdict, Turns, take_step};
 
 /// The most steps that are made to shorten a run.
 const MOST_STEPS: u32 = 2_000_000;
@@ -234,9 +234,9 @@ fn breaks<A: Allocator + Copy, D: Allocator>(
     turns.are_within();
     for _step in 0..steps {
         match take_step(watcher, declaration, turns)? {
-            Stepped::Kept => played.add_step(),
-            Stepped::NoTurn => return Ok(false),
-            Stepped::Broke => {
+            StepVerdict::Kept => played.add_step(),
+            StepVerdict::NoTurn => return Ok(false),
+            StepVerdict::Broke => {
                 played.add_step();
                 return Ok(true);
             }

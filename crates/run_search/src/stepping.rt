@@ -1,7 +1,7 @@
 //! One step of a run: what it asks for is given, devices get done, and what is new is noted.
 
 ghost use Rattle.std.specs.Prelude.{◌≡◌, ◌≤◌};
-ghost use Rattle.declaration.specs.Kept.{meaning};
+ghost use Rattle.declaration.specs.DeclarationInCode.{meaning};
 ghost use Rattle.peripherals.specs.World.{profile_of};
 
 use crate::assertions::{asserted_word, beyond_assertion};

@@ -1,7 +1,7 @@
 -- A no and a yes never stand on the same bytes, and `certify` says yes exactly where `check` does.
 use Rattle.std.proofs.Common.{ℕ, ◌≡◌, Bool, List, Option, Some, Result, Ok, Err, refl, sym, ap, ◌∙◌, subst, take}
 use Rattle.bin_tape.proofs.OneAnswer.{one_tape, no_fault}
-use Rattle.certificate_lines.specs.Kept as certified
+use Rattle.certificate_lines.specs.CertificateInCode as certified
 use Rattle.certificate_lines.specs.Reading.{Text, reading}
 use Rattle.certificate.proofs.SumExactLemmas.{reading_law}
 use Rattle.declaration.proofs.AnswerLemmas.{one_declaration, no_fault as no_declaration_fault}

@@ -1,9 +1,9 @@
 -- What `declare` writes.
 use Rattle.std.proofs.Common.{ℕ, ◌≡◌, Bool, true, false, List, Option, None, refl, sym, ap, inl, inr}
 use Rattle.std.proofs.lemmas.Bool.{true≢false}
-use Rattle.declaration.specs.Kept.{meaning}
+use Rattle.declaration.specs.DeclarationInCode.{meaning}
 use Rattle.certificate.specs.declared.Certificate.{Certificate}
-use Rattle.certificate_lines.specs.Kept as certified
+use Rattle.certificate_lines.specs.CertificateInCode as certified
 use Rattle.proposer.specs.Proposals.{AreNeeded, Fits, IsListed, IsShown}
 use Rattle.proposer.specs.declared.Proposal.{Proposal}
 use Rattle.proposer.specs.declared.Verdict.TheVariants.{Safe}

@@ -1,7 +1,7 @@
 -- What is settled of a proposal is settled of one before it.
 use Rattle.std.proofs.Common.{ℕ, ◌≡◌, ◌∙◌, List, Option, subst}
 use Rattle.peripherals.specs.declared.Event.{Event}
-use Rattle.declaration.specs.Kept.{Kept, meaning}
+use Rattle.declaration.specs.DeclarationInCode.{Kept, meaning}
 use Rattle.proposer.specs.Obstacles.{IsObstacle}
 use Rattle.proposer.specs.declared.learning.Obstacle.{Obstacle}
 use Rattle.refuter.specs.declared.Witness.{Witness}

@@ -7,7 +7,7 @@ use Rattle.declaration.specs.Text.{Declares}
 use Rattle.policy.specs.declared.rules.Rule.{Rule}
 use Rattle.policy.specs.Watching.{number_of}
 use Rattle.certificate.specs.Exact.{AreLines}
-use Rattle.certificate_lines.specs.Kept.{meaning}
+use Rattle.certificate_lines.specs.CertificateInCode.{meaning}
 use Rattle.refuter.specs.Witnesses.{Breaks, IsLast, IsSpelled}
 use Rattle.diagnostics.specs.CheckText.{IsYes, checked_case, yes_text}
 use Rattle.command_parts.specs.declared.options.VerifyOptions.{VerifyOptions}

@@ -1,6 +1,6 @@
 -- What is promised while a proposal is widened; it serves private contracts.
 use Rattle.std.specs.Prelude.{ℕ, ◌≡◌, List, Option, ⊤}
-use Rattle.declaration.specs.Kept.{Kept, meaning}
+use Rattle.declaration.specs.DeclarationInCode.{Kept, meaning}
 use Rattle.declaration.specs.Text.{Declares}
 use Rattle.proposer.specs.Obstacles.{IsObstacle}
 use Rattle.proposer.specs.Widenings.{Supersedes}

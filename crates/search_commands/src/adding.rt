@@ -2,7 +2,7 @@
 
 ghost use Rattle.std.specs.Prelude.{ℕ, ◌≡◌, ◌<◌, ◌||◌, true};
 ghost use Rattle.declaration.specs.Declaration.{Routine};
-ghost use Rattle.declaration.specs.Kept.{meaning};
+ghost use Rattle.declaration.specs.DeclarationInCode.{meaning};
 ghost use Rattle.search_commands.specs.Adding.{AddsOnly, AddsToCell, lists};
 
 use declaration::{Declaration, Owner};

@@ -1,8 +1,8 @@
 //! The command that checks a certificate.
 
 ghost use Rattle.std.specs.Prelude.{◌≡◌, false, IfOk, IfErr};
-ghost use Rattle.certificate_lines.specs.Kept.{meaning as lines_of};
-ghost use Rattle.declaration.specs.Kept.{meaning};
+ghost use Rattle.certificate_lines.specs.CertificateInCode.{meaning as lines_of};
+ghost use Rattle.declaration.specs.DeclarationInCode.{meaning};
 ghost use Rattle.command_parts.specs.Answers.{IsLaterFault, IsMemoryFault, WritesAnswer, output};
 ghost use Rattle.command_parts.specs.Faults.{fails_to_write};
 ghost use Rattle.command_parts.specs.Inputs.{input};
@@ -14,7 +14,7 @@ use command_parts::outcome::{CommandResult, deliver};
 use command_parts::status::{Fault, Status};
 use diagnostics::verdicts::certificates::{ProgramWithCertificate, certified_from};
 use diagnostics::verdicts::verdict::{verdict_line, verdict_status};
-use judge::{Rooms, judge};
+use judge::{JudgeWorkspace, judge};
 use std::alloc::Allocator;
 use streams::{ByteSink, ByteSource};
 
@@ -30,7 +30,7 @@ pub fn verdict_of<A: Allocator + Copy>(
     ensures unwritten { fails_to_write result ≡ false }
 {
     let program = &certified.program;
-    let mut rooms = Rooms::boxed(alloc)?;
+    let mut rooms = JudgeWorkspace::boxed(alloc)?;
     let verdict = judge(
         &program.image,
         &program.declaration,

@@ -10,7 +10,7 @@ ghost use Rattle.search_commands.specs.CompleteText.{Completes, IsExtension, IsT
 ghost use Rattle.search_commands.specs.Extending.{Extends};
 ghost use Rattle.search_commands.specs.Keeping.{KeepsLines};
 ghost use Rattle.search_commands.specs.SearchFaults.{IsProposeFault};
-ghost use Rattle.declaration.specs.Kept.{meaning};
+ghost use Rattle.declaration.specs.DeclarationInCode.{meaning};
 ghost use Rattle.declaration.specs.Text.{Declares};
 ghost use Rattle.peripherals.specs.Loading.{image_of};
 ghost use Rattle.proposer.specs.Proposals.{IsTold};

@@ -6,7 +6,7 @@ ghost use Rattle.command_parts.specs.Faults.{fails_to_read, fails_to_write};
 ghost use Rattle.command_parts.specs.Inputs.{input};
 ghost use Rattle.search_commands.specs.DeclareText.{IsBare, IsProposal, IsProposalOf};
 ghost use Rattle.search_commands.specs.SearchFaults.{IsProposeFault};
-ghost use Rattle.declaration.specs.Kept.{meaning};
+ghost use Rattle.declaration.specs.DeclarationInCode.{meaning};
 ghost use Rattle.declaration.specs.Text.{Declares};
 ghost use Rattle.proposer.specs.Proposals.{AreNeeded, Fits, IsListed, IsShown, IsTold};
 

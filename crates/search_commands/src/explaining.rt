@@ -1,8 +1,8 @@
 //! The command that checks a certificate and says why a verdict is no.
 
 ghost use Rattle.std.specs.Prelude.{◌≡◌, false, IfOk, IfErr};
-ghost use Rattle.certificate_lines.specs.Kept.{meaning as lines_of};
-ghost use Rattle.declaration.specs.Kept.{meaning};
+ghost use Rattle.certificate_lines.specs.CertificateInCode.{meaning as lines_of};
+ghost use Rattle.declaration.specs.DeclarationInCode.{meaning};
 ghost use Rattle.command_parts.specs.Answers.{IsLaterFault, IsMemoryFault, WritesAnswer, output};
 ghost use Rattle.command_parts.specs.Faults.{fails_to_write};
 ghost use Rattle.command_parts.specs.Inputs.{input};

@@ -2,10 +2,10 @@
 //! has the program's source. The commands write the same as plain text.
 
 ghost use Rattle.std.specs.Prelude.{◌≡◌, ◌++◌, false, [], IfOk, IfErr};
-ghost use Rattle.declaration.specs.Kept.{meaning};
+ghost use Rattle.declaration.specs.DeclarationInCode.{meaning};
 ghost use Rattle.analyser.specs.Attempts.{IsAcceptedIfFound, claimed_by};
 ghost use Rattle.certificate.specs.Exact.{AreLines};
-ghost use Rattle.certificate_lines.specs.Kept.{meaning as lines_of};
+ghost use Rattle.certificate_lines.specs.CertificateInCode.{meaning as lines_of};
 ghost use Rattle.command_parts.specs.Answers.{IsMemoryFault};
 ghost use Rattle.command_parts.specs.Faults.{fails_to_write};
 ghost use Rattle.command_parts.specs.Messages.{plain};

@@ -1,11 +1,11 @@
 //! The command that migrates a certificate.
 
 ghost use Rattle.std.specs.Prelude.{◌≡◌, false, ⊤, IfOk, IfErr};
-ghost use Rattle.certificate_lines.specs.Kept.{meaning as lines_of};
+ghost use Rattle.certificate_lines.specs.CertificateInCode.{meaning as lines_of};
 ghost use Rattle.command_parts.specs.Answers.{FailsBy, IsLaterFault, IsMemoryFault, NeverFails, ReadsDeclaration, WritesAnswer, output};
 ghost use Rattle.command_parts.specs.Inputs.{input};
 ghost use Rattle.command_parts.specs.declared.status.Status.TheVariants.{Done};
-ghost use Rattle.declaration.specs.Kept.{meaning};
+ghost use Rattle.declaration.specs.DeclarationInCode.{meaning};
 ghost use Rattle.diagnostics.specs.CertificateFaults.{ReadsCertificate};
 ghost use Rattle.search_commands.specs.MigrateText.{IsMigrated, IsSited, in_version_3};
 

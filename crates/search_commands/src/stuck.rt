@@ -1,9 +1,9 @@
 //! The command that searches for a certificate and says why the search is stuck.
 
 ghost use Rattle.std.specs.Prelude.{◌≡◌, ◌⊎◌, ◌++◌, false, true, IfOk, OnErr, OnOk, Ok};
-ghost use Rattle.declaration.specs.Kept.{meaning};
+ghost use Rattle.declaration.specs.DeclarationInCode.{meaning};
 ghost use Rattle.analyser.specs.Attempts.{IsDraft};
-ghost use Rattle.certificate_lines.specs.Kept.{claims, meaning as lines_of};
+ghost use Rattle.certificate_lines.specs.CertificateInCode.{claims, meaning as lines_of};
 ghost use Rattle.search_commands.specs.GuessText.{IsGuess};
 ghost use Rattle.search_commands.specs.SearchFaults.{IsSearchFault};
 ghost use Rattle.command_parts.specs.Answers.{IsLaterFault, ReadsTwo};
@@ -27,7 +27,7 @@ use diagnostics::verdicts::reason_context::{ReasonContext, reason_context_of};
 use diagnostics::verdicts::reason_text::push_why;
 use instruct::Profile;
 use judge::Refusal;
-use reasons::{Reason, WhyRooms, why_stuck};
+use reasons::{Reason, ReasonWorkspace, why_stuck};
 use std::alloc::{AllocError, Allocator};
 use streams::{ByteSink, ByteSource, put};
 use word12::Word;
@@ -62,7 +62,7 @@ fn told_of<D: Allocator, C: Allocator, M: Allocator>(
     declaration: &Declaration<D>,
     draft: &Certificate<C>,
     at: Word,
-    rooms: &mut WhyRooms<M>,
+    rooms: &mut ReasonWorkspace<M>,
 ) -> Option<(Refusal, Reason, ReasonContext)>
     ensures { IsTold
         (checked_case image.now (meaning declaration.now) (lines_of draft.now)) at result }
@@ -92,7 +92,7 @@ pub fn draft_message<A: Allocator + Copy, D: Allocator, C: Allocator>(
     ensures { IfOk result (λ text. IsToldOfDraft image.now (meaning declaration.now)
         (lines_of draft.now) at (plain text)) }
 {
-    let mut rooms = WhyRooms::boxed(alloc)?;
+    let mut rooms = ReasonWorkspace::boxed(alloc)?;
     let told = told_of(image, declaration, draft, at, &mut rooms);
     let mut text = Message::new(alloc);
     push_told(&mut text, declaration.profile(), image, &told)?;

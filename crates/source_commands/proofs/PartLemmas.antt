@@ -10,7 +10,7 @@ use Rattle.std.proofs.lemmas.List.Folds.{list_any-append}
 use Rattle.std.proofs.lemmas.Option.{slice_get-map, slice_get-get_or}
 use Rattle.std.specs.Io.KnownBytes.{Consumes, IsAtEnd}
 use Rattle.streams.specs.Bytes.{Gave}
-use Rattle.pal_acts.specs.declared.code.Code.TheVariants.{TooLong}
+use Rattle.pal_acts.specs.declared.fault_code.FaultCode.TheVariants.{TooLong}
 use Rattle.pal_asm.specs.Sources.{fault_at, first_long, size_fault}
 use Rattle.pal_asm.specs.declared.fault.PalFault.{PalFault}
 use Rattle.source_commands.specs.SourceTexts.{AreRead, IsShort, is_bad_number, FailsToReadPart, IsPartFault, ArePartsFault, IsLong}

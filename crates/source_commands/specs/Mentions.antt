@@ -2,8 +2,8 @@
 use Rattle.std.specs.Prelude.{ℕ, Bool, true, false, ◌&&◌, ◌||◌, if◌then◌else◌, List, [], ◌∷◌, ◌++◌, codes, drop, take, Option, Some, None}
 use Rattle.std.specs.Option.{is_some}
 use Rattle.pal_text.specs.declared.tokens.Token.{Token}
-use Rattle.pal_text.specs.declared.tokens.Kind.{Kind}
-use Rattle.pal_text.specs.declared.tokens.Kind.TheVariants.{Symbol}
+use Rattle.pal_text.specs.declared.tokens.TokenKind.{TokenKind}
+use Rattle.pal_text.specs.declared.tokens.TokenKind.TheVariants.{Symbol}
 use Rattle.pal_text.specs.Tokens.{is_space}
 use Rattle.pal_text.specs.declared.grammar.Form.{Form}
 use Rattle.pal_text.specs.declared.grammar.Form.TheVariants as form
@@ -18,7 +18,7 @@ use Rattle.source_commands.specs.declared.mentions.Site.{Site}
 use Rattle.source_commands.specs.declared.mentions.StatementSites.{StatementSites}
 
 -- A token of this kind is an ordinary symbol.
-abbrev pub is_symbol : Kind → Bool
+abbrev pub is_symbol : TokenKind → Bool
 is_symbol Symbol = true
 is_symbol _ = false
 

@@ -2,7 +2,7 @@
 use Rattle.std.specs.Prelude.{ℕ, ◌≡◌, ◌+◌, ◌≤◌, ◌<◌, Bool, true, false, ◌||◌, nat_lt, IfSome, List, [], ◌∷◌, Option, Some, length, take, drop, slice_get}
 use Rattle.std.specs.List.{AllByRecursion}
 use Rattle.streams.specs.Bytes.{Gave}
-use Rattle.pal_acts.specs.declared.code.Code.TheVariants.{TooLong}
+use Rattle.pal_acts.specs.declared.fault_code.FaultCode.TheVariants.{TooLong}
 use Rattle.pal_asm.specs.Sources.{fault_at, size_fault}
 use Rattle.command_parts.specs.declared.status.Fault.{Fault}
 use Rattle.command_parts.specs.Inputs.{TakesAtMost}

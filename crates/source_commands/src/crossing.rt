@@ -3,7 +3,7 @@
 ghost use Rattle.std.specs.Prelude.{◌≡◌, Err, None, false, true, length, map, IfOk, IfErr, OnOk, OnErr, Some, slice_get, ℕ};
 ghost use Rattle.std.specs.List.{AllByRecursion, list_any};
 ghost use Rattle.pal_acts.specs.Permanent.{permanent_symbols};
-ghost use Rattle.pal_acts.specs.declared.code.Code.TheVariants.{TooLong};
+ghost use Rattle.pal_acts.specs.declared.fault_code.FaultCode.TheVariants.{TooLong};
 ghost use Rattle.pal_asm.specs.Programs.{symbols_of, listing_of};
 ghost use Rattle.pal_asm.specs.Sources.{fault_at, texts};
 ghost use Rattle.source_commands.specs.AssembleText.{IsAssemblyFault, IsListFault};

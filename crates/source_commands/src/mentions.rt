@@ -9,7 +9,7 @@ ghost use Rattle.pal_asm.specs.Expressions.{name_of};
 ghost use Rattle.source_commands.specs.Mentions.{assignment_uses, begins_with, body_uses, direct_role, is_indirect, is_own, is_symbol, reference_role, role_behind, statement_uses, use_of, uses, word_role, word_uses};
 
 use pal_acts::{Name, PlacedWord, SourcePlace, SymbolTable};
-use pal_text::{Ending, Form, Kind, Part, Statement, TextFault, Token, statements};
+use pal_text::{Ending, Form, Part, Statement, TextFault, Token, TokenKind, statements};
 use std::alloc::{AllocError, Allocator};
 use word12::Word;
 
@@ -100,17 +100,17 @@ const ZERO_PAGE: Name = Name {
 };
 
 /// Whether a token of this kind is an ordinary symbol.
-fn is_symbol(kind: Kind) -> bool
+fn is_symbol(kind: TokenKind) -> bool
     ensures { result ≡ is_symbol kind }
 {
-    matches!(kind, Kind::Symbol)
+    matches!(kind, TokenKind::Symbol)
 }
 
 /// Whether a token of this kind is a space.
-fn is_space(kind: Kind) -> bool
+fn is_space(kind: TokenKind) -> bool
     ensures { result ≡ is_space kind }
 {
-    matches!(kind, Kind::Space)
+    matches!(kind, TokenKind::Space)
 }
 
 /// The name of a symbol's token.

@@ -3,7 +3,7 @@
 ghost use Rattle.std.specs.Prelude.{◌≡◌, Err, true, false, length, map, IfOk, IfErr, IfSome, List, ℕ, Some, slice_get};
 ghost use Rattle.std.specs.List.{AllByRecursion, list_any};
 ghost use Rattle.std.specs.Io.KnownBytes.{IsAtEnd};
-ghost use Rattle.pal_acts.specs.declared.code.Code.TheVariants.{TooLong};
+ghost use Rattle.pal_acts.specs.declared.fault_code.FaultCode.TheVariants.{TooLong};
 ghost use Rattle.pal_asm.specs.Sources.{fault_at, texts};
 ghost use Rattle.command_parts.specs.declared.status.Fault.TheVariants.{Source};
 ghost use Rattle.command_parts.specs.Faults.{fails_to_read};
@@ -11,7 +11,7 @@ ghost use Rattle.command_parts.specs.Inputs.{TakesAtMost};
 ghost use Rattle.source_commands.specs.SourceTexts.{AreRead, EachTakesAtMost, HasLeft, IsShort, IsPartFault, ArePartsFault, IsLongAt, LeavesThoseAfter, is_bad_number};
 
 use command_parts::status::Fault;
-use pal_asm::{Code, PalFault};
+use pal_asm::{FaultCode, PalFault};
 use std::alloc::{AllocError, Allocator};
 use streams::{ByteSource, read_at_most};
 
@@ -33,7 +33,7 @@ fn too_long(part: usize) -> Fault
     ensures { result ≡ Source (fault_at TooLong part 0) }
 {
     Fault::Source(PalFault {
-        code: Code::TooLong,
+        code: FaultCode::TooLong,
         part,
         line: 0,
     })

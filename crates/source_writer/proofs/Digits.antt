@@ -5,7 +5,7 @@ use Rattle.std.specs.List.{list_all}
 use Rattle.std.proofs.lemmas.Bool.{cond-true, lt-ltb}
 use Rattle.word12.specs.Words.{octal_text}
 use Rattle.pal_text.specs.Characters.{characters, code, is_character}
-use Rattle.pal_acts.specs.declared.code.Code.TheVariants.{IllegalCharacter, NumberTooLarge}
+use Rattle.pal_acts.specs.declared.fault_code.FaultCode.TheVariants.{IllegalCharacter, NumberTooLarge}
 use Rattle.pal_asm.specs.Numbers.{worth, is_digit_of, number}
 
 record IsDigit (d : ℕ) : Type 0 where

@@ -4,8 +4,8 @@ use Rattle.std.specs.Prelude.{reverse, codes}
 use Rattle.word12.specs.Words.{octal_text}
 use Rattle.bin_tape.specs.declared.word.TapeWord.{TapeWord}
 use Rattle.bin_tape.specs.declared.word.TapeWord.TheVariants.{Origin, Data}
-use Rattle.pal_text.specs.declared.tokens.Kind.{Kind}
-use Rattle.pal_text.specs.declared.tokens.Kind.TheVariants as kind
+use Rattle.pal_text.specs.declared.tokens.TokenKind.{TokenKind}
+use Rattle.pal_text.specs.declared.tokens.TokenKind.TheVariants as kind
 use Rattle.pal_text.specs.declared.tokens.Token.{Token}
 use Rattle.pal_text.specs.Characters.{code, returned, in_comment, line}
 use Rattle.pal_text.specs.Tokens.{token, is_end}
@@ -29,7 +29,7 @@ record Stands (f : List ℕ) (n : ℕ) (s b : List Token) : Type 0 where
   returned_is : returned f ≡ false
 
 -- one character more
-one_stands : (f : List ℕ) (c n : ℕ) (k : Kind) (s b : List Token) → IsCut b → (in_comment f ≡ false → Grows f c k) → Stands f n s b → Stands (c ∷ f) n (added (token k n (length f)) s) b
+one_stands : (f : List ℕ) (c n : ℕ) (k : TokenKind) (s b : List Token) → IsCut b → (in_comment f ≡ false → Grows f c k) → Stands f n s b → Stands (c ∷ f) n (added (token k n (length f)) s) b
 one_stands f c n k s b cut grows h =
     let g : Grows f c k = grows h.comment_is in
     record {

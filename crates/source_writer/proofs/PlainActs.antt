@@ -10,12 +10,12 @@ use Rattle.bin_tape.specs.Image.{word_at, HoldsWords}
 use Rattle.bin_tape.specs.Written.{begins_run, cell_words, words_below}
 use Rattle.pal_text.specs.declared.names.Name.{Name}
 use Rattle.pal_text.specs.Characters.{line}
-use Rattle.pal_acts.specs.declared.act.Join.{Join}
+use Rattle.pal_acts.specs.declared.act.SignedTerm.{SignedTerm}
 use Rattle.pal_acts.specs.declared.act.Sign.TheVariants.{Or}
-use Rattle.pal_acts.specs.declared.act.Term.TheVariants.{Number}
+use Rattle.pal_acts.specs.declared.act.ExpressionTerm.TheVariants.{Number}
 use Rattle.pal_acts.specs.declared.act.Act.TheVariants as act
 use Rattle.pal_acts.specs.declared.act.PlacedWord.{PlacedWord}
-use Rattle.pal_acts.specs.declared.code.Code.{Code}
+use Rattle.pal_acts.specs.declared.fault_code.FaultCode.{FaultCode}
 use Rattle.pal_acts.specs.Acts.{PlacedAct, placed, place}
 use Rattle.pal_acts.specs.Values.{Values, known}
 use Rattle.pal_acts.specs.Meaning.{location, Defines, nothing, one_more}
@@ -25,7 +25,7 @@ use Rattle.source_writer.proofs.LineTokens.{IsSmall}
 use Rattle.source_writer.proofs.Fronts.{front_of, AreSmall}
 
 -- a number as an expression
-abbrev pub number_alone : ℕ → List Join
+abbrev pub number_alone : ℕ → List SignedTerm
 number_alone v = record { sign = Or; term = Number v } ∷ []
 
 -- the act of a line on line n
@@ -55,7 +55,7 @@ acts_define permanent (w ∷ before) = act_defines permanent w (line (front_of b
 data_value : (σ : Values) (here v : ℕ) → word_of σ here (number_alone v) act.Word ≡ Some (Ok v)
 data_value σ here v = ap (λ n. Some (Ok n)) (or_zero_l v)
 
-no_fault : (o : Option (Result ℕ Code)) (v : ℕ) (code : Code) → o ≡ Some (Ok v) → o ≢ Some (Err code)
+no_fault : (o : Option (Result ℕ FaultCode)) (v : ℕ) (code : FaultCode) → o ≡ Some (Ok v) → o ≢ Some (Err code)
 no_fault o v code e = λ f. (let both : Some (Ok v) ≡ Some (Err code) = sym e ∙ f in cc)
 
 act_encodes : (σ : Values) (w : TapeWord) (n : ℕ) (before : List PlacedAct) → Encodes σ before → Encodes σ (line_act w n ∷ before)

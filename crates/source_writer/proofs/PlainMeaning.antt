@@ -6,7 +6,7 @@ use Rattle.instruct.specs.declared.Profile.{Profile}
 use Rattle.bin_tape.specs.declared.word.TapeWord.{TapeWord}
 use Rattle.bin_tape.specs.Image.{word_at, HoldsWords}
 use Rattle.bin_tape.specs.Written.{begins_run, cell_words, words_below}
-use Rattle.pal_acts.specs.declared.code.Code.TheVariants.{TooLong}
+use Rattle.pal_acts.specs.declared.fault_code.FaultCode.TheVariants.{TooLong}
 use Rattle.pal_acts.specs.Permanent.{permanent_symbols}
 use Rattle.pal_asm.specs.declared.number.Radix.TheVariants.{Octal}
 use Rattle.pal_asm.specs.Sources.{fault_at, size_fault, part_lines, Reads, last_part, Means}

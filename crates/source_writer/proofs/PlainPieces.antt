@@ -10,15 +10,15 @@ use Rattle.bin_tape.specs.declared.word.TapeWord.{TapeWord}
 use Rattle.bin_tape.specs.declared.word.TapeWord.TheVariants.{Origin, Data}
 use Rattle.pal_text.specs.declared.tokens.Token.{Token}
 use Rattle.pal_text.specs.declared.grammar.Form.TheVariants as form
-use Rattle.pal_text.specs.declared.cut.Close.{Close}
-use Rattle.pal_text.specs.declared.cut.Ending.TheVariants as ending
+use Rattle.pal_text.specs.declared.statement.PartEnd.{PartEnd}
+use Rattle.pal_text.specs.declared.statement.Ending.TheVariants as ending
 use Rattle.pal_text.specs.Characters.{line, characters}
 use Rattle.pal_text.specs.Grammar.{Said, says, IsStatement, origin, word, nothing}
 use Rattle.pal_text.specs.Names.{bytes_of, part_tokens}
 use Rattle.pal_text.specs.Statements.{Piece, piece, pieces, own, closed, closing}
 use Rattle.pal_text.specs.Readers.{rest}
 use Rattle.pal_acts.specs.declared.act.Sign.TheVariants.{Or}
-use Rattle.pal_acts.specs.declared.act.Term.TheVariants.{Number}
+use Rattle.pal_acts.specs.declared.act.ExpressionTerm.TheVariants.{Number}
 use Rattle.pal_acts.specs.Acts.{PlacedAct, place}
 use Rattle.pal_asm.specs.declared.number.Radix.TheVariants.{Octal}
 use Rattle.pal_asm.specs.Numbers.{number}
@@ -66,7 +66,7 @@ origin_acts : (source : List ℕ) (a n start end : ℕ) → a < 4096 → bytes_o
 origin_acts source a n start end small e =
     ap (acts_with (place 1 n) true source [] (says form.Origin None (number_token n start end ∷ []))) (expression_is source a n start end small e)
 
-module _ (source : List ℕ) (c : Close) where
+module _ (source : List ℕ) (c : PartEnd) where
   -- a part from so many of its tokens on does this
   abbrev pub DoesFrom : ℕ → List PlacedAct → Type 0
   DoesFrom k all = Does 1 true source Octal (rest source k) all Octal c
@@ -81,7 +81,7 @@ module _ (source : List ℕ) (c : Close) where
       subst Q (sym is) (subst P does (step more after))
 
 -- the line of a word
-data_does : (source : List ℕ) (c : Close) (v : ℕ) (before : List TapeWord) (after : List ℕ) (more : List PlacedAct) → source ≡ plain_lines (Data v ∷ before) ++ after → AreSmall (Data v ∷ before)
+data_does : (source : List ℕ) (c : PartEnd) (v : ℕ) (before : List TapeWord) (after : List ℕ) (more : List PlacedAct) → source ≡ plain_lines (Data v ∷ before) ++ after → AreSmall (Data v ∷ before)
     → DoesFrom source c (length (marks (Data v ∷ before))) more → DoesFrom source c (length (marks before)) (line_act (Data v) (line (front_of before)) ∷ more)
 unfolding plain_lines marks
 data_does source c v before after more e small does =
@@ -112,7 +112,7 @@ data_does source c v before after more e small does =
     (subst (λ j. DoesFrom source c j more) (sym count) does)
 
 -- the line of an origin
-origin_does : (source : List ℕ) (c : Close) (a : ℕ) (before : List TapeWord) (after : List ℕ) (more : List PlacedAct) → source ≡ plain_lines (Origin a ∷ before) ++ after → AreSmall (Origin a ∷ before)
+origin_does : (source : List ℕ) (c : PartEnd) (a : ℕ) (before : List TapeWord) (after : List ℕ) (more : List PlacedAct) → source ≡ plain_lines (Origin a ∷ before) ++ after → AreSmall (Origin a ∷ before)
     → DoesFrom source c (length (marks (Origin a ∷ before))) more → DoesFrom source c (length (marks before)) (line_act (Origin a) (line (front_of before)) ∷ more)
 unfolding plain_lines marks
 origin_does source c a before after more e small does =
@@ -147,14 +147,14 @@ origin_does source c a before after more e small does =
     (λ later so. goes_on Octal Octal (piece k (k + 1 + 1) m) (rest source (k + 1 + 1 + 1)) [] said later c reads open' so)
     (subst (λ j. DoesFrom source c j more) (sym count) does)
 
-line_does : (source : List ℕ) (c : Close) (w : TapeWord) (before : List TapeWord) (after : List ℕ) (more : List PlacedAct) → source ≡ plain_lines (w ∷ before) ++ after → AreSmall (w ∷ before)
+line_does : (source : List ℕ) (c : PartEnd) (w : TapeWord) (before : List TapeWord) (after : List ℕ) (more : List PlacedAct) → source ≡ plain_lines (w ∷ before) ++ after → AreSmall (w ∷ before)
     → DoesFrom source c (length (marks (w ∷ before))) more → DoesFrom source c (length (marks before)) (line_act w (line (front_of before)) ∷ more)
 line_does source c (Origin a) before after more e small does = origin_does source c a before after more e small does
 line_does source c (Data v) before after more e small does = data_does source c v before after more e small does
 
 -- ---- all lines
 
-lines_do : (source : List ℕ) (c : Close) (ws : List TapeWord) (after : List ℕ) (more : List PlacedAct) → source ≡ plain_lines ws ++ after → AreSmall ws
+lines_do : (source : List ℕ) (c : PartEnd) (ws : List TapeWord) (after : List ℕ) (more : List PlacedAct) → source ≡ plain_lines ws ++ after → AreSmall ws
     → DoesFrom source c (length (marks ws)) more → DoesFrom source c 0 (reverse (acts ws) ++ more)
 unfolding plain_lines marks acts
 lines_do source c [] after more e small does = does
@@ -167,7 +167,7 @@ lines_do source c (w ∷ before) after more e small does =
     (line_does source c w before after more e small does))
 
 -- where a plain source ends
-abbrev pub close_of : List TapeWord → Close
+abbrev pub close_of : List TapeWord → PartEnd
 close_of ws = closed ending.Dollar (length (front_of ws) + 1)
 
 dollar_does : (ws : List TapeWord) (after : List ℕ) → AreSmall ws → DoesFrom (plain_lines ws ++ (36 ∷ after)) (close_of ws) (length (marks ws)) []

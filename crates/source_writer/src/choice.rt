@@ -2,7 +2,7 @@
 
 ghost use Rattle.std.specs.Prelude.{◌≡◌, IfOk, true};
 ghost use Rattle.bin_tape.specs.Image.{HoldsWords};
-ghost use Rattle.declaration.specs.Kept.{meaning};
+ghost use Rattle.declaration.specs.DeclarationInCode.{meaning};
 ghost use Rattle.source_writer.specs.Meaning.{IsSourceOf};
 
 use crate::laws::plain_sources_mean;

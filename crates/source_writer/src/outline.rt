@@ -1,7 +1,7 @@
 //! What a source says of each cell, apart from its word.
 
 ghost use Rattle.std.specs.Prelude.{◌≡◌};
-ghost use Rattle.declaration.specs.Kept.{meaning};
+ghost use Rattle.declaration.specs.DeclarationInCode.{meaning};
 
 use crate::reach::{Reach, is_auto_index, skips_on_flag};
 use bin_tape::Image;

@@ -3,7 +3,7 @@
 use bin_tape::{Image, read_tape};
 use certificate::Certificate;
 use declaration::Declaration;
-use judge::{Rooms, judge};
+use judge::{JudgeWorkspace, judge};
 use std::alloc::Allocator;
 
 /// How often of so many times a judge says yes.
@@ -13,7 +13,7 @@ pub fn accepted<A: Allocator>(
     declaration: &Declaration<A>,
     certificate: &Certificate<A>,
     times: u16,
-    rooms: &mut Rooms<A>,
+    rooms: &mut JudgeWorkspace<A>,
 ) -> u64 {
     let mut count = 0u64;
     for _ in 0..times {
@@ -44,6 +44,6 @@ pub fn accepted_of<A: Allocator + Copy>(
     let image = read_tape(tape)?;
     let declaration = Declaration::parse(alloc, declared)?;
     let certificate = Certificate::parse(alloc, claimed)?;
-    let mut rooms = Rooms::boxed(alloc)?;
+    let mut rooms = JudgeWorkspace::boxed(alloc)?;
     Ok(Some(accepted(&image, &declaration, &certificate, times, &mut rooms)))
 }

@@ -8,7 +8,7 @@ use declaration::Declaration;
 use facts::{Fact, NarrowedFact, Place};
 use judge::{Claims, put_asked};
 use std::alloc::{AllocError, Allocator};
-use transfer::{Kind, Outcomes};
+use transfer::{OutcomeKind, Outcomes};
 use word12::Word;
 
 /// TAD of the cell 0010.
@@ -53,7 +53,7 @@ fn hit<A: Allocator>(
 {
     place.put_outcomes(asked, at, Word::from_index(TAD), outcomes);
     match &outcomes.first.kind {
-        Kind::Goes => {
+        OutcomeKind::Goes => {
             if place.entails(&outcomes.first.fact, next) {
                 1
             } else {

@@ -24,7 +24,7 @@ use processor::{Cpu, Outcome};
 use std::alloc::Allocator;
 use std::{env, io};
 use streams::read_at_most;
-use streams::standard::{Reads, Writes};
+use streams::standard::{StdReader, StdWriter};
 use testing::memory::MemorySink;
 use word12::Word;
 
@@ -153,7 +153,7 @@ fn time_tapes<R: Print + AllocGlobal>(rt: &R, times: u16) -> anyhow::Result<()> 
 
 /// Writes the tape of the fullest image to standard output.
 fn put_tape<R: Print>(rt: &R) -> anyhow::Result<()> {
-    let mut out = Writes::new(io::writer(rt));
+    let mut out = StdWriter::new(io::writer(rt));
     write_tape(&fullest(), &mut out)?;
     Ok(())
 }
@@ -171,7 +171,7 @@ fn number_at(words: &[String], at: usize) -> anyhow::Result<usize> {
 
 /// Judges what stands on standard input so many times, and prints how often the answer is yes.
 fn time_judge(rt: &HostRuntime, times: u16, words: &[String]) -> anyhow::Result<()> {
-    let mut source = Reads::new(rt.reader());
+    let mut source = StdReader::new(rt.reader());
     let bytes = read_at_most(rt.alloc(), &mut source, MOST_INPUT)?;
     let (tape, declaration) = (number_at(words, 3)?, number_at(words, 4)?);
     match judging::accepted_of(rt.alloc(), &bytes, tape, declaration, times)? {
@@ -183,7 +183,7 @@ fn time_judge(rt: &HostRuntime, times: u16, words: &[String]) -> anyhow::Result<
 
 /// Works out outcomes of the fact at 0200 of the certificate on standard input, and prints how many entail the one at 0201.
 fn time_facts(rt: &HostRuntime, times: u16) -> anyhow::Result<()> {
-    let mut source = Reads::new(rt.reader());
+    let mut source = StdReader::new(rt.reader());
     let bytes = read_at_most(rt.alloc(), &mut source, MOST_INPUT)?;
     let declared = Declaration::parse(rt.alloc(), b"start 200\nmain 200\nvar 10-110\n")?;
     let certificate = Certificate::parse(rt.alloc(), &bytes)?;
@@ -199,7 +199,7 @@ fn time_facts(rt: &HostRuntime, times: u16) -> anyhow::Result<()> {
 
 /// Reads the certificate on standard input so many times, and prints how often it is one.
 fn time_read(rt: &HostRuntime, times: u16) -> anyhow::Result<()> {
-    let mut source = Reads::new(rt.reader());
+    let mut source = StdReader::new(rt.reader());
     let bytes = read_at_most(rt.alloc(), &mut source, MOST_INPUT)?;
     let read = reading::read(rt.alloc(), &bytes, times);
     println!(rt; "read times {times} certificates {read}")?;

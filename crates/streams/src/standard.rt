@@ -9,21 +9,21 @@ use std::io;
 /// A reader of std, and whether a read of it failed or found the end. An interrupted read is tried
 /// again, and no read is made after one that found the end.
 #[derive(Drop)]
-pub struct Reads<R: io::Read> {
+pub struct StdReader<R: io::Read> {
     inner: R,
     failed: bool,
     ended: bool,
     ghost nothing_left: { ended ≡ true → ForSome (R.remaining inner) (λ bytes. bytes ≡ []) },
 }
 
-impl<R: io::Read> Reads<R> {
+impl<R: io::Read> StdReader<R> {
     /// Reads from this reader.
-    pub fn new(inner: R) -> Reads<R>
+    pub fn new(inner: R) -> StdReader<R>
         ensures inner { result.inner ≡ inner }
         ensures unmarked { result.failed ≡ false }
         ensures not_ended { result.ended ≡ false }
     {
-        Reads {
+        StdReader {
             inner,
             failed: false,
             ended: false,
@@ -31,7 +31,7 @@ impl<R: io::Read> Reads<R> {
     }
 }
 
-impl<R: io::Read> ByteSource for Reads<R> {
+impl<R: io::Read> ByteSource for StdReader<R> {
     ghost remaining = { λ source. R.remaining source.inner };
 
     ghost mark = { λ source. source.failed };
@@ -66,25 +66,25 @@ impl<R: io::Read> ByteSource for Reads<R> {
 
 /// A writer of std, and whether a write to it failed. An interrupted write is tried again.
 #[derive(Drop)]
-pub struct Writes<W> {
+pub struct StdWriter<W> {
     inner: W,
     failed: bool,
 }
 
-impl<W> Writes<W> {
+impl<W> StdWriter<W> {
     /// Writes to this writer.
-    pub fn new(inner: W) -> Writes<W>
+    pub fn new(inner: W) -> StdWriter<W>
         ensures inner { result.inner ≡ inner }
         ensures unmarked { result.failed ≡ false }
     {
-        Writes {
+        StdWriter {
             inner,
             failed: false,
         }
     }
 }
 
-impl<W: io::Write> ByteSink for Writes<W> {
+impl<W: io::Write> ByteSink for StdWriter<W> {
     ghost taken = { λ sink. W.contents sink.inner };
 
     ghost mark = { λ sink. sink.failed };

@@ -23,7 +23,7 @@ ghost use Rattle.transfer.specs.Operations.{ac_after, link_after, moves_bits, re
 ghost use Rattle.transfer.specs.Shaped.{HaveFewTerms, if_stays, images_from};
 
 use crate::additions::{accumulator_with_rest, has_accumulator, names, put_accumulator};
-use crate::rooms::{NextFact, TestedFact};
+use crate::fact_sizes::{NextFact, TestedFact};
 use crate::skipping::put_part;
 use crate::stores::put_begun_longer;
 use bin_tape::Image;

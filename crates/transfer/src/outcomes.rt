@@ -9,7 +9,7 @@ ghost use Rattle.transfer.specs.Outcomes.{given, is_alive};
 ghost use Rattle.transfer.specs.Outcomes as said;
 ghost use Rattle.transfer.specs.OutcomesInCode.{outcome_in, outcomes_in};
 
-use crate::rooms::{NextFact, SteppedFact, TestedFact};
+use crate::fact_sizes::{NextFact, SteppedFact, TestedFact};
 use crate::sets::has_some;
 use domain::{BriefSet, Rules, SumFact};
 use word12::Word;
@@ -17,7 +17,7 @@ use wordset::{Links, WordSet};
 
 /// What comes of a word.
 #[derive(Clone, Copy, PartialEq, Eq, Debug)]
-pub enum Kind {
+pub enum OutcomeKind {
     /// Nothing: there is no such outcome.
     Nothing,
     /// The run goes on at one of the targets.
@@ -32,9 +32,9 @@ pub enum Kind {
 ///
 /// Contracts see it as the list that `outcome_in` gives: the outcome, or nothing.
 #[derive(Drop)]
-pub struct Outcome {
+pub struct FactOutcome {
     /// What comes.
-    pub kind: Kind,
+    pub kind: OutcomeKind,
     /// The addresses where the run goes on, or the entries that are called.
     pub targets: BriefSet,
     /// The fact that holds then.
@@ -47,13 +47,13 @@ pub struct Outcome {
 #[derive(Drop)]
 pub struct Outcomes {
     /// The first.
-    pub first: Outcome,
+    pub first: FactOutcome,
     /// The second.
-    pub second: Outcome,
+    pub second: FactOutcome,
     /// The third.
-    pub third: Outcome,
+    pub third: FactOutcome,
     /// The fourth.
-    pub fourth: Outcome,
+    pub fourth: FactOutcome,
     /// Room for the fact after the pointer of a reference was counted up.
     pub stepped: SteppedFact,
     /// Room for the fact that is narrowed after a test of a skip.
@@ -100,13 +100,13 @@ pub fn is_alive<const C: usize, const R: usize>(
     }
 }
 
-impl Outcome {
+impl FactOutcome {
     /// Room for an outcome.
-    pub fn nothing() -> Outcome
+    pub fn nothing() -> FactOutcome
         ensures { outcome_in result ≡ [] }
     {
-        Outcome {
-            kind: Kind::Nothing,
+        FactOutcome {
+            kind: OutcomeKind::Nothing,
             targets: BriefSet::none(),
             fact: NextFact::any(),
         }
@@ -116,7 +116,7 @@ impl Outcome {
     pub fn clear(&mut self)
         ensures { outcome_in self.new ≡ [] }
     {
-        self.kind = Kind::Nothing;
+        self.kind = OutcomeKind::Nothing;
     }
 
     /// Lets the run go on at an address with the fact that stands here, where that comes about.
@@ -127,7 +127,7 @@ impl Outcome {
             self.clear();
             return;
         }
-        self.kind = Kind::Goes;
+        self.kind = OutcomeKind::Goes;
         self.targets.set_one(next);
     }
 
@@ -151,7 +151,7 @@ impl Outcome {
             self.clear();
             return;
         }
-        self.kind = Kind::Goes;
+        self.kind = OutcomeKind::Goes;
         self.targets.set(targets);
     }
 
@@ -163,7 +163,7 @@ impl Outcome {
             self.clear();
             return;
         }
-        self.kind = Kind::Calls;
+        self.kind = OutcomeKind::Calls;
         self.targets.set(targets);
     }
 
@@ -175,7 +175,7 @@ impl Outcome {
             self.clear();
             return;
         }
-        self.kind = Kind::Returns;
+        self.kind = OutcomeKind::Returns;
     }
 }
 
@@ -185,10 +185,10 @@ impl Outcomes {
         ensures { outcomes_in result ≡ [] }
     {
         Outcomes {
-            first: Outcome::nothing(),
-            second: Outcome::nothing(),
-            third: Outcome::nothing(),
-            fourth: Outcome::nothing(),
+            first: FactOutcome::nothing(),
+            second: FactOutcome::nothing(),
+            third: FactOutcome::nothing(),
+            fourth: FactOutcome::nothing(),
             stepped: SteppedFact::any(),
             tested: TestedFact::any(),
         }

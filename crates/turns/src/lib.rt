@@ -8,7 +8,7 @@ mod stepping;
 
 use declaration::DeclarationFault;
 use std::marker::Model;
-pub use stepping::{Stepped, take_step};
+pub use stepping::{StepVerdict, take_step};
 use thiserror::Error;
 use word12::Word;
 

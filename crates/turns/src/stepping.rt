@@ -1,12 +1,12 @@
 //! A step of a machine that is watched, for which a turn is taken.
 
 ghost use Rattle.std.specs.Prelude.{◌≡◌, ◌≢◌, ◌≤◌, ◌+◌, IfOk};
-ghost use Rattle.declaration.specs.Kept.{meaning};
+ghost use Rattle.declaration.specs.DeclarationInCode.{meaning};
 ghost use Rattle.peripherals.specs.declared.Event.{Event};
 ghost use Rattle.peripherals.specs.World.{profile_of};
 ghost use Rattle.policy.specs.OpenCalls.{machine_of, calls_of};
 ghost use Rattle.policy.specs.WatchedSteps.{Goes};
-ghost use Rattle.turns.specs.declared.stepping.Stepped.TheVariants.{Kept, NoTurn};
+ghost use Rattle.turns.specs.declared.stepping.StepVerdict.TheVariants.{Kept, NoTurn};
 
 use crate::Turns;
 use declaration::Declaration;
@@ -16,7 +16,7 @@ use std::alloc::Allocator;
 
 /// What came of a step.
 #[derive(Clone, Copy, PartialEq, Eq)]
-pub enum Stepped {
+pub enum StepVerdict {
     /// It was made, and kept the rules.
     Kept,
     /// It was tried, and breaks a rule.
@@ -32,7 +32,7 @@ pub fn take_step<A: Allocator, D: Allocator>(
     watcher: &mut Watcher<A>,
     declaration: &Declaration<D>,
     turns: &mut Turns,
-) -> Result<Stepped, NoMemory>
+) -> Result<StepVerdict, NoMemory>
     requires profile { profile_of watcher.old.world ≡ (meaning declaration.now).profile }
     ensures profile { profile_of watcher.new.world ≡ (meaning declaration.now).profile }
     // Where it is told that the step was made, it was.
@@ -46,11 +46,11 @@ pub fn take_step<A: Allocator, D: Allocator>(
     ensures within { turns.new.spent ≤ turns.new.limit }
 {
     if turns.take().is_err() {
-        return Ok(Stepped::NoTurn);
+        return Ok(StepVerdict::NoTurn);
     }
     match watcher.step(declaration) {
-        Ok(None) => Ok(Stepped::Kept),
-        Ok(Some(_)) => Ok(Stepped::Broke),
+        Ok(None) => Ok(StepVerdict::Kept),
+        Ok(Some(_)) => Ok(StepVerdict::Broke),
         Err(NoMemory) => Err(NoMemory),
     }
 }

@@ -7,7 +7,7 @@ ghost use Rattle.wordset.specs.Links.{links_of};
 ghost use Rattle.domain.specs.FactInCode.{fact_in_code};
 ghost use Rattle.facts.specs.Conditions.{link_words};
 ghost use Rattle.facts.specs.PlaceInCode.{place_in_code};
-ghost use Rattle.certificate_lines.specs.Kept.{claims};
+ghost use Rattle.certificate_lines.specs.CertificateInCode.{claims};
 ghost use Rattle.judge.specs.Judged.{case_kept, judged};
 ghost use Rattle.usage.specs.Returns.{IsReturned, IsReturnedByOne, held};
 

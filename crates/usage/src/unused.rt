@@ -2,8 +2,8 @@
 
 ghost use Rattle.std.specs.Prelude.{ℕ, ◌≡◌, ◌<◌, ◌==◌, ◌&&◌, ◌||◌, ◌↔◌, IsTrue, false, true};
 ghost use Rattle.wordset.specs.Lanes.{words};
-ghost use Rattle.certificate_lines.specs.Kept.{claims};
-ghost use Rattle.declaration.specs.Kept.{meaning};
+ghost use Rattle.certificate_lines.specs.CertificateInCode.{claims};
+ghost use Rattle.declaration.specs.DeclarationInCode.{meaning};
 ghost use Rattle.judge.specs.Judged.{judged};
 ghost use Rattle.usage.specs.Uses.{IsUsed};
 ghost use Rattle.usage.specs.Unused.{IsOnList, IsUnused, MayBeUsed};

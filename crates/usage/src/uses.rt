@@ -5,7 +5,7 @@ ghost use Rattle.wordset.specs.Lanes.{words};
 ghost use Rattle.domain.specs.FactInCode.{fact_in_code};
 ghost use Rattle.facts.specs.Conditions.{may_read};
 ghost use Rattle.facts.specs.PlaceInCode.{meaning_in, place_in_code};
-ghost use Rattle.certificate_lines.specs.Kept.{claims};
+ghost use Rattle.certificate_lines.specs.CertificateInCode.{claims};
 ghost use Rattle.judge.specs.Bodies.{Tells};
 ghost use Rattle.judge.specs.Judged.{case_kept, judged};
 ghost use Rattle.usage.specs.Uses.{IsUsed, IsUsedAt, IsUsedBy, IsUsedBySome, IsUsedFrom, but_own, uses};

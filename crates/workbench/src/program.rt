@@ -24,7 +24,7 @@ use std::io::ErrorKind;
 use std::rt::{Env, Files};
 use std::{env, io};
 use streams::put;
-use streams::standard::Writes;
+use streams::standard::StdWriter;
 
 /// The arguments that stand for none at all.
 static RUN_STANDARD_INPUT: [&str; 3] = ["pdp8", "run", "-"];
@@ -217,6 +217,6 @@ fn explain_code<R: Print + Eprint>(
             }
         }
     }
-    put(&mut Writes::new(io::writer(rt)), text.as_bytes())?;
+    put(&mut StdWriter::new(io::writer(rt)), text.as_bytes())?;
     Ok(Status::Done)
 }

@@ -1,6 +1,6 @@
 use Rattle.std.proofs.Common.{◌≡◌, subst, sym}
 use Rattle.std.proofs.lemmas.Result.{IfOk-weaker}
-use Rattle.certificate_lines.specs.Kept.{meaning}
+use Rattle.certificate_lines.specs.CertificateInCode.{meaning}
 use Rattle.certificate.specs.Exact.{AreLines}
 use Rattle.analyser.proofs.found_with.Goals as goal
 

@@ -1,6 +1,6 @@
 use Rattle.std.proofs.Common.{subst}
 use Rattle.std.specs.Prelude.{IfOk}
-use Rattle.declaration.specs.Kept.{meaning as declared}
+use Rattle.declaration.specs.DeclarationInCode.{meaning as declared}
 use Rattle.analyser.specs.Attempts.{IsDraftIfStuck}
 use Rattle.analyser.proofs.guess_or_draft_within.Goals as goal
 

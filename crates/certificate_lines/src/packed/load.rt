@@ -20,7 +20,7 @@ ghost use Rattle.certificate_lines.specs.Found.{IsSaid, IsRoutineLine};
 use crate::RoutineClaim;
 use crate::packed::sum::PackedSum;
 use crate::packed::{
-    CertifiedFact, LentLine, PackedChain, PackedLine, PackedLines, runs_from, steps_from,
+    CertifiedFact, LineView, PackedChain, PackedLine, PackedLines, runs_from, steps_from,
 };
 use crate::runs::{PackedRegisters, Run, put_runs, set_in};
 use domain::{Chain, ReturnOffsets, Step, Sum};
@@ -268,7 +268,7 @@ impl<A: Allocator> PackedLines<A> {
 }
 
 /// Whether a line is a fact's or an exit's, which the lent fact then says but for its details; of an exit it has all offsets.
-pub fn begin_said(lent: &LentLine<'_>, fact: &mut CertifiedFact) -> bool
+pub fn begin_said(lent: &LineView<'_>, fact: &mut CertifiedFact) -> bool
     requires { LiesWithin (length lent.now.runs.now) (length lent.now.steps.now) lent.now.line.now }
     ensures there { result ≡ has_details (said_of lent.now) }
     ensures says { result ≡ true → IsSaid (said_of lent.now ∷ []) (fact_in_code fact.new) }
@@ -296,7 +296,7 @@ pub fn begin_said(lent: &LentLine<'_>, fact: &mut CertifiedFact) -> bool
 
 /// What a line says of a routine, if it does.
 #[inline(never)]
-pub fn routine_of(lent: &LentLine<'_>) -> Option<RoutineClaim>
+pub fn routine_of(lent: &LineView<'_>) -> Option<RoutineClaim>
     requires { LiesWithin (length lent.now.runs.now) (length lent.now.steps.now) lent.now.line.now }
     ensures there { is_some result ≡ is_routine (said_of lent.now) }
     ensures says { IfSome result (λ r. IsRoutineLine (said_of lent.now) r) }

@@ -12,7 +12,7 @@ ghost use Rattle.certificate_lines.specs.Lines.{ChainIs};
 ghost use Rattle.certificate_lines.specs.Packed.{said_of, LiesWithin, LieWithin, IsNumbered, HasForm, claimed_line, sited_line, sites_if, registers_in_fact, IsPacked};
 
 use crate::packed::{
-    CertifiedFact, Claim, LentLine, PackedChain, PackedExit, PackedFact, PackedLine, in_both,
+    CertifiedFact, Claim, LineView, PackedChain, PackedExit, PackedFact, PackedLine, in_both,
 };
 use crate::runs::{PackedRegisters, PackedRoutine, Run, lay, lay_two};
 use domain::{BriefSet, Chain, Step};
@@ -162,7 +162,7 @@ pub fn lay_all<A: Allocator>(
 pub fn lay_sited<A: Allocator>(
     runs: &mut Vec<Run, A>,
     steps: &mut Vec<Step, A>,
-    lent: &LentLine<'_>,
+    lent: &LineView<'_>,
     sites: &WordSet,
 ) -> Result<PackedLine, AllocError>
     requires within { LiesWithin (length lent.now.runs.now) (length lent.now.steps.now) lent.now.line.now }
@@ -201,7 +201,7 @@ pub fn lay_sited<A: Allocator>(
 fn lay_same<A: Allocator>(
     runs: &mut Vec<Run, A>,
     steps: &mut Vec<Step, A>,
-    lent: &LentLine<'_>,
+    lent: &LineView<'_>,
 ) -> Result<PackedLine, AllocError>
     requires within { LiesWithin (length lent.now.runs.now) (length lent.now.steps.now) lent.now.line.now }
     requires numbers { IsNumbered lent.now.line.now }

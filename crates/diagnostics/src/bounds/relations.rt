@@ -1,7 +1,7 @@
 //! Where the distance between a pointer and another cell is lost, though a loop keeps it on another way.
 
 ghost use Rattle.std.specs.Prelude.{◌<◌, length};
-ghost use Rattle.certificate_lines.specs.Kept.{claims};
+ghost use Rattle.certificate_lines.specs.CertificateInCode.{claims};
 ghost use Rattle.domain.specs.FactInCode.{fact_in_code};
 ghost use Rattle.judge.specs.Shapes.{HasShape};
 
@@ -14,7 +14,7 @@ use domain::{Location, Relation as SumRelation, Sum};
 use facts::{Fact, NarrowedFact};
 use judge::{Body, Case, Claims, place_of, put_asked, put_sites};
 use std::alloc::{AllocError, Allocator};
-use transfer::{Kind, NextFact, Outcome, Outcomes};
+use transfer::{FactOutcome, NextFact, OutcomeKind, Outcomes};
 use word12::Word;
 use wordset::WordSet;
 
@@ -194,21 +194,21 @@ impl<A: Allocator> LoopTraversal<A> {
         case: &Case<'_, D, Certificate<C>>,
         from: &LoopState,
         word: Word,
-        outcome: &Outcome,
+        outcome: &FactOutcome,
     ) -> Result<(), AllocError> {
         let mut targets = WordSet::empty();
         outcome.targets.put(&mut targets);
         match outcome.kind {
-            Kind::Goes if stores_through_pointer(word) => {
+            OutcomeKind::Goes if stores_through_pointer(word) => {
                 self.spread(from, &from.distance, &targets)
             }
-            Kind::Goes => {
+            OutcomeKind::Goes => {
                 let (pointer, cell) = (self.relation.pointer, self.relation.cell);
                 let distance = distance_in(case.image, &outcome.fact, pointer, cell);
                 self.spread(from, &distance, &targets)
             }
-            Kind::Calls => self.call_each(case.declaration, case.claims, from, &targets),
-            Kind::Returns | Kind::Nothing => Ok(()),
+            OutcomeKind::Calls => self.call_each(case.declaration, case.claims, from, &targets),
+            OutcomeKind::Returns | OutcomeKind::Nothing => Ok(()),
         }
     }
 
@@ -389,7 +389,7 @@ fn fact_entering<'x>(outcomes: &'x Outcomes, head: Word) -> Option<&'x NextFact>
     for outcome in all {
         let mut targets = WordSet::empty();
         outcome.targets.put(&mut targets);
-        if outcome.kind == Kind::Goes && targets.contains(head) {
+        if outcome.kind == OutcomeKind::Goes && targets.contains(head) {
             return Some(&outcome.fact);
         }
     }

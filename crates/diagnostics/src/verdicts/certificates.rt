@@ -1,9 +1,9 @@
 //! The certificates that commands read and write.
 
 ghost use Rattle.std.specs.Prelude.{◌≡◌, false, IfOk, IfErr};
-ghost use Rattle.certificate_lines.specs.Kept.{meaning as text_of};
+ghost use Rattle.certificate_lines.specs.CertificateInCode.{meaning as text_of};
 ghost use Rattle.certificate_lines.specs.Laws.{bytes_of};
-ghost use Rattle.declaration.specs.Kept.{meaning};
+ghost use Rattle.declaration.specs.DeclarationInCode.{meaning};
 ghost use Rattle.command_parts.specs.Answers.{NeverFails, WritesAnswer, output};
 ghost use Rattle.command_parts.specs.Faults.{IsWriteFault, fails_to_read, fails_to_write};
 ghost use Rattle.command_parts.specs.Inputs.{HasDeclaration, HasImage, input};

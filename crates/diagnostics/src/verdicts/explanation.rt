@@ -1,8 +1,8 @@
 //! A verdict and why it is, over whatever takes a text for people.
 
 ghost use Rattle.std.specs.Prelude.{ℕ, ◌≡◌, ◌++◌, length, IfOk, OnOk};
-ghost use Rattle.certificate_lines.specs.Kept.{claims, meaning as text_of};
-ghost use Rattle.declaration.specs.Kept.{meaning};
+ghost use Rattle.certificate_lines.specs.CertificateInCode.{claims, meaning as text_of};
+ghost use Rattle.declaration.specs.DeclarationInCode.{meaning};
 ghost use Rattle.diagnostics.specs.CheckText.{checked_case, verdict_text};
 ghost use Rattle.certificate_lines.specs.Written.{fact_text_at};
 ghost use Rattle.diagnostics.specs.ReasonContexts.{IsTellingOf};
@@ -17,7 +17,7 @@ use certificate::Certificate;
 use command_parts::message::MessageWriter;
 use declaration::Declaration;
 use judge::{Claims, Refusal};
-use reasons::{Reason, WhyRooms, why};
+use reasons::{Reason, ReasonWorkspace, why};
 use std::alloc::{AllocError, Allocator};
 use word12::Word;
 
@@ -27,7 +27,7 @@ fn reason_of<D: Allocator, C: Allocator, M: Allocator>(
     declaration: &Declaration<D>,
     certificate: &Certificate<C>,
     verdict: &Result<(), Refusal>,
-    rooms: &mut WhyRooms<M>,
+    rooms: &mut ReasonWorkspace<M>,
 ) -> Option<Reason>
     ensures { IsReason
         (checked_case image.now (meaning declaration.now) (text_of certificate.now))
@@ -139,7 +139,7 @@ pub fn push_explanation<L: MessageWriter, A: Allocator + Copy, D: Allocator, C: 
     ensures { OnOk result (AddsExplanation image.now (meaning declaration.now)
         (text_of certificate.now) verdict.now (L.text text.old) (L.text text.new)) }
 {
-    let mut rooms = WhyRooms::boxed(alloc)?;
+    let mut rooms = ReasonWorkspace::boxed(alloc)?;
     let reason = reason_of(image, declaration, certificate, verdict, &mut rooms);
     let telling = reason_context_of(certificate, verdict, &reason);
     push_verdict(alloc, text, image, declaration, verdict, &reason, &telling)?;

@@ -2,9 +2,9 @@
 //! source.
 
 ghost use Rattle.std.specs.Prelude.{IfOk};
-ghost use Rattle.certificate_lines.specs.Kept.{meaning as text_of};
+ghost use Rattle.certificate_lines.specs.CertificateInCode.{meaning as text_of};
 ghost use Rattle.command_parts.specs.Messages.{plain};
-ghost use Rattle.declaration.specs.Kept.{meaning};
+ghost use Rattle.declaration.specs.DeclarationInCode.{meaning};
 ghost use Rattle.diagnostics.specs.WhyText.{IsExplanationOf};
 
 use crate::verdicts::explanation::push_explanation;
@@ -15,7 +15,7 @@ use certificate::Certificate;
 use command_parts::message::Message;
 use command_parts::status::Status;
 use declaration::Declaration;
-use judge::{Rooms, judge};
+use judge::{JudgeWorkspace, judge};
 use std::alloc::{AllocError, Allocator};
 
 /// What is said about a certificate, and how the command ends.
@@ -44,7 +44,7 @@ pub fn check_message<A: Allocator + Copy, D: Allocator, C: Allocator>(
     ensures { IfOk result (λ message. IsExplanationOf image.now (meaning declaration.now)
         (text_of certificate.now) message.status (plain message.told)) }
 {
-    let mut rooms = Rooms::boxed(alloc)?;
+    let mut rooms = JudgeWorkspace::boxed(alloc)?;
     let verdict = judge(image, declaration, certificate, &mut rooms);
     let mut told = Message::new(alloc);
     push_explanation(alloc, &mut told, image, declaration, certificate, &verdict)?;

@@ -1,8 +1,8 @@
 //! Which sums of cells that changed together may be told: their difference, and what stays the same where the one goes by
 //! several words as the other goes by one.
 
-use crate::halt::Halt;
-use crate::of_sums::kept::SumInvariant;
+use crate::fault::SearchFault;
+use crate::of_sums::invariants::SumInvariant;
 use crate::of_sums::merging::{Merge, Sides};
 use domain::{Location, Sum, Summand, Term, negated, product, spelled};
 use facts::{Fact, KnownFact};
@@ -111,7 +111,7 @@ fn add_pair<A: Allocator + Copy, F: KnownFact>(
     known: &F,
     merge: &Merge<'_, A>,
     sides: &mut Sides<'_>,
-) -> Result<(), Halt> {
+) -> Result<(), SearchFault> {
     let minus = Word::from_index(0o7777);
     if let Some(sum) = with_factor(left.cell, minus, right.cell) {
         kept.add_sum(&sum, known, merge, sides)?;
@@ -130,7 +130,7 @@ fn add_factors<A: Allocator + Copy, F: KnownFact>(
     known: &F,
     merge: &Merge<'_, A>,
     sides: &mut Sides<'_>,
-) -> Result<(), Halt> {
+) -> Result<(), SearchFault> {
     for step in [fast.step(), fast.low_step(), fast.high_step()] {
         if let Some(factor) = factor(step, slow.step()) {
             if let Some(sum) = with_factor(fast.cell, factor, slow.cell) {
@@ -149,7 +149,7 @@ fn add_pairs_of<A: Allocator + Copy, F: KnownFact>(
     known: &F,
     merge: &Merge<'_, A>,
     sides: &mut Sides<'_>,
-) -> Result<(), Halt> {
+) -> Result<(), SearchFault> {
     let left = change_of(cell, known, sides.before);
     for other in others.iter() {
         if other > cell {
@@ -169,7 +169,7 @@ pub(crate) fn add_pairs<A: Allocator + Copy, F: KnownFact>(
     known: &F,
     merge: &Merge<'_, A>,
     sides: &mut Sides<'_>,
-) -> Result<(), Halt> {
+) -> Result<(), SearchFault> {
     let chosen = if changed.count() <= MOST_CHANGED {
         *changed
     } else {

@@ -1,16 +1,16 @@
 //! What a kept fact and something else that is known say both.
 
-use crate::halt::Halt;
+use crate::fault::SearchFault;
+use crate::incoming_fact::brief;
 use crate::invariant::CellInvariant;
-use crate::known::brief;
 use crate::of_sums::candidates::add_pairs;
-use crate::of_sums::kept::{RelationInvariant, SumInvariant};
-use crate::of_sums::widening::Paces;
+use crate::of_sums::invariants::{RelationInvariant, SumInvariant};
+use crate::of_sums::widening::WideningDelays;
 use crate::sums::speaks_only_of;
 use crate::widening::Limits;
 use bin_tape::Image;
 use domain::{Chain, Location, ReturnOffsets, Sum, Summand};
-use facts::{Allowed, Fact, KnownFact};
+use facts::{AllowedValues, Fact, KnownFact};
 use std::alloc::Allocator;
 use std::mem::replace;
 use wordset::WordSet;
@@ -28,7 +28,7 @@ pub(crate) struct Merge<'a, A: Allocator + Copy> {
     pub(crate) pointers: &'a WordSet,
     pub(crate) thresholds: &'a WordSet,
     pub(crate) limits: &'a Limits,
-    pub(crate) paces: Paces,
+    pub(crate) paces: WideningDelays,
     pub(crate) widens: bool,
 }
 
@@ -41,13 +41,13 @@ pub(crate) struct Sides<'a> {
 
 impl<A: Allocator + Copy> Merge<'_, A> {
     /// A set, filled where it has too many runs.
-    pub(crate) fn smoothed(&self, set: &WordSet) -> WordSet {
-        self.limits.smoothed(set)
+    pub(crate) fn with_few_runs(&self, set: &WordSet) -> WordSet {
+        self.limits.with_few_runs(set)
     }
 
     /// A set of a name that grew out of another so often.
     fn widened(&self, old: &WordSet, grown: &WordSet, growths: u32, counted: bool) -> WordSet {
-        let smooth = self.smoothed(grown);
+        let smooth = self.with_few_runs(grown);
         if !self.widens {
             return smooth;
         }
@@ -61,7 +61,7 @@ impl<A: Allocator + Copy> Merge<'_, A> {
 
     /// A set of a sum that grew out of another so often.
     fn widened_sum(&self, old: &WordSet, grown: &WordSet, growths: u32) -> WordSet {
-        let smooth = self.smoothed(grown);
+        let smooth = self.with_few_runs(grown);
         if !self.widens {
             return smooth;
         }
@@ -99,7 +99,7 @@ fn shows<F: KnownFact>(known: &F, chain: &Chain) -> bool {
     if cells.count() > MOST_TRIED {
         return false;
     }
-    let allowed = Allowed {
+    let allowed = AllowedValues {
         accumulators: known.accumulator(),
         links: known.link(),
         chains: known.chains(),
@@ -165,7 +165,7 @@ impl<A: Allocator + Copy> SumInvariant<A> {
         wanted: &[RelationInvariant],
         merge: &Merge<'_, A>,
         sides: &mut Sides<'_>,
-    ) -> Result<(), Halt> {
+    ) -> Result<(), SearchFault> {
         self.join_registers(known, merge);
         let changed = self.join_cells(known, merge)?;
         let relations = replace(&mut self.relations, Vec::new(merge.alloc));
@@ -262,7 +262,7 @@ impl<A: Allocator + Copy> SumInvariant<A> {
         &mut self,
         known: &F,
         merge: &Merge<'_, A>,
-    ) -> Result<WordSet, Halt> {
+    ) -> Result<WordSet, SearchFault> {
         let mut changed = WordSet::empty();
         let all = WordSet::all();
         let lines = replace(&mut self.cells, Vec::new(merge.alloc));
@@ -273,7 +273,7 @@ impl<A: Allocator + Copy> SumInvariant<A> {
             }
             if !joined.told.set.has_all(&all) {
                 let Ok(()) = self.cells.push(joined) else {
-                    return Err(Halt::NoMemory);
+                    return Err(SearchFault::NoMemory);
                 };
             }
         }
@@ -287,7 +287,7 @@ impl<A: Allocator + Copy> SumInvariant<A> {
         known: &F,
         merge: &Merge<'_, A>,
         sides: &mut Sides<'_>,
-    ) -> Result<(), Halt> {
+    ) -> Result<(), SearchFault> {
         let sum = &relation.told.sum;
         let mut old = WordSet::all();
         relation.told.set.put(&mut old);
@@ -308,7 +308,7 @@ impl<A: Allocator + Copy> SumInvariant<A> {
         known: &F,
         merge: &Merge<'_, A>,
         sides: &mut Sides<'_>,
-    ) -> Result<(), Halt> {
+    ) -> Result<(), SearchFault> {
         if !speaks_only_of(&merge.tracked, sum) || self.relates(sum) {
             return Ok(());
         }
@@ -329,7 +329,7 @@ impl<A: Allocator + Copy> SumInvariant<A> {
         known: &F,
         merge: &Merge<'_, A>,
         before: &Fact,
-    ) -> Result<(), Halt> {
+    ) -> Result<(), SearchFault> {
         for chain in chains {
             if shows(known, chain) {
                 self.add_chain(chain)?;

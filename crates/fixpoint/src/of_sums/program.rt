@@ -3,7 +3,7 @@
 ghost use Rattle.std.specs.Prelude.{ℕ, ◌≡◌, true, IfSome, Some};
 ghost use Rattle.wordset.specs.Words.{difference};
 ghost use Rattle.wordset.specs.Lanes.{words};
-ghost use Rattle.declaration.specs.Kept.{meaning};
+ghost use Rattle.declaration.specs.DeclarationInCode.{meaning};
 
 use crate::program::{AnalysedProgram, add_asserted, is_reference};
 use crate::widening::{Limits, MANY_RUNS};

@@ -1,11 +1,11 @@
 //! Calls and returns.
 
-use crate::halt::Halt;
+use crate::fault::SearchFault;
 use crate::of_sums::program::SumProgram;
-use crate::of_sums::rooms::SumRooms;
 use crate::of_sums::search::SumSearch;
 use crate::of_sums::splits::Case;
-use crate::of_sums::steps::Goal;
+use crate::of_sums::steps::MergeTarget;
+use crate::of_sums::workspace::SumWorkspace;
 use certificate_lines::RoutineClaim;
 use facts::{Fact, KnownFact, Place};
 use std::alloc::Allocator;
@@ -22,7 +22,12 @@ impl<A: Allocator + Copy> SumSearch<A> {
     }
 
     /// Claims more of a routine, and tells whether it is more.
-    fn claim(&mut self, entry: Word, sites: &WordSet, writes: &WordSet) -> Result<bool, Halt> {
+    fn claim(
+        &mut self,
+        entry: Word,
+        sites: &WordSet,
+        writes: &WordSet,
+    ) -> Result<bool, SearchFault> {
         let alloc = self.alloc;
         if self.gathers() {
             self.gathered.claim(alloc, entry, sites, writes)
@@ -32,7 +37,11 @@ impl<A: Allocator + Copy> SumSearch<A> {
     }
 
     /// The routine of a body may write some cells, its own entry apart.
-    pub(crate) fn write(&mut self, routine: &Option<Word>, cells: &WordSet) -> Result<(), Halt> {
+    pub(crate) fn write(
+        &mut self,
+        routine: &Option<Word>,
+        cells: &WordSet,
+    ) -> Result<(), SearchFault> {
         let Some(entry) = routine else {
             return Ok(());
         };
@@ -54,7 +63,7 @@ impl<A: Allocator + Copy> SumSearch<A> {
             return;
         }
         for at in addresses.iter() {
-            self.table.facts.let_wait(at);
+            self.table.facts.mark_waiting(at);
         }
         self.waiting = self.waiting.union(addresses);
     }
@@ -65,8 +74,8 @@ impl<A: Allocator + Copy> SumSearch<A> {
         program: &SumProgram<'_, D>,
         place: &Place<'_, D>,
         at: Word,
-        room: &mut SumRooms<A>,
-    ) -> Result<(), Halt> {
+        room: &mut SumWorkspace<A>,
+    ) -> Result<(), SearchFault> {
         let mut entries = WordSet::empty();
         room.outcomes.first.targets.put(&mut entries);
         for entry in entries.iter() {
@@ -84,13 +93,13 @@ impl<A: Allocator + Copy> SumSearch<A> {
         place: &Place<'_, D>,
         at: Word,
         entry: Word,
-        room: &mut SumRooms<A>,
-    ) -> Result<(), Halt> {
+        room: &mut SumWorkspace<A>,
+    ) -> Result<(), SearchFault> {
         self.claim(entry, &WordSet::one(at), &WordSet::empty())?;
         let written = self.claimed(entry).writes;
         self.write(&place.routine, &written.union(&WordSet::one(entry)))?;
         room.calls.put_called_from(at);
-        let goal = Goal {
+        let goal = MergeTarget {
             from: at,
             to: entry.increment(),
             routine: Some(entry),
@@ -107,10 +116,10 @@ impl<A: Allocator + Copy> SumSearch<A> {
     fn land_next<D: Allocator>(
         &mut self,
         program: &SumProgram<'_, D>,
-        goal: &Goal,
-        room: &mut SumRooms<A>,
-    ) -> Result<(), Halt> {
-        let SumRooms { calls, parts, .. } = room;
+        goal: &MergeTarget,
+        room: &mut SumWorkspace<A>,
+    ) -> Result<(), SearchFault> {
+        let SumWorkspace { calls, parts, .. } = room;
         self.land(program, goal, &mut calls.next, parts)
     }
 
@@ -122,8 +131,8 @@ impl<A: Allocator + Copy> SumSearch<A> {
         at: Word,
         entry: Word,
         index: usize,
-        room: &mut SumRooms<A>,
-    ) -> Result<(), Halt> {
+        room: &mut SumWorkspace<A>,
+    ) -> Result<(), SearchFault> {
         let written = self.claimed(entry).writes;
         let Some(kept) = self.table.exits.get(entry, index) else {
             return Ok(());
@@ -137,7 +146,7 @@ impl<A: Allocator + Copy> SumSearch<A> {
         }
         kept.put_written(&written, &mut room.calls.exit);
         room.calls.put_joined(&written);
-        let goal = Goal {
+        let goal = MergeTarget {
             from: at,
             to,
             routine: place.routine,
@@ -147,14 +156,14 @@ impl<A: Allocator + Copy> SumSearch<A> {
     }
 
     /// Returns by a word, if it is a return of the routine whose body it stands in, by offsets that are declared.
-    pub(crate) fn come_back<D: Allocator>(
+    pub(crate) fn take_returns<D: Allocator>(
         &mut self,
         program: &SumProgram<'_, D>,
         place: &Place<'_, D>,
         at: Word,
         word: Word,
-        room: &mut SumRooms<A>,
-    ) -> Result<(), Halt> {
+        room: &mut SumWorkspace<A>,
+    ) -> Result<(), SearchFault> {
         let Some(entry) = place.routine else {
             return Ok(());
         };
@@ -167,7 +176,7 @@ impl<A: Allocator + Copy> SumSearch<A> {
                 && program.base.declaration.has_offset(entry, more)
             {
                 room.calls.put_next();
-                let goal = Goal {
+                let goal = MergeTarget {
                     from: at,
                     to: at,
                     routine: Some(entry),
@@ -183,12 +192,12 @@ impl<A: Allocator + Copy> SumSearch<A> {
     pub(crate) fn reach_exit<D: Allocator, F: KnownFact>(
         &mut self,
         program: &SumProgram<'_, D>,
-        goal: &Goal,
+        goal: &MergeTarget,
         case: &Case,
         known: &F,
         before: &mut Fact,
         after: &mut Fact,
-    ) -> Result<(), Halt> {
+    ) -> Result<(), SearchFault> {
         let Some(entry) = goal.routine else {
             return Ok(());
         };

@@ -4,15 +4,15 @@
 ghost use Rattle.std.specs.Prelude.{◌≡◌, ◌<◌, ◌≤◌, None, true, IfErr, IfOk};
 ghost use Rattle.turns.specs.Counts.{IsSpentUp};
 
-use crate::halt::Halt;
+use crate::fault::SearchFault;
 use crate::needs::Needs;
-use crate::of_sums::kept::SumInvariant;
+use crate::of_sums::invariants::SumInvariant;
 use crate::of_sums::merging::Merge;
 use crate::of_sums::program::SumProgram;
-use crate::of_sums::rooms::SumRooms;
 use crate::of_sums::splits::Split;
-use crate::of_sums::table::{Kept, Table};
-use crate::of_sums::widening::Paces;
+use crate::of_sums::table::{InvariantMap, Table};
+use crate::of_sums::widening::WideningDelays;
+use crate::of_sums::workspace::SumWorkspace;
 use crate::program::is_reference;
 use facts::Fact;
 use instruct::Operation;
@@ -33,13 +33,13 @@ pub(crate) const MOST_WORDS: usize = 64;
 
 /// Which way the search goes.
 #[derive(Clone, Copy, PartialEq, Eq)]
-pub(crate) enum Way {
+pub(crate) enum SearchPhase {
     /// On from what is known, until nothing grows.
-    On,
+    Ascending,
     /// Facts are made anew: from what is known, where that leads to the same address or a lower one,
-    Back,
+    DescendingBack,
     /// and then from what was made, where it leads to a higher one.
-    Forth,
+    DescendingForth,
 }
 
 /// What is known, what is gathered in a sweep, which way the search goes, how facts are told apart, which cells they speak of,
@@ -49,7 +49,7 @@ pub struct SumSearch<A: Allocator> {
     pub(crate) alloc: A,
     pub(crate) table: Table<A>,
     pub(crate) gathered: Table<A>,
-    pub(crate) way: Way,
+    pub(crate) way: SearchPhase,
     pub(crate) split: Split,
     pub(crate) tracked: WordSet,
     pub(crate) reached: WordSet,
@@ -70,7 +70,7 @@ impl<A: Allocator + Copy> SumSearch<A> {
             alloc,
             table: Table::new(alloc),
             gathered: Table::new(alloc),
-            way: Way::On,
+            way: SearchPhase::Ascending,
             split: Split::none(),
             tracked: WordSet::empty(),
             reached: WordSet::empty(),
@@ -108,9 +108,9 @@ impl<A: Allocator + Copy> SumSearch<A> {
             Ok(room) => room,
             Err(halt) => return Err(halt.fault()),
         };
-        self.ascend(program, &mut room, turns)?;
+        self.run_to_fixpoint(program, &mut room, turns)?;
         self.descend(program, &mut room, turns)?;
-        self.ascend(program, &mut room, turns)
+        self.run_to_fixpoint(program, &mut room, turns)
     }
 
     /// Forgets what was found, and keeps what is known at the start.
@@ -118,9 +118,9 @@ impl<A: Allocator + Copy> SumSearch<A> {
         &mut self,
         program: &SumProgram<'_, D>,
         split: &Split,
-    ) -> Result<SumRooms<A>, Halt> {
+    ) -> Result<SumWorkspace<A>, SearchFault> {
         self.table.forget();
-        self.way = Way::On;
+        self.way = SearchPhase::Ascending;
         self.split = *split;
         self.tracked = program.base.named;
         self.reached = program.reached;
@@ -128,19 +128,19 @@ impl<A: Allocator + Copy> SumSearch<A> {
         self.needs = Some(Needs::of(self.alloc, &program.base, &partners)?);
         self.waiting = WordSet::empty();
         self.start(program)?;
-        SumRooms::new(self.alloc)
+        SumWorkspace::new(self.alloc)
     }
 
     /// Whether facts are made anew.
     pub(crate) fn gathers(&self) -> bool {
-        self.way != Way::On
+        self.way != SearchPhase::Ascending
     }
 
     /// The facts from which the search goes on.
-    pub(crate) fn sources(&self) -> &Kept<A> {
+    pub(crate) fn sources(&self) -> &InvariantMap<A> {
         match self.way {
-            Way::On | Way::Back => &self.table.facts,
-            Way::Forth => &self.gathered.facts,
+            SearchPhase::Ascending | SearchPhase::DescendingBack => &self.table.facts,
+            SearchPhase::DescendingForth => &self.gathered.facts,
         }
     }
 
@@ -169,18 +169,18 @@ impl<A: Allocator + Copy> SumSearch<A> {
             pointers: &program.pointers,
             thresholds: &program.thresholds,
             limits: &program.base.limits,
-            paces: Paces::soon(),
+            paces: WideningDelays::soon(),
             widens: !self.gathers(),
         }
     }
 
     /// Keeps what is known at the start: the tracked cells hold the tape's words.
-    fn start<D: Allocator>(&mut self, program: &SumProgram<'_, D>) -> Result<(), Halt> {
+    fn start<D: Allocator>(&mut self, program: &SumProgram<'_, D>) -> Result<(), SearchFault> {
         let at = program.base.declaration.start();
         let tracked = self.tracked_at(at);
         let fact = Fact::any();
         let case = self.split.case_of(&program.owner(at), &fact);
-        let mut kept = SumInvariant::bare(self.alloc, at, case, &fact);
+        let mut kept = SumInvariant::without_cells(self.alloc, at, case, &fact);
         for cell in tracked.iter() {
             if let Some(word) = program.base.image.get(cell) {
                 kept.track(cell, &WordSet::one(word))?;
@@ -199,10 +199,10 @@ impl<A: Allocator + Copy> SumSearch<A> {
     }
 
     /// Goes on until nothing grows.
-    fn ascend<D: Allocator>(
+    fn run_to_fixpoint<D: Allocator>(
         &mut self,
         program: &SumProgram<'_, D>,
-        room: &mut SumRooms<A>,
+        room: &mut SumWorkspace<A>,
         turns: &mut Turns,
     ) -> Result<(), GuessFault>
         ensures limit { turns.new.limit ≡ turns.old.limit }
@@ -220,7 +220,7 @@ impl<A: Allocator + Copy> SumSearch<A> {
     fn go_on<D: Allocator>(
         &mut self,
         program: &SumProgram<'_, D>,
-        room: &mut SumRooms<A>,
+        room: &mut SumWorkspace<A>,
         turns: &mut Turns,
     ) -> Result<bool, GuessFault>
         ensures limit { turns.new.limit ≡ turns.old.limit }
@@ -247,7 +247,7 @@ impl<A: Allocator + Copy> SumSearch<A> {
         &mut self,
         program: &SumProgram<'_, D>,
         at: Word,
-        room: &mut SumRooms<A>,
+        room: &mut SumWorkspace<A>,
         turns: &mut Turns,
     ) -> Result<(), GuessFault>
         ensures limit { turns.new.limit ≡ turns.old.limit }
@@ -268,7 +268,7 @@ impl<A: Allocator + Copy> SumSearch<A> {
     fn descend<D: Allocator>(
         &mut self,
         program: &SumProgram<'_, D>,
-        room: &mut SumRooms<A>,
+        room: &mut SumWorkspace<A>,
         turns: &mut Turns,
     ) -> Result<(), GuessFault>
         ensures limit { turns.new.limit ≡ turns.old.limit }
@@ -280,10 +280,10 @@ impl<A: Allocator + Copy> SumSearch<A> {
         for _sweep in 0..MOST_SWEEPS {
             self.sweep(program, room, turns)?;
         }
-        self.way = Way::On;
+        self.way = SearchPhase::Ascending;
         self.waiting = self.table.facts.addresses();
         for at in self.waiting.iter() {
-            self.table.facts.let_wait(at);
+            self.table.facts.mark_waiting(at);
         }
         Ok(())
     }
@@ -292,7 +292,7 @@ impl<A: Allocator + Copy> SumSearch<A> {
     fn sweep<D: Allocator>(
         &mut self,
         program: &SumProgram<'_, D>,
-        room: &mut SumRooms<A>,
+        room: &mut SumWorkspace<A>,
         turns: &mut Turns,
     ) -> Result<(), GuessFault>
         ensures limit { turns.new.limit ≡ turns.old.limit }
@@ -302,14 +302,14 @@ impl<A: Allocator + Copy> SumSearch<A> {
     {
         turns.are_within();
         self.gathered.forget();
-        self.way = Way::Back;
+        self.way = SearchPhase::DescendingBack;
         if let Err(halt) = self.start(program) {
             return Err(halt.fault());
         }
         let addresses = self.table.facts.addresses();
         let leading_back = leading_back(program, &addresses);
         self.visit_each(program, &leading_back, room, turns)?;
-        self.way = Way::Forth;
+        self.way = SearchPhase::DescendingForth;
         self.visit_each(program, &addresses, room, turns)?;
         self.table = replace(&mut self.gathered, Table::new(self.alloc));
         Ok(())
@@ -320,7 +320,7 @@ impl<A: Allocator + Copy> SumSearch<A> {
         &mut self,
         program: &SumProgram<'_, D>,
         addresses: &WordSet,
-        room: &mut SumRooms<A>,
+        room: &mut SumWorkspace<A>,
         turns: &mut Turns,
     ) -> Result<(), GuessFault>
         ensures limit { turns.new.limit ≡ turns.old.limit }
@@ -340,7 +340,7 @@ impl<A: Allocator + Copy> SumSearch<A> {
         &mut self,
         program: &SumProgram<'_, D>,
         at: Word,
-        room: &mut SumRooms<A>,
+        room: &mut SumWorkspace<A>,
         turns: &mut Turns,
     ) -> Result<(), GuessFault>
         ensures limit { turns.new.limit ≡ turns.old.limit }

@@ -177,7 +177,7 @@ impl Split {
 impl<A: Allocator + Copy> SumSearch<A> {
     /// The variables by whose words facts may be told apart: those that the program tests, or of which something is declared to hold,
     /// and of which some fact says that they hold one of few words, but more than one.
-    pub fn tellers<D: Allocator>(&self, program: &SumProgram<'_, D>) -> WordSet {
+    pub fn distinguishing_variables<D: Allocator>(&self, program: &SumProgram<'_, D>) -> WordSet {
         let mut found = WordSet::empty();
         let cells = program.tested().union(&program.asserted);
         for cell in cells.iter() {

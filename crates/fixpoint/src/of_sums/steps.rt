@@ -4,24 +4,24 @@ ghost use Rattle.std.specs.Prelude.{◌≡◌, ◌≤◌, IfErr, map, true};
 ghost use Rattle.domain.specs.ChainsInCode.{AreShort, chain_of};
 ghost use Rattle.turns.specs.Counts.{IsSpentUp};
 
-use crate::halt::Halt;
+use crate::fault::SearchFault;
 use crate::invariant::are_short;
 use crate::of_sums::program::SumProgram;
-use crate::of_sums::rooms::{CallRooms, PartRooms, SumRooms};
-use crate::of_sums::search::{MOST_WORDS, SumSearch, Way};
+use crate::of_sums::search::{MOST_WORDS, SearchPhase, SumSearch};
 use crate::of_sums::splits::{Case, MOST_VALUES};
+use crate::of_sums::workspace::{CallWorkspace, PartWorkspace, SumWorkspace};
 use domain::{Chain, Location, ReturnOffsets};
-use facts::{Fact, KnownFact, NarrowedFact, Part, Place};
+use facts::{Fact, FactPart, KnownFact, NarrowedFact, Place};
 use instruct::{refers_indirectly, target};
 use std::alloc::Allocator;
-use transfer::{Kind, NextFact, Outcome, Outcomes};
+use transfer::{FactOutcome, NextFact, OutcomeKind, Outcomes};
 use turns::{GuessFault, Turns};
 use word12::{Link, Word};
 use wordset::WordSet;
 
 /// Where facts go to be kept: from which address to which, and for what is joined there, in the body of which routine.
 #[derive(Clone, Copy)]
-pub(crate) struct Goal {
+pub(crate) struct MergeTarget {
     pub(crate) from: Word,
     pub(crate) to: Word,
     pub(crate) routine: Option<Word>,
@@ -35,7 +35,7 @@ impl<A: Allocator + Copy> SumSearch<A> {
         program: &SumProgram<'_, D>,
         at: Word,
         index: usize,
-        room: &mut SumRooms<A>,
+        room: &mut SumWorkspace<A>,
         turns: &mut Turns,
     ) -> Result<(), GuessFault>
         ensures limit { turns.new.limit ≡ turns.old.limit }
@@ -70,7 +70,7 @@ impl<A: Allocator + Copy> SumSearch<A> {
         place: &Place<'_, D>,
         at: Word,
         word: Word,
-        room: &mut SumRooms<A>,
+        room: &mut SumWorkspace<A>,
         turns: &mut Turns,
     ) -> Result<(), GuessFault>
         ensures limit { turns.new.limit ≡ turns.old.limit }
@@ -98,8 +98,8 @@ impl<A: Allocator + Copy> SumSearch<A> {
         place: &Place<'_, D>,
         at: Word,
         word: Word,
-        room: &mut SumRooms<A>,
-    ) -> Result<(), Halt> {
+        room: &mut SumWorkspace<A>,
+    ) -> Result<(), SearchFault> {
         let mut written = WordSet::empty();
         place.put_writes(&room.calls.fact, at, word, &mut written);
         self.write(&place.routine, &written)?;
@@ -108,9 +108,9 @@ impl<A: Allocator + Copy> SumSearch<A> {
         }
         let kind = room.outcomes.first.kind;
         match kind {
-            Kind::Calls => self.call_each(program, place, at, room),
-            Kind::Returns => self.come_back(program, place, at, word, room),
-            Kind::Goes | Kind::Nothing => {
+            OutcomeKind::Calls => self.call_each(program, place, at, room),
+            OutcomeKind::Returns => self.take_returns(program, place, at, word, room),
+            OutcomeKind::Goes | OutcomeKind::Nothing => {
                 self.follow_all(program, place, at, &abandoned_by(place, word), room)
             }
         }
@@ -123,9 +123,9 @@ impl<A: Allocator + Copy> SumSearch<A> {
         place: &Place<'_, D>,
         at: Word,
         beyond: &WordSet,
-        room: &mut SumRooms<A>,
-    ) -> Result<(), Halt> {
-        let SumRooms {
+        room: &mut SumWorkspace<A>,
+    ) -> Result<(), SearchFault> {
+        let SumWorkspace {
             outcomes,
             parts,
             ..
@@ -144,10 +144,10 @@ impl<A: Allocator + Copy> SumSearch<A> {
         place: &Place<'_, D>,
         at: Word,
         beyond: &WordSet,
-        outcome: &mut Outcome,
-        rooms: &mut PartRooms<A>,
-    ) -> Result<(), Halt> {
-        if outcome.kind != Kind::Goes {
+        outcome: &mut FactOutcome,
+        rooms: &mut PartWorkspace<A>,
+    ) -> Result<(), SearchFault> {
+        if outcome.kind != OutcomeKind::Goes {
             return Ok(());
         }
         let mut addresses = WordSet::empty();
@@ -174,11 +174,11 @@ impl<A: Allocator + Copy> SumSearch<A> {
         addresses: &WordSet,
         at: Word,
         fact: &mut NextFact,
-        rooms: &mut PartRooms<A>,
-    ) -> Result<(), Halt> {
+        rooms: &mut PartWorkspace<A>,
+    ) -> Result<(), SearchFault> {
         for to in addresses.iter() {
             if program.has(routine, to) {
-                let goal = Goal {
+                let goal = MergeTarget {
                     from: at,
                     to,
                     routine: *routine,
@@ -191,11 +191,11 @@ impl<A: Allocator + Copy> SumSearch<A> {
     }
 
     /// Whether what is known is kept where it goes, as the search goes.
-    fn keeps(&self, goal: &Goal) -> bool {
+    fn keeps(&self, goal: &MergeTarget) -> bool {
         match self.way {
-            Way::On => true,
-            Way::Back => goal.exit.is_none() && goal.to <= goal.from,
-            Way::Forth => goal.exit.is_some() || goal.to > goal.from,
+            SearchPhase::Ascending => true,
+            SearchPhase::DescendingBack => goal.exit.is_none() && goal.to <= goal.from,
+            SearchPhase::DescendingForth => goal.exit.is_some() || goal.to > goal.from,
         }
     }
 
@@ -203,10 +203,10 @@ impl<A: Allocator + Copy> SumSearch<A> {
     pub(crate) fn land<D: Allocator>(
         &mut self,
         program: &SumProgram<'_, D>,
-        goal: &Goal,
+        goal: &MergeTarget,
         fact: &mut NextFact,
-        rooms: &mut PartRooms<A>,
-    ) -> Result<(), Halt> {
+        rooms: &mut PartWorkspace<A>,
+    ) -> Result<(), SearchFault> {
         if !self.keeps(goal) {
             return Ok(());
         }
@@ -226,9 +226,9 @@ impl<A: Allocator + Copy> SumSearch<A> {
     fn reach_each<D: Allocator>(
         &mut self,
         program: &SumProgram<'_, D>,
-        goal: &Goal,
-        rooms: &mut PartRooms<A>,
-    ) -> Result<(), Halt> {
+        goal: &MergeTarget,
+        rooms: &mut PartWorkspace<A>,
+    ) -> Result<(), SearchFault> {
         if let Some(cell) = self.split.cell {
             let name = Location::Cell(cell);
             let mut set = WordSet::all();
@@ -250,11 +250,11 @@ impl<A: Allocator + Copy> SumSearch<A> {
     fn reach_values<D: Allocator>(
         &mut self,
         program: &SumProgram<'_, D>,
-        goal: &Goal,
+        goal: &MergeTarget,
         name: &Location,
         values: &WordSet,
-        rooms: &mut PartRooms<A>,
-    ) -> Result<(), Halt> {
+        rooms: &mut PartWorkspace<A>,
+    ) -> Result<(), SearchFault> {
         for value in values.iter() {
             if rooms.has_value(program.base.image, name, value) {
                 self.reach(
@@ -273,11 +273,11 @@ impl<A: Allocator + Copy> SumSearch<A> {
     fn reach<D: Allocator, F: KnownFact>(
         &mut self,
         program: &SumProgram<'_, D>,
-        goal: &Goal,
+        goal: &MergeTarget,
         known: &F,
         before: &mut Fact,
         after: &mut Fact,
-    ) -> Result<(), Halt> {
+    ) -> Result<(), SearchFault> {
         match goal.exit {
             None => {
                 let case = self.split.case_of(&goal.routine, known);
@@ -294,12 +294,12 @@ impl<A: Allocator + Copy> SumSearch<A> {
     fn reach_fact<D: Allocator, F: KnownFact>(
         &mut self,
         program: &SumProgram<'_, D>,
-        goal: &Goal,
+        goal: &MergeTarget,
         case: &Case,
         known: &F,
         before: &mut Fact,
         after: &mut Fact,
-    ) -> Result<(), Halt> {
+    ) -> Result<(), SearchFault> {
         let at = goal.to;
         let merge = self.merge_at(program, at);
         let is_less = if self.gathers() {
@@ -374,7 +374,7 @@ fn may_go_on<D: Allocator>(
     place: &Place<'_, D>,
     at: Word,
     word: Word,
-    calls: &mut CallRooms,
+    calls: &mut CallWorkspace,
 ) -> bool {
     if program.may_access(place, &calls.fact, at, word) {
         return true;

@@ -1,7 +1,7 @@
 //! What is known at addresses and at returns, and what is claimed of routines.
 
-use crate::halt::Halt;
-use crate::of_sums::kept::{RelationInvariant, SumInvariant};
+use crate::fault::SearchFault;
+use crate::of_sums::invariants::{RelationInvariant, SumInvariant};
 use crate::of_sums::merging::{Merge, Sides};
 use crate::of_sums::splits::Case;
 use crate::table::Candidate;
@@ -14,15 +14,15 @@ use wordset::WordSet;
 
 /// Facts by address, or exits by entry.
 #[derive(Drop)]
-pub(crate) struct Kept<A: Allocator> {
+pub(crate) struct InvariantMap<A: Allocator> {
     rows: BTreeMap<usize, Vec<SumInvariant<A>, A>, A>,
 }
 
 /// Facts, exits, and what is claimed of routines.
 #[derive(Drop)]
 pub(crate) struct Table<A: Allocator> {
-    pub(crate) facts: Kept<A>,
-    pub(crate) exits: Kept<A>,
+    pub(crate) facts: InvariantMap<A>,
+    pub(crate) exits: InvariantMap<A>,
     pub(crate) routines: Candidate<A>,
 }
 
@@ -30,36 +30,41 @@ impl<A: Allocator + Copy> Table<A> {
     /// Nothing is known.
     pub(crate) fn new(alloc: A) -> Table<A> {
         Table {
-            facts: Kept::new(alloc),
-            exits: Kept::new(alloc),
+            facts: InvariantMap::new(alloc),
+            exits: InvariantMap::new(alloc),
             routines: Candidate::new(alloc),
         }
     }
 }
 
-impl<A: Allocator + Copy> Kept<A> {
+impl<A: Allocator + Copy> InvariantMap<A> {
     /// Nothing is kept.
-    pub(crate) fn new(alloc: A) -> Kept<A> {
-        Kept {
+    pub(crate) fn new(alloc: A) -> InvariantMap<A> {
+        InvariantMap {
             rows: BTreeMap::new(alloc),
         }
     }
 
     /// Keeps one more at an address.
-    pub(crate) fn keep(&mut self, alloc: A, at: Word, kept: SumInvariant<A>) -> Result<(), Halt> {
+    pub(crate) fn keep(
+        &mut self,
+        alloc: A,
+        at: Word,
+        kept: SumInvariant<A>,
+    ) -> Result<(), SearchFault> {
         if let Some(row) = self.rows.get_mut(&at.index()) {
             return match row.push(kept) {
                 Ok(()) => Ok(()),
-                Err(_) => Err(Halt::NoMemory),
+                Err(_) => Err(SearchFault::NoMemory),
             };
         }
         let mut row = Vec::new(alloc);
         let Ok(()) = row.push(kept) else {
-            return Err(Halt::NoMemory);
+            return Err(SearchFault::NoMemory);
         };
         match self.rows.insert(at.index(), row) {
             Ok(_) => Ok(()),
-            Err(_) => Err(Halt::NoMemory),
+            Err(_) => Err(SearchFault::NoMemory),
         }
     }
 
@@ -75,7 +80,7 @@ impl<A: Allocator + Copy> Kept<A> {
         merge: &Merge<'_, A>,
         before: &mut Fact,
         after: &mut Fact,
-    ) -> Result<bool, Halt> {
+    ) -> Result<bool, SearchFault> {
         if self.find(key, case).is_some() {
             return self.join(key, case, known, wanted, merge, before, after);
         }
@@ -95,7 +100,7 @@ impl<A: Allocator + Copy> Kept<A> {
         merge: &Merge<'_, A>,
         before: &mut Fact,
         after: &mut Fact,
-    ) -> Result<bool, Halt> {
+    ) -> Result<bool, SearchFault> {
         let Some(kept) = self.find_mut(at, case) else {
             return Ok(false);
         };
@@ -110,7 +115,7 @@ impl<A: Allocator + Copy> Kept<A> {
     }
 }
 
-impl<A: Allocator> Kept<A> {
+impl<A: Allocator> InvariantMap<A> {
     /// All that is kept at an address.
     pub(crate) fn row(&self, at: Word) -> &[SumInvariant<A>] {
         match self.rows.get(&at.index()) {
@@ -175,7 +180,7 @@ impl<A: Allocator> Kept<A> {
     }
 
     /// All that is kept at an address waits.
-    pub(crate) fn let_wait(&mut self, at: Word) {
+    pub(crate) fn mark_waiting(&mut self, at: Word) {
         if let Some(row) = self.rows.get_mut(&at.index()) {
             for kept in row.as_mut_slice() {
                 kept.waits = true;
@@ -208,7 +213,7 @@ impl<A: Allocator + Copy> Table<A> {
         entry: Word,
         sites: &WordSet,
         writes: &WordSet,
-    ) -> Result<bool, Halt> {
+    ) -> Result<bool, SearchFault> {
         self.routines.list(alloc, entry)?;
         let mut routine = self.routines.routine(entry);
         if sites.is_subset(&routine.sites) && writes.is_subset(&routine.writes) {

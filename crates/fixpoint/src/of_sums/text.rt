@@ -1,6 +1,6 @@
 //! The text of a certificate of version 3, written piece by piece.
 
-use crate::halt::Halt;
+use crate::fault::SearchFault;
 use domain::{BriefSet, Chain, Location, ReturnOffsets, Step, Sum, Summand, Term};
 use std::alloc::Allocator;
 use word12::{Link, Word};
@@ -37,27 +37,27 @@ impl<A: Allocator> CertificateText<A> {
     }
 
     /// Adds a piece.
-    pub(crate) fn push(&mut self, piece: &[u8]) -> Result<(), Halt> {
+    pub(crate) fn push(&mut self, piece: &[u8]) -> Result<(), SearchFault> {
         match self.bytes.extend_from_slice(piece) {
             Ok(()) => Ok(()),
-            Err(_) => Err(Halt::NoMemory),
+            Err(_) => Err(SearchFault::NoMemory),
         }
     }
 
     /// Adds a word in four digits.
-    pub(crate) fn push_word(&mut self, word: Word) -> Result<(), Halt> {
+    pub(crate) fn push_word(&mut self, word: Word) -> Result<(), SearchFault> {
         let [a, b, c, d] = word.to_octal();
         self.push(&[a, b, c, d])
     }
 
     /// Adds a small number in two digits.
-    pub(crate) fn push_two_digits(&mut self, word: Word) -> Result<(), Halt> {
+    pub(crate) fn push_two_digits(&mut self, word: Word) -> Result<(), SearchFault> {
         let [_, _, c, d] = word.to_octal();
         self.push(&[c, d])
     }
 
     /// Adds a set of words.
-    pub(crate) fn push_set(&mut self, set: &WordSet) -> Result<(), Halt> {
+    pub(crate) fn push_set(&mut self, set: &WordSet) -> Result<(), SearchFault> {
         if set.is_empty() {
             return self.push(b"-");
         }
@@ -75,14 +75,14 @@ impl<A: Allocator> CertificateText<A> {
     }
 
     /// Adds a set of words that is kept briefly.
-    pub(crate) fn push_brief_set(&mut self, set: &BriefSet) -> Result<(), Halt> {
+    pub(crate) fn push_brief_set(&mut self, set: &BriefSet) -> Result<(), SearchFault> {
         let mut words = WordSet::empty();
         set.put(&mut words);
         self.push_set(&words)
     }
 
     /// Adds offsets.
-    pub(crate) fn push_offsets(&mut self, offsets: ReturnOffsets) -> Result<(), Halt> {
+    pub(crate) fn push_offsets(&mut self, offsets: ReturnOffsets) -> Result<(), SearchFault> {
         let set = words_of(offsets);
         if set.is_empty() {
             return self.push(b"-");
@@ -101,7 +101,7 @@ impl<A: Allocator> CertificateText<A> {
     }
 
     /// Adds links.
-    pub(crate) fn push_links(&mut self, links: Links) -> Result<(), Halt> {
+    pub(crate) fn push_links(&mut self, links: Links) -> Result<(), SearchFault> {
         if links.contains(Link::CLEAR) {
             self.push(b"0")?;
         }
@@ -112,7 +112,7 @@ impl<A: Allocator> CertificateText<A> {
     }
 
     /// Adds a term.
-    fn push_term(&mut self, term: &Term) -> Result<(), Halt> {
+    fn push_term(&mut self, term: &Term) -> Result<(), SearchFault> {
         match term {
             Term::Holding(Location::Accumulator) => self.push(b"AC"),
             Term::Holding(Location::Cell(cell)) => self.push_word(*cell),
@@ -127,7 +127,7 @@ impl<A: Allocator> CertificateText<A> {
     }
 
     /// Adds a summand behind the first one.
-    fn push_summand(&mut self, summand: &Summand) -> Result<(), Halt> {
+    fn push_summand(&mut self, summand: &Summand) -> Result<(), SearchFault> {
         match summand.coefficient.index() {
             1 => self.push(b" + ")?,
             4095 => self.push(b" - ")?,
@@ -141,7 +141,7 @@ impl<A: Allocator> CertificateText<A> {
     }
 
     /// Adds a sum, whose first coefficient is 1.
-    pub(crate) fn push_sum(&mut self, sum: &Sum) -> Result<(), Halt> {
+    pub(crate) fn push_sum(&mut self, sum: &Sum) -> Result<(), SearchFault> {
         let mut is_first = true;
         for summand in sum.summands() {
             if is_first {
@@ -155,7 +155,7 @@ impl<A: Allocator> CertificateText<A> {
     }
 
     /// Adds a step of a chain.
-    fn push_step(&mut self, step: &Step) -> Result<(), Halt> {
+    fn push_step(&mut self, step: &Step) -> Result<(), SearchFault> {
         match step {
             Step::Operates(word) => {
                 self.push(b" ")?;
@@ -173,7 +173,7 @@ impl<A: Allocator> CertificateText<A> {
     }
 
     /// Adds the line of a chain.
-    pub(crate) fn push_chain(&mut self, chain: &Chain) -> Result<(), Halt> {
+    pub(crate) fn push_chain(&mut self, chain: &Chain) -> Result<(), SearchFault> {
         self.push(b"func ")?;
         self.push_word(chain.cell())?;
         self.push(b" ")?;

@@ -6,26 +6,26 @@ use wordset::WordSet;
 
 /// How often a set grows before it goes on to the next thresholds, and before nothing is said of it any more.
 #[derive(Clone, Copy)]
-pub(crate) struct Pace {
+pub(crate) struct WideningDelay {
     pub(crate) jump: u32,
     pub(crate) drop: u32,
 }
 
 /// How often sets of counted cells, of other names, and of sums grow.
 #[derive(Clone, Copy)]
-pub(crate) struct Paces {
-    pub(crate) counted: Pace,
-    pub(crate) other: Pace,
-    pub(crate) sums: Pace,
+pub(crate) struct WideningDelays {
+    pub(crate) counted: WideningDelay,
+    pub(crate) other: WideningDelay,
+    pub(crate) sums: WideningDelay,
 }
 
-impl Paces {
+impl WideningDelays {
     /// Soon.
-    pub(crate) fn soon() -> Paces {
-        Paces {
-            counted: Pace { jump: 10, drop: 40 },
-            other: Pace { jump: 16, drop: 40 },
-            sums: Pace { jump: 8, drop: 24 },
+    pub(crate) fn soon() -> WideningDelays {
+        WideningDelays {
+            counted: WideningDelay { jump: 10, drop: 40 },
+            other: WideningDelay { jump: 16, drop: 40 },
+            sums: WideningDelay { jump: 8, drop: 24 },
         }
     }
 }
@@ -121,7 +121,7 @@ fn to_thresholds(old: &WordSet, grown: &WordSet, thresholds: &WordSet) -> WordSe
     wide.shift(start)
 }
 
-impl Pace {
+impl WideningDelay {
     /// A set that grew out of another so often.
     pub(crate) fn widened(
         &self,

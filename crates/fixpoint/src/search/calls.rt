@@ -1,14 +1,14 @@
 //! Calls and returns in a search: on into a routine, from each return that is known, and out of a routine.
 
-use crate::halt::Halt;
+use crate::fault::SearchFault;
 use crate::invariant::Invariant;
-use crate::program::{AnalysedProgram, Body, Visit};
-use crate::rooms::Returns;
+use crate::program::{AbstractState, AnalysedProgram, Body};
 use crate::search::{Search, known_of};
+use crate::workspace::ReturnWorkspace;
 use domain::ReturnOffsets;
 use facts::Fact;
 use std::alloc::Allocator;
-use transfer::Outcome;
+use transfer::FactOutcome;
 use word12::Word;
 use wordset::WordSet;
 
@@ -21,10 +21,10 @@ impl<A: Allocator + Copy> Search<A> {
     pub(crate) fn call_each<D: Allocator>(
         &mut self,
         program: &AnalysedProgram<'_, D>,
-        visit: &Visit,
-        outcome: &Outcome,
-        returns: &mut Returns,
-    ) -> Result<(), Halt> {
+        visit: &AbstractState,
+        outcome: &FactOutcome,
+        returns: &mut ReturnWorkspace,
+    ) -> Result<(), SearchFault> {
         let mut entries = WordSet::empty();
         outcome.targets.put(&mut entries);
         for entry in entries.iter() {
@@ -37,19 +37,19 @@ impl<A: Allocator + Copy> Search<A> {
     fn call<D: Allocator>(
         &mut self,
         program: &AnalysedProgram<'_, D>,
-        visit: &Visit,
+        visit: &AbstractState,
         entry: Word,
-        returns: &mut Returns,
-    ) -> Result<(), Halt> {
+        returns: &mut ReturnWorkspace,
+    ) -> Result<(), SearchFault> {
         if !program.declaration.is_entry(entry) {
-            return Err(Halt::Stuck(visit.at));
+            return Err(SearchFault::Stuck(visit.at));
         }
         if !program.declaration.in_body(entry, entry.increment()) {
-            return Err(Halt::Stuck(visit.at));
+            return Err(SearchFault::Stuck(visit.at));
         }
         self.add_site(program, entry, visit.at)?;
         if visit.at.index() > LAST_SITE {
-            return Err(Halt::Stuck(visit.at));
+            return Err(SearchFault::Stuck(visit.at));
         }
         let mut written = self.guess.routine(entry).writes;
         written.insert(entry);
@@ -67,7 +67,7 @@ impl<A: Allocator + Copy> Search<A> {
         program: &AnalysedProgram<'_, D>,
         entry: Word,
         at: Word,
-    ) -> Result<(), Halt> {
+    ) -> Result<(), SearchFault> {
         self.guess.list(self.alloc, entry)?;
         let mut routine = self.guess.routine(entry);
         if routine.sites.contains(at) {
@@ -83,16 +83,16 @@ impl<A: Allocator + Copy> Search<A> {
     fn land<D: Allocator>(
         &mut self,
         program: &AnalysedProgram<'_, D>,
-        visit: &Visit,
+        visit: &AbstractState,
         entry: Word,
-        returns: &mut Returns,
-    ) -> Result<(), Halt> {
+        returns: &mut ReturnWorkspace,
+    ) -> Result<(), SearchFault> {
         let written = self.guess.routine(entry).writes;
         for offset in 0..8usize {
             if self.exit_into(entry, offset, &written, &mut returns.exit)? {
                 let to = visit.at.increment().add(Word::from_index(offset));
                 if !program.has(&visit.body, to) {
-                    return Err(Halt::Stuck(visit.at));
+                    return Err(SearchFault::Stuck(visit.at));
                 }
                 returns.join(&program.rules, &visit.fact, &written);
                 let known = known_of(program, &returns.joined);
@@ -110,7 +110,7 @@ impl<A: Allocator + Copy> Search<A> {
         offset: usize,
         written: &WordSet,
         exit: &mut Fact,
-    ) -> Result<bool, Halt> {
+    ) -> Result<bool, SearchFault> {
         match self.guess.kept_exit(entry, offset) {
             None => Ok(false),
             Some(kept) => {
@@ -121,17 +121,17 @@ impl<A: Allocator + Copy> Search<A> {
     }
 
     /// Returns by a word. In versions 1 and 2 an exit line has an offset of at most 7.
-    pub(crate) fn come_back<D: Allocator>(
+    pub(crate) fn take_returns<D: Allocator>(
         &mut self,
         program: &AnalysedProgram<'_, D>,
-        visit: &Visit,
+        visit: &AbstractState,
         word: Word,
-    ) -> Result<(), Halt> {
+    ) -> Result<(), SearchFault> {
         let Body::Of(entry) = &visit.body else {
-            return Err(Halt::Stuck(visit.at));
+            return Err(SearchFault::Stuck(visit.at));
         };
         if program.returned_entry(visit, word) != Some(*entry) {
-            return Err(Halt::Stuck(visit.at));
+            return Err(SearchFault::Stuck(visit.at));
         }
         for offset in 0..64usize {
             if visit.fact.offsets().contains(offset) {
@@ -139,7 +139,7 @@ impl<A: Allocator + Copy> Search<A> {
                     .declaration
                     .has_offset(*entry, Word::from_index(offset));
                 if !declared || offset >= 8 {
-                    return Err(Halt::Stuck(visit.at));
+                    return Err(SearchFault::Stuck(visit.at));
                 }
                 self.reach_exit(program, visit, *entry, offset)?;
             }
@@ -151,10 +151,10 @@ impl<A: Allocator + Copy> Search<A> {
     fn reach_exit<D: Allocator>(
         &mut self,
         program: &AnalysedProgram<'_, D>,
-        visit: &Visit,
+        visit: &AbstractState,
         entry: Word,
         offset: usize,
-    ) -> Result<(), Halt> {
+    ) -> Result<(), SearchFault> {
         let limits = &program.limits;
         let known = known_of(program, &visit.fact);
         if self.guess.has_exit(entry, offset) {

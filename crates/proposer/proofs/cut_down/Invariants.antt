@@ -1,5 +1,5 @@
 use Rattle.std.proofs.Common.{◌≡◌, ◌≤◌, None, true}
-use Rattle.declaration.specs.Kept.{meaning}
+use Rattle.declaration.specs.DeclarationInCode.{meaning}
 use Rattle.proposer.specs.Proposals.{Fits, IsShown, IsSpentUp, is_safe}
 use Rattle.proposer.proofs.cut_down.Given as goal
 

@@ -1,5 +1,5 @@
 use Rattle.std.proofs.Common.{rules, ◌≡◌, subst}
-use Rattle.declaration.specs.Kept.{meaning}
+use Rattle.declaration.specs.DeclarationInCode.{meaning}
 use Rattle.peripherals.specs.Loading.{image_of, loaded}
 use Rattle.policy.specs.declared.watcher.Watched.TheVariants.{Broken}
 use Rattle.policy.specs.Watching.{BreaksAt}

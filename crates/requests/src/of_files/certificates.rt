@@ -6,7 +6,7 @@ use command_parts::status::{Fault, Status};
 use search_commands::migrating::{migrate, migrate_with_sites};
 use std::alloc::Global;
 use std::rt::Files;
-use streams::standard::Writes;
+use streams::standard::StdWriter;
 
 /// Migrates the certificate of a file to version 3. The declaration is opened first.
 #[inline(never)]
@@ -19,7 +19,7 @@ fn migrate_by<R: Files + Input + Print>(
     let mut promise = open_input(rt, declaration)?;
     let mut text = open_input(rt, asked.certificate)?;
     let mut file = open_output(rt, alloc, asked.out)?;
-    let mut out = Writes::new(&mut file);
+    let mut out = StdWriter::new(&mut file);
     let status = migrate_with_sites(alloc, &mut promise, &mut text, &mut out)?;
     finish(&mut file, status)
 }
@@ -36,6 +36,6 @@ pub fn migrate_from<R: Files + Input + Print>(
     }
     let mut text = open_input(rt, asked.certificate)?;
     let mut file = open_output(rt, alloc, asked.out)?;
-    let status = migrate(alloc, &mut text, &mut Writes::new(&mut file))?;
+    let status = migrate(alloc, &mut text, &mut StdWriter::new(&mut file))?;
     finish(&mut file, status)
 }

@@ -18,7 +18,7 @@ use machine_commands::teletype::{Typist, teletype};
 use std::alloc::{AllocError, Global};
 use std::io::{self, Printer};
 use std::rt::Files;
-use streams::standard::{Reads, Writes};
+use streams::standard::{StdReader, StdWriter};
 use streams::{ByteSink, ByteSource};
 
 /// Where the punched bytes go: to a file, or nowhere.
@@ -65,13 +65,13 @@ fn finish_punch<R: Files>(
 }
 
 /// Where the characters of a session go: to standard output or nowhere.
-fn type_to<'r, R: Print>(rt: &'r R, teletype: bool) -> Writes<Either<Printer<'r, R>, NullSink>>
+fn type_to<'r, R: Print>(rt: &'r R, teletype: bool) -> StdWriter<Either<Printer<'r, R>, NullSink>>
     ensures { result.failed ≡ false }
 {
     if teletype {
-        Writes::new(Either::Left(io::writer(rt)))
+        StdWriter::new(Either::Left(io::writer(rt)))
     } else {
-        Writes::new(Either::Right(NullSink))
+        StdWriter::new(Either::Right(NullSink))
     }
 }
 
@@ -153,7 +153,7 @@ pub(crate) fn hold_session_on<R: Files + Input + Print + Eprint, S: ByteSource>(
     let mut outputs = Outputs {
         report: report_to(rt, joined.teletype),
         teletype: type_to(rt, joined.teletype),
-        punch: Writes::new(&mut punch),
+        punch: StdWriter::new(&mut punch),
     };
     let options = session.options;
     let out = &mut outputs;
@@ -242,12 +242,12 @@ pub(crate) fn hold_teletype_session_on<R: Files + Input + Print + Eprint, S: Byt
     let name = shown_name(alloc, session.punch)?;
     let form = form_with(session.summary, &name);
     let reader = open_input_if(rt, session.reader)?;
-    let keys = Reads::new(rt.reader());
+    let keys = StdReader::new(rt.reader());
     let mut punch = open_punch(rt, alloc, session.punch)?;
     let mut outputs = Outputs {
         report: tell_to(rt),
-        teletype: Writes::new(io::writer(rt)),
-        punch: Writes::new(&mut punch),
+        teletype: StdWriter::new(io::writer(rt)),
+        punch: StdWriter::new(&mut punch),
     };
     let mut typist = Typist::new(reader, InterruptibleKeys::new(keys, key), session.options);
     let out = &mut outputs;

@@ -16,7 +16,7 @@ use source_commands::crossing::list_crossed;
 use std::alloc::Global;
 use std::io;
 use std::rt::Files;
-use streams::standard::Writes;
+use streams::standard::StdWriter;
 use streams::{ByteSink, ByteSource};
 
 /// The name of the first part of which a read failed.
@@ -101,7 +101,7 @@ fn list_or_tell<R: Files + Input + Print + Eprint>(
             "cannot be opened",
         );
     }
-    let mut out = Writes::new(io::writer(rt));
+    let mut out = StdWriter::new(io::writer(rt));
     let mut told = String::new(alloc);
     match list_as_asked(alloc, &mut parts, asked, Some(shown), &mut told, &mut out) {
         Ok(status) => status,
@@ -151,7 +151,7 @@ fn assemble_or_tell<R: Files + Input + Print + Eprint>(
         asked.profile,
         Some(shown),
         &mut told,
-        &mut Writes::new(&mut file),
+        &mut StdWriter::new(&mut file),
     );
     match finish_tape(&mut file, assembled) {
         Ok(status) => status,
@@ -176,7 +176,7 @@ pub fn list_from<R: Files + Input + Print + Eprint>(
         return Ok(list_or_tell(rt, alloc, asked, &lent));
     }
     let mut parts = open_inputs(rt, alloc, &asked.sources)?;
-    let mut out = Writes::new(io::writer(rt));
+    let mut out = StdWriter::new(io::writer(rt));
     let mut told = String::new(alloc);
     list_as_asked(alloc, &mut parts, asked, None, &mut told, &mut out)
 }
@@ -195,7 +195,7 @@ pub fn assemble_to<R: Files + Input + Print + Eprint>(
     let mut file = open_output(rt, alloc, asked.out)?;
     let mut parts = open_inputs(rt, alloc, &asked.sources)?;
     let mut told = String::new(alloc);
-    let mut tape = Writes::new(&mut file);
+    let mut tape = StdWriter::new(&mut file);
     let status = assemble(alloc, &mut parts, asked.profile, None, &mut told, &mut tape)?;
     finish(&mut file, status)
 }

@@ -21,7 +21,7 @@ use source_commands::sourcing::{declared_source, source};
 use std::alloc::{AllocError, Global};
 use std::io;
 use std::rt::Files;
-use streams::standard::Writes;
+use streams::standard::StdWriter;
 use streams::{ByteSource, put};
 use word12::Word;
 
@@ -52,7 +52,7 @@ fn dump_full<R: Print, S: ByteSource>(
 {
     let image = tape_from(frames)?;
     let text = full_words(alloc, &image, profile)?;
-    put(&mut Writes::new(io::writer(rt)), &text)?;
+    put(&mut StdWriter::new(io::writer(rt)), &text)?;
     Ok(Status::Done)
 }
 
@@ -67,7 +67,7 @@ pub fn dump_from<R: Files + Input + Print>(
     if asked.full {
         return dump_full(rt, alloc, &mut frames, asked.profile);
     }
-    let mut out = Writes::new(io::writer(rt));
+    let mut out = StdWriter::new(io::writer(rt));
     dump(alloc, &mut frames, asked.profile, &mut out)
 }
 
@@ -84,11 +84,11 @@ fn run_long<R: Files + Input + Print, S: ByteSource, N: Statements>(
 {
     let (options, stops) = (asked.options, stops_of(asked));
     let Some(events) = asked.events else {
-        let mut out = Writes::new(io::writer(rt));
+        let mut out = StdWriter::new(io::writer(rt));
         return run_with_long_trace(alloc, frames, options, &stops, statements, &mut out);
     };
     let mut list = open_input(rt, events)?;
-    let mut out = Writes::new(io::writer(rt));
+    let mut out = StdWriter::new(io::writer(rt));
     run_events_with_long_trace(
         alloc, frames, &mut list, options, &stops, statements, &mut out,
     )
@@ -112,7 +112,7 @@ fn run_rounds_until<R: Print, S: ByteSource>(
 ) -> Result<Status, Fault>
     requires { S.mark frames.old ≡ false }
 {
-    let mut out = Writes::new(io::writer(rt));
+    let mut out = StdWriter::new(io::writer(rt));
     let (options, stops) = (asked.options, &stopping.stops);
     match stopping.last {
         None => run_with_stops(alloc, frames, options, stops, &mut out),
@@ -132,7 +132,7 @@ fn run_events_until<R: Files + Input + Print, S: ByteSource>(
     requires { S.mark frames.old ≡ false }
 {
     let mut list = open_input(rt, events)?;
-    let mut out = Writes::new(io::writer(rt));
+    let mut out = StdWriter::new(io::writer(rt));
     let (options, stops) = (asked.options, &stopping.stops);
     match stopping.last {
         None => run_events_with_stops(alloc, frames, &mut list, options, stops, &mut out),
@@ -167,11 +167,11 @@ pub(crate) fn run_on<R: Files + Input + Print, S: ByteSource, N: Statements>(
         };
     }
     let Some(events) = asked.events else {
-        let mut out = Writes::new(io::writer(rt));
+        let mut out = StdWriter::new(io::writer(rt));
         return run(alloc, frames, asked.options, &mut out);
     };
     let mut list = open_input(rt, events)?;
-    let mut out = Writes::new(io::writer(rt));
+    let mut out = StdWriter::new(io::writer(rt));
     run_events(alloc, frames, &mut list, asked.options, &mut out)
 }
 
@@ -200,13 +200,13 @@ pub fn source_from<R: Files + Input + Print>(
     let mut frames = open_input(rt, asked.tape)?;
     let Some(declaration) = asked.declaration else {
         let mut file = open_output(rt, alloc, asked.out)?;
-        let mut text = Writes::new(&mut file);
+        let mut text = StdWriter::new(&mut file);
         let status = source(alloc, &mut frames, asked.start, asked.profile, &mut text)?;
         return finish(&mut file, status);
     };
     let mut promise = open_input(rt, declaration)?;
     let mut file = open_output(rt, alloc, asked.out)?;
-    let mut text = Writes::new(&mut file);
+    let mut text = StdWriter::new(&mut file);
     let status = declared_source(alloc, &mut frames, &mut promise, &mut text)?;
     finish(&mut file, status)
 }

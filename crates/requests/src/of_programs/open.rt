@@ -11,7 +11,7 @@ use either::Either;
 use std::alloc::Global;
 use std::io::Read;
 use std::rt::Files;
-use streams::standard::Reads;
+use streams::standard::StdReader;
 
 /// What a file gives, or what is in memory.
 pub(crate) type ProgramInput<'x, I> = Either<I, &'x [u8]>;
@@ -58,8 +58,8 @@ impl<'x, I: Read + Drop> OpenProgram<'x, I> {
     ///
     /// As for `program_from`.
     pub(crate) fn read(&mut self, alloc: Global) -> Result<Program<Global>, Fault> {
-        let mut frames = Reads::new(&mut self.frames);
-        let mut text = Reads::new(&mut self.text);
+        let mut frames = StdReader::new(&mut self.frames);
+        let mut text = StdReader::new(&mut self.text);
         program_from(alloc, &mut frames, &mut text)
     }
 
@@ -69,7 +69,7 @@ impl<'x, I: Read + Drop> OpenProgram<'x, I> {
     ///
     /// As for `tape_from`.
     pub(crate) fn read_tape(&mut self) -> Result<Image, Fault> {
-        tape_from(&mut Reads::new(&mut self.frames))
+        tape_from(&mut StdReader::new(&mut self.frames))
     }
 }
 

@@ -25,7 +25,7 @@ use search_commands::declaring::declare;
 use std::alloc::Global;
 use std::io::Read;
 use std::rt::Files;
-use streams::standard::{Reads, Writes};
+use streams::standard::{StdReader, StdWriter};
 use streams::{ByteSink, put};
 use turns::GuessFault;
 
@@ -34,7 +34,7 @@ fn write_found<R: Files + Print>(
     file: &mut ResultSink<'_, R>,
     found: &Certificate<Global>,
 ) -> Result<Status, Fault> {
-    let status = write_certificate(found, &mut Writes::new(&mut *file))?;
+    let status = write_certificate(found, &mut StdWriter::new(&mut *file))?;
     finish(file, status)
 }
 
@@ -133,7 +133,7 @@ pub(crate) fn refuted<R: Files + Print + Eprint, I: Read + Drop>(
     let Program { image, declaration } = opened.read(alloc)?;
     let found = refute_message(alloc, &image, &declaration, options)?;
     let lines = lines_of(alloc, source, &found.told)?;
-    put(&mut Writes::new(&mut file), &found.events)?;
+    put(&mut StdWriter::new(&mut file), &found.events)?;
     let status = finish(&mut file, found.status)?;
     put(&mut report_to(rt, out.name() == "-"), &lines)?;
     Ok(status)
@@ -146,10 +146,10 @@ fn push_proposal<I: Read + Drop>(
     options: DeclareOptions,
     found: &mut Vec<u8>,
 ) -> Result<Status, Fault> {
-    let mut frames = Reads::new(&mut opened.frames);
-    let mut out = Writes::new(found);
+    let mut frames = StdReader::new(&mut opened.frames);
+    let mut out = StdWriter::new(found);
     let answer = if opened.is_declared {
-        let mut text = Reads::new(&mut opened.text);
+        let mut text = StdReader::new(&mut opened.text);
         complete(alloc, &mut frames, &mut text, options.reads, &mut out)
     } else {
         declare(alloc, &mut frames, options, &mut out)
@@ -216,7 +216,7 @@ pub(crate) fn declared<R: Files + Print + Eprint, I: Read + Drop>(
     let mut file = open_output(rt, alloc, out)?;
     let is_without_list = lacks_list(opened.source, options.reads);
     let found = proposal_for(alloc, opened, options)?;
-    put(&mut Writes::new(&mut file), &found.text)?;
+    put(&mut StdWriter::new(&mut file), &found.text)?;
     let status = finish(&mut file, found.status)?;
     if is_without_list {
         tell_lines(rt, NO_LIST);

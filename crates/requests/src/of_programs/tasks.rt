@@ -29,7 +29,7 @@ use std::alloc::Global;
 use std::io::{self, Read};
 use std::rt::Files;
 use streams::put;
-use streams::standard::Writes;
+use streams::standard::StdWriter;
 use wordset::WordSet;
 
 /// Writes what is told to standard output, with what a source says about its addresses.
@@ -40,7 +40,7 @@ fn tell_lines<R: Print>(
     told: &Message<Global>,
 ) -> Result<(), Fault> {
     let lines = lines_of(alloc, source, told)?;
-    Ok(put(&mut Writes::new(io::writer(rt)), &lines)?)
+    Ok(put(&mut StdWriter::new(io::writer(rt)), &lines)?)
 }
 
 /// Checks the certificate of a file, and says why the verdict is no if that is asked for.
@@ -61,7 +61,7 @@ fn checked<R: Files + Input + Print, I: Read + Drop>(
         certificate,
     };
     if !explained {
-        let mut out = Writes::new(io::writer(rt));
+        let mut out = StdWriter::new(io::writer(rt));
         return deliver(verdict_of(alloc, &certified), &mut out);
     }
     let Program { image, declaration } = &certified.program;
@@ -92,7 +92,7 @@ fn reported<R: Files + Input + Print, I: Read + Drop>(
     };
     let files = NamedFiles::of(rt, alloc, asked, Some(certificate))?;
     let page = report_of(alloc, &certified, form, files.names(), notes);
-    let status = deliver(page, &mut Writes::new(&mut file))?;
+    let status = deliver(page, &mut StdWriter::new(&mut file))?;
     finish(&mut file, status)
 }
 
@@ -195,7 +195,7 @@ fn placed<R: Files + Print>(
 ) -> Result<Status, Fault> {
     let mut file = open_output(rt, alloc, out)?;
     if let Some(source) = source {
-        put(&mut Writes::new(&mut file), &source.shown)?;
+        put(&mut StdWriter::new(&mut file), &source.shown)?;
     }
     finish(&mut file, Status::Done)
 }

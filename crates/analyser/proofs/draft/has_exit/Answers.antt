@@ -1,4 +1,4 @@
-use Rattle.certificate_lines.specs.Kept.{claims}
+use Rattle.certificate_lines.specs.CertificateInCode.{claims}
 use Rattle.analyser.proofs.DraftLemmas.{has_exit}
 use Rattle.analyser.proofs.draft.has_exit.Goals as goal
 

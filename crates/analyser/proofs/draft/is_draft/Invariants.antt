@@ -1,6 +1,6 @@
 use Rattle.std.proofs.Common.{ℕ, ◌<◌}
-use Rattle.declaration.specs.Kept.{meaning as declared}
-use Rattle.certificate_lines.specs.Kept.{claims}
+use Rattle.declaration.specs.DeclarationInCode.{meaning as declared}
+use Rattle.certificate_lines.specs.CertificateInCode.{claims}
 use Rattle.analyser.specs.Attempts.{StandsRight}
 use Rattle.analyser.proofs.draft.is_draft.Given as goal
 

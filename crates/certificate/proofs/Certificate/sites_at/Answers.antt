@@ -1,6 +1,6 @@
 use Rattle.std.proofs.Common.{◌∙◌, rules}
-use Rattle.declaration.specs.Kept.{meaning as declared}
-use Rattle.certificate_lines.specs.Kept.{claims}
+use Rattle.declaration.specs.DeclarationInCode.{meaning as declared}
+use Rattle.certificate_lines.specs.CertificateInCode.{claims}
 use Rattle.certificate.proofs.SumSitedLemmas.{nowhere_there, main_there, routine_there}
 use Rattle.certificate.proofs.Certificate.sites_at.Goals as goal
 

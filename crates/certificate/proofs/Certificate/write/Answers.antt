@@ -4,7 +4,7 @@ use Rattle.certificate_lines.specs.FieldSpelling.{ended}
 use Rattle.certificate_lines.specs.Spelling.{version_text}
 use Rattle.certificate_lines.specs.Spelled.{all_ended}
 use Rattle.certificate_lines.specs.Laws.{bytes_of}
-use Rattle.certificate_lines.specs.Kept.{meaning}
+use Rattle.certificate_lines.specs.CertificateInCode.{meaning}
 use Rattle.certificate_lines.specs.Packed.{said_lines}
 use Rattle.certificate_lines.proofs.SumReaderLemmas.{formed}
 use Rattle.certificate.proofs.SumMadeLemmas.{text_ended}

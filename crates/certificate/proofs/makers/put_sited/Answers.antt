@@ -1,7 +1,7 @@
 use Rattle.std.proofs.Common.{refl, ap, arith}
 use Rattle.wordset.specs.Words.{Words}
-use Rattle.declaration.specs.Kept.{meaning as declared}
-use Rattle.certificate_lines.specs.Kept.{meaning, claims}
+use Rattle.declaration.specs.DeclarationInCode.{meaning as declared}
+use Rattle.certificate_lines.specs.CertificateInCode.{meaning, claims}
 use Rattle.certificate_lines.specs.Found.{IsLine}
 use Rattle.certificate_lines.specs.Packed.{said_lines, said_of, sited_line}
 use Rattle.certificate_lines.specs.Made.{sited_by}

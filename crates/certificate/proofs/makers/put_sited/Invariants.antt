@@ -1,6 +1,6 @@
 use Rattle.std.proofs.Common.{◌≡◌, ◌++◌, map, drop}
-use Rattle.declaration.specs.Kept.{meaning as declared}
-use Rattle.certificate_lines.specs.Kept.{claims}
+use Rattle.declaration.specs.DeclarationInCode.{meaning as declared}
+use Rattle.certificate_lines.specs.CertificateInCode.{claims}
 use Rattle.certificate_lines.specs.Packed.{said_lines}
 use Rattle.certificate_lines.specs.Made.{sited_by}
 use Rattle.certificate.proofs.makers.put_sited.Given as goal

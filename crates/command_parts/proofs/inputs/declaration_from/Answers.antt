@@ -1,4 +1,4 @@
-use Rattle.declaration.specs.Kept.{meaning}
+use Rattle.declaration.specs.DeclarationInCode.{meaning}
 use Rattle.command_parts.proofs.InputLemmas.{has_declaration, declaration_fault_is}
 use Rattle.command_parts.proofs.inputs.declaration_from.Goals as goal
 

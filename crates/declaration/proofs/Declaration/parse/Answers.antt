@@ -1,4 +1,4 @@
-use Rattle.declaration.specs.Kept.{meaning}
+use Rattle.declaration.specs.DeclarationInCode.{meaning}
 use Rattle.declaration.proofs.VerdictLemmas.{only_from, exact_from}
 use Rattle.declaration.proofs.Declaration.parse.Goals as goal
 

@@ -1,5 +1,5 @@
 use Rattle.streams.specs.TextLeft.{words_left}
-use Rattle.declaration.specs.Kept.{offsets_of}
+use Rattle.declaration.specs.DeclarationInCode.{offsets_of}
 use Rattle.declaration.proofs.LineLemmas.{offsets_step, offsets_fail, offsets_end}
 use Rattle.declaration.proofs.lines.offsets.Goals as goal
 

@@ -1,6 +1,6 @@
 use Rattle.std.proofs.Common.{◌≡◌}
 use Rattle.streams.specs.TextLeft.{words_left}
-use Rattle.declaration.specs.Kept.{offsets_of}
+use Rattle.declaration.specs.DeclarationInCode.{offsets_of}
 use Rattle.declaration.specs.Lines.{offset_of, all_read, offsets_read}
 use Rattle.declaration.proofs.LineLemmas.{with_offsets}
 use Rattle.declaration.proofs.lines.offsets.Given as goal

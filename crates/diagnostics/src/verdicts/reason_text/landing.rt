@@ -10,7 +10,7 @@ use crate::verdicts::reason_text::pieces::push_around_offset;
 use crate::verdicts::reason_text::sums::{push_sum_may_be, push_told};
 use command_parts::message::{MessageWriter, push_text_and_address, push_text_and_word};
 use domain::Location;
-use reasons::{Counterexample, Landing};
+use reasons::{Counterexample, LandingFailure};
 use std::alloc::AllocError;
 use word12::{Link, Word};
 
@@ -161,26 +161,33 @@ fn push_left_and<L: MessageWriter>(
 }
 
 /// Adds why a run does not land.
-pub fn push_landing<L: MessageWriter>(text: &mut L, landing: &Landing) -> Result<(), AllocError>
+pub fn push_landing<L: MessageWriter>(
+    text: &mut L,
+    landing: &LandingFailure,
+) -> Result<(), AllocError>
     ensures { OnOk result (L.text text.new ≡ L.text text.old ++ landing_text landing.now) }
 {
     match landing {
-        Landing::NoFact => text.push_text(b"there is no fact at that address"),
-        Landing::OtherBody => text.push_text(b"that address is not in the body"),
-        Landing::Excluded(gap) => push_excluded(text, gap, b", which the fact there excludes"),
-        Landing::ExcludedUnder(link, gap) => {
+        LandingFailure::NoFact => text.push_text(b"there is no fact at that address"),
+        LandingFailure::OtherBody => text.push_text(b"that address is not in the body"),
+        LandingFailure::Excluded(gap) => push_excluded(
+            text,
+            gap,
+            b", which the fact there excludes",
+        ),
+        LandingFailure::ExcludedUnder(link, gap) => {
             push_with_link(text, *link)?;
             push_excluded(text, gap, b", which the fact there excludes")?;
             Ok(())
         }
-        Landing::NotTaken(link, name, word) => push_left_and(
+        LandingFailure::NotTaken(link, name, word) => push_left_and(
             text,
             *link,
             name,
             *word,
             b", which none of the facts there allows",
         ),
-        Landing::NotEntailed => text.push_text(
+        LandingFailure::NotEntailed => text.push_text(
             b"none of the facts there allows all that is possible",
         ),
     }
@@ -190,7 +197,7 @@ pub fn push_landing<L: MessageWriter>(text: &mut L, landing: &Landing) -> Result
 pub fn push_before_landing<L: MessageWriter>(
     text: &mut L,
     before: &[u8],
-    landing: &Landing,
+    landing: &LandingFailure,
 ) -> Result<(), AllocError>
     ensures { OnOk result (L.text text.new ≡
         L.text text.old ++ (before.now ++ landing_text landing.now)) }
@@ -211,23 +218,23 @@ fn push_colon_and_link<L: MessageWriter>(text: &mut L, link: Link) -> Result<(),
 }
 
 /// Adds why what is possible at a return is not among what the exit lines allow.
-pub fn push_exit<L: MessageWriter>(text: &mut L, landing: &Landing) -> Result<(), AllocError>
+pub fn push_exit<L: MessageWriter>(text: &mut L, landing: &LandingFailure) -> Result<(), AllocError>
     ensures { OnOk result (L.text text.new ≡ L.text text.old ++ exit_text landing.now) }
 {
     match landing {
-        Landing::NoFact => text.push_text(b", which has no exit line"),
-        Landing::OtherBody => text.push_text(b", which is not in the body"),
-        Landing::Excluded(gap) => {
+        LandingFailure::NoFact => text.push_text(b", which has no exit line"),
+        LandingFailure::OtherBody => text.push_text(b", which is not in the body"),
+        LandingFailure::Excluded(gap) => {
             text.push_text(b": ")?;
             push_excluded(text, gap, b", which the exit line excludes")?;
             Ok(())
         }
-        Landing::ExcludedUnder(link, gap) => {
+        LandingFailure::ExcludedUnder(link, gap) => {
             push_colon_and_link(text, *link)?;
             push_excluded(text, gap, b", which the exit line excludes")?;
             Ok(())
         }
-        Landing::NotTaken(link, name, word) => {
+        LandingFailure::NotTaken(link, name, word) => {
             text.push_text(b": ")?;
             push_left_and(
                 text,
@@ -238,28 +245,31 @@ pub fn push_exit<L: MessageWriter>(text: &mut L, landing: &Landing) -> Result<()
             )?;
             Ok(())
         }
-        Landing::NotEntailed => text.push_text(
+        LandingFailure::NotEntailed => text.push_text(
             b": none of the exit lines allows all that is possible",
         ),
     }
 }
 
 /// Whether a run does not land since there is no fact.
-fn is_without_fact(landing: &Landing) -> bool
+fn is_without_fact(landing: &LandingFailure) -> bool
     ensures { result ≡ is_without_fact landing.now }
 {
     match landing {
-        Landing::NoFact => true,
-        Landing::OtherBody => false,
-        Landing::Excluded(_) => false,
-        Landing::ExcludedUnder(_, _) => false,
-        Landing::NotTaken(_, _, _) => false,
-        Landing::NotEntailed => false,
+        LandingFailure::NoFact => true,
+        LandingFailure::OtherBody => false,
+        LandingFailure::Excluded(_) => false,
+        LandingFailure::ExcludedUnder(_, _) => false,
+        LandingFailure::NotTaken(_, _, _) => false,
+        LandingFailure::NotEntailed => false,
     }
 }
 
 /// Adds why the facts at the start do not allow every start.
-pub fn push_start<L: MessageWriter>(text: &mut L, landing: &Landing) -> Result<(), AllocError>
+pub fn push_start<L: MessageWriter>(
+    text: &mut L,
+    landing: &LandingFailure,
+) -> Result<(), AllocError>
     ensures { OnOk result (L.text text.new ≡ L.text text.old ++ start_text landing.now) }
 {
     if is_without_fact(landing) {

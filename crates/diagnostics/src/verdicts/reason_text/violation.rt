@@ -11,7 +11,7 @@ use command_parts::message::{
 use declaration::Subject;
 use domain::Rules;
 use itoa::Buffer;
-use reasons::{Breach, CallBreach, ReturnBreach};
+use reasons::{CallViolation, ReturnViolation, Violation};
 use std::alloc::AllocError;
 use word12::Word;
 
@@ -77,30 +77,30 @@ fn push_ranks<L: MessageWriter>(text: &mut L, rank: usize, own: usize) -> Result
 fn push_call<L: MessageWriter>(
     text: &mut L,
     rules: &Rules,
-    breach: &CallBreach,
+    breach: &CallViolation,
 ) -> Result<(), AllocError>
     ensures { OnOk result (L.text text.new ≡ L.text text.old ++ call_text rules.now breach.now) }
 {
     match breach {
-        CallBreach::NoEntry => text.push_text(b", which is not an entry"),
-        CallBreach::NotListed => text.push_text(b", which has no routine line"),
-        CallBreach::NotLower(rank, own) => push_ranks(text, *rank, *own),
-        CallBreach::Writes(cell) => push_around(
+        CallViolation::NoEntry => text.push_text(b", which is not an entry"),
+        CallViolation::NotListed => text.push_text(b", which has no routine line"),
+        CallViolation::NotLower(rank, own) => push_ranks(text, *rank, *own),
+        CallViolation::Writes(cell) => push_around(
             text,
             b", which may write ",
             *cell,
             b", but the caller's written set does not contain it",
         ),
-        CallBreach::EntryNotWritten => {
+        CallViolation::EntryNotWritten => {
             text.push_text(b", which the caller's written set does not contain")
         }
-        CallBreach::WritesCaller => { text.push_text(b", which may write the caller's entry") }
-        CallBreach::NoSite => { text.push_text(b", but this address is not one of its sites") }
-        CallBreach::TooHigh => text.push_text(too_high(rules)),
-        CallBreach::Enters(landing) => {
+        CallViolation::WritesCaller => { text.push_text(b", which may write the caller's entry") }
+        CallViolation::NoSite => { text.push_text(b", but this address is not one of its sites") }
+        CallViolation::TooHigh => text.push_text(too_high(rules)),
+        CallViolation::Enters(landing) => {
             push_before_landing(text, b" and continues after the entry: ", landing)
         }
-        CallBreach::Returns(offset, index, landing) => {
+        CallViolation::Returns(offset, index, landing) => {
             push_returned(text, rules, *offset, *index)?;
             push_landing(text, landing)?;
             Ok(())
@@ -128,18 +128,18 @@ fn push_undeclared<L: MessageWriter>(
 fn push_return<L: MessageWriter>(
     text: &mut L,
     entry: Word,
-    breach: &ReturnBreach,
+    breach: &ReturnViolation,
 ) -> Result<(), AllocError>
     ensures { OnOk result (L.text text.new ≡ L.text text.old ++ return_text entry breach.now) }
 {
     match breach {
-        ReturnBreach::OtherRoutine => text.push_text(b", which is not its own entry"),
-        ReturnBreach::NotDeclared(offset) => {
+        ReturnViolation::OtherRoutine => text.push_text(b", which is not its own entry"),
+        ReturnViolation::NotDeclared(offset) => {
             push_around_offset(text, b" with offset ", *offset, b"")?;
             push_undeclared(text, entry, *offset)?;
             Ok(())
         }
-        ReturnBreach::NotAllowed(offset, landing) => {
+        ReturnViolation::NotAllowed(offset, landing) => {
             push_around_offset(text, b" with offset ", *offset, b"")?;
             push_exit(text, landing)?;
             Ok(())
@@ -296,55 +296,55 @@ pub fn push_exit_named<L: MessageWriter>(
 pub fn push_violation<L: MessageWriter>(
     text: &mut L,
     rules: &Rules,
-    breach: &Breach,
+    breach: &Violation,
 ) -> Result<(), AllocError>
     ensures { OnOk result (L.text text.new ≡ L.text text.old ++ breach_text rules.now breach.now) }
 {
     match breach {
-        Breach::NotSupported => text.push_text(b"this word is not supported"),
-        Breach::WritesUndeclared(cell) => {
+        Violation::NotSupported => text.push_text(b"this word is not supported"),
+        Violation::WritesUndeclared(cell) => {
             push_write(text, *cell, b", which is neither a variable nor an entry")
         }
-        Breach::WritesEntry(cell) => push_write(text, *cell, b", which is an entry"),
-        Breach::CountsTooFar(entry) => {
+        Violation::WritesEntry(cell) => push_write(text, *cell, b", which is an entry"),
+        Violation::CountsTooFar(entry) => {
             push_around(text, b"it may increment ", *entry, counting(rules))
         }
-        Breach::StoresInOwn(entry) => push_address_and_advice(
+        Violation::StoresInOwn(entry) => push_address_and_advice(
             text,
             b"it may write ",
             *entry,
             b", the routine's own entry: add `moves ",
         ),
-        Breach::MovesTooFar(entry, word, site) => push_moving(text, *entry, *word, *site),
-        Breach::WritesUnlisted(cell) => {
+        Violation::MovesTooFar(entry, word, site) => push_moving(text, *entry, *word, *site),
+        Violation::WritesUnlisted(cell) => {
             push_write(text, *cell, b", which is not in the routine's written set")
         }
-        Breach::HaltsUndeclared => { text.push_text(b"it halts, and no halt is declared there") }
-        Breach::CallsThroughIndex => { text.push_text(b"it calls through an auto-index cell") }
-        Breach::Calls(entry, call) => {
+        Violation::HaltsUndeclared => { text.push_text(b"it halts, and no halt is declared there") }
+        Violation::CallsThroughIndex => { text.push_text(b"it calls through an auto-index cell") }
+        Violation::Calls(entry, call) => {
             push_text_and_address(text, b"it calls ", *entry)?;
             push_call(text, rules, call)
         }
-        Breach::Returns(entry, back) => {
+        Violation::Returns(entry, back) => {
             push_text_and_address(text, b"it returns through ", *entry)?;
             push_return(text, *entry, back)
         }
-        Breach::GoesOn(at, landing) => {
+        Violation::GoesOn(at, landing) => {
             push_around(text, b"it may continue at ", *at, b": ")?;
             push_landing(text, landing)
         }
-        Breach::JumpsToMain(at) => push_address_and_advice(
+        Violation::JumpsToMain(at) => push_address_and_advice(
             text,
             b"it may continue at ",
             *at,
             b", which is in main's body: add `abandon ",
         ),
-        Breach::ReadsUnlisted(cell) => push_around(
+        Violation::ReadsUnlisted(cell) => push_around(
             text,
             b"it may read ",
             *cell,
             b", which is not on the list of reads",
         ),
-        Breach::DeniesAssertion(subject, word) => push_denied(text, subject, *word, b"holds"),
+        Violation::DeniesAssertion(subject, word) => push_denied(text, subject, *word, b"holds"),
     }
 }

@@ -2,7 +2,7 @@ use Rattle.std.proofs.Common.{rules, ◌≡◌, ◌∙◌, Some, None, true, fal
 use Rattle.peripherals.specs.Events.{Happens}
 use Rattle.peripherals.specs.Operator.{due, plan_of}
 use Rattle.peripherals.specs.World.{view, profile_of}
-use Rattle.declaration.specs.Kept.{meaning}
+use Rattle.declaration.specs.DeclarationInCode.{meaning}
 use Rattle.machine_commands.specs.ContinuedParts.{HasPressed, HasStayed}
 use Rattle.machine_commands.specs.Follows.{goes_on}
 use Rattle.machine_commands.proofs.SessionLemmas.{fewer}

@@ -1,5 +1,5 @@
 use Rattle.std.proofs.Common.{◌≡◌}
-use Rattle.declaration.specs.Kept.{meaning}
+use Rattle.declaration.specs.DeclarationInCode.{meaning}
 use Rattle.peripherals.specs.Operator.{plan_of}
 use Rattle.peripherals.specs.World.{view, profile_of}
 use Rattle.machine_commands.specs.SessionParts.{events_left}

@@ -1,6 +1,6 @@
 use Rattle.std.proofs.Common.{rules, ◌≡◌, ◌≤◌, ◌<◌, ◌+◌, ◌∙◌, true, None, Some, length, arith}
 use Rattle.peripherals.specs.World.{view}
-use Rattle.declaration.specs.Kept.{meaning}
+use Rattle.declaration.specs.DeclarationInCode.{meaning}
 use Rattle.machine_commands.specs.Running.{fresh}
 use Rattle.machine_commands.specs.SessionParts.{steps_in}
 use Rattle.machine_commands.specs.StoppedParts.{Passes}

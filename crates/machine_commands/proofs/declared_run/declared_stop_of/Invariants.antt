@@ -1,6 +1,6 @@
 use Rattle.std.proofs.Common.{◌≡◌, ◌≤◌}
 use Rattle.peripherals.specs.World.{view, profile_of}
-use Rattle.declaration.specs.Kept.{meaning}
+use Rattle.declaration.specs.DeclarationInCode.{meaning}
 use Rattle.machine_commands.specs.Running.{fresh}
 use Rattle.machine_commands.proofs.DeclaredLemmas.{PassedDeclared}
 use Rattle.machine_commands.proofs.declared_run.declared_stop_of.Given as goal

@@ -1,6 +1,6 @@
 use Rattle.std.proofs.Common.{◌≡◌, ◌≤◌, false}
 use Rattle.peripherals.specs.World.{view, profile_of}
-use Rattle.declaration.specs.Kept.{meaning}
+use Rattle.declaration.specs.DeclarationInCode.{meaning}
 use Rattle.machine_commands.proofs.DeclaredLemmas.{Gone}
 use Rattle.machine_commands.proofs.declared_run.go_through.Given as goal
 

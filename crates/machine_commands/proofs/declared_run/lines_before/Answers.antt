@@ -1,7 +1,7 @@
 use Rattle.std.proofs.Common.{rules, ◌≡◌}
 use Rattle.peripherals.specs.Loading.{image_of, loaded}
 use Rattle.peripherals.specs.World.{view}
-use Rattle.declaration.specs.Kept.{meaning}
+use Rattle.declaration.specs.DeclarationInCode.{meaning}
 use Rattle.machine_commands.specs.DeclaredRun.{Traces}
 use Rattle.machine_commands.specs.Running.{fresh}
 use Rattle.machine_commands.specs.WatchText.{IsSeen, happening}

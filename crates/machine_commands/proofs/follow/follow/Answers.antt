@@ -5,7 +5,7 @@ use Rattle.streams.specs.Bytes.{AppendsFront}
 use Rattle.peripherals.specs.declared.Seen.{Seen}
 use Rattle.peripherals.specs.declared.Seen.TheVariants.{NotEnabled, Changed, Ran, Halted, Unsupported}
 use Rattle.peripherals.specs.Events.{Happens}
-use Rattle.peripherals.specs.Seen.{seen_of}
+use Rattle.peripherals.specs.EventOutcomes.{seen_of}
 use Rattle.peripherals.specs.World.{view, profile_of}
 use Rattle.machine_commands.specs.Course.{ends_at_halt, events_in}
 use Rattle.machine_commands.specs.Follows.{counted, goes_on}

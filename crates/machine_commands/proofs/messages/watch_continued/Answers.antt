@@ -1,6 +1,6 @@
 use Rattle.std.proofs.Common.{◌≡◌, rules}
 use Rattle.peripherals.specs.Loading.{image_of, loaded}
-use Rattle.declaration.specs.Kept.{meaning}
+use Rattle.declaration.specs.DeclarationInCode.{meaning}
 use Rattle.machine_commands.specs.Running.{fresh}
 use Rattle.machine_commands.specs.WatchText.{IsSeen}
 use Rattle.machine_commands.proofs.WatchLemmas.{is_seen}

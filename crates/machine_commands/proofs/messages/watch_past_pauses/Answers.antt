@@ -1,6 +1,6 @@
 use Rattle.wordset.specs.Lanes.{words}
 use Rattle.peripherals.specs.Operator.{plan_of}
-use Rattle.declaration.specs.Kept.{meaning}
+use Rattle.declaration.specs.DeclarationInCode.{meaning}
 use Rattle.machine_commands.proofs.WatchedSessionLemmas.{plan_continued}
 use Rattle.machine_commands.proofs.messages.watch_past_pauses.Goals as goal
 

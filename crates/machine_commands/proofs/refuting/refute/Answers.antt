@@ -2,7 +2,7 @@ use Rattle.std.proofs.Common.{◌≡◌, rules, inl, inr, Err, Ok}
 use Rattle.command_parts.proofs.AnswerLemmas.{two_good, two_refused}
 use Rattle.std.specs.Io.KnownBytes.{Appends}
 use Rattle.streams.specs.Bytes.{AppendsFront}
-use Rattle.declaration.specs.Kept.{meaning}
+use Rattle.declaration.specs.DeclarationInCode.{meaning}
 use Rattle.command_parts.specs.Messages.{plain}
 use Rattle.machine_commands.specs.RefuteText.{unbroken_text}
 use Rattle.machine_commands.proofs.refuting.refute.Goals as goal

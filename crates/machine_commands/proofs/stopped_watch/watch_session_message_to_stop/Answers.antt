@@ -1,6 +1,6 @@
 use Rattle.std.proofs.Common.{rules, ◌≡◌}
 use Rattle.wordset.specs.Lanes.{words}
-use Rattle.declaration.specs.Kept.{meaning}
+use Rattle.declaration.specs.DeclarationInCode.{meaning}
 use Rattle.peripherals.specs.Operator.{plan_of}
 use Rattle.peripherals.specs.World.{view}
 use Rattle.machine_commands.specs.Continued.{came_by}

@@ -1,6 +1,6 @@
 use Rattle.std.proofs.Common.{rules, ◌≡◌, ◌≤◌, ◌<◌, ◌∙◌, true, false, length, refl, sym, arith}
 use Rattle.peripherals.specs.Events.{Happens}
-use Rattle.peripherals.specs.Seen.{seen_of}
+use Rattle.peripherals.specs.EventOutcomes.{seen_of}
 use Rattle.peripherals.specs.World.{view, profile_of}
 use Rattle.machine_commands.specs.Course.{ends_at_halt, events_in}
 use Rattle.machine_commands.specs.Follows.{goes_on}

@@ -1,6 +1,6 @@
 use Rattle.std.proofs.Common.{◌≡◌}
 use Rattle.peripherals.specs.World.{profile_of}
-use Rattle.declaration.specs.Kept.{meaning}
+use Rattle.declaration.specs.DeclarationInCode.{meaning}
 use Rattle.machine_commands.proofs.violations.violation_lines.Given as goal
 
 abbrev pub invariant-loop-index : goal.invariant-loop-index

@@ -1,4 +1,4 @@
-use Rattle.declaration.specs.Kept.{meaning}
+use Rattle.declaration.specs.DeclarationInCode.{meaning}
 use Rattle.command_parts.proofs.AnswerLemmas.{delivered, delivers_by, nothing_written, three_good, three_refused}
 use Rattle.machine_commands.proofs.watching.watch.Goals as goal
 

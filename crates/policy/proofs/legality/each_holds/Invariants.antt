@@ -1,6 +1,6 @@
 use Rattle.std.proofs.Common.{◌≡◌, drop, map}
 use Rattle.processor.specs.Steps.{state_of}
-use Rattle.declaration.specs.Kept.{place_assertion_of}
+use Rattle.declaration.specs.DeclarationInCode.{place_assertion_of}
 use Rattle.policy.specs.Decided.{each_holds}
 use Rattle.policy.proofs.legality.each_holds.Given as goal
 

@@ -1,6 +1,6 @@
 use Rattle.std.proofs.Common.{◌==◌, ◌&&◌}
 use Rattle.processor.specs.Steps.{state_of}
-use Rattle.declaration.specs.Kept.{return_assertion_of}
+use Rattle.declaration.specs.DeclarationInCode.{return_assertion_of}
 use Rattle.policy.specs.Decided.{implies, is_so}
 use Rattle.policy.proofs.HoldLemmas.{all_done, all_fails, all_more}
 use Rattle.policy.proofs.legality.each_holds_by.Goals as goal

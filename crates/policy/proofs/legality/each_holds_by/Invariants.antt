@@ -1,6 +1,6 @@
 use Rattle.std.proofs.Common.{◌≡◌, drop, map}
 use Rattle.processor.specs.Steps.{state_of}
-use Rattle.declaration.specs.Kept.{return_assertion_of}
+use Rattle.declaration.specs.DeclarationInCode.{return_assertion_of}
 use Rattle.policy.specs.Decided.{each_holds_by}
 use Rattle.policy.proofs.legality.each_holds_by.Given as goal
 

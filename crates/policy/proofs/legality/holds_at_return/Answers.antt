@@ -1,6 +1,6 @@
 use Rattle.std.proofs.Common.{◌≡◌, ◌==◌, true, false, sym, refl, ◌∙◌}
 use Rattle.processor.specs.Steps.{state_of}
-use Rattle.declaration.specs.Kept.{meaning}
+use Rattle.declaration.specs.DeclarationInCode.{meaning}
 use Rattle.policy.proofs.CallLemmas.{last_holds}
 use Rattle.policy.proofs.legality.holds_at_return.Goals as goal
 

@@ -1,6 +1,6 @@
 use Rattle.std.proofs.Common.{None, ap, refl, ◌∙◌}
 use Rattle.processor.specs.Steps.{state_of}
-use Rattle.declaration.specs.Kept.{meaning}
+use Rattle.declaration.specs.DeclarationInCode.{meaning}
 use Rattle.policy.specs.Decided.{assertions_hold}
 use Rattle.policy.specs.OpenCalls.{open_calls}
 use Rattle.policy.specs.declared.rules.Rule.TheVariants.{AssertionsHold}

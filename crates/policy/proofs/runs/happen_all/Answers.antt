@@ -4,7 +4,7 @@ use Rattle.std.proofs.lemmas.List.{take_more}
 use Rattle.std.proofs.lemmas.Option.{slice_get_read}
 use Rattle.peripherals.specs.declared.Event.{Event}
 use Rattle.peripherals.specs.World.{view}
-use Rattle.declaration.specs.Kept.{meaning}
+use Rattle.declaration.specs.DeclarationInCode.{meaning}
 use Rattle.policy.proofs.RunLemmas.{led_more, refused_at}
 use Rattle.policy.proofs.runs.happen_all.Goals as goal
 

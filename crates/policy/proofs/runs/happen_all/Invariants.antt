@@ -1,6 +1,6 @@
 use Rattle.std.proofs.Common.{◌≡◌, take}
 use Rattle.peripherals.specs.World.{view, profile_of}
-use Rattle.declaration.specs.Kept.{meaning}
+use Rattle.declaration.specs.DeclarationInCode.{meaning}
 use Rattle.policy.specs.Watching.{LeadsTo}
 use Rattle.policy.proofs.runs.happen_all.Given as goal
 

@@ -1,5 +1,5 @@
 use Rattle.std.proofs.Common.{◌≡◌, true, false, sym, ◌∙◌, refl}
-use Rattle.declaration.specs.Kept.{meaning}
+use Rattle.declaration.specs.DeclarationInCode.{meaning}
 use Rattle.policy.specs.Decided.{is_abandon, is_call, is_return}
 use Rattle.policy.proofs.CallLemmas.{more_calls, popped_calls}
 use Rattle.policy.proofs.watcher.follow_calls.Goals as goal

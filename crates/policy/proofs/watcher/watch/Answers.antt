@@ -4,7 +4,7 @@ use Rattle.peripherals.specs.Loading.{image_of, loaded}
 use Rattle.peripherals.specs.World.{view}
 use Rattle.std.proofs.lemmas.Result.{IfOk-weaker, on_err_weaker}
 use Rattle.policy.specs.Runs.{IsSafe}
-use Rattle.declaration.specs.Kept.{meaning}
+use Rattle.declaration.specs.DeclarationInCode.{meaning}
 use Rattle.policy.specs.Watching.{IsClean}
 use Rattle.policy.proofs.TellLemmas.{told_of, tells_clean, tells_broken, clean_tells, broken_tells, safe_clean, growth_of}
 use Rattle.policy.proofs.watcher.watch.Goals as goal

@@ -4,7 +4,7 @@ use Rattle.std.proofs.lemmas.List.{take_more}
 use Rattle.std.proofs.lemmas.Option.{slice_get_read}
 use Rattle.peripherals.specs.declared.Event.{Event}
 use Rattle.peripherals.specs.World.{view}
-use Rattle.declaration.specs.Kept.{meaning}
+use Rattle.declaration.specs.DeclarationInCode.{meaning}
 use Rattle.policy.specs.OpenCalls.{open_calls}
 use Rattle.policy.proofs.WatchLemmas.{taken_more, all_taken, stopped, grown}
 use Rattle.policy.proofs.watcher.watch_events.Goals as goal

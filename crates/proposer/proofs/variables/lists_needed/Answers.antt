@@ -1,6 +1,6 @@
 use Rattle.std.proofs.Common.{ap, ◌∙◌}
 use Rattle.wordset.specs.Words.{Words}
-use Rattle.certificate_lines.specs.Kept.{claims}
+use Rattle.certificate_lines.specs.CertificateInCode.{claims}
 use Rattle.judge.specs.Judged.{judged}
 use Rattle.proposer.proofs.ReadLemmas.{is_read, some_is}
 use Rattle.proposer.proofs.variables.lists_needed.Goals as goal

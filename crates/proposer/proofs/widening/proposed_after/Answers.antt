@@ -1,5 +1,5 @@
 use Rattle.std.proofs.Common.{rules}
-use Rattle.declaration.specs.Kept.{meaning}
+use Rattle.declaration.specs.DeclarationInCode.{meaning}
 use Rattle.proposer.specs.Widths.{IsAsWide}
 use Rattle.proposer.proofs.widening.proposed_after.Goals as goal
 

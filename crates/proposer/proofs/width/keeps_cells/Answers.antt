@@ -1,4 +1,4 @@
-use Rattle.declaration.specs.Kept.{meaning}
+use Rattle.declaration.specs.DeclarationInCode.{meaning}
 use Rattle.analyser.proofs.DraftLemmas.{one_more}
 use Rattle.proposer.specs.Widths.{KeepsCell}
 use Rattle.proposer.proofs.width.keeps_cells.Goals as goal

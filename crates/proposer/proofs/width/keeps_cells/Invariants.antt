@@ -1,5 +1,5 @@
 use Rattle.std.proofs.Common.{ℕ, ◌<◌}
-use Rattle.declaration.specs.Kept.{meaning}
+use Rattle.declaration.specs.DeclarationInCode.{meaning}
 use Rattle.proposer.specs.Widths.{KeepsCell}
 use Rattle.proposer.proofs.width.keeps_cells.Given as goal
 

@@ -1,5 +1,5 @@
 use Rattle.std.proofs.Common.{ℕ, ◌≡◌, ◌<◌, true}
-use Rattle.declaration.specs.Kept.{meaning}
+use Rattle.declaration.specs.DeclarationInCode.{meaning}
 use Rattle.proposer.proofs.width.keeps_offsets.Given as goal
 
 abbrev pub invariant-loop-index : goal.invariant-loop-index

@@ -12,18 +12,18 @@ use Rattle.reasons.proofs.ReasonLemmas.{taken_by_all}
 use Rattle.reasons.proofs.landing.words_taken.Goals as goal
 
 pub loop-at-init : goal.loop-at-init
-loop-at-init g c = (none_taken (place_in_code c.args.place.now) (location_of c.args.name.now) (g.P.Part.part c.args.part.now) _ (g.F.FactSource.facts c.args.among.now) (λ v. ap (λ (s : Words). s v) c.empty-taken.ensures), refl)
+loop-at-init g c = (none_taken (place_in_code c.args.place.now) (location_of c.args.name.now) (g.P.FactPart.part c.args.part.now) _ (g.F.FactSource.facts c.args.among.now) (λ v. ap (λ (s : Words). s v) c.empty-taken.ensures), refl)
 
 pub loop-at-preserved : goal.loop-at-preserved
 loop-at-preserved g c = (
-  one_taken (place_in_code c.args.place.now) (location_of c.args.name.now) (g.P.Part.part c.args.part.now) (words c.loop-at.taken) (words c.add_taken.new.taken) (g.F.FactSource.facts c.args.among.now) c.loop-at.at (fact_in_code c.put.new.fact) (omega (arith, c.loop-at-test.true, c.len-at-end.ensures)) c.put.ensures
+  one_taken (place_in_code c.args.place.now) (location_of c.args.name.now) (g.P.FactPart.part c.args.part.now) (words c.loop-at.taken) (words c.add_taken.new.taken) (g.F.FactSource.facts c.args.among.now) c.loop-at.at (fact_in_code c.put.new.fact) (omega (arith, c.loop-at-test.true, c.len-at-end.ensures)) c.put.ensures
       (subst (λ (f : Fact). (v : ℕ) → v < 4096 → f.set (location_of c.args.name.now) v ≡ true → (words c.add_taken.new.taken v ≡ true) ↔ ((words c.loop-at.taken v ≡ true) ⊎ TakesAt (place_in_code c.args.place.now) (location_of c.args.name.now) v f (fact_in_code c.put.new.fact)))
       c.loop-at.invariant.1 c.add_taken.ensures.taken) c.loop-at.invariant.0,
   c.add_taken.ensures.kept ∙ c.loop-at.invariant.1,
 )
 
 pub returns-clause-taken : goal.returns-clause-taken
-returns-clause-taken g c = taken_by_all (place_in_code c.args.place.now) (location_of c.args.name.now) (g.P.Part.part c.args.part.now) (words c.loop-at.taken) (g.F.FactSource.facts c.args.among.now) c.loop-at.at (omega (arith, c.loop-at-test.false, c.len-at-end.ensures)) c.loop-at.invariant.0
+returns-clause-taken g c = taken_by_all (place_in_code c.args.place.now) (location_of c.args.name.now) (g.P.FactPart.part c.args.part.now) (words c.loop-at.taken) (g.F.FactSource.facts c.args.among.now) c.loop-at.at (omega (arith, c.loop-at-test.false, c.len-at-end.ensures)) c.loop-at.invariant.0
 
 pub returns-clause-kept : goal.returns-clause-kept
 returns-clause-kept g c = c.loop-at.invariant.1

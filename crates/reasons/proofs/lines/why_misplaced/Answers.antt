@@ -1,4 +1,4 @@
-use Rattle.declaration.specs.Kept.{routine_of}
+use Rattle.declaration.specs.DeclarationInCode.{routine_of}
 use Rattle.judge.specs.Judged.{case_kept}
 use Rattle.reasons.proofs.FoundLemmas.{none_weaker}
 use Rattle.reasons.proofs.ReasonLemmas.{each_placed}

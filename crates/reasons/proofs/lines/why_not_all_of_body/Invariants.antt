@@ -1,5 +1,5 @@
 use Rattle.std.proofs.Common.{drop}
-use Rattle.declaration.specs.Kept.{routine_of}
+use Rattle.declaration.specs.DeclarationInCode.{routine_of}
 use Rattle.judge.specs.Bodies.{IsOfBody}
 use Rattle.judge.specs.Conditions.{EachFact}
 use Rattle.reasons.proofs.lines.why_not_all_of_body.Given as goal

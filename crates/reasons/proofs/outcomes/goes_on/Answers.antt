@@ -10,7 +10,7 @@ use Rattle.judge.proofs.PointLemmas.{meant}
 use Rattle.reasons.specs.Breaches.{OutcomeMisses, SomeOutcome}
 use Rattle.reasons.specs.Keeping.{OutcomeArrives}
 use Rattle.reasons.specs.Points.{counts_lines, meaning_here}
-use Rattle.reasons.specs.declared.breach.Landing.TheVariants.{OtherBody}
+use Rattle.reasons.specs.declared.violation.LandingFailure.TheVariants.{OtherBody}
 use Rattle.reasons.proofs.AbandonLemmas.{missed_as}
 use Rattle.reasons.proofs.LandingLemmas.{not_of_lines_sought}
 use Rattle.reasons.proofs.outcomes.goes_on.Goals as goal

@@ -1,6 +1,6 @@
 use Rattle.std.proofs.Common.{subst}
 use Rattle.transfer.specs.OutcomesInCode.{outcome_in}
-use Rattle.transfer.specs.declared.outcomes.Outcome.{Outcome}
+use Rattle.transfer.specs.declared.outcomes.FactOutcome.{FactOutcome}
 use Rattle.judge.specs.Landing.{EachSuccessor}
 use Rattle.judge.specs.Points.{case_of}
 use Rattle.wordset.specs.Lanes.{words}
@@ -25,7 +25,7 @@ returns-in-Some-outcome_misses-clause-found g c =
     let found = c.in-Some-outcome_misses.found in
     let os = c.args.outcomes.now in
     let p = OutcomeMisses (case_of g.C.Claims.claims c.args.point.now) c.args.point.now.place.routine (words c.args.beyond.now) found.0 found.1 in
-    let third = subst (λ (o : Outcome). SomeOutcome p (outcome_in o)) c.first_two_miss.ensures.kept.0 c.in-Some-outcome_misses.ensures.found.1 in (
+    let third = subst (λ (o : FactOutcome). SomeOutcome p (outcome_in o)) c.first_two_miss.ensures.kept.0 c.in-Some-outcome_misses.ensures.found.1 in (
       c.in-Some-outcome_misses.ensures.found.0,
       some_right p (outcome_in os.first) _ (some_right p (outcome_in os.second) _ (some_left p (outcome_in os.third) (outcome_in os.fourth) third)),
     )
@@ -37,7 +37,7 @@ returns-clause-found g c =
     (λ found h. (
       h.0,
       (let p = OutcomeMisses (case_of g.C.Claims.claims c.args.point.now) c.args.point.now.place.routine (words c.args.beyond.now) found.0 found.1 in
-          some_right p (outcome_in os.first) _ (some_right p (outcome_in os.second) _ (some_right p (outcome_in os.third) (outcome_in os.fourth) (subst (λ (o : Outcome). SomeOutcome p (outcome_in o)) c.first_two_miss.ensures.kept.1 h.1)))),
+          some_right p (outcome_in os.first) _ (some_right p (outcome_in os.second) _ (some_right p (outcome_in os.third) (outcome_in os.fourth) (subst (λ (o : FactOutcome). SomeOutcome p (outcome_in o)) c.first_two_miss.ensures.kept.1 h.1)))),
     )) c.outcome_misses-2.ensures.found
 
 pub returns-clause-none : goal.returns-clause-none
@@ -46,5 +46,5 @@ returns-clause-none g c =
     let p = OutcomeArrives (counts_lines c.args.sought) (case_of g.C.Claims.claims c.args.point.now) c.args.point.now.place.routine (words c.args.beyond.now) in
     none_weaker c.outcome_misses-2.result _ _
     (λ fourth. each_of_four p (outcome_in os.first) (outcome_in os.second) (outcome_in os.third) (outcome_in os.fourth) c.in_default.ensures.none
-    (subst (λ (o : Outcome). EachSuccessor p (outcome_in o)) c.first_two_miss.ensures.kept.0 c.in_default-outcome_misses.ensures.none)
-    (subst (λ (o : Outcome). EachSuccessor p (outcome_in o)) c.first_two_miss.ensures.kept.1 fourth)) c.outcome_misses-2.ensures.none
+    (subst (λ (o : FactOutcome). EachSuccessor p (outcome_in o)) c.first_two_miss.ensures.kept.0 c.in_default-outcome_misses.ensures.none)
+    (subst (λ (o : FactOutcome). EachSuccessor p (outcome_in o)) c.first_two_miss.ensures.kept.1 fourth)) c.outcome_misses-2.ensures.none

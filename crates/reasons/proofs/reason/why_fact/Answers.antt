@@ -34,11 +34,11 @@ returns-clause-found g c =
     (chosen_one _ _ _ c.put_asked.ensures.asked c.if-not-put_asked.false) in
     let is : IsAskedFact j r c.args.at c.args.index (fact_in_code c.put_asked.new.fact) = record { body = c.requires.stands; there = c.requires.index; asked_is = asked_is } in
     let p = c.point_of-point.result in
-    some_weaker c.first_breach.result _ _
-    (λ reason h. wrong_word (case_of g.C.Claims.claims p) j p.place.routine r p.at c.args.at c.args.index (fact_in_code p.fact.now) (fact_in_code c.put_asked.new.fact) c.args.condition reason c.point_of-point.ensures.case c.point_of-point.ensures.routine c.point_of-point.ensures.at (ap (λ f. fact_in_code f) c.point_of-point.ensures.fact) is h.0) c.first_breach.ensures.found
+    some_weaker c.first_violation.result _ _
+    (λ reason h. wrong_word (case_of g.C.Claims.claims p) j p.place.routine r p.at c.args.at c.args.index (fact_in_code p.fact.now) (fact_in_code c.put_asked.new.fact) c.args.condition reason c.point_of-point.ensures.case c.point_of-point.ensures.routine c.point_of-point.ensures.at (ap (λ f. fact_in_code f) c.point_of-point.ensures.fact) is h.0) c.first_violation.ensures.found
 
 pub returns-clause-sought : goal.returns-clause-sought
-returns-clause-sought g c = some_weaker c.first_breach.result _ _ (λ reason h. h.1) c.first_breach.ensures.found
+returns-clause-sought g c = some_weaker c.first_violation.result _ _ (λ reason h. h.1) c.first_violation.ensures.found
 
 pub returns-clause-none : goal.returns-clause-none
 returns-clause-none g c =
@@ -48,5 +48,5 @@ returns-clause-none g c =
     let asked_is = asked_alone j r (rules_of c.rules-rules.result) (words c.args.body.now.claim.sites) f _ _ (fact_in_code c.put_asked.new.fact ∷ []) c.rules-rules.ensures c.requires.body.sites c.put_fact-line.ensures.fact c.put_sites.ensures
     (chosen_one _ _ _ c.put_asked.ensures.asked c.if-not-put_asked.false) in
     let p = c.point_of-point.result in
-    none_weaker c.first_breach.result _ _
-    (asked_keeps (counts_lines c.args.sought) j c.args.condition r c.args.at f (fact_in_code c.put_asked.new.fact) (fact_in_code p.fact.now) (case_of g.C.Claims.claims p) p.place.routine p.at asked_is c.point_of-point.ensures.case c.point_of-point.ensures.routine c.point_of-point.ensures.at (ap (λ f. fact_in_code f) c.point_of-point.ensures.fact)) c.first_breach.ensures.none
+    none_weaker c.first_violation.result _ _
+    (asked_keeps (counts_lines c.args.sought) j c.args.condition r c.args.at f (fact_in_code c.put_asked.new.fact) (fact_in_code p.fact.now) (case_of g.C.Claims.claims p) p.place.routine p.at asked_is c.point_of-point.ensures.case c.point_of-point.ensures.routine c.point_of-point.ensures.at (ap (λ f. fact_in_code f) c.point_of-point.ensures.fact)) c.first_violation.ensures.none

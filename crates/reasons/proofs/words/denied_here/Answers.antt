@@ -1,7 +1,7 @@
 use Rattle.std.proofs.Common.{ap, inl, sym, subst, ◌∙◌}
 use Rattle.wordset.specs.Words.{Words}
 use Rattle.declaration.specs.Declaration.{Assertion}
-use Rattle.declaration.specs.Kept.{place_assertion_of}
+use Rattle.declaration.specs.DeclarationInCode.{place_assertion_of}
 use Rattle.facts.specs.Conditions.{IsDenied}
 use Rattle.facts.specs.PlaceInCode.{place_in_code}
 use Rattle.judge.specs.Points.{fact_asked}

@@ -1,5 +1,5 @@
 use Rattle.std.proofs.Common.{refl}
-use Rattle.declaration.specs.Kept.{place_assertion_of}
+use Rattle.declaration.specs.DeclarationInCode.{place_assertion_of}
 use Rattle.facts.proofs.HeldLemmas.{held_all, held_more}
 use Rattle.judge.specs.Landing.{place_in}
 use Rattle.judge.specs.Points.{case_of, fact_asked}

@@ -1,6 +1,6 @@
 use Rattle.std.proofs.Common.{drop, map}
 use Rattle.std.specs.Prelude.{◌↔◌}
-use Rattle.declaration.specs.Kept.{place_assertion_of}
+use Rattle.declaration.specs.DeclarationInCode.{place_assertion_of}
 use Rattle.reasons.specs.Points.{AreHeldHere}
 use Rattle.reasons.proofs.words.first_denied.Given as goal
 

@@ -5,9 +5,9 @@ use Rattle.reasons.specs.Keeping.{KeepsHere}
 use Rattle.reasons.specs.Points.{counts_lines}
 use Rattle.reasons.proofs.words.first_word.Goals as goal
 
-pub returns-in-Some-breach-clause-found : goal.returns-in-Some-breach-clause-found
-returns-in-Some-breach-clause-found g c =
-    let b = c.in-Some-breach.ensures.found in
+pub returns-in-Some-violation-clause-found : goal.returns-in-Some-violation-clause-found
+returns-in-Some-violation-clause-found g c =
+    let b = c.in-Some-violation.ensures.found in
     let is = sym (ap (λ (s : Words). s c.in-Some.word) c.requires.possible) ∙ given_word {p = KeepsHere (counts_lines c.args.sought) g.C.Claims.claims c.args.point.now c.args.condition} c.loop-word.invariant c.in-Some.ensures.steps in
     ((refl, c.in-Some.ensures.steps.0.small, is, b.0.0, b.0.1), b.1)
 

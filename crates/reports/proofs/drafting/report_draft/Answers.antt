@@ -1,5 +1,5 @@
 use Rattle.std.proofs.Common.{◌≡◌, rules, Err, Ok}
-use Rattle.declaration.specs.Kept.{meaning}
+use Rattle.declaration.specs.DeclarationInCode.{meaning}
 use Rattle.command_parts.proofs.AnswerLemmas.{two_good, two_refused}
 use Rattle.reports.proofs.drafting.report_draft.Goals as goal
 

@@ -1,6 +1,6 @@
 use Rattle.std.proofs.Common.{rules}
-use Rattle.declaration.specs.Kept.{meaning}
-use Rattle.certificate_lines.specs.Kept.{meaning as text_of}
+use Rattle.declaration.specs.DeclarationInCode.{meaning}
+use Rattle.certificate_lines.specs.CertificateInCode.{meaning as text_of}
 use Rattle.diagnostics.specs.CheckText.{checked_case}
 use Rattle.diagnostics.proofs.CheckLemmas.{verdict_is}
 use Rattle.reports.proofs.reporting.report_of.Goals as goal

@@ -1,5 +1,5 @@
 use Rattle.std.proofs.Common.{◌≡◌, ◌≤◌}
-use Rattle.declaration.specs.Kept.{meaning}
+use Rattle.declaration.specs.DeclarationInCode.{meaning}
 use Rattle.peripherals.specs.World.{profile_of}
 use Rattle.run_search.proofs.shorten.breaks.Given as goal
 

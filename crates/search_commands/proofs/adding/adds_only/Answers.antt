@@ -1,4 +1,4 @@
-use Rattle.declaration.specs.Kept.{meaning}
+use Rattle.declaration.specs.DeclarationInCode.{meaning}
 use Rattle.analyser.proofs.DraftLemmas.{one_more}
 use Rattle.search_commands.specs.Adding.{AddsToCell}
 use Rattle.search_commands.proofs.adding.adds_only.Goals as goal

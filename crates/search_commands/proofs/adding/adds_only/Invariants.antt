@@ -1,5 +1,5 @@
 use Rattle.std.proofs.Common.{ℕ, ◌<◌}
-use Rattle.declaration.specs.Kept.{meaning}
+use Rattle.declaration.specs.DeclarationInCode.{meaning}
 use Rattle.search_commands.specs.Adding.{AddsToCell}
 use Rattle.search_commands.proofs.adding.adds_only.Given as goal
 

@@ -1,6 +1,6 @@
 use Rattle.std.proofs.Common.{ℕ, ◌≡◌, ◌<◌, true}
 use Rattle.std.specs.Prelude.{◌||◌}
-use Rattle.declaration.specs.Kept.{meaning}
+use Rattle.declaration.specs.DeclarationInCode.{meaning}
 use Rattle.search_commands.proofs.adding.offsets_are_known.Given as goal
 
 abbrev pub invariant-loop-index : goal.invariant-loop-index

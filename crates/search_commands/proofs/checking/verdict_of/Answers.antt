@@ -1,5 +1,5 @@
-use Rattle.declaration.specs.Kept.{meaning}
-use Rattle.certificate_lines.specs.Kept.{meaning as lines_of}
+use Rattle.declaration.specs.DeclarationInCode.{meaning}
+use Rattle.certificate_lines.specs.CertificateInCode.{meaning as lines_of}
 use Rattle.diagnostics.specs.CheckText.{checked_case}
 use Rattle.diagnostics.proofs.CheckLemmas.{verdict_is}
 use Rattle.search_commands.proofs.checking.verdict_of.Goals as goal

@@ -1,4 +1,4 @@
-use Rattle.declaration.specs.Kept.{meaning}
+use Rattle.declaration.specs.DeclarationInCode.{meaning}
 use Rattle.command_parts.proofs.AnswerLemmas.{delivered, delivers_by, nothing_written, two_good, two_refused}
 use Rattle.search_commands.proofs.CompleteLemmas.{completes_source}
 use Rattle.search_commands.proofs.completing.complete.Goals as goal

@@ -1,5 +1,5 @@
 use Rattle.std.specs.Prelude.{Some}
-use Rattle.declaration.specs.Kept.{meaning}
+use Rattle.declaration.specs.DeclarationInCode.{meaning}
 use Rattle.command_parts.specs.declared.status.Status.TheVariants.{Done}
 use Rattle.search_commands.specs.Adding.{IsAddition}
 use Rattle.search_commands.specs.CompleteText.{Completes, IsExtension}

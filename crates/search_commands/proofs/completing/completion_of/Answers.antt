@@ -1,5 +1,5 @@
 use Rattle.std.proofs.Common.{◌≡◌, None, rules}
-use Rattle.declaration.specs.Kept.{meaning}
+use Rattle.declaration.specs.DeclarationInCode.{meaning}
 use Rattle.search_commands.proofs.CompleteLemmas.{own_completes}
 use Rattle.search_commands.proofs.completing.completion_of.Goals as goal
 

@@ -1,4 +1,4 @@
-use Rattle.declaration.specs.Kept.{meaning}
+use Rattle.declaration.specs.DeclarationInCode.{meaning}
 use Rattle.command_parts.proofs.InputLemmas.{has_declaration, declaration_fault_is}
 use Rattle.search_commands.proofs.CompleteLemmas.{whole_text}
 use Rattle.search_commands.proofs.completing.given_from.Goals as goal

@@ -1,5 +1,5 @@
 use Rattle.std.proofs.Common.{◌≡◌, rules, refl, Err, Ok, inr}
-use Rattle.declaration.specs.Kept.{meaning}
+use Rattle.declaration.specs.DeclarationInCode.{meaning}
 use Rattle.command_parts.proofs.AnswerLemmas.{read_alone}
 use Rattle.search_commands.proofs.completing.given_program_from.Goals as goal
 

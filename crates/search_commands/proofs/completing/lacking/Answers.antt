@@ -1,5 +1,5 @@
 use Rattle.std.specs.Prelude.{Some}
-use Rattle.declaration.specs.Kept.{meaning}
+use Rattle.declaration.specs.DeclarationInCode.{meaning}
 use Rattle.search_commands.proofs.CompleteLemmas.{lacking_completes}
 use Rattle.search_commands.proofs.completing.lacking.Goals as goal
 

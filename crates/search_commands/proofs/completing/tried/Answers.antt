@@ -1,4 +1,4 @@
-use Rattle.declaration.specs.Kept.{meaning}
+use Rattle.declaration.specs.DeclarationInCode.{meaning}
 use Rattle.search_commands.proofs.CompleteLemmas.{shown_completes}
 use Rattle.search_commands.proofs.completing.tried.Goals as goal
 

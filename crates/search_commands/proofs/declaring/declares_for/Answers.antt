@@ -1,5 +1,5 @@
 use Rattle.std.proofs.Common.{rules}
-use Rattle.declaration.specs.Kept.{meaning}
+use Rattle.declaration.specs.DeclarationInCode.{meaning}
 use Rattle.search_commands.proofs.declaring.declares_for.Goals as goal
 
 pub returns-else-ne-clause-declares : goal.returns-else-ne-clause-declares

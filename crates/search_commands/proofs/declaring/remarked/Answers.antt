@@ -1,5 +1,5 @@
 use Rattle.std.proofs.Common.{◌≡◌, ◌∙◌}
-use Rattle.declaration.specs.Kept.{meaning}
+use Rattle.declaration.specs.DeclarationInCode.{meaning}
 use Rattle.search_commands.specs.DeclareText.{IsBare}
 use Rattle.search_commands.proofs.declaring.remarked.Goals as goal
 

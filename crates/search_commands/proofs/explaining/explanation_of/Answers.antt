@@ -1,6 +1,6 @@
 use Rattle.std.proofs.Common.{ℕ, List, subst, sym}
-use Rattle.declaration.specs.Kept.{meaning}
-use Rattle.certificate_lines.specs.Kept.{meaning as lines_of}
+use Rattle.declaration.specs.DeclarationInCode.{meaning}
+use Rattle.certificate_lines.specs.CertificateInCode.{meaning as lines_of}
 use Rattle.command_parts.specs.Messages.{plain}
 use Rattle.command_parts.specs.declared.status.Status.{Status}
 use Rattle.diagnostics.specs.WhyText.{IsExplanationOf}

@@ -1,5 +1,5 @@
 use Rattle.std.proofs.Common.{rules}
-use Rattle.declaration.specs.Kept.{meaning}
+use Rattle.declaration.specs.DeclarationInCode.{meaning}
 use Rattle.search_commands.specs.Extending.{KeepsReads}
 use Rattle.search_commands.proofs.extending.extends.Goals as goal
 

@@ -1,6 +1,6 @@
 use Rattle.std.proofs.Common.{◌≡◌, rules, refl, Err, inl}
-use Rattle.declaration.specs.Kept.{meaning}
-use Rattle.certificate_lines.specs.Kept.{meaning as lines_of}
+use Rattle.declaration.specs.DeclarationInCode.{meaning}
+use Rattle.certificate_lines.specs.CertificateInCode.{meaning as lines_of}
 use Rattle.certificate_lines.specs.Laws.{bytes_of}
 use Rattle.command_parts.specs.Faults.{fault_of_guess}
 use Rattle.command_parts.specs.declared.status.Status.TheVariants.{Done}

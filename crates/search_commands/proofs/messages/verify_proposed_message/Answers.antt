@@ -1,5 +1,5 @@
 use Rattle.std.proofs.Common.{◌++◌, ◌∙◌, List, ℕ, ap, rules}
-use Rattle.declaration.specs.Kept.{meaning}
+use Rattle.declaration.specs.DeclarationInCode.{meaning}
 use Rattle.command_parts.specs.Messages.{plain}
 use Rattle.search_commands.specs.VerifyText.{IsAnswer, proposed_text}
 use Rattle.search_commands.specs.WidenedText.{HasReason, reason_text}

@@ -1,5 +1,5 @@
 use Rattle.std.proofs.Common.{◌≡◌, false, rules, Err, inr}
-use Rattle.certificate_lines.specs.Kept.{meaning as lines_of}
+use Rattle.certificate_lines.specs.CertificateInCode.{meaning as lines_of}
 use Rattle.command_parts.specs.Faults.{fails_to_write}
 use Rattle.command_parts.proofs.AnswerLemmas.{nothing_written, read_alone, written_so, write_follows}
 use Rattle.search_commands.proofs.migrating.migrate.Goals as goal

@@ -1,7 +1,7 @@
 use Rattle.std.proofs.Common.{◌≡◌, false, rules, refl, ap, ◌∙◌, Err, inl, inr}
-use Rattle.certificate_lines.specs.Kept.{meaning as lines_of}
+use Rattle.certificate_lines.specs.CertificateInCode.{meaning as lines_of}
 use Rattle.certificate_lines.specs.Laws.{bytes_of}
-use Rattle.declaration.specs.Kept.{meaning}
+use Rattle.declaration.specs.DeclarationInCode.{meaning}
 use Rattle.command_parts.specs.Faults.{fails_to_write}
 use Rattle.command_parts.specs.declared.status.Fault.TheVariants.{NoMemory}
 use Rattle.command_parts.proofs.AnswerLemmas.{nothing_written, read_alone, written_so, write_follows}

@@ -1,5 +1,5 @@
 use Rattle.std.proofs.Common.{◌≡◌, rules}
-use Rattle.declaration.specs.Kept.{meaning}
+use Rattle.declaration.specs.DeclarationInCode.{meaning}
 use Rattle.command_parts.specs.Messages.{plain}
 use Rattle.search_commands.specs.StuckText.{told_text}
 use Rattle.search_commands.proofs.stuck.draft_message.Goals as goal

@@ -1,8 +1,8 @@
 use Rattle.std.proofs.Common.{◌≡◌, rules, refl, Err, Ok}
 use Rattle.command_parts.proofs.AnswerLemmas.{two_good, two_refused}
-use Rattle.declaration.specs.Kept.{meaning}
+use Rattle.declaration.specs.DeclarationInCode.{meaning}
 use Rattle.certificate_lines.specs.Laws.{bytes_of}
-use Rattle.certificate_lines.specs.Kept.{meaning as lines_of}
+use Rattle.certificate_lines.specs.CertificateInCode.{meaning as lines_of}
 use Rattle.search_commands.proofs.StuckLemmas.{writes_stuck, front_of_stuck}
 use Rattle.search_commands.proofs.stuck.guess_or_explain.Goals as goal
 

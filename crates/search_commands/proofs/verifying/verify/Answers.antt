@@ -1,5 +1,5 @@
 use Rattle.std.proofs.Common.{◌≡◌, rules, refl, Err, Ok}
-use Rattle.declaration.specs.Kept.{meaning}
+use Rattle.declaration.specs.DeclarationInCode.{meaning}
 use Rattle.command_parts.specs.declared.status.Fault.TheVariants.{NoMemory}
 use Rattle.command_parts.proofs.AnswerLemmas.{nothing_written, text_failed, text_put, two_good, two_refused}
 use Rattle.search_commands.proofs.verifying.verify.Goals as goal

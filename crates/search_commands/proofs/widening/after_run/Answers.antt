@@ -1,4 +1,4 @@
-use Rattle.declaration.specs.Kept.{meaning}
+use Rattle.declaration.specs.DeclarationInCode.{meaning}
 use Rattle.proposer.specs.Obstacles.{IsObstacle}
 use Rattle.search_commands.proofs.WidenedLemmas.{broken_by}
 use Rattle.search_commands.proofs.widening.after_run.Goals as goal

@@ -1,5 +1,5 @@
 use Rattle.std.proofs.Common.{◌≡◌}
-use Rattle.declaration.specs.Kept.{meaning}
+use Rattle.declaration.specs.DeclarationInCode.{meaning}
 use Rattle.declaration.specs.Text.{Declares}
 use Rattle.proposer.specs.Proposals.{IsShown}
 use Rattle.search_commands.proofs.widening.settle.Given as goal

@@ -1,6 +1,6 @@
 use Rattle.std.proofs.Common.{arith}
 use Rattle.wordset.specs.Lanes.{words}
-use Rattle.certificate_lines.specs.Kept.{claims}
+use Rattle.certificate_lines.specs.CertificateInCode.{claims}
 use Rattle.judge.specs.Judged.{judged}
 use Rattle.usage.proofs.UnusedLemmas.{none_unused, one_unused}
 use Rattle.usage.proofs.unused.unused.Goals as goal

@@ -1,5 +1,5 @@
 use Rattle.wordset.specs.Lanes.{words}
-use Rattle.certificate_lines.specs.Kept.{claims}
+use Rattle.certificate_lines.specs.CertificateInCode.{claims}
 use Rattle.judge.specs.Judged.{judged}
 use Rattle.usage.proofs.UnusedLemmas.{AreUnused}
 use Rattle.usage.proofs.unused.unused.Given as goal

@@ -1,6 +1,6 @@
 use Rattle.std.proofs.Common.{ℕ, ◌≡◌, ◌<◌, true}
 use Rattle.wordset.specs.Lanes.{words}
-use Rattle.certificate_lines.specs.Kept.{claims}
+use Rattle.certificate_lines.specs.CertificateInCode.{claims}
 use Rattle.judge.specs.Bodies.{Tells}
 use Rattle.judge.specs.Judged.{judged}
 use Rattle.usage.specs.Uses.{IsUsed, IsUsedFrom}

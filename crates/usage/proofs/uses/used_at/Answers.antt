@@ -6,7 +6,7 @@ use Rattle.domain.specs.FactInCode.{fact_in_code, rules_of}
 use Rattle.domain.specs.Facts.{Fact, Place}
 use Rattle.facts.specs.Landing.{fact_at}
 use Rattle.facts.specs.PlaceInCode.{place_in_code}
-use Rattle.certificate_lines.specs.Kept.{claims}
+use Rattle.certificate_lines.specs.CertificateInCode.{claims}
 use Rattle.judge.specs.Judged.{case_kept}
 use Rattle.judge.specs.Landing.{place_in}
 use Rattle.judge.proofs.CaseLemmas.{asked_alone}

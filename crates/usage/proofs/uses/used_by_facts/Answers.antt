@@ -1,6 +1,6 @@
 use Rattle.std.proofs.Common.{arith}
 use Rattle.wordset.specs.Lanes.{words}
-use Rattle.certificate_lines.specs.Kept.{claims}
+use Rattle.certificate_lines.specs.CertificateInCode.{claims}
 use Rattle.judge.specs.Judged.{case_kept}
 use Rattle.judge.specs.Landing.{place_in}
 use Rattle.usage.specs.Uses.{IsUsedBy}

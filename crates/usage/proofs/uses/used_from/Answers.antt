@@ -1,5 +1,5 @@
 use Rattle.wordset.specs.Lanes.{words}
-use Rattle.certificate_lines.specs.Kept.{claims}
+use Rattle.certificate_lines.specs.CertificateInCode.{claims}
 use Rattle.judge.specs.Judged.{case_kept}
 use Rattle.usage.proofs.UseLemmas.{nothing_there, used_there}
 use Rattle.usage.proofs.uses.used_from.Goals as goal

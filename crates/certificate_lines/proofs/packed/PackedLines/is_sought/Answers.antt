@@ -3,7 +3,7 @@ use Rattle.std.specs.Prelude.{get_or}
 use Rattle.std.specs.List.Sorted.{IsNonDecreasingBy}
 use Rattle.std.proofs.lemmas.Bool.{ltb-true}
 use Rattle.std.proofs.lemmas.List.{get_or_read_under}
-use Rattle.certificate_lines.specs.declared.packed.KeptLine.{KeptLine}
+use Rattle.certificate_lines.specs.declared.packed.StoredLine.{StoredLine}
 use Rattle.certificate_lines.proofs.SumFoundLemmas.{rises, search_told}
 use Rattle.certificate_lines.proofs.packed.PackedLines.is_sought.Goals as goal
 
@@ -14,7 +14,7 @@ returns g c = λ told.
     let ks = c.self.inside.list.items in
     let at = c.args.at in
     let order = rw (← c.self.view_is) at c.requires in
-    let up : IsNonDecreasingBy (λ (k : KeptLine). k.past) ks = rises runs steps ks 0 c.self.invariant.past order in
+    let up : IsNonDecreasingBy (λ (k : StoredLine). k.past) ks = rises runs steps ks 0 c.self.invariant.past order in
     let few : at < length ks = omega (arith, c.if-at-len.false, c.len.ensures) in
     let some : 0 < at = omega (arith, c.if-at-eq0.false) in
     let over : c.args.place < c.index-kept.result.now.past = ltb-true _ _ told in
@@ -22,9 +22,9 @@ returns g c = λ told.
     (search_told runs steps ks 0 c.args.place at c.self.invariant.past (omega arith) (omega arith)
     (λ j d b.
     let e : c.index-before.result.now.past ≡ (get_or ks (at - 1) d).past =
-    ap (λ (k : KeptLine). k.past) (get_or_read_under ks (at - 1) (length ks) _ d c.index-before.ensures (omega arith) refl) in
+    ap (λ (k : StoredLine). k.past) (get_or_read_under ks (at - 1) (length ks) _ d c.index-before.ensures (omega arith) refl) in
     let u : (get_or ks j d).past ≤ (get_or ks (at - 1) d).past = up j (at - 1) d (omega arith) (omega arith) in
     omega (arith, c.if-before-place.false))
     (λ d b.
     let e : c.index-kept.result.now.past ≡ (get_or ks at d).past =
-    ap (λ (k : KeptLine). k.past) (get_or_read_under ks at (length ks) _ d c.index-kept.ensures b refl) in omega arith))
+    ap (λ (k : StoredLine). k.past) (get_or_read_under ks at (length ks) _ d c.index-kept.ensures b refl) in omega arith))

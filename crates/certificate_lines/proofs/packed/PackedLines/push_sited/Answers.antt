@@ -1,6 +1,6 @@
 use Rattle.std.proofs.Common.{◌∙◌, List, [], length, map, ap, arith}
 use Rattle.wordset.specs.Lanes.{words}
-use Rattle.certificate_lines.specs.declared.packed.KeptLine.{KeptLine}
+use Rattle.certificate_lines.specs.declared.packed.StoredLine.{StoredLine}
 use Rattle.certificate_lines.specs.Packed.{kept_at, said_of, sited_line}
 use Rattle.certificate_lines.proofs.PutLemmas.{any_err}
 use Rattle.certificate_lines.proofs.SumPackedLemmas.{lines_added, line_added, from_first, begun}
@@ -19,7 +19,7 @@ returns-in_err-first-clause-same g c =
 
 pub returns-in_err-push-clause-same : goal.returns-in_err-push-clause-same
 returns-in_err-push-clause-same g c =
-    rw (← c.self.view_is) (any_err _ _ (ap (λ (ls : List KeptLine). map (kept_at c.lay_sited.new.runs.items c.lay_sited.new.steps.items) ls) c.in_err-push.ensures.items ∙
+    rw (← c.self.view_is) (any_err _ _ (ap (λ (ls : List StoredLine). map (kept_at c.lay_sited.new.runs.items c.lay_sited.new.steps.items) ls) c.in_err-push.ensures.items ∙
     lines_added c.self.inside.runs.items c.lay_sited.new.runs.items c.self.inside.steps.items c.lay_sited.new.steps.items
     c.self.inside.list.items c.self.invariant.within c.lay_sited.ensures.runs c.lay_sited.ensures.steps))
 

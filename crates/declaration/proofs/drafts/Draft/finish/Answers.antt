@@ -1,6 +1,6 @@
 use Rattle.std.proofs.Common.{◌&&◌, ◌==◌, refl, sym, ap, ◌∙◌}
 use Rattle.std.specs.Option.{option_to_list}
-use Rattle.declaration.specs.Kept.{meaning, subroutine_of}
+use Rattle.declaration.specs.DeclarationInCode.{meaning, subroutine_of}
 use Rattle.declaration.specs.Drafts.{gathered}
 use Rattle.declaration.specs.Declaration.{Declaration}
 use Rattle.declaration.specs.Text.{Says}

@@ -1,5 +1,5 @@
 use Rattle.std.proofs.Common.{ap, map}
-use Rattle.declaration.specs.Kept.{subroutine_of, further_of, place_assertion_of, return_assertion_of}
+use Rattle.declaration.specs.DeclarationInCode.{subroutine_of, further_of, place_assertion_of, return_assertion_of}
 use Rattle.declaration.proofs.DraftLemmas.{contents-none}
 use Rattle.declaration.proofs.drafts.Draft.new.Goals as goal
 

@@ -1,5 +1,5 @@
 use Rattle.std.proofs.Common.{◌≡◌, rules, refl, Err, Ok}
-use Rattle.certificate_lines.specs.Kept.{meaning as text_of}
+use Rattle.certificate_lines.specs.CertificateInCode.{meaning as text_of}
 use Rattle.command_parts.proofs.AnswerLemmas.{goes_on, read_alone, refused_so}
 use Rattle.diagnostics.proofs.verdicts.certificates.certified_from.Goals as goal
 

@@ -1,5 +1,5 @@
 use Rattle.std.proofs.Common.{◌≡◌, rules, refl, Err}
-use Rattle.certificate_lines.specs.Kept.{meaning as text_of}
+use Rattle.certificate_lines.specs.CertificateInCode.{meaning as text_of}
 use Rattle.certificate_lines.specs.Laws.{bytes_of}
 use Rattle.command_parts.specs.declared.status.Fault.TheVariants.{Device}
 use Rattle.command_parts.specs.declared.status.DeviceFault.TheVariants.{Write}

@@ -1,5 +1,5 @@
 use Rattle.std.proofs.Common.{◌≡◌, ◌++◌, rules}
-use Rattle.declaration.specs.Kept.{meaning}
+use Rattle.declaration.specs.DeclarationInCode.{meaning}
 use Rattle.diagnostics.specs.CheckText.{verdict_text}
 use Rattle.diagnostics.specs.WhyText.{why_text}
 use Rattle.diagnostics.proofs.ReasonLemmas.{known_joined}

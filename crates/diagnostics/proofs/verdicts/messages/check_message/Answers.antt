@@ -1,6 +1,6 @@
 use Rattle.std.proofs.Common.{ℕ, List, ◌++◌, ap, ◌∙◌}
-use Rattle.declaration.specs.Kept.{meaning}
-use Rattle.certificate_lines.specs.Kept.{meaning as text_of}
+use Rattle.declaration.specs.DeclarationInCode.{meaning}
+use Rattle.certificate_lines.specs.CertificateInCode.{meaning as text_of}
 use Rattle.command_parts.specs.Messages.{plain}
 use Rattle.diagnostics.specs.CheckText.{checked_case}
 use Rattle.diagnostics.proofs.CheckLemmas.{verdict_is}

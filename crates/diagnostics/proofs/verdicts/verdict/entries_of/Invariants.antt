@@ -1,7 +1,7 @@
 use Rattle.std.proofs.Common.{◌≡◌, ◌<◌, ℕ, drop}
 use Rattle.std.specs.Prelude.{◌||◌}
 use Rattle.wordset.specs.Lanes.{words}
-use Rattle.declaration.specs.Kept.{entries}
+use Rattle.declaration.specs.DeclarationInCode.{entries}
 use Rattle.diagnostics.proofs.verdicts.verdict.entries_of.Given as goal
 
 abbrev pub invariant-loop-routine : goal.invariant-loop-routine

@@ -1,6 +1,6 @@
 use Rattle.std.proofs.Common.{ℕ, ◌++◌, ap, refl, ◌∙◌}
 use Rattle.std.proofs.lemmas.Result.{on_ok_weaker}
-use Rattle.declaration.specs.Kept.{place_assertion_of, return_assertion_of}
+use Rattle.declaration.specs.DeclarationInCode.{place_assertion_of, return_assertion_of}
 use Rattle.diagnostics.specs.CheckText.{assertions_text}
 use Rattle.diagnostics.proofs.CheckLemmas.{lines_counted}
 use Rattle.diagnostics.proofs.verdicts.verdict.push_assertions.Goals as goal

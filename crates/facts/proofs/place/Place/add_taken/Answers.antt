@@ -11,17 +11,17 @@ use Rattle.facts.proofs.place.Place.add_taken.Goals as goal
 
 pub returns-then-is_subset-clause-taken : goal.returns-then-is_subset-clause-taken
 returns-then-is_subset-clause-taken g c =
-    taken_before (place_in_code c.args.self.now) (location_of c.args.name.now) (g.P.Part.part c.args.part.now) (fact_in_code c.args.other.now) (words c.args.taken.now)
+    taken_before (place_in_code c.args.self.now) (location_of c.args.name.now) (g.P.FactPart.part c.args.part.now) (fact_in_code c.args.other.now) (words c.args.taken.now)
     (subst (λ (s : Words). IsWithin s (words c.args.taken.now))
-    (c.meet.ensures ∙ ap (λ (s : Words). meet s (words c.put_set_of-2.new.place)) c.put_set_of.ensures ∙ ap (λ (s : Words). meet ((g.P.Part.part c.args.part.now).set (location_of c.args.name.now)) s) c.put_set_of-2.ensures)
+    (c.meet.ensures ∙ ap (λ (s : Words). meet s (words c.put_set_of-2.new.place)) c.put_set_of.ensures ∙ ap (λ (s : Words). meet ((g.P.FactPart.part c.args.part.now).set (location_of c.args.name.now)) s) c.put_set_of-2.ensures)
     (c.is_subset.ensures.0 c.if-is_subset.true))
 
 pub returns-then-is_taken-clause-taken : goal.returns-then-is_taken-clause-taken
 returns-then-is_taken-clause-taken g c =
-    taken_now (place_in_code c.args.self.now) (location_of c.args.name.now) (g.P.Part.part c.args.part.now) (fact_in_code c.args.other.now) (words c.args.taken.now) (words c.union.result)
+    taken_now (place_in_code c.args.self.now) (location_of c.args.name.now) (g.P.FactPart.part c.args.part.now) (fact_in_code c.args.other.now) (words c.args.taken.now) (words c.union.result)
     (c.is_taken.ensures.taken.0 c.if-is_taken.true) (λ v. ap (λ (s : Words). s v) c.union.ensures ∙ ap (λ (s : Words). words c.args.taken.now v || s v) c.put_set_of-2.ensures)
 
 pub returns-else-is_taken-clause-taken : goal.returns-else-is_taken-clause-taken
 returns-else-is_taken-clause-taken g c =
-    not_taken (place_in_code c.args.self.now) (location_of c.args.name.now) (g.P.Part.part c.args.part.now) (fact_in_code c.args.other.now) (words c.args.taken.now)
+    not_taken (place_in_code c.args.self.now) (location_of c.args.name.now) (g.P.FactPart.part c.args.part.now) (fact_in_code c.args.other.now) (words c.args.taken.now)
     (not_both _ c.if-is_taken.false c.is_taken.ensures.taken.1)

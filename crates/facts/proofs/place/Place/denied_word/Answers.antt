@@ -1,7 +1,7 @@
 use Rattle.std.proofs.Common.{ap, subst, ◌∙◌}
 use Rattle.wordset.specs.Words.{SameWords, Words, difference}
 use Rattle.wordset.specs.Lanes.{words}
-use Rattle.declaration.specs.Kept.{assertion_of}
+use Rattle.declaration.specs.DeclarationInCode.{assertion_of}
 use Rattle.declaration.specs.declared.Subject.{Subject}
 use Rattle.domain.specs.FactInCode.{fact_in_code}
 use Rattle.facts.specs.Conditions.{may_be}

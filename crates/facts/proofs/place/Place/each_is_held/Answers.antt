@@ -1,4 +1,4 @@
-use Rattle.declaration.specs.Kept.{place_assertion_of}
+use Rattle.declaration.specs.DeclarationInCode.{place_assertion_of}
 use Rattle.domain.specs.FactInCode.{fact_in_code}
 use Rattle.facts.specs.PlaceInCode.{place_in_code}
 use Rattle.facts.proofs.HeldLemmas.{held_all, held_more, held_not, not_so}

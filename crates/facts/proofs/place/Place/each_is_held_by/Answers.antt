@@ -1,4 +1,4 @@
-use Rattle.declaration.specs.Kept.{return_assertion_of}
+use Rattle.declaration.specs.DeclarationInCode.{return_assertion_of}
 use Rattle.domain.specs.FactInCode.{fact_in_code}
 use Rattle.facts.specs.PlaceInCode.{place_in_code}
 use Rattle.facts.proofs.HeldLemmas.{returned_all, returned_more, returned_not, not_so}

@@ -1,6 +1,6 @@
 use Rattle.std.proofs.Common.{drop, map}
 use Rattle.std.specs.Prelude.{◌↔◌}
-use Rattle.declaration.specs.Kept.{return_assertion_of}
+use Rattle.declaration.specs.DeclarationInCode.{return_assertion_of}
 use Rattle.domain.specs.FactInCode.{fact_in_code}
 use Rattle.facts.specs.Conditions.{EachIsHeldBy}
 use Rattle.facts.specs.PlaceInCode.{place_in_code}

@@ -16,7 +16,7 @@ pub returns-then-is_split_by_told-clause-split : goal.returns-then-is_split_by_t
 returns-then-is_split_by_told-clause-split g c = (λ t. subst (λ (f : Fact). IsSplit (place_in_code c.args.self.now) f (g.F.FactSource.facts c.args.among.now)) c.is_split_by.ensures.kept (c.is_split_by_told.ensures.split c.if-is_split_by_told.true), λ k. refl)
 
 pub returns-clause-split : goal.returns-clause-split
-returns-clause-split g c = split_iff (place_in_code c.args.self.now) (g.P.Part.part c.args.part.now) (g.F.FactSource.facts c.args.among.now) c.requires c.has_words.ensures.beyond c.has_words.ensures.words c.is_taken_whole.result
+returns-clause-split g c = split_iff (place_in_code c.args.self.now) (g.P.FactPart.part c.args.part.now) (g.F.FactSource.facts c.args.among.now) c.requires c.has_words.ensures.beyond c.has_words.ensures.words c.is_taken_whole.result
     (not_both _ c.if-is_split_by.false c.is_split_by.ensures.split.1)
     (subst (λ (f : Fact). (x : ℕ) → IsSplitBy (place_in_code c.args.self.now) (Cell x) f (g.F.FactSource.facts c.args.among.now) → AllowAll (Cell x) (g.F.FactSource.facts c.args.among.now)) c.is_split_by.ensures.kept (c.is_split_by_told.ensures.left c.if-is_split_by_told.false))
     c.is_split_by_told.ensures.beyond

@@ -6,4 +6,4 @@ use Rattle.facts.proofs.SplitLemmas.{TakenSoFar}
 use Rattle.facts.proofs.place.Place.is_split_by.Given as goal
 
 abbrev pub invariant-loop-at : goal.invariant-loop-at
-invariant-loop-at g l = TakenSoFar (place_in_code l.self) (location_of l.name) (g.P.Part.part l.fn.part) (words l.taken) (drop l.at (g.F.FactSource.facts l.among)) (g.F.FactSource.facts l.among) × (g.P.Part.part l.part ≡ g.P.Part.part l.fn.part)
+invariant-loop-at g l = TakenSoFar (place_in_code l.self) (location_of l.name) (g.P.FactPart.part l.fn.part) (words l.taken) (drop l.at (g.F.FactSource.facts l.among)) (g.F.FactSource.facts l.among) × (g.P.FactPart.part l.part ≡ g.P.FactPart.part l.fn.part)

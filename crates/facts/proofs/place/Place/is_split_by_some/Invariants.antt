@@ -7,4 +7,4 @@ use Rattle.wordset.proofs.IterLemmas.{Passed}
 use Rattle.facts.proofs.place.Place.is_split_by_some.Given as goal
 
 abbrev pub invariant-loop-cell : goal.invariant-loop-cell
-invariant-loop-cell g l = Passed (λ a. IsSplitBy (place_in_code l.self) (Cell a) (g.P.Part.part l.fn.part) (g.F.FactSource.facts l.among) → ⊥) (words l.cells) l.cell-iterator × (g.P.Part.part l.part ≡ g.P.Part.part l.fn.part)
+invariant-loop-cell g l = Passed (λ a. IsSplitBy (place_in_code l.self) (Cell a) (g.P.FactPart.part l.fn.part) (g.F.FactSource.facts l.among) → ⊥) (words l.cells) l.cell-iterator × (g.P.FactPart.part l.part ≡ g.P.FactPart.part l.fn.part)

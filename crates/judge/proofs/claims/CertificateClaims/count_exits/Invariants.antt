@@ -1,5 +1,5 @@
 use Rattle.std.proofs.Common.{◌≡◌, ◌≤◌, ◌+◌, length}
-use Rattle.certificate_lines.specs.Kept.{claims, exits_from, IsBeforeExits}
+use Rattle.certificate_lines.specs.CertificateInCode.{claims, exits_from, IsBeforeExits}
 use Rattle.judge.proofs.claims.CertificateClaims.count_exits.Given as goal
 
 abbrev pub invariant-loop-entry : goal.invariant-loop-entry

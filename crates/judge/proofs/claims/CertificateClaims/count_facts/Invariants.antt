@@ -1,5 +1,5 @@
 use Rattle.std.proofs.Common.{◌≡◌, ◌≤◌, ◌+◌, length}
-use Rattle.certificate_lines.specs.Kept.{claims, facts_from, IsBeforeFacts}
+use Rattle.certificate_lines.specs.CertificateInCode.{claims, facts_from, IsBeforeFacts}
 use Rattle.judge.proofs.claims.CertificateClaims.count_facts.Given as goal
 
 abbrev pub invariant-loop-at : goal.invariant-loop-at

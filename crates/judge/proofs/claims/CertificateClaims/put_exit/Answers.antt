@@ -1,5 +1,5 @@
 use Rattle.std.proofs.Common.{◌≡◌, ℕ, drop, subst, arith}
-use Rattle.certificate_lines.specs.Kept.{claims, exits_from}
+use Rattle.certificate_lines.specs.CertificateInCode.{claims, exits_from}
 use Rattle.judge.proofs.ClaimsLemmas.{is_next, passed, has_shape_too}
 use Rattle.judge.proofs.claims.CertificateClaims.put_exit.Goals as goal
 

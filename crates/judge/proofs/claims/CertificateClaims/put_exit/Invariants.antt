@@ -1,5 +1,5 @@
 use Rattle.std.proofs.Common.{◌≡◌, ◌≤◌, drop}
-use Rattle.certificate_lines.specs.Kept.{claims, exits_from, IsBeforeExits}
+use Rattle.certificate_lines.specs.CertificateInCode.{claims, exits_from, IsBeforeExits}
 use Rattle.judge.proofs.claims.CertificateClaims.put_exit.Given as goal
 
 abbrev pub invariant-loop-before : goal.invariant-loop-before

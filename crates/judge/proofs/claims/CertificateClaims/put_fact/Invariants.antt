@@ -1,5 +1,5 @@
 use Rattle.std.proofs.Common.{◌≡◌, ◌≤◌, drop}
-use Rattle.certificate_lines.specs.Kept.{claims, facts_from, IsBeforeFacts}
+use Rattle.certificate_lines.specs.CertificateInCode.{claims, facts_from, IsBeforeFacts}
 use Rattle.judge.proofs.claims.CertificateClaims.put_fact.Given as goal
 
 abbrev pub invariant-loop-before : goal.invariant-loop-before

@@ -4,7 +4,7 @@ use Rattle.std.specs.Option.{option_map}
 use Rattle.std.proofs.lemmas.List.{length-map}
 use Rattle.std.proofs.lemmas.Option.{slice_get-map, slice_get-get_or}
 use Rattle.pal_acts.specs.Acts.{placed}
-use Rattle.pal_acts.specs.Kept.{kept_act}
+use Rattle.pal_acts.specs.ActsInCode.{kept_act}
 use Rattle.pal_acts.proofs.acts.Acts.get.Goals as goal
 
 pub returns : goal.returns

@@ -1,7 +1,7 @@
 use Rattle.std.proofs.Common.{◌∙◌, sym, ap, take}
 use Rattle.std.proofs.lemmas.List.{take-map}
 use Rattle.pal_acts.specs.Acts.{acts_in}
-use Rattle.pal_acts.specs.Kept.{kept_act}
+use Rattle.pal_acts.specs.ActsInCode.{kept_act}
 use Rattle.pal_acts.proofs.acts.Acts.truncate.Goals as goal
 
 pub returns : goal.returns

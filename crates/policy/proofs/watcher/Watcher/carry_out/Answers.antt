@@ -3,7 +3,7 @@ use Rattle.processor.specs.Fetch.{fetched}
 use Rattle.processor.specs.Machine.{State}
 use Rattle.processor.specs.Steps.{state_of}
 use Rattle.peripherals.specs.World.{view}
-use Rattle.declaration.specs.Kept.{meaning}
+use Rattle.declaration.specs.DeclarationInCode.{meaning}
 use Rattle.policy.specs.OpenCalls.{open_calls}
 use Rattle.policy.proofs.WatchLemmas.{calls_by_instruction, call_takes}
 use Rattle.policy.proofs.watcher.Watcher.carry_out.Goals as goal

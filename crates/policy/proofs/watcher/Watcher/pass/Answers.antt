@@ -2,7 +2,7 @@ use Rattle.std.proofs.Common.{subst}
 use Rattle.instruct.specs.declared.Profile.{Profile}
 use Rattle.peripherals.specs.World.{view}
 use Rattle.peripherals.specs.Events.{Happens}
-use Rattle.declaration.specs.Kept.{meaning}
+use Rattle.declaration.specs.DeclarationInCode.{meaning}
 use Rattle.policy.specs.OpenCalls.{open_calls}
 use Rattle.policy.proofs.WatchLemmas.{passes_on}
 use Rattle.policy.proofs.watcher.Watcher.pass.Goals as goal

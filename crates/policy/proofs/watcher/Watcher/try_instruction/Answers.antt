@@ -3,7 +3,7 @@ use Rattle.processor.specs.Fetch.{fetched}
 use Rattle.processor.specs.Machine.{State}
 use Rattle.processor.specs.Steps.{state_of}
 use Rattle.peripherals.specs.World.{view}
-use Rattle.declaration.specs.Kept.{meaning}
+use Rattle.declaration.specs.DeclarationInCode.{meaning}
 use Rattle.policy.specs.OpenCalls.{open_calls}
 use Rattle.policy.proofs.WatchLemmas.{legal_step, stopped_step, legal_here, broken_here, legal_growth}
 use Rattle.policy.proofs.watcher.Watcher.try_instruction.Goals as goal

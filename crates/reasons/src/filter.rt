@@ -1,0 +1,25 @@
+//! Which reasons are looked for.
+
+ghost use Rattle.std.specs.Prelude.{◌≡◌};
+ghost use Rattle.reasons.specs.Points.{counts_lines};
+
+/// Which reasons are looked for.
+#[derive(Clone, Copy)]
+pub(crate) enum ReasonFilter {
+    /// All.
+    Any,
+    /// Those that no line mends, whether it is added or made wider.
+    NotOfLines,
+}
+
+impl ReasonFilter {
+    /// Whether a line that is missing or too narrow counts among the reasons.
+    pub(crate) fn counts_lines(self) -> bool
+        ensures { result ≡ counts_lines self }
+    {
+        match self {
+            ReasonFilter::Any => true,
+            ReasonFilter::NotOfLines => false,
+        }
+    }
+}

@@ -25,7 +25,7 @@ static CONDITIONS: [Explanation; 16] = [
     Explanation {
         code: "V4",
         subject: Subject::Asked("there is a fact wherever the run goes on, and it is entailed"),
-        meaning: "wherever the run may go on there is a fact in the same body that allows\nwhat is possible",
+        meaning: "at each address where the run may continue there is a fact in the same\nbody, which allows all that is possible",
         advice: "If the address is outside the body, the program runs on past its\nlast instruction, or jumps into data or into a routine. End it with HLT or JMP,\nor declare more of it as the body. If a routine jumps to the main program and\nthereby ends all open calls, add an `abandon` line. Otherwise the fact there\nclaims more than is true: run `guess` again, or write there what holds in every\niteration of a loop. In version 3 several facts may be at an address. One of\nthem must then allow all that is possible. Otherwise all that is possible must\nbe split among them by the words of AC or of one cell: for each word that it\nmay hold, one of the facts there includes this word, and allows everything that\nis possible while AC or the cell holds a word that this fact includes.",
     },
     Explanation {
@@ -49,7 +49,7 @@ static CONDITIONS: [Explanation; 16] = [
     Explanation {
         code: "V8",
         subject: Subject::Asked("the caller's written set includes what its callee writes"),
-        meaning: "the callee's entry and what it may write are in the caller's written\nset, and the caller's entry is not in the callee's",
+        meaning: "the caller's written set contains the callee's entry and all that the\ncallee may write, and the callee's written set does not contain the caller's\nentry",
         advice: "The caller's line needs the callee's entry and all that the callee\nwrites, as in `writes 0206,0213`. This condition asks nothing of instructions\nin main.",
     },
     Explanation {
@@ -85,7 +85,7 @@ static CONDITIONS: [Explanation; 16] = [
     Explanation {
         code: "V14",
         subject: Subject::Asked("return words are not overwritten"),
-        meaning: "no word writes an entry, except that a JMS stores its return address\nthere, an ISZ may increment the routine's own, and a DCA may store in it where\na `moves` line names it",
+        meaning: "no instruction writes an entry, except that a JMS stores its return\naddress there, an ISZ may increment its own routine's entry, and a DCA may\nstore in its own routine's entry if a `moves` line names it",
         advice: "A routine cannot make its caller skip on return by incrementing the\ncaller's return word. Let the routine return with a skip itself, and let its\ncaller then increment the caller's own return word. An ISZ may increment its\nroutine's own entry, up to offset 7, or in version 3 up to 77, if it can store\nnowhere else. A routine that stores a computed return word with DCA needs a\n`moves` line; the DCA must name the entry itself, and each word that AC may\nhold there must be 0 to 77 past the return address of each call. A routine that\nreturns through a copy of its return word, in another cell, gets no\ncertificate: rule 1 is violated.",
     },
     Explanation {

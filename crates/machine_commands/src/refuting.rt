@@ -20,7 +20,7 @@ use turns::Turns;
 /// of its events, of which the last one breaks a rule, and to `report` the line that `watch` writes
 /// of them; the status is `Refused` then. Where it is to be explained, lines follow that say what that
 /// step is about to do, which are tested and not proved. Where none is found in so many steps, `report`
-/// says so, and nothing goes to `out`; that one is found where there is one isn't promised.
+/// says so, and nothing goes to `out`; that one is found where there is one is not promised.
 ///
 /// # Errors
 ///
@@ -39,7 +39,7 @@ pub fn refute<A: Allocator + Copy, R: ByteSource, D: ByteSource, W: ByteSink, P:
     requires declaration_readable { D.mark declaration.old ≡ false }
     requires writable { W.mark out.old ≡ false }
     requires reportable { P.mark report.old ≡ false }
-    // It's done where nothing is found, and refused where a run breaks the declaration.
+    // It is done where nothing is found, and refused where a run breaks the declaration.
     ensures statuses { IfOk result (λ status. (status ≡ Done) ⊎ (status ≡ Refused)) }
     // What is written is such a run, and the line that tells which event breaks which rule,
     ensures broken { IfOk result (λ status. status ≡ Refused → WritesWitness

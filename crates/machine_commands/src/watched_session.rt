@@ -64,7 +64,7 @@ fn write_watched<A: Allocator + Copy, D: Allocator, W: ByteSink>(
 
 /// Watches the run of a tape that an operator brings, on the declared machine and from the declared
 /// start: the events that `run_session` makes of the same frames, keys and options. Of the options the
-/// start, the machine and the trace aren't looked at. With a number of times the operator also presses
+/// start, the machine and the trace are not looked at. With a number of times the operator also presses
 /// CONTINUE at declared pauses, at most so many times, and the round goes on; without one the run ends at
 /// the first HLT. It writes as `watch` does of a list of these events, and with a number the line of a clean
 /// run says how far it went.
@@ -120,7 +120,7 @@ pub fn watch_session<
     ensures marks { W.mark out.new ≡ fails_to_write result }
     ensures reads { ((R.mark tape.new || D.mark declaration.new) || F.mark reader.new)
         || K.mark keys.new ≡ fails_to_read result }
-    // An input isn't read after one that is refused, or whose read failed.
+    // An input is not read after one that is refused, or whose read failed.
     ensures unread { IfErr result (λ fault. is_fault_of_tape fault ≡ true →
         (declaration.new ≡ declaration.old) × (reader.new ≡ reader.old) × (keys.new ≡ keys.old)) }
     ensures unread_operator { IfErr result (λ fault. is_fault_of_declaration fault ≡ true →

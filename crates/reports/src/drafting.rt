@@ -170,7 +170,7 @@ pub fn report_draft<A: Allocator + Copy, R: ByteSource, D: ByteSource, W: ByteSi
     requires readable { R.mark tape.old ≡ false }
     requires declaration_readable { D.mark declaration.old ≡ false }
     requires writable { W.mark out.old ≡ false }
-    // It's done where a certificate is found, and refused where the search is stuck.
+    // It is done where a certificate is found, and refused where the search is stuck.
     ensures statuses { IfOk result (λ status. (status ≡ Done) ⊎ (status ≡ Refused)) }
     // What is written says that the search is stuck, and where; in a page its fixed head stands before
     // that, and behind it that nothing is shown.

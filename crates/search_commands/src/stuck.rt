@@ -175,7 +175,7 @@ pub fn guess_or_explain<
     requires declaration_readable { D.mark declaration.old ≡ false }
     requires writable { W.mark out.old ≡ false }
     requires reportable { E.mark report.old ≡ false }
-    // It's done where a certificate is found, and refused where the search is stuck.
+    // It is done where a certificate is found, and refused where the search is stuck.
     ensures statuses { IfOk result (λ status. (status ≡ Done) ⊎ (status ≡ Refused)) }
     // What is written is the text of a certificate of which every condition holds, in the version of
     // the declared machine or in version 3,

@@ -101,6 +101,7 @@ abbrev pub mq_operate_if : Option MqOperate → ℕ × ℕ → ℕ × ℕ
 mq_operate_if (Some operate) s = mq_operate operate s
 mq_operate_if None s = s
 
--- The pair of accumulator and MQ after a word of group 3; a word that is none of the six leaves both as they are.
+-- The pair of accumulator and MQ after a word of group 3; a word that is not one of the six leaves both as they
+-- are.
 abbrev pub operate3_of : ℕ → ℕ × ℕ → ℕ × ℕ
 operate3_of word s = mq_operate_if (mq_operate_of word) s

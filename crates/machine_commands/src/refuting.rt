@@ -1,4 +1,4 @@
-//! The command that looks for a run that breaks a declaration.
+//! The command that looks for a run that violates a declaration.
 
 ghost use Rattle.std.specs.Prelude.{◌≡◌, ◌||◌, ◌⊎◌, false, true, IfOk, OnErr};
 ghost use Rattle.command_parts.specs.Answers.{IsLaterFault, IsMemoryFault, ReadsTwo};
@@ -16,17 +16,17 @@ use std::alloc::Allocator;
 use streams::{ByteSink, ByteSource, put};
 use turns::Turns;
 
-/// Looks for a run of a tape's program that breaks its declaration, and writes it: to `out` the text
-/// of its events, of which the last one breaks a rule, and to `report` the line that `watch` writes
+/// Looks for a run of a tape's program that violates its declaration, and writes it: to `out` the text
+/// of its events, of which the last one violates a rule, and to `report` the line that `watch` writes
 /// of them; the status is `Refused` then. Where it is to be explained, lines follow that say what that
-/// step is about to do, which are tested and not proved. Where none is found in so many steps, `report`
+/// step is about to do, which are tested and not proved. If none is found in so many steps, `report`
 /// says so, and nothing goes to `out`; that one is found where there is one is not promised.
 ///
 /// # Errors
 ///
-/// The fault of the tape or of the declaration: each is read and, if it has a fault, refused before
-/// the next is read; `Device` where a read or a write failed; `NoMemory`. Where a write to `out`
-/// failed a front of such a text went out, and nothing to `report`, which is written last.
+/// The fault of the tape or of the declaration: each is read and, if it has a fault, refused before the
+/// next is read; `Device` where a read or a write failed; `NoMemory`. Where a write to `out` failed a
+/// prefix of such a text went out, and nothing to `report`, which is written last.
 pub fn refute<A: Allocator + Copy, R: ByteSource, D: ByteSource, W: ByteSink, P: ByteSink>(
     alloc: A,
     tape: &mut R,
@@ -39,9 +39,9 @@ pub fn refute<A: Allocator + Copy, R: ByteSource, D: ByteSource, W: ByteSink, P:
     requires declaration_readable { D.mark declaration.old ≡ false }
     requires writable { W.mark out.old ≡ false }
     requires reportable { P.mark report.old ≡ false }
-    // It is done where nothing is found, and refused where a run breaks the declaration.
+    // It is done where nothing is found, and refused where a run violates the declaration.
     ensures statuses { IfOk result (λ status. (status ≡ Done) ⊎ (status ≡ Refused)) }
-    // What is written is such a run, and the line that tells which event breaks which rule,
+    // What is written is such a run, and the line that tells which event violates which rule,
     ensures broken { IfOk result (λ status. status ≡ Refused → WritesWitness
         (R.remaining tape.old) (D.remaining declaration.old) options.explained
         (W.taken out.old) (W.taken out.new) (P.taken report.old) (P.taken report.new)) }
@@ -49,12 +49,12 @@ pub fn refute<A: Allocator + Copy, R: ByteSource, D: ByteSource, W: ByteSink, P:
     ensures unbroken { IfOk result (λ status. status ≡ Done → Writes
         (λ line. line ≡ unbroken_text options.steps) (P.taken report.old) (P.taken report.new)) }
     ensures unwritten { IfOk result (λ status. status ≡ Done → out.new ≡ out.old) }
-    // Where a write of the run failed, a front of one went out, and nothing is reported,
+    // If a write of the run failed, a prefix of one went out, and nothing is reported,
     ensures front { W.mark out.new ≡ true → FrontOf
         (IsWitnessText (R.remaining tape.old) (D.remaining declaration.old) options.explained)
         (W.taken out.old) (W.taken out.new) }
     ensures unreported { W.mark out.new ≡ true → report.new ≡ report.old }
-    // where a write of the report failed, a front of such a line,
+    // where a write of the report failed, a prefix of such a line,
     ensures front_of_report { P.mark report.new ≡ true → FrontOf
         (IsToldOfWitness (R.remaining tape.old) (D.remaining declaration.old) options)
         (P.taken report.old) (P.taken report.new) }
@@ -67,7 +67,7 @@ pub fn refute<A: Allocator + Copy, R: ByteSource, D: ByteSource, W: ByteSink, P:
         W.taken out.new ≡ W.taken out.old) }
     ensures nothing_reported { OnErr result (P.mark report.new ≡ false →
         P.taken report.new ≡ P.taken report.old) }
-    // A write failed exactly where the answer says so.
+    // A write failed if and only if the answer says so.
     ensures marks { W.mark out.new || P.mark report.new ≡ fails_to_write result }
     // The inputs are read in order; after good ones a write may fail, or memory be refused.
     ensures reads { ReadsTwo (IsLaterFault IsMemoryFault)

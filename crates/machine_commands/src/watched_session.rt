@@ -109,14 +109,14 @@ pub fn watch_session<
         (input (D.mark declaration.new) (D.remaining declaration.old) (D.remaining declaration.new))
         (input (F.mark reader.new) (F.remaining reader.old) (F.remaining reader.new))
         (input (K.mark keys.new) (K.remaining keys.old) (K.remaining keys.new))) }
-    // Where a write failed, a front of that went out,
+    // If a write failed, a prefix of that went out,
     ensures front { W.mark out.new ≡ true → FrontOf
         (IsSessionWatched options continues (R.remaining tape.old) (D.remaining declaration.old)
         (F.remaining reader.old) (K.remaining keys.old) explained)
         (W.taken out.old) (W.taken out.new) }
     // and any other fault leaves the output as it was.
     ensures nothing { OnErr result (W.mark out.new ≡ false → W.taken out.new ≡ W.taken out.old) }
-    // A write failed exactly where the answer says so, and so did a read.
+    // A write failed if and only if the answer says so, and so did a read.
     ensures marks { W.mark out.new ≡ fails_to_write result }
     ensures reads { ((R.mark tape.new || D.mark declaration.new) || F.mark reader.new)
         || K.mark keys.new ≡ fails_to_read result }

@@ -95,7 +95,7 @@ fn below_stuck<A: Allocator + Copy, D: Allocator, C: Allocator>(
     below_lines(alloc, &report, &lines, form)
 }
 
-/// The line of a search that is stuck, with what stands before and right behind it in a form, and the rest.
+/// The line of a search that is stuck, with what comes before and right after it in a form, and the rest.
 fn joined<A: Allocator>(
     alloc: A,
     form: ReportForm,
@@ -114,7 +114,7 @@ fn joined<A: Allocator>(
     Ok(page)
 }
 
-/// The report of a draft for a program that has these names. Where the lines that say why the search is stuck are given, it has these.
+/// The report of a draft for a program that has these names. If the lines that say why the search is stuck are given, it has these.
 ///
 /// # Errors
 ///
@@ -147,12 +147,12 @@ pub fn draft_page<A: Allocator + Copy, D: Allocator, C: Allocator>(
     Ok(page)
 }
 
-/// Looks for a certificate of a tape and a declaration. Where the search is stuck, writes what it had
-/// found until then, to look at: the line of that answer as `verify` writes it, why it is stuck as far as
-/// that is told, and below it the listing with what was known at each address; as a page of HTML also
-/// memory as a map, and the routines. Where the program's source is known, `notes` is what it says of addresses.
-/// The status is `Refused` then. Where a certificate is found nothing is
-/// written. All else than the answer is tested and not proved.
+/// Looks for a certificate of a tape and a declaration. Where the search is stuck, writes what it had found
+/// until then, to look at: the line of that answer as `verify` writes it, why it is stuck as far as that is
+/// told, and below it the listing with what was known at each address; as a page of HTML also memory as a map,
+/// and the routines. If the program's source is known, `notes` is what it says of addresses. The status is
+/// `Refused` then. Where a certificate is found nothing is written. All else than the answer is tested and not
+/// proved.
 ///
 /// # Errors
 ///
@@ -173,18 +173,18 @@ pub fn report_draft<A: Allocator + Copy, R: ByteSource, D: ByteSource, W: ByteSi
     // It is done where a certificate is found, and refused where the search is stuck.
     ensures statuses { IfOk result (λ status. (status ≡ Done) ⊎ (status ≡ Refused)) }
     // What is written says that the search is stuck, and where; in a page its fixed head stands before
-    // that, and behind it that nothing is shown.
+    // that, and after it that nothing is shown.
     ensures reported { IfOk result (λ status. status ≡ Refused → Writes
         (IsDraftReport form (R.remaining tape.old) (D.remaining declaration.old))
         (W.taken out.old) (W.taken out.new)) }
     ensures unreported { IfOk result (λ status. status ≡ Done → out.new ≡ out.old) }
-    // Where a write failed, a front of such a page went out,
+    // If a write failed, a prefix of such a page went out,
     ensures front { W.mark out.new ≡ true → FrontOf
         (IsDraftReport form (R.remaining tape.old) (D.remaining declaration.old))
         (W.taken out.old) (W.taken out.new) }
     // and any other fault leaves the output as it was.
     ensures nothing { OnErr result (W.mark out.new ≡ false → W.taken out.new ≡ W.taken out.old) }
-    // A write failed exactly where the answer says so.
+    // A write failed if and only if the answer says so.
     ensures marks { W.mark out.new ≡ fails_to_write result }
     // The inputs are read in order; after good ones nothing may be found, or a write may fail.
     ensures reads { ReadsTwo (IsLaterFault IsDraftWorkFault)

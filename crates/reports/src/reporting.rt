@@ -116,7 +116,7 @@ fn below<A: Allocator + Copy, D: Allocator, C: Allocator>(
     below_lines(alloc, &report, &lines, form)
 }
 
-/// The line of a verdict, with what stands before and right behind it in a form, and the rest.
+/// The line of a verdict, with what comes before and right after it in a form, and the rest.
 fn joined<A: Allocator>(
     alloc: A,
     form: ReportForm,
@@ -173,11 +173,11 @@ pub fn report_of<A: Allocator + Copy>(
     Ok(CommandResult { text, status })
 }
 
-/// Writes what a certificate of a tape and a declaration says, to look at: the verdict as `check`
-/// writes it, why it is no if it is, and below it the listing with what is known at each address; as
-/// a page of HTML also what the verdict means, memory as a map, and the routines. After a yes the
-/// program keeps its declaration in every run. Where the program's source is known, `notes` is what it says
-/// of addresses. All else than the verdict is tested and not proved.
+/// Writes what a certificate of a tape and a declaration says, to look at: the verdict as `check` writes
+/// it, why it is no if it is, and below it the listing with what is known at each address; as a page of
+/// HTML also what the verdict means, memory as a map, and the routines. After a yes the program keeps its
+/// declaration in every run. If the program's source is known, `notes` is what it says of addresses. All
+/// else than the verdict is tested and not proved.
 ///
 /// # Errors
 ///
@@ -197,7 +197,7 @@ pub fn report<A: Allocator + Copy, R: ByteSource, D: ByteSource, C: ByteSource, 
     requires declaration_readable { D.mark declaration.old ≡ false }
     requires certificate_readable { C.mark certificate.old ≡ false }
     requires writable { W.mark out.old ≡ false }
-    // What is written begins with the verdict; in a page its fixed head stands before that, and behind
+    // What is written begins with the verdict; in a page its fixed head stands before that, and after
     // it stands what a yes shows, or that a no shows nothing.
     ensures reported { WritesAnswer
         (OfCertified (R.remaining tape.old) (D.remaining declaration.old)

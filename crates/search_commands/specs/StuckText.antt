@@ -1,4 +1,4 @@
--- What `guess --why` reports of a search that is stuck: the line of the fault, and behind it the lines of `check --why`.
+-- What `guess --why` reports of a search that is stuck: the line of the fault, and after it the lines of `check --why`.
 use Rattle.std.specs.Prelude.{ℕ, ◌≡◌, ◌++◌, codes, List, [], Option, Some, None, IfNone, IfSome, Err}
 use Rattle.word12.specs.Words.{octal_text}
 use Rattle.instruct.specs.declared.Profile.{Profile}
@@ -28,8 +28,8 @@ abbrev pub stuck_text : ℕ → List ℕ → List ℕ
 stuck_text at lines = (codes "pdp8: guess: Stuck " ++ octal_text at) ++ codes "\n" ++ lines
 
 -- This is told of an address at which a search is stuck, by a draft of a certificate. The condition fails by the draft at that
--- address, since what is told is so, and not because a line is missing or too narrow; none that is asked before it fails there but
--- for that. Where none is told, each that fails there does so for that alone.
+-- address, since what is told is so, and not because a line is missing or too narrow; none that is asked before it fails there
+-- except for that. If none is told, each that fails there does so for that alone.
 pub record IsTold (j : Case) (at : ℕ) (told : Option (Refusal × Reason × ReasonContext)) : Type 0 where
   pub why : IfSome told (λ found. Explains j found.0.condition found.0.address found.1)
   pub place : IfSome told (λ found. IsToldOf at found.0 found.1)
@@ -44,7 +44,7 @@ pub record IsToldOfDraft (image : List (Option ℕ)) (d : Declaration) (draft : 
   pub lines_are : lines ≡ told_text d.profile image told
 
 -- These are the lines of a search that is stuck somewhere. The draft's facts stand in bodies and its routine and exit lines
--- at entries, and it has a fact there; and behind the line of the fault stands why the search is stuck there.
+-- at entries, and it has a fact there; and after the line of the fault stands why the search is stuck there.
 pub record IsReport (image : List (Option ℕ)) (d : Declaration) (draft : Text) (report : List ℕ) : Type 0 where
   pub at : ℕ
   pub is_draft : IsDraft d at (certificate_of draft)

@@ -51,12 +51,12 @@ fn explanation_of<A: Allocator + Copy>(
     }
 }
 
-/// Checks a certificate of a tape and a declaration, and writes the verdict: yes, with the numbers of
-/// cells in bodies, of variables, of entries, of declared halts and, where they are listed, of cells
-/// that may be read; or the first condition that fails and its address, and then the status is
-/// `Refused`, and lines follow that say why: the address with its word and name, what the condition
-/// asks, what breaks it as far as that is found, and the lines of the fact there. Lines that follow a yes say what of the
-/// declaration is wider than the certificate needs, and what routines return with; these are tested and not proved.
+/// Checks a certificate of a tape and a declaration, and writes the verdict: yes, with the numbers of cells in bodies, of
+/// variables, of entries, of declared halts and, where they are listed, of cells that may be read; or the first condition
+/// that fails and its address, and then the status is `Refused`, and lines follow that say why: the address with its word
+/// and name, what the condition asks, what violates it as far as that is found, and the lines of the fact there. Lines
+/// that follow a yes say what of the declaration is wider than the certificate needs, and what routines return with;
+/// these are tested and not proved.
 ///
 /// # Errors
 ///

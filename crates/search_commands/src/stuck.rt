@@ -188,11 +188,11 @@ pub fn guess_or_explain<
         (E.taken report.old) (E.taken report.new)) }
     // Where the write of the report failed the status is as it would have been.
     ensures report_failed { E.mark report.new ≡ true → result ≡ Ok Refused }
-    // Only where the search is stuck is anything reported, and nothing is written then.
+    // Only if the search is stuck is anything reported, and nothing is written then.
     ensures unreported { IfOk result (λ status. status ≡ Done → report.new ≡ report.old) }
     ensures unreported_fault { OnErr result (report.new ≡ report.old) }
     ensures unwritten { IfOk result (λ status. status ≡ Refused → out.new ≡ out.old) }
-    // Where a write failed, a front of such a text went out,
+    // If a write failed, a prefix of such a text went out,
     ensures front { W.mark out.new ≡ true → FrontOf
         (IsGuess (R.remaining tape.old) (D.remaining declaration.old))
         (W.taken out.old) (W.taken out.new) }
@@ -202,7 +202,7 @@ pub fn guess_or_explain<
         (E.taken report.old) (E.taken report.new) }
     // and any other fault leaves the output as it was.
     ensures nothing { OnErr result (W.mark out.new ≡ false → W.taken out.new ≡ W.taken out.old) }
-    // A write to the output failed exactly where the answer says so.
+    // A write to the output failed if and only if the answer says so.
     ensures marks { W.mark out.new ≡ fails_to_write result }
     // The inputs are read in order; after good ones nothing may be found, or a write may fail.
     ensures reads { ReadsTwo (IsLaterFault IsSearchFault)

@@ -79,7 +79,7 @@ pub(crate) fn inconclusive_reason_of(fault: GuessFault) -> Result<InconclusiveRe
 
 /// Says whether a tape's program complies with its declaration: `yes` with the certificate that shows it, for which
 /// every condition holds; `no` with a run that violates it; or that neither is found. The answer is written as a
-/// line, after which stands why, if that is asked for; these further lines are tested and not proved. It is not
+/// line, after which stands why, if that is requested; these further lines are tested and not proved. It is not
 /// promised that an answer is found.
 ///
 /// # Errors

@@ -203,14 +203,14 @@ FaultIsNotWritten =
     IsFault (permanent_symbols profile) parts fault →
     (IsAssembled profile (telling parts) text → ⊥) × (IsListing profile (telling parts) text → ⊥)
 
--- A source that means an image isn't refused its listing for any fault of the source.
+-- A source that means an image is not refused its listing for any fault of the source.
 abbrev pub MeantIsListed : Type 0
 MeantIsListed =
     (profile : Profile) (parts : List (List ℕ)) (symbols : List (Name × ℕ)) (image : List (Option ℕ))
     (marks : List Bool) (left : List (Option (List ℕ))) (fault : PalFault) →
     Means (permanent_symbols profile) parts symbols image → IsListFault profile marks (telling parts) left (Source fault) → ⊥
 
--- A source with a fault isn't refused its listing for any other fault of the source.
+-- A source with a fault is not refused its listing for any other fault of the source.
 abbrev pub FaultIsTheOne : Type 0
 FaultIsTheOne =
     (profile : Profile) (parts : List (List ℕ)) (fault told : PalFault) (marks : List Bool) (left : List (Option (List ℕ))) →

@@ -86,7 +86,7 @@ pub fn assemblies_are_exact()
 }
 
 /// The bytes of a tape, a declaration and a certificate have at most one verdict. To what `guess` writes
-/// it is yes, and to what `migrate` writes it is that of the certificate which was migrated, unless it's
+/// it is yes, and to what `migrate` writes it is that of the certificate which was migrated, unless it is
 /// longer than what is read.
 pub fn checks_are_one()
     ensures one { ChecksAreOne }
@@ -106,7 +106,7 @@ pub fn single_inputs_are_told<T>()
 {}
 
 /// Of a command that reads a tape and a declaration, and then does its work: a fault is that of the first input that
-/// has one, or after good ones that of the work; a read failed exactly where the answer says so; the declaration isn't
+/// has one, or after good ones that of the work; a read failed exactly where the answer says so; the declaration is not
 /// touched after a tape that is refused or whose read failed, but only after a good one; and no more is taken than
 /// may be.
 pub fn two_inputs_are_read_in_order<D: ByteSource, T>()

@@ -450,7 +450,7 @@ fn each_write_that_fails_leaves_a_front(rt: HostRuntime) {
 }
 
 /// Whether each request for memory that is refused is answered so, with a front of a text at most, and
-/// without one where the command doesn't write as it goes, until none is refused.
+/// without one where the command does not write as it goes, until none is refused.
 fn memory_in_turn(heap: Global, command: Command, output: usize, text: &[u8]) -> bool {
     let goes_on = matches!(command, Command::Trace | Command::Session);
     for count in 0..1000u64 {

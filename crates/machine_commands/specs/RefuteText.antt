@@ -18,7 +18,7 @@ abbrev pub unbroken_text : ℕ → List ℕ
 unbroken_text steps = codes "not broken in " ++ decimal steps ++ codes " steps\n"
 
 -- The list spells a run that breaks the declaration: of these events, from the declared start with all registers and all cells
--- that aren't on the tape 0, the last one is the first step that isn't legal. What is told is what `watch` says of them: its
+-- that are not on the tape 0, the last one is the first step that is not legal. What is told is what `watch` says of them: its
 -- place, and the least rule that it breaks.
 pub record IsWitnessOf (explained : Bool) (image : List (Option ℕ)) (declaration : Declaration) (list told : List ℕ) : Type 0 where
   pub events : List Event

@@ -22,8 +22,8 @@ use Rattle.search_commands.specs.declared.verifying.ProposalAnswer.{ProposalAnsw
 use Rattle.search_commands.specs.WidenedText.{HasReason, reason_text}
 
 -- The answer is true of a tape's words and a declaration. After a yes every condition holds of the certificate, and so no
--- run of the program breaks the declaration. After a no the run breaks it: its last event is the first step that isn't
--- legal, and its text is read as these events. Where it isn't known nothing is said.
+-- run of the program breaks the declaration. After a no the run breaks it: its last event is the first step that is not
+-- legal, and its text is read as these events. Where it is not known nothing is said.
 abbrev pub IsAnswer : {A : Type 0} → List (Option ℕ) → Declaration → Answer A → Type 0
 IsAnswer image d (Yes c) = IsYes (checked_case image d (meaning c)) × AreLines (meaning c)
 IsAnswer image d (No w) = Breaks (image_of image) d w × IsSpelled w × IsLast w
@@ -33,7 +33,7 @@ IsAnswer image d (NotKnown lack) = ⊤
 abbrev pub no_text : ℕ → Rule → List ℕ
 no_text n r = codes "no: event " ++ decimal n ++ codes " rule " ++ decimal (number_of r) ++ codes "\n"
 
--- The line that says why it isn't known.
+-- The line that says why it is not known.
 abbrev pub lack_text : InconclusiveReason → List ℕ
 lack_text (Stuck at) = (codes "not known: stuck at " ++ octal_text at) ++ codes "\n"
 lack_text TurnsSpent = codes "not known: turns spent" ++ codes "\n"

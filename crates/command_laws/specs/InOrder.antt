@@ -5,21 +5,18 @@ use Rattle.command_parts.specs.Faults.{IsDeclarationInputFault, IsEventsInputFau
 use Rattle.command_parts.specs.Inputs.{Input, IsGoodDeclaration, IsGoodEvents, IsGoodTape, TakesAtMost, TakesTape}
 use Rattle.command_parts.specs.declared.status.Fault.{Fault}
 use Rattle.command_parts.specs.declared.status.Fault.TheVariants.{NoMemory}
-use Rattle.reports.specs.DraftText.{IsDraftWorkFault}
 use Rattle.search_commands.specs.SearchFaults.{IsProposeFault, IsSearchFault}
 use Rattle.diagnostics.specs.CertificateFaults.{IsCertificateInputFault}
 use Rattle.diagnostics.specs.CertificateInputs.{IsGoodCertificate, TakesCertificate}
 
 -- The work that commands do once their inputs are good.
 pub data Work : Type 0 where
-  -- they judge, watch, refute, verify or explain
+  -- they judge or watch
   Tells : Work
   -- they look for a certificate
   Searches : Work
   -- they propose a declaration, or complete one
   Proposes : Work
-  -- they report what a search for a certificate had found
-  Drafts : Work
   -- they migrate a certificate
   Migrates : Work
 
@@ -28,7 +25,6 @@ abbrev pub later_fault : Work → Fault → Type 0
 later_fault Tells = IsLaterFault IsMemoryFault
 later_fault Searches = IsLaterFault IsSearchFault
 later_fault Proposes = IsLaterFault IsProposeFault
-later_fault Drafts = IsLaterFault IsDraftWorkFault
 later_fault Migrates = IsLaterFault NeverFails
 
 -- What the answer of a command says of its one input, where it is given which faults this may have, when it is good, and how

@@ -8,7 +8,6 @@ ghost use Rattle.diagnostics.specs.CertificateFaults.{ReadsCertificate, ReadsCer
 ghost use Rattle.command_laws.specs.InOrder.{CertificateInOrder, CertifiedInOrder, RunInOrder, TapeInOrder, TwoInOrder, Work, later_fault};
 ghost use Rattle.command_laws.specs.Laws.{AssembledIsWritten, ChecksAreOne, EmptyHasNoTape, FaultIsNotWritten, FaultIsTheOne, FaultIsTold, FollowsTheTable, GuessIsAccepted, GuessIsRead, MeantIsListed, MeantIsRead, MeantIsWritten, MigratedIsCheckedAlike, ReadIsMeant, RunsAreOne, RunsEnd, SessionsAreOne, SessionsEnd, TapeIsOne, TapeIsThere, TypedAreOne, WatchedAsRun, WrittenIsAssembled};
 
-use bin_tape::laws::tapes_have_one_answer;
 use pal_asm::laws::{meant_are_words, sources_have_one_answer};
 use peripherals::laws::events_are_runs;
 use streams::ByteSource;
@@ -46,9 +45,7 @@ pub fn runs_follow_the_table()
 /// run is on the declared machine and begins at the declared start.
 pub fn watched_sessions_are_runs()
     ensures { WatchedAsRun }
-{
-    tapes_have_one_answer();
-}
+{}
 
 /// From a source to its tape and to the image that is read of the tape is one function, in both
 /// directions: a source that means an image with a word has a tape, and one without a word has none;

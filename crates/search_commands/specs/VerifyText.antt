@@ -14,7 +14,6 @@ use Rattle.command_parts.specs.declared.options.VerifyOptions.{VerifyOptions}
 use Rattle.command_parts.specs.declared.status.Status.{Status}
 use Rattle.command_parts.specs.declared.status.Status.TheVariants.{Done, Refused}
 use Rattle.command_parts.specs.Answers.{OfProgram}
-use Rattle.command_parts.specs.Inputs.{HasImage}
 use Rattle.search_commands.specs.declared.verifying.InconclusiveReason.{InconclusiveReason}
 use Rattle.search_commands.specs.declared.verifying.InconclusiveReason.TheVariants.{Stuck, TurnsSpent}
 use Rattle.search_commands.specs.declared.verifying.Answer.{Answer}
@@ -84,9 +83,3 @@ pub record IsProposedAnswerOf {A : Type 0} (options : VerifyOptions) (image : Li
   pub answers : IsAnswer image declaration p.answer
   pub reason : HasReason image declaration p.answer p.obstacle
   pub is : IsTold (proposed_text p.answer (answer_text declaration p.answer) ++ reason_text p.obstacle) options.search.explained told
-
--- The frames are a tape, and this is told of such an answer for it.
-pub record IsProposedAnswer {A : Type 0} (options : VerifyOptions) (frames : Option (List ℕ)) (p : ProposalAnswer A) (told : List ℕ) : Type 0 where
-  pub image : List (Option ℕ)
-  pub tape : HasImage frames image
-  pub is : IsProposedAnswerOf options image p told

@@ -1,4 +1,4 @@
-//! The search: run after run, until one breaks a rule.
+//! The search: run after run, until one violates a rule.
 
 ghost use Rattle.std.specs.Prelude.{◌≡◌, ◌≤◌, IfOk, OnOk};
 ghost use Rattle.declaration.specs.DeclarationInCode.{meaning};
@@ -28,24 +28,6 @@ use wordset::WordSet;
 /// Steps before the first lesson from failed tests.
 const FIRST_LESSON: u32 = 200_000;
 
-/// A search with fewer turns than this is a short one.
-const SHORT_SEARCH: u32 = 100_000;
-
-/// In a short search a long run takes at most one of so many turns, so that shorter runs come too.
-const LONG_PART: u32 = 16;
-
-/// So many steps a long run may make in any search.
-const LEAST_LONG: u32 = 1000;
-
-/// The most steps that a long run makes in a search with so many turns.
-fn most_of_long_run(limit: u32) -> u32 {
-    if limit < SHORT_SEARCH {
-        (limit / LONG_PART).max(LEAST_LONG)
-    } else {
-        u32::MAX
-    }
-}
-
 /// A program with its declaration.
 #[derive(Drop)]
 pub struct DeclaredProgram<'a, D: Allocator> {
@@ -55,7 +37,7 @@ pub struct DeclaredProgram<'a, D: Allocator> {
     pub declaration: &'a Declaration<D>,
 }
 
-/// A search for a run that breaks a rule, with what it learned so far.
+/// A search for a run that violates a rule, with what it learned so far.
 #[derive(Drop)]
 pub struct RunSearch<A: Allocator> {
     pub(crate) alloc: A,
@@ -63,7 +45,7 @@ pub struct RunSearch<A: Allocator> {
     pub(crate) dictionary: Dictionary<A>,
     /// What is worth a look at each of the 4096 words.
     pub(crate) looks: [Feedback; 4096],
-    /// The places at which something is declared to hold, there or when control returns from there.
+    /// The places at which something is declared to hold.
     pub(crate) asserted: WordSet,
     pub(crate) seen: Coverage<A>,
     pub(crate) corpus: Corpus<A>,
@@ -85,7 +67,7 @@ pub struct RunSearch<A: Allocator> {
     pub(crate) lesson: u32,
 }
 
-/// A run that broke a rule: its events, and its inputs.
+/// A run that violated a rule: its events, and its inputs.
 #[derive(Drop)]
 pub(crate) struct ViolatingRun<A: Allocator> {
     pub(crate) script: Script<A>,
@@ -99,7 +81,7 @@ pub struct ActiveRun<A: Allocator> {
     pub watcher: Watcher<A>,
     pub(crate) run: Run<A>,
     pub(crate) plan: Plan<A>,
-    /// Whether the next step was tried before, and broke a rule: what it asks for is given.
+    /// Whether the next step was tried before, and violated a rule: what it asks for is given.
     is_tried: bool,
     /// How many more steps it makes at most.
     left: u32,
@@ -138,7 +120,7 @@ impl<A: Allocator + Copy> RunSearch<A> {
             random: Random::new(seed),
             dictionary: Dictionary::of(alloc, program.image)?,
             looks: looks(program.declaration.profile()),
-            asserted: asserted_places(program.image, program.declaration),
+            asserted: asserted_places(program.declaration),
             seen: Coverage::nothing(alloc)?,
             corpus: Corpus::new(alloc, program)?,
             failed_tests: FailedTests::none(alloc)?,
@@ -168,9 +150,9 @@ impl<A: Allocator + Copy> RunSearch<A> {
         Ok(search)
     }
 
-    /// One run, for which a trial is lent: it is begun anew. If the run breaks a rule, what is told are its
-    /// events as a text, without those that are not needed, as far as that was found out. A turn is taken
-    /// for each step.
+    /// One run, for which a trial is lent: it is begun anew. If the run violates a rule, what is told are
+    /// its events as a text, without those that are not needed, as far as that was found out. A turn is
+    /// taken for each step.
     ///
     /// # Errors
     ///
@@ -192,7 +174,7 @@ impl<A: Allocator + Copy> RunSearch<A> {
         Ok(Some(script.text(self.alloc)?))
     }
 
-    /// One run, up to a step that breaks a rule.
+    /// One run, up to a step that violates a rule.
     fn round<D: Allocator>(
         &mut self,
         program: &DeclaredProgram<'_, D>,
@@ -246,7 +228,7 @@ impl<A: Allocator + Copy> RunSearch<A> {
         Ok(())
     }
 
-    /// Runs by a plan, until a rule is broken or the run is over.
+    /// Runs by a plan, until a rule is violated or the run is over.
     pub(crate) fn follow<D: Allocator>(
         &mut self,
         program: &DeclaredProgram<'_, D>,
@@ -260,18 +242,15 @@ impl<A: Allocator + Copy> RunSearch<A> {
     {
         turns.are_within();
         self.restart(program, plan, trial)?;
-        if trial.plan.purpose.is_long() {
-            trial.left = trial.left.min(most_of_long_run(turns.limit()));
-        }
         if !self.go_on(program, trial, turns)? {
             return Ok(None);
         }
         Ok(Some(self.found(&mut trial.run)?))
     }
 
-    /// Makes the steps of a run. True where the next one breaks a rule: it is not made, and where the run
-    /// goes on later, by a declaration that allows more, it is tried again. False where the run is over, or
-    /// all turns are spent. A turn is taken for each step, and for one that breaks a rule.
+    /// Makes the steps of a run. True if the next one violates a rule: it is not made, and where the run
+    /// goes on later, by a declaration that allows more, it is tried again. False if the run is over, or
+    /// all turns are spent. A turn is taken for each step, and for one that violates a rule.
     ///
     /// # Errors
     ///
@@ -311,7 +290,7 @@ impl<A: Allocator + Copy> RunSearch<A> {
         }
     }
 
-    /// Makes the steps of a run. True where the next one breaks a rule.
+    /// Makes the steps of a run. True if the next one violates a rule.
     fn make_steps<D: Allocator>(
         &mut self,
         program: &DeclaredProgram<'_, D>,
@@ -339,8 +318,8 @@ impl<A: Allocator + Copy> RunSearch<A> {
         Ok(false)
     }
 
-    /// What steps were seen to do in all runs so far, apart from those that only break a rule once more;
-    /// nothing but how many runs there were, where that is not recorded.
+    /// What steps were seen to do in all runs so far, apart from those that only violate a rule once
+    /// more; nothing but how many runs there were, where that is not recorded.
     pub fn record(&self) -> &Record<A> {
         &self.record
     }
@@ -350,7 +329,7 @@ impl<A: Allocator + Copy> RunSearch<A> {
         self.record.sees(step_record);
     }
 
-    /// The whole of a run that broke a rule, from the start.
+    /// The whole of a run that violated a rule, from the start.
     fn found(&self, run: &mut Run<A>) -> Result<ViolatingRun<A>, NoMemory> {
         run.write_steps();
         let mut script = self.corpus.script(run.base)?;

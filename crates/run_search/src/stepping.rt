@@ -4,7 +4,7 @@ ghost use Rattle.std.specs.Prelude.{◌≡◌, ◌≤◌};
 ghost use Rattle.declaration.specs.DeclarationInCode.{meaning};
 ghost use Rattle.peripherals.specs.World.{profile_of};
 
-use crate::assertions::{NextReturn, asserted_word, beyond_assertion};
+use crate::assertions::{asserted_word, beyond_assertion};
 use crate::corpus::InputSuffix;
 use crate::failed_tests::FailedTest;
 use crate::feedback::Feedback;
@@ -61,7 +61,7 @@ impl<A: Allocator + Copy> RunSearch<A> {
         self.step(program, trial, &observation, turns)
     }
 
-    /// Gives what the next step asks for, and lets devices get done. False where the run is over.
+    /// Gives what the next step asks for, and lets devices get done. False if the run is over.
     #[inline(always)]
     fn prepare<D: Allocator>(
         &mut self,
@@ -84,7 +84,7 @@ impl<A: Allocator + Copy> RunSearch<A> {
         Ok(true)
     }
 
-    /// Gives what the next step asks for, if it comes now. False where the run is over.
+    /// Gives what the next step asks for, if it comes now. False if the run is over.
     #[inline(never)]
     fn answer<D: Allocator>(
         &mut self,
@@ -147,7 +147,7 @@ impl<A: Allocator + Copy> RunSearch<A> {
         comes
     }
 
-    /// Keeps the state in which an input is asked for, if something new was seen.
+    /// Keeps the state in which an input is requested, if something new was seen.
     fn keep(
         &mut self,
         watcher: &Watcher<A>,
@@ -323,26 +323,6 @@ impl<A: Allocator + Copy> RunSearch<A> {
                 self.note_assertion(holding.assertion(), cpu, run, plan)?;
             }
         }
-        match NextReturn::of(declaration, cpu, watcher.calls()) {
-            Some(next) => self.note_return(declaration, cpu, &next, run, plan),
-            None => Ok(()),
-        }
-    }
-
-    /// The same of what is declared to hold at the return that comes next.
-    fn note_return<D: Allocator>(
-        &mut self,
-        declaration: &Declaration<D>,
-        cpu: &Cpu,
-        next: &NextReturn,
-        run: &mut Run<A>,
-        plan: &Plan<A>,
-    ) -> Result<(), NoMemory> {
-        for returning in declaration.returns() {
-            if next.is_among(returning.entry(), returning.offsets()) {
-                self.note_assertion(returning.assertion(), cpu, run, plan)?;
-            }
-        }
         Ok(())
     }
 
@@ -354,7 +334,9 @@ impl<A: Allocator + Copy> RunSearch<A> {
         run: &mut Run<A>,
         plan: &Plan<A>,
     ) -> Result<(), NoMemory> {
-        let word = asserted_word(assertion, cpu);
+        let Some(word) = asserted_word(assertion, cpu) else {
+            return Ok(());
+        };
         self.note_value(run, cpu.pc, word);
         let Some(beyond) = beyond_assertion(assertion, word) else {
             return Ok(());

@@ -21,7 +21,7 @@ use wordset::WordSet;
 const MOST_TURNS: u32 = 20_000;
 
 /// So many tries at most are made with facts told apart by calls: with none, with those of routines that look at their return
-/// word and by the link where a skip may test it, and with those of one routine more in each.
+/// word, and with those of one routine more in each.
 const MOST_CALLS: usize = 6;
 
 /// By the words of so many cells at most facts are told apart, one after another.
@@ -54,25 +54,25 @@ fn tried<A: Allocator + Copy, D: Allocator>(
     }
 }
 
-/// How facts are told apart besides, if a try is stuck: first by the call in routines that look at their return word, and by the
-/// link where a skip may test it; then by the call in the routine in whose body it is stuck.
-fn more_apart<D: Allocator>(
+/// The routines whose facts are told apart by the call besides, if a try is stuck: first those that look at their return word,
+/// then the one in whose body it is stuck.
+fn more_called<D: Allocator>(
     program: &SumProgram<'_, D>,
     split: &Split,
     stuck: Word,
-) -> Option<Split> {
-    let (readers, tested) = (program.readers(), program.tested_links());
-    if !readers.is_subset(split.called()) || !tested.is_subset(split.links()) {
-        return Some(split.by_calls(readers).by_links(tested));
+) -> Option<WordSet> {
+    if !program.readers().is_subset(split.called()) {
+        return Some(*program.readers());
     }
     let entry = program.owner(stuck)?;
     if split.called().contains(entry) {
         return None;
     }
-    Some(split.by_calls(&WordSet::one(entry)))
+    Some(WordSet::one(entry))
 }
 
-/// The same, with more and more facts told apart where a try is stuck. The lent way to tell them apart becomes the last one.
+/// The same, with facts of more and more routines told apart by the call where a try is stuck. The lent way to tell them apart
+/// becomes the last one.
 fn tried_by_calls<A: Allocator + Copy, D: Allocator>(
     search: &mut SumSearch<A>,
     program: &SumProgram<'_, D>,
@@ -95,9 +95,9 @@ fn tried_by_calls<A: Allocator + Copy, D: Allocator>(
             return found;
         };
         stuck = *at;
-        match more_apart(program, split, stuck) {
+        match more_called(program, split, stuck) {
             None => return Err(GuessFault::Stuck(stuck)),
-            Some(more) => *split = more,
+            Some(entries) => *split = split.by_calls(&entries),
         }
     }
     Err(GuessFault::Stuck(stuck))
@@ -135,7 +135,7 @@ fn tried_by_cells<A: Allocator + Copy, D: Allocator>(
 }
 
 /// Looks for a certificate of version 3: with one fact at an address, and where that is stuck with facts that are told apart by
-/// the call and where a skip may test it by the link, then everywhere by the link, then by the words of a cell.
+/// the call, then by the link, then by the words of a cell and where a skip may test it by the link.
 pub(crate) fn found_by_sums<A: Allocator + Copy, D: Allocator>(
     alloc: A,
     image: &Image,
@@ -168,5 +168,6 @@ pub(crate) fn found_by_sums<A: Allocator + Copy, D: Allocator>(
     let Err(GuessFault::Stuck(_)) = &found else {
         return found;
     };
-    tried_by_cells(&mut search, &program, &split, &cells, *at, turns)
+    let apart = split.by_links(program.tested_links());
+    tried_by_cells(&mut search, &program, &apart, &cells, *at, turns)
 }

@@ -17,8 +17,7 @@ const MOST_ROUNDS: usize = 64;
 type Sets<A> = BTreeMap<usize, WordSet, A>;
 
 /// The cells that are needed at each address of a body, and at each entry those that are needed when
-/// its routine returns; at each entry, too, the cells that the routine's words name to write, and those that it looks at and
-/// tells of. Some
+/// its routine returns; at each entry, too, the cells that the routine's words name to write. Some
 /// cells may be partners: where a routine writes one of them that is needed when it returns, all of
 /// them that are needed then are needed in it too, as what is known of them may be how they differ.
 /// Of some cells a routine tells when it returns if it looks at them, as it may have tested them.
@@ -26,7 +25,6 @@ type Sets<A> = BTreeMap<usize, WordSet, A>;
 pub(crate) struct Needs<A: Allocator> {
     cells: Sets<A>,
     writes: Sets<A>,
-    seen: Sets<A>,
     partners: WordSet,
     told: WordSet,
 }
@@ -153,7 +151,6 @@ impl<A: Allocator + Copy> Needs<A> {
         let mut needs = Needs {
             cells: BTreeMap::new(alloc),
             writes: BTreeMap::new(alloc),
-            seen: BTreeMap::new(alloc),
             partners: *partners,
             told: *told,
         };
@@ -291,9 +288,8 @@ impl<A: Allocator + Copy> Needs<A> {
         let after = self.after_returns(program, at, entry);
         let written = set_at(&self.writes, entry);
         let returned = with_partners(&after, &after.meet(&written), &self.partners);
-        let seen = after.meet(&self.at(entry.increment())).meet(&self.told);
-        add_at(&mut self.seen, entry, &seen)?;
-        add_at(&mut self.cells, entry, &returned.union(&seen))?;
+        let seen = self.at(entry.increment()).meet(&self.told);
+        add_at(&mut self.cells, entry, &returned.union(&after.meet(&seen)))?;
         let within = self.at(entry.increment());
         Ok(within.union(&after.minus(&written)))
     }
@@ -303,11 +299,6 @@ impl<A: Allocator> Needs<A> {
     /// The cells that are needed at an address.
     pub(crate) fn at(&self, at: Word) -> WordSet {
         set_at(&self.cells, at)
-    }
-
-    /// The cells that the routine of an entry looks at and of which it tells when it returns.
-    pub(crate) fn seen(&self, entry: Word) -> WordSet {
-        set_at(&self.seen, entry)
     }
 
     /// What the words of a body write.

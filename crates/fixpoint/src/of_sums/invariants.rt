@@ -10,7 +10,7 @@ use crate::incoming_fact::brief;
 use crate::invariant::{CellInvariant, MOST_CELLS, MOST_RELATIONS};
 use crate::of_sums::merging::Merge;
 use crate::of_sums::splits::Case;
-use crate::sums::{ExitCells, speaks_only_of};
+use crate::sums::{speaks_only_of, touches};
 use bin_tape::Image;
 use domain::{CellSet, Chain, Location, Relation, ReturnOffsets, Sum};
 use facts::{Fact, KnownFact, NarrowedFact};
@@ -308,15 +308,15 @@ impl<A: Allocator + Copy> SumInvariant<A> {
         fact.set_offsets(self.offsets);
     }
 
-    /// Lets the lent fact say what is kept of an exit of a routine that writes and looks at some cells: of relations those that
-    /// it tells.
-    pub(crate) fn put_exit(&self, cells: &ExitCells, fact: &mut Fact) {
+    /// Lets the lent fact say what is kept of an exit of a routine that writes some cells: of relations those with the
+    /// accumulator or one of these.
+    pub(crate) fn put_written(&self, written: &WordSet, fact: &mut Fact) {
         self.put_registers(fact);
         for line in &self.cells {
             track_if_room(fact, &line.told);
         }
         for relation in &self.relations {
-            if cells.tell(&relation.told.sum) {
+            if touches(written, &relation.told.sum) {
                 relate_if_room(fact, &relation.told);
             }
         }

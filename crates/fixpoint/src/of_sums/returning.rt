@@ -6,7 +6,6 @@ use crate::of_sums::search::SumSearch;
 use crate::of_sums::splits::Case;
 use crate::of_sums::steps::MergeTarget;
 use crate::of_sums::workspace::SumWorkspace;
-use crate::sums::ExitCells;
 use certificate_lines::RoutineClaim;
 use facts::{Fact, KnownFact, Place};
 use std::alloc::Allocator;
@@ -20,18 +19,6 @@ impl<A: Allocator + Copy> SumSearch<A> {
     /// What is claimed of the routine of an entry so far, and in a sweep back what was before.
     fn claimed(&self, entry: Word) -> RoutineClaim {
         self.table.routines.routine(entry)
-    }
-
-    /// The cells that the routine of an entry writes, as is claimed so far, and those that it looks at for its callers.
-    pub(crate) fn exit_cells(&self, entry: Word) -> ExitCells {
-        let seen = match &self.needs {
-            None => WordSet::empty(),
-            Some(needs) => needs.seen(entry),
-        };
-        ExitCells {
-            written: self.claimed(entry).writes,
-            seen,
-        }
     }
 
     /// Claims more of a routine, and tells whether it is more.
@@ -157,7 +144,7 @@ impl<A: Allocator + Copy> SumSearch<A> {
         if !kept.sites.contains(at) || !program.has(&place.routine, to) {
             return Ok(());
         }
-        kept.put_exit(&self.exit_cells(entry), &mut room.calls.exit);
+        kept.put_written(&written, &mut room.calls.exit);
         room.calls.put_joined(&written);
         let goal = MergeTarget {
             from: at,

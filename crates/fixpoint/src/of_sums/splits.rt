@@ -83,13 +83,6 @@ impl Split {
         &self.called
     }
 
-    /// The addresses at which facts are told apart by the link, and the entries of the routines at whose returns they are.
-    pub fn links(&self) -> &WordSet
-        ensures { result.now ≡ self.now.links }
-    {
-        &self.links
-    }
-
     /// The same, and those of the routines of some entries are told apart by the call.
     pub fn by_calls(self, entries: &WordSet) -> Split
         ensures called { words result.called ≡ union (words self.called) (words entries.now) }

@@ -135,7 +135,7 @@ fn tried_by_cells<A: Allocator + Copy, D: Allocator>(
 }
 
 /// Looks for a certificate of version 3: with one fact at an address, and where that is stuck with facts that are told apart by
-/// the call, then by the link, then by the words of a cell and where a skip may test it by the link.
+/// the call, then by the link, then by the words of a cell.
 pub(crate) fn found_by_sums<A: Allocator + Copy, D: Allocator>(
     alloc: A,
     image: &Image,
@@ -159,15 +159,9 @@ pub(crate) fn found_by_sums<A: Allocator + Copy, D: Allocator>(
         return found;
     };
     let cells = search.distinguishing_variables(&program);
-    let found = tried(
-        &mut search,
-        &program,
-        &split.by_links(&WordSet::all()),
-        turns,
-    );
+    let found = tried(&mut search, &program, &split.by_links(), turns);
     let Err(GuessFault::Stuck(_)) = &found else {
         return found;
     };
-    let apart = split.by_links(program.tested_links());
-    tried_by_cells(&mut search, &program, &apart, &cells, *at, turns)
+    tried_by_cells(&mut search, &program, &split, &cells, *at, turns)
 }

@@ -11,7 +11,6 @@ mod search;
 mod splits;
 mod steps;
 mod table;
-mod tested_links;
 mod text;
 mod widening;
 mod workspace;

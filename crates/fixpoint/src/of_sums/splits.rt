@@ -1,6 +1,6 @@
 //! How the facts at an address are told apart.
 
-ghost use Rattle.std.specs.Prelude.{◌≡◌, None, Some};
+ghost use Rattle.std.specs.Prelude.{◌≡◌, true, false, None, Some};
 ghost use Rattle.wordset.specs.Words.{nothing, union};
 ghost use Rattle.wordset.specs.Lanes.{words};
 
@@ -16,12 +16,11 @@ use wordset::{Links, WordSet};
 pub(crate) const MOST_VALUES: usize = 16;
 
 /// By what the facts at an address are told apart: those of the routines of some entries by the call and by how far the return
-/// word was counted up, those at some addresses and at the returns of some entries by the link, and all of them by the word of a
-/// cell.
+/// word was counted up, all of them by the link, and all of them by the word of a cell.
 #[derive(Clone, Copy)]
 pub struct Split {
     pub(crate) called: WordSet,
-    pub(crate) links: WordSet,
+    pub(crate) links: bool,
     pub(crate) cell: Option<Word>,
 }
 
@@ -66,12 +65,12 @@ impl Split {
     /// One fact at an address.
     pub fn none() -> Split
         ensures called { words result.called ≡ nothing }
-        ensures links { words result.links ≡ nothing }
+        ensures links { result.links ≡ false }
         ensures cell { result.cell ≡ None }
     {
         Split {
             called: WordSet::empty(),
-            links: WordSet::empty(),
+            links: false,
             cell: None,
         }
     }
@@ -96,15 +95,15 @@ impl Split {
         }
     }
 
-    /// The same, and those at some addresses and at the returns of some entries are told apart by the link.
-    pub fn by_links(self, addresses: &WordSet) -> Split
+    /// The same, and they are told apart by the link.
+    pub fn by_links(self) -> Split
         ensures called { result.called ≡ self.called }
-        ensures links { words result.links ≡ union (words self.links) (words addresses.now) }
+        ensures links { result.links ≡ true }
         ensures cell { result.cell ≡ self.cell }
     {
         Split {
             called: self.called,
-            links: self.links.union(addresses),
+            links: true,
             cell: self.cell,
         }
     }
@@ -130,9 +129,9 @@ impl Split {
         }
     }
 
-    /// The link of a case at an address, or at the return of an entry.
-    fn link_of<F: KnownFact>(&self, at: Word, known: &F) -> Option<Link> {
-        if self.links.contains(at) {
+    /// The link of a case.
+    fn link_of<F: KnownFact>(&self, known: &F) -> Option<Link> {
+        if self.links {
             only_link(known.link())
         } else {
             None
@@ -147,13 +146,8 @@ impl Split {
         set.only()
     }
 
-    /// The case of a fact at an address, in the body of a routine, if it is not main's; or at the return of an entry.
-    pub(crate) fn case_of<F: KnownFact>(
-        &self,
-        at: Word,
-        routine: &Option<Word>,
-        known: &F,
-    ) -> Case {
+    /// The case of a fact in the body of a routine, if it is not main's.
+    pub(crate) fn case_of<F: KnownFact>(&self, routine: &Option<Word>, known: &F) -> Case {
         let apart = self.is_by_call(routine);
         Case {
             site: if apart { only_site(known) } else { None },
@@ -162,14 +156,19 @@ impl Split {
             } else {
                 None
             },
-            link: self.link_of(at, known),
+            link: self.link_of(known),
             value: self.value_of(known),
         }
     }
 
-    /// The case of a fact where the routine of an entry returns by an offset.
-    pub(crate) fn case_of_exit<F: KnownFact>(&self, entry: Word, offset: usize, known: &F) -> Case {
-        let mut case = self.case_of(entry, &Some(entry), known);
+    /// The case of a fact where a routine returns by an offset.
+    pub(crate) fn case_of_exit<F: KnownFact>(
+        &self,
+        routine: &Option<Word>,
+        offset: usize,
+        known: &F,
+    ) -> Case {
+        let mut case = self.case_of(routine, known);
         case.offset = Some(offset);
         case
     }

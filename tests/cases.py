@@ -16,8 +16,9 @@ A page is Markdown. Of its blocks of code these are read, in their order, in a f
 A file, a tape or bytes with the word "rows" at the end of its fence is written anew for each row of the tables below it, up to
 the next heading, with {1}, {2}, .. replaced. What a row writes is removed after it. A page finds in its folder the files of the
 programs of examples/ that it names, the tape NAME.bin of each source NAME.pal of theirs, and programs/, the folder
-tests/cases/programs, and version3/ and style-of-1970/, folders of tests/, if it names them. Statuses are compared in tests/cases/; other pages may leave them out. The cases of
-the pages in tests/cases/wrong/ are wrong on purpose, and one of them fails where it isn't told as wrong.
+tests/cases/programs, and version3/, style-of-1970/ and style-of-1970-b/, folders of tests/, if it names them. Statuses are compared in
+tests/cases/; other pages may leave them out. The cases of the pages in tests/cases/wrong/ are wrong on purpose, and one of them fails
+where it isn't told as wrong.
 
 usage: tests/cases.py PDP8 [PAGE..]    PDP8 is the built program; without pages all of tests/cases/, README.md and docs/
 """
@@ -193,7 +194,8 @@ def run_table(block, templates, page):
 def fill(page, text):
     """Copies the files of the programs of examples/ that the page names, with the tapes of their sources."""
     words = set(re.findall(r'([a-z]+)(?:-broken)?(?=\.[a-z]| \| | => )', text))
-    for name, parts in (('programs', ('cases', 'programs')), ('version3', ('version3',)), ('style-of-1970', ('style-of-1970',))):
+    for name, parts in (('programs', ('cases', 'programs')), ('version3', ('version3',)), ('style-of-1970', ('style-of-1970',)),
+                        ('style-of-1970-b', ('style-of-1970-b',))):
         if name + '/' in text:
             shutil.copytree(os.path.join(TOP, 'tests', *parts), os.path.join(page.folder, name))
     for name in sorted(os.listdir(EXAMPLES)):

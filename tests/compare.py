@@ -120,7 +120,7 @@ def compare_forged(asked, folder):
 
 def compare_watched(asked, folder):
     return all([worker('watched.py', asked.program, TOP / programs, asked.count or 1000, 1000, asked.seed)
-                for programs in ('tests/style-of-1970', 'tests/version3')])
+                for programs in ('tests/style-of-1970', 'tests/style-of-1970-b', 'tests/version3')])
 
 
 def compare_second_reader(asked, folder):

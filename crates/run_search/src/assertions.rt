@@ -24,7 +24,7 @@ pub(crate) fn asserted_word(assertion: &Assertion, cpu: &Cpu) -> Option<Word> {
     }
 }
 
-/// How much more a word is than the nearest one that is not asserted, modulo 4096; none where all are asserted.
+/// How much more a word is than the nearest one that is not asserted, modulo 4096; none if all are asserted.
 pub(crate) fn beyond_assertion(assertion: &Assertion, word: Word) -> Option<u16> {
     for index in 0..2049usize {
         let more = Word::from_index(index);

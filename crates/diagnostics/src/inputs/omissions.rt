@@ -32,7 +32,7 @@ enum Omission {
     OfThe8e,
     /// It stores into this cell, which is neither a variable nor an entry.
     Stores(Word),
-    /// It stores into this entry, and is no ISZ of the routine itself.
+    /// It stores into this entry, and is not an ISZ of the routine itself.
     StoresInEntry(Word),
     /// It is a DCA into this entry, its routine's own, in which the routine is not declared to store.
     StoresInOwn(Word),
@@ -312,7 +312,7 @@ fn omitted_at<D: Allocator>(
     omitted_in_body(image, declaration, owner, at)
 }
 
-/// Adds an address within a line of a declaration that is advised, with what stands before it and after it.
+/// Adds an address within a line of a declaration that is advised, with what comes before it and after it.
 fn push_advice<L: MessageWriter>(
     text: &mut L,
     before: &[u8],
@@ -528,9 +528,9 @@ fn push_stuck<L: MessageWriter>(
     }
 }
 
-/// Adds the line of what to do about the instruction at which a search is stuck, after those on what a condition asks
-/// of it, if the tape and the declaration show by themselves what it violates. Where the reason already names a line that would
-/// allow the instruction, nothing is added.
+/// Adds the line of what to do about the instruction at which a search is stuck, after those on what a condition asks of it, if
+/// the tape and the declaration show by themselves what it violates. If the reason already names a line that would allow the
+/// instruction, nothing is added.
 ///
 /// # Errors
 ///

@@ -1,5 +1,9 @@
 //! Relations and chains in words.
 
+ghost use Rattle.std.specs.Prelude.{◌≡◌};
+ghost use Rattle.wordset.specs.Links.{links_of};
+ghost use Rattle.reports.specs.Rows.{begun_said};
+
 use crate::writer::ReportWriter;
 use domain::{Chain, Location, Step, Sum, Summand, Term, negated};
 use instruct::{Profile, name};
@@ -225,7 +229,9 @@ fn has_link(chain: &Chain) -> bool {
 }
 
 /// The links with which a chain begins.
-fn begun_with(links: Links) -> &'static [u8] {
+fn begun_with(links: Links) -> &'static [u8]
+    ensures { result.now ≡ begun_said (links_of links) }
+{
     match (links.contains(Link::CLEAR), links.contains(Link::SET)) {
         (true, true) => b" and any L",
         (true, false) => b" and L 0",

@@ -24,7 +24,9 @@ static CONDITIONS: [Explanation; 16] = [
     },
     Explanation {
         code: "V4",
-        subject: Subject::Asked("there is a fact wherever the run goes on, and it is entailed"),
+        subject: Subject::Asked(
+            "there is a fact wherever the run may continue, and it is entailed",
+        ),
         meaning: "at each address where the run may continue there is a fact in the same\nbody, which allows all that is possible",
         advice: "If the address is outside the body, the program runs on past its\nlast instruction, or jumps into data or into a routine. End it with HLT or JMP,\nor declare more of it as the body. If a routine jumps to the main program and\nthereby ends all open calls, add an `abandon` line. Otherwise the fact there\nclaims more than is true: run `guess` again, or write there what holds in every\niteration of a loop. In version 3 several facts may be at an address. One of\nthem must then allow all that is possible. Otherwise all that is possible must\nbe split among them by the words of AC or of one cell: for each word that it\nmay hold, one of the facts there includes this word, and allows everything that\nis possible while AC or the cell holds a word that this fact includes.",
     },
@@ -56,7 +58,7 @@ static CONDITIONS: [Explanation; 16] = [
         code: "V9",
         subject: Subject::Asked("each call is a listed site"),
         meaning: "a JMS is at a listed site of its callee, at an address of at most 7767",
-        advice: "The callee's line needs the call, as in `sites 0204`. Move a JMS\nthat is at an address from 7770 to 7777: its return address plus an offset\ncould exceed 7777.",
+        advice: "The callee's line needs the call, as in `sites 0204`. Move a JMS\nthat is at an address from 7770 to 7777, or in version 3 at 7777: its return\naddress plus an offset could exceed 7777.",
     },
     Explanation {
         code: "V10",
@@ -74,7 +76,7 @@ static CONDITIONS: [Explanation; 16] = [
         code: "V12",
         subject: Subject::Asked("a return uses the routine's own entry and a declared offset"),
         meaning: "a return is through the routine's own entry, by declared offsets, and\nthe exit lines allow what is possible",
-        advice: "Declare the offset, as in `returns 0 1`, or increment the return\nword (ISZ of the entry) as declared. Return only through the routine's own\nentry. In a certificate each offset needs its exit line, and the fact at the\nreturn must entail it. In version 3 an offset may have several exit lines; for\nthem V4 applies as it does for several facts. Offsets of a `sub` line are 0 to\n7, and a `skips` line declares others up to 77. So a routine can read the text\nafter its JMS in a loop up to a zero, and then return past the zero. It can get\na certificate in version 3, with a fact for each offset, if no text has more\nthan 77 words, counting the zero. For a longer text there is none: put the\naddress of the text after the JMS (`returns 1`), or into AC.",
+        advice: "Declare the offset, as in `returns 0 1`, or increment the return\nword (ISZ of the entry) as declared. Return only through the routine's own\nentry. In a certificate each offset needs its exit line, and the fact at the\nreturn must entail it. In version 3 an offset may have several exit lines; for\nthem V4 applies as it does for several facts. Offsets of a `sub` line are 0 to\n7, and a `skips` line declares others up to 77. So a routine can read the text\nafter its JMS in a loop up to a zero, and then return past the zero. It can get\na certificate in version 3, with a fact for each offset, if no text has more\nthan 63 words, counting the zero. For a longer text there is none: put the\naddress of the text after the JMS (`returns 1`), or into AC.",
     },
     Explanation {
         code: "V13",

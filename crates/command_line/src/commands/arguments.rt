@@ -207,7 +207,14 @@ const CODE: Argument = Argument {
     name: "CODE",
     short: None,
     form: Form::OptionalOperand,
-    help: "a condition such as V5, a rule such as rule2, or the name of a fault such as IR or BadLine",
+    help: "a condition such as V5, a rule such as rule2 or rule 2, or the name of a fault such as IR or BadLine",
+};
+
+const NUMBER: Argument = Argument {
+    name: "NUMBER",
+    short: None,
+    form: Form::OptionalOperand,
+    help: "the number of a rule, if CODE is rule",
 };
 
 const PROFILE: Argument = Argument {
@@ -630,4 +637,4 @@ pub(crate) const MIGRATE_ARGUMENTS: [Argument; 6] = [
     WHY_INPUT,
 ];
 
-pub(crate) const EXPLAIN_ARGUMENTS: [Argument; 1] = [CODE];
+pub(crate) const EXPLAIN_ARGUMENTS: [Argument; 2] = [CODE, NUMBER];

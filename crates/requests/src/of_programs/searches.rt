@@ -164,20 +164,10 @@ fn push_proposal<I: Read + Drop>(
 const NO_LIST: &str =
     "--reads adds nothing: the declaration has no `read` line, so any cell may be read; to have a list, add a line that says `read`\n";
 
-/// Whether a declaration in numbers lists the cells that may be read.
+/// Whether a declaration lists the cells that may be read.
 fn lists_reads(text: &[u8]) -> bool {
     text.split(|byte| *byte == b'\n')
         .any(|line| line.trim_ascii().starts_with(b"read"))
-}
-
-/// Whether reads are to be added to the declaration of a source, and it has no list of them.
-fn lacks_list(source: Option<&AssembledSource>, reads: bool) -> bool {
-    match source {
-        Some(source) => {
-            reads && source.is_declared() && !lists_reads(&source.numbered.declaration)
-        }
-        None => false,
-    }
 }
 
 /// A declaration that was proposed or completed, and the status of the command.
@@ -214,11 +204,11 @@ pub(crate) fn declared<R: Files + Print + Eprint, I: Read + Drop>(
     options: DeclareOptions,
 ) -> Result<Status, Fault> {
     let mut file = open_output(rt, alloc, out)?;
-    let is_without_list = lacks_list(opened.source, options.reads);
+    let is_completed = opened.is_declared;
     let found = proposal_for(alloc, opened, options)?;
     put(&mut StdWriter::new(&mut file), &found.text)?;
     let status = finish(&mut file, found.status)?;
-    if is_without_list {
+    if is_completed && options.reads && !lists_reads(&found.text) {
         tell_lines(rt, NO_LIST);
     }
     Ok(status)

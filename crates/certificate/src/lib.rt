@@ -26,6 +26,7 @@ use certificate_lines::{
 use std::alloc::Allocator;
 use std::marker::Model;
 use streams::ByteSink;
+pub use streams::{NoMemory, WriteFault};
 use thiserror::Error;
 use word12::Word;
 
@@ -34,16 +35,6 @@ mod makers;
 mod parser;
 mod pieces;
 mod spelling;
-
-/// A growth of a certificate was refused.
-#[derive(Clone, Copy, PartialEq, Eq, Debug, Error)]
-#[error("NoMemory")]
-pub struct NoMemory;
-
-/// A write failed or took nothing.
-#[derive(Clone, Copy, PartialEq, Eq, Debug, Error)]
-#[error("WriteFault")]
-pub struct WriteFault;
 
 /// What is claimed of a program, so that a checker can test it.
 ///

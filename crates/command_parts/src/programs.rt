@@ -16,7 +16,7 @@ use streams::ByteSource;
 
 /// The words of a tape, and what its program may do.
 #[derive(Drop)]
-pub struct Program<A: Allocator> {
+pub struct ProgramWithDeclaration<A: Allocator> {
     /// The words that the tape puts into memory.
     pub image: Image,
     /// What the program may do.
@@ -27,7 +27,7 @@ pub struct Program<A: Allocator> {
 #[derive(Drop)]
 pub struct ProgramRun<A: Allocator> {
     /// The program with its declaration.
-    pub program: Program<A>,
+    pub program: ProgramWithDeclaration<A>,
     /// What happens in the run.
     pub events: Vec<Event, A>,
 }
@@ -37,7 +37,7 @@ pub fn program_from<A: Allocator + Copy, R: ByteSource, D: ByteSource>(
     alloc: A,
     tape: &mut R,
     declaration: &mut D,
-) -> Result<Program<A>, Fault>
+) -> Result<ProgramWithDeclaration<A>, Fault>
     requires readable { R.mark tape.old ≡ false }
     requires declaration_readable { D.mark declaration.old ≡ false }
     ensures image { IfOk result (λ program. HasImage (R.remaining tape.old) program.image) }
@@ -52,7 +52,7 @@ pub fn program_from<A: Allocator + Copy, R: ByteSource, D: ByteSource>(
 {
     let image = tape_from(tape)?;
     let declaration = declaration_from(alloc, declaration)?;
-    Ok(Program { image, declaration })
+    Ok(ProgramWithDeclaration { image, declaration })
 }
 
 /// Reads a tape, after a good one a declaration, and after that a text of events.

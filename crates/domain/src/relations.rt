@@ -63,16 +63,6 @@ fn add_times(c: Word, by: Word, set: &mut BriefSet)
     }
 }
 
-/// The words of a set that the words of another were added to, c times.
-fn add_times_each(c: Word, by: &WordSet, set: &mut BriefSet)
-    ensures { brief_words set.new ≡ sums (brief_words set.old) (times c (words by.now)) }
-{
-    let mut place = WordSet::empty();
-    set.put(&mut place);
-    let (found, _) = place.sums(&times(c, by));
-    set.set(&found);
-}
-
 impl Relation {
     ghost use Rattle.domain.specs.InCode.{sum_of};
     ghost use Rattle.domain.specs.RelationsInCode.{relation_of};

@@ -3,19 +3,19 @@ use Rattle.std.specs.Prelude.{ℕ, List, Option}
 use Rattle.pal_text.specs.declared.names.Name.{Name}
 use Rattle.pal_acts.specs.declared.act.PlacedWord.{PlacedWord}
 use Rattle.pal_asm.specs.declared.map.SourceMap.{SourceMap}
-use Rattle.pal_asm.specs.declared.program.ListedProgram.{ListedProgram}
+use Rattle.pal_asm.specs.declared.program.Program.{Program}
 use Rattle.pal_asm.specs.declared.translation.Translation.{Translation}
 
 -- The own symbols of a program with their values, in the order of their definition.
-abbrev pub symbols_of : {A : Type 0} → ListedProgram A → List (Name × ℕ)
+abbrev pub symbols_of : {A : Type 0} → Program A → List (Name × ℕ)
 symbols_of p = p.own.entries
 
 -- The image of a program: for each address a word or none.
-abbrev pub image_of : {A : Type 0} → ListedProgram A → List (Option ℕ)
+abbrev pub image_of : {A : Type 0} → Program A → List (Option ℕ)
 image_of p = p.image
 
 -- The text of its listing.
-abbrev pub listing_of : {A : Type 0} → ListedProgram A → List ℕ
+abbrev pub listing_of : {A : Type 0} → Program A → List ℕ
 listing_of p = p.listing.items
 
 -- The own symbols of a translation.

@@ -23,8 +23,3 @@ pub enum AssembleFault {
     #[error("NoMemory")]
     NoMemory,
 }
-
-/// A write failed or took nothing.
-#[derive(Clone, Copy, PartialEq, Eq, Debug, Error)]
-#[error("WriteFault")]
-pub struct ListingWriteFault;

@@ -18,8 +18,9 @@ mod sizes;
 mod statement;
 pub mod translation;
 
-pub use fault::{AssembleFault, ListingWriteFault, PalFault};
+pub use fault::{AssembleFault, PalFault};
 pub use map::{MappedLine, SourceMap, map_source};
 pub use pal_acts::{FaultCode, SymbolTable};
-pub use program::{ListedProgram, assemble};
+pub use program::{Program, assemble};
+pub use streams::WriteFault;
 pub use translation::{Translation, translate};

@@ -13,7 +13,7 @@ ghost use Rattle.pal_asm.specs.Listings.{symbols_text, Lists};
 ghost use Rattle.pal_asm.specs.Programs.{symbols_of, image_of, listing_of};
 ghost use Rattle.pal_asm.specs.SourceInCode.{RefusesActs, lines_of_fronts, turns_text};
 
-use crate::fault::{AssembleFault, ListingWriteFault};
+use crate::fault::AssembleFault;
 use crate::listing::make_listing;
 use crate::part_text::PartText;
 use crate::reading::{Reading, read_source};
@@ -23,17 +23,17 @@ use bin_tape::Image;
 use instruct::Profile;
 use pal_acts::{Acts, AssembledWords, SymbolTable, Symbols, assemble_with_words, permanent_table};
 use std::alloc::Allocator;
-use streams::{ByteSink, put};
+use streams::{ByteSink, WriteFault, put};
 
 /// What a source means: its image, its own symbols and its listing.
 #[derive(Drop)]
-pub struct ListedProgram<A: Allocator + Copy> {
+pub struct Program<A: Allocator + Copy> {
     image: Image,
     own: SymbolTable<A>,
     listing: Vec<u8, A>,
 }
 
-impl<A: Allocator + Copy> ListedProgram<A> {
+impl<A: Allocator + Copy> Program<A> {
     /// The words of the program, each at its address.
     pub fn image(&self) -> &Image
         ensures { result.now ≡ image_of self.now }
@@ -54,9 +54,9 @@ impl<A: Allocator + Copy> ListedProgram<A> {
     ///
     /// # Errors
     ///
-    /// `ListingWriteFault` where a write failed or took nothing, which the mark shows; a front of the
+    /// `WriteFault` where a write failed or took nothing, which the mark shows; a front of the
     /// listing went out before it.
-    pub fn write_listing<W: ByteSink>(&self, sink: &mut W) -> Result<(), ListingWriteFault>
+    pub fn write_listing<W: ByteSink>(&self, sink: &mut W) -> Result<(), WriteFault>
         requires unmarked { W.mark sink.old ≡ false }
         ensures whole { OnOk result (Appends (W.taken sink.old) (W.taken sink.new)
             (listing_of self.now)) }
@@ -66,7 +66,7 @@ impl<A: Allocator + Copy> ListedProgram<A> {
     {
         match put(sink, &self.listing) {
             Ok(()) => Ok(()),
-            Err(_) => Err(ListingWriteFault),
+            Err(_) => Err(WriteFault),
         }
     }
 }
@@ -94,7 +94,7 @@ fn program_of<A: Allocator + Copy>(
     alloc: A,
     found: AssembledWords<'_, A>,
     fronts: &[PartText<'_>],
-) -> Result<ListedProgram<A>, AssembleFault>
+) -> Result<Program<A>, AssembleFault>
     ensures image { IfOk result (λ program. image_of program ≡ found.entry.image) }
     ensures symbols { IfOk result (λ program. symbols_of program ≡
         found.entry.symbols.own.entries) }
@@ -112,7 +112,7 @@ fn program_of<A: Allocator + Copy>(
     let Ok(listing) = make_listing(alloc, fronts, &words, &own) else {
         return Err(AssembleFault::NoMemory);
     };
-    Ok(ListedProgram {
+    Ok(Program {
         image,
         own,
         listing,
@@ -124,7 +124,7 @@ fn assemble_reading<A: Allocator + Copy>(
     alloc: A,
     reading: &Reading<'_, A>,
     profile: Profile,
-) -> Result<ListedProgram<A>, AssembleFault>
+) -> Result<Program<A>, AssembleFault>
     ensures found { IfOk result (λ program. IsSource (permanent_symbols profile) 1024
         reading.now.acts (symbols_of program) (image_of program)) }
     ensures listing { IfOk result (λ program. listing_of program ≡
@@ -147,7 +147,7 @@ fn assemble_parts<A: Allocator + Copy>(
     alloc: A,
     parts: &[&[u8]],
     profile: Profile,
-) -> Result<ListedProgram<A>, AssembleFault>
+) -> Result<Program<A>, AssembleFault>
     requires { size_fault (texts parts.now) ≡ None }
     ensures meaning { IfOk result (λ program. Means (permanent_symbols profile) (texts parts.now)
         (symbols_of program) (image_of program)) }
@@ -166,7 +166,7 @@ fn assemble_for<A: Allocator + Copy>(
     alloc: A,
     parts: &[&[u8]],
     profile: Profile,
-) -> Result<ListedProgram<A>, AssembleFault>
+) -> Result<Program<A>, AssembleFault>
     ensures meaning { IfOk result (λ program. Means (permanent_symbols profile) (texts parts.now)
         (symbols_of program) (image_of program)) }
     ensures listed { IfOk result (λ program. Lists (permanent_symbols profile) (texts parts.now)
@@ -192,7 +192,7 @@ pub fn assemble<A: Allocator + Copy>(
     alloc: A,
     parts: &[&[u8]],
     profile: Profile,
-) -> Result<ListedProgram<A>, AssembleFault>
+) -> Result<Program<A>, AssembleFault>
     ensures meaning { IfOk result (λ program. Means (permanent_symbols profile) (texts parts.now)
         (symbols_of program) (image_of program)) }
     ensures listed { IfOk result (λ program. Lists (permanent_symbols profile) (texts parts.now)

@@ -18,8 +18,7 @@ pub use devices::{Keyboard, OutputDevice, Panel, Reader};
 pub use event_text::{EventsFault, events};
 pub use operator::Operator;
 use processor::Memory;
-use std::alloc::AllocError;
-use thiserror::Error;
+pub use streams::NoMemory;
 use word12::{Link, Word};
 pub use world::World;
 
@@ -56,17 +55,6 @@ pub enum Seen {
     Halted,
     /// The word at the program counter is not supported; nothing changed.
     Unsupported(Word),
-}
-
-/// The memory that a call wanted was refused.
-#[derive(Clone, Copy, PartialEq, Eq, Debug, Error)]
-#[error("NoMemory")]
-pub struct NoMemory;
-
-impl From<AllocError> for NoMemory {
-    fn from(_: AllocError) -> NoMemory {
-        NoMemory
-    }
 }
 
 /// What is in the machine before a tape is loaded.

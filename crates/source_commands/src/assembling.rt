@@ -19,10 +19,10 @@ use bin_tape::laws::written_tapes_read_back;
 use bin_tape::{WriteTapeFault, write_tape};
 use command_parts::status::{DeviceFault, Fault, Status};
 use instruct::Profile;
-use pal_asm::{AssembleFault, ListedProgram, ListingWriteFault, Translation};
+use pal_asm::{AssembleFault, Program, Translation};
 use pal_diagnostics::push_faults;
 use std::alloc::{AllocError, Allocator};
-use streams::{ByteSink, ByteSource};
+use streams::{ByteSink, ByteSource, WriteFault};
 
 /// Adds the lines on the faults of a source to what is told, where names of its parts are given.
 fn tell_faults<A: Allocator + Copy>(
@@ -71,7 +71,7 @@ pub(crate) fn program_of<A: Allocator + Copy>(
     profile: Profile,
     names: Option<&[&str]>,
     told: &mut String<A>,
-) -> Result<ListedProgram<A>, Fault>
+) -> Result<Program<A>, Fault>
     ensures found { IfOk result (λ program. Means (permanent_symbols profile) (texts parts.now)
         (symbols_of program) (image_of program)) }
     ensures listed { IfOk result (λ program. Lists (permanent_symbols profile) (texts parts.now)
@@ -202,6 +202,6 @@ pub fn list<A: Allocator + Copy, R: ByteSource, W: ByteSink>(
     let program = program_of(alloc, &slices, profile, names, told)?;
     match program.write_listing(out) {
         Ok(()) => Ok(Status::Done),
-        Err(ListingWriteFault) => Err(Fault::Device(DeviceFault::Write)),
+        Err(WriteFault) => Err(Fault::Device(DeviceFault::Write)),
     }
 }

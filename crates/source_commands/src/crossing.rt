@@ -21,7 +21,7 @@ use crate::sources::{byte_slices, read_parts};
 use command_parts::status::{DeviceFault, Fault, Status};
 use instruct::Profile;
 use labels::Tags;
-use pal_asm::{AssembleFault, ListedProgram, SourceMap, map_source};
+use pal_asm::{AssembleFault, Program, SourceMap, map_source};
 use std::alloc::{AllocError, Allocator};
 use streams::{ByteSink, ByteSource, Failed, put};
 
@@ -53,10 +53,7 @@ impl<A: Allocator> ByteSink for TextSink<A> {
 }
 
 /// The listing of a program.
-fn listing_of<A: Allocator + Copy>(
-    alloc: A,
-    program: &ListedProgram<A>,
-) -> Result<Vec<u8, A>, AllocError>
+fn listing_of<A: Allocator + Copy>(alloc: A, program: &Program<A>) -> Result<Vec<u8, A>, AllocError>
     ensures { IfOk result (λ text. text.items ≡ listing_of program.now) }
 {
     let mut sink = TextSink {
@@ -91,7 +88,7 @@ fn map_of<A: Allocator + Copy>(
 fn program_table<A: Allocator + Copy>(
     alloc: A,
     parts: &[&[u8]],
-    program: &ListedProgram<A>,
+    program: &Program<A>,
     map: &SourceMap<A>,
 ) -> Result<Vec<u8, A>, AllocError>
     ensures { IfOk result (λ text. IsTable (symbols_of program.now) text.items) }
@@ -111,7 +108,7 @@ fn program_table<A: Allocator + Copy>(
 fn with_table<A: Allocator + Copy>(
     alloc: A,
     parts: &[&[u8]],
-    program: &ListedProgram<A>,
+    program: &Program<A>,
     map: &SourceMap<A>,
 ) -> Result<Vec<u8, A>, AllocError>
     ensures { IfOk result (λ text. HasTable (symbols_of program.now) (listing_of program.now)
@@ -129,7 +126,7 @@ fn crossed<A: Allocator + Copy>(
     alloc: A,
     parts: &[&[u8]],
     profile: Profile,
-    program: &ListedProgram<A>,
+    program: &Program<A>,
 ) -> Result<Vec<u8, A>, Fault>
     ensures crossed { IfOk result (λ text. HasTable (symbols_of program.now)
         (listing_of program.now) text.items) }

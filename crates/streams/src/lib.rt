@@ -4,10 +4,12 @@
 #![tactic(auto)]
 
 pub mod bytes;
+pub mod faults;
 pub mod input;
 pub mod standard;
 pub mod taking;
 pub mod text;
 
 pub use bytes::{ByteSink, ByteSource, Failed, put};
+pub use faults::{NoMemory, WriteFault};
 pub use input::{InputFault, read_at_most};

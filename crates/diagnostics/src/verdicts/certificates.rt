@@ -12,7 +12,7 @@ ghost use Rattle.diagnostics.specs.CertificateFaults.{IsCertificateInputFault, R
 ghost use Rattle.diagnostics.specs.CertificateInputs.{HasCertificate, TakesCertificate};
 
 use certificate::Certificate;
-use command_parts::programs::{Program, program_from};
+use command_parts::programs::{ProgramWithDeclaration, program_from};
 use command_parts::status::{Fault, Status};
 use std::alloc::Allocator;
 use streams::{ByteSink, ByteSource};
@@ -21,7 +21,7 @@ use streams::{ByteSink, ByteSource};
 #[derive(Drop)]
 pub struct ProgramWithCertificate<A: Allocator> {
     /// The program with its declaration.
-    pub program: Program<A>,
+    pub program: ProgramWithDeclaration<A>,
     /// The certificate.
     pub certificate: Certificate<A>,
 }

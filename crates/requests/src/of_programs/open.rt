@@ -5,7 +5,7 @@ use crate::of_sources::assembled::AssembledSource;
 use bin_tape::Image;
 use command_line::Task;
 use command_parts::inputs::tape_from;
-use command_parts::programs::{Program, program_from};
+use command_parts::programs::{ProgramWithDeclaration, program_from};
 use command_parts::status::Fault;
 use either::Either;
 use std::alloc::Global;
@@ -57,7 +57,7 @@ impl<'x, I: Read + Drop> OpenProgram<'x, I> {
     /// # Errors
     ///
     /// As for `program_from`.
-    pub(crate) fn read(&mut self, alloc: Global) -> Result<Program<Global>, Fault> {
+    pub(crate) fn read(&mut self, alloc: Global) -> Result<ProgramWithDeclaration<Global>, Fault> {
         let mut frames = StdReader::new(&mut self.frames);
         let mut text = StdReader::new(&mut self.text);
         program_from(alloc, &mut frames, &mut text)

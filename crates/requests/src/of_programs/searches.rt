@@ -15,7 +15,7 @@ use certificate::Certificate;
 use certificate_lines::Version;
 use command_line::{Destination, ProgramRequest};
 use command_parts::options::{DeclareOptions, RefuteOptions};
-use command_parts::programs::Program;
+use command_parts::programs::ProgramWithDeclaration;
 use command_parts::status::{Fault, Status};
 use declaration::Declaration;
 use diagnostics::verdicts::certificates::write_certificate;
@@ -101,7 +101,7 @@ pub(crate) fn guessed<R: Files + Print + Eprint, I: Read + Drop>(
 ) -> Result<Status, Fault> {
     let mut file = open_output(rt, alloc, out)?;
     let source = opened.source;
-    let Program { image, declaration } = opened.read(alloc)?;
+    let ProgramWithDeclaration { image, declaration } = opened.read(alloc)?;
     if !asked.explained && report.is_none() {
         return write_found(&mut file, &found_for(alloc, &image, &declaration, version)?);
     }
@@ -130,7 +130,7 @@ pub(crate) fn refuted<R: Files + Print + Eprint, I: Read + Drop>(
 ) -> Result<Status, Fault> {
     let mut file = open_output(rt, alloc, out)?;
     let source = opened.labels(options.explained);
-    let Program { image, declaration } = opened.read(alloc)?;
+    let ProgramWithDeclaration { image, declaration } = opened.read(alloc)?;
     let found = refute_message(alloc, &image, &declaration, options)?;
     let lines = lines_of(alloc, source, &found.told)?;
     put(&mut StdWriter::new(&mut file), &found.events)?;

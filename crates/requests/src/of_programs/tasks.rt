@@ -15,7 +15,7 @@ use command_parts::inputs::{bytes_from, events_from};
 use command_parts::message::Message;
 use command_parts::options::{RunOptions, SessionOptions};
 use command_parts::outcome::deliver;
-use command_parts::programs::Program;
+use command_parts::programs::ProgramWithDeclaration;
 use command_parts::status::{Fault, Status};
 use diagnostics::verdicts::certificates::{ProgramWithCertificate, certificate_from};
 use diagnostics::verdicts::messages::check_message;
@@ -64,7 +64,7 @@ fn checked<R: Files + Input + Print, I: Read + Drop>(
         let mut out = StdWriter::new(io::writer(rt));
         return deliver(verdict_of(alloc, &certified), &mut out);
     }
-    let Program { image, declaration } = &certified.program;
+    let ProgramWithDeclaration { image, declaration } = &certified.program;
     let verdict = check_message(alloc, image, declaration, &certified.certificate)?;
     tell_lines(rt, alloc, source, &verdict.told)?;
     Ok(verdict.status)
@@ -122,7 +122,7 @@ fn watched<R: Files + Input + Print, I: Read + Drop>(
 ) -> Result<Status, Fault> {
     let mut list = open_input(rt, events)?;
     let source = opened.labels(explained);
-    let Program { image, declaration } = opened.read(alloc)?;
+    let ProgramWithDeclaration { image, declaration } = opened.read(alloc)?;
     let events = events_from(alloc, &mut list)?;
     let show = &named.show;
     let run = match &named.stopping {
@@ -156,7 +156,7 @@ fn session_watched<R: Files + Input + Print, I: Read + Drop>(
         ..session.options
     };
     let source = opened.labels(explained);
-    let Program { image, declaration } = opened.read(alloc)?;
+    let ProgramWithDeclaration { image, declaration } = opened.read(alloc)?;
     let frames = bytes_from(alloc, &mut reader, options.run.rounds)?;
     let struck = bytes_from(alloc, &mut keys, options.run.rounds)?;
     let continues = session.continues;

@@ -8,7 +8,7 @@ use crate::stuck::answer_message;
 use command_line::SaveOptions;
 use command_parts::message::Message;
 use command_parts::options::VerifyOptions;
-use command_parts::programs::Program;
+use command_parts::programs::ProgramWithDeclaration;
 use command_parts::status::{Fault, Status};
 use search_commands::messages::{verify_message, verify_proposed_message};
 use std::alloc::Global;
@@ -25,7 +25,7 @@ fn verified_as_declared<R: Files + Input + Print + Eprint, I: Read + Drop>(
     options: &VerifyOptions,
 ) -> Result<Status, Fault> {
     let source = opened.labels(options.search.explained);
-    let Program { image, declaration } = opened.read(alloc)?;
+    let ProgramWithDeclaration { image, declaration } = opened.read(alloc)?;
     let found = verify_message(alloc, &image, &declaration, &options.search)?;
     let told = answer_message(alloc, &image, &declaration, &found)?;
     let lines = lines_of(alloc, source, &told)?;

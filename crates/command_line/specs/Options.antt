@@ -11,6 +11,7 @@ use Rattle.streams.specs.Text.{decimal_between}
 use Rattle.word12.specs.Octal.{octal_reading}
 use Rattle.word12.specs.declared.OctalFault.{OctalFault}
 use Rattle.command_parts.specs.declared.options.DeclareOptions.{DeclareOptions}
+use Rattle.command_parts.specs.declared.options.Refinements.{Refinements}
 use Rattle.command_parts.specs.declared.options.RefuteOptions.{RefuteOptions}
 use Rattle.command_parts.specs.declared.options.RunOptions.{RunOptions}
 use Rattle.command_parts.specs.declared.options.SessionOptions.{SessionOptions}
@@ -96,6 +97,11 @@ pub record AreDeclareOptions (found : ArgMatches) (options : DeclareOptions) : T
   pub start : start_given found ≡ Ok options.start
   pub machine : machine_given found ≡ Some options.profile
   pub reads : IsFlagGiven found (codes "reads") options.reads
+
+-- A declaration is refined as the options ask: without what is needless or not, and with or without what routines return with.
+pub record AreRefinements (found : ArgMatches) (refinements : Refinements) : Type 0 where
+  pub tight : IsFlagGiven found (codes "tight") refinements.tight
+  pub exits : IsFlagGiven found (codes "exits") refinements.exits
 
 -- A run is searched for as the options ask: with so many steps at most, from the seed, and with or without what is said of it.
 pub record AreRefuteOptions (found : ArgMatches) (options : RefuteOptions) : Type 0 where

@@ -9,7 +9,7 @@ use Rattle.command_line.specs.declared.programs.ProgramNames.{ProgramNames}
 use Rattle.command_line.specs.declared.programs.ProgramNames.TheVariants.{Tape, Source}
 use Rattle.command_line.specs.declared.programs.Task.{Task}
 use Rattle.command_line.specs.declared.programs.Task.TheVariants.{Verify, Check, Report, Watch, WatchSession, Guess, Refute, Declare}
-use Rattle.command_line.specs.Options.{AreDeclareOptions, AreRefuteOptions, AreSessionOptions, AreVerifyOptions, IsFlagGiven, IsNumberNamed, IsVersionNamed, IsWatchedWithOperator, has_value, operand, sources_given, value}
+use Rattle.command_line.specs.Options.{AreDeclareOptions, AreRefinements, AreRefuteOptions, AreSessionOptions, AreVerifyOptions, IsFlagGiven, IsNumberNamed, IsVersionNamed, IsWatchedWithOperator, has_value, operand, sources_given, value}
 
 -- The files of a program are those that were given: that of its tape, or those of the parts of its source, in order.
 abbrev pub IsProgramGiven : ArgMatches → ProgramNames → Type 0
@@ -123,7 +123,7 @@ IsRefuteGiven found _ = ⊥
 
 -- A declaration is proposed as the options ask.
 abbrev pub IsDeclareGiven : ArgMatches → Task → Type 0
-IsDeclareGiven found (Declare out options) = AreDeclareOptions found options
+IsDeclareGiven found (Declare out options refinements) = AreDeclareOptions found options × AreRefinements found refinements
 IsDeclareGiven found _ = ⊥
 
 -- The report is of the certificate that is given last, as text or as a page as the option asks.

@@ -18,12 +18,12 @@ use crate::place_options::{OctalAddresses, PlaceOptions, StopOptions, places_of}
 use crate::program_command::{ProgramCommand, command_of};
 use crate::sources::source_names;
 use crate::values::{
-    declare_options, is_given, is_start_named, read_standard_input_once, refute_options,
-    verify_options,
+    declare_options, is_given, is_start_named, read_standard_input_once, refinements_of,
+    refute_options, verify_options,
 };
 use certificate_lines::Version;
 use clap::ArgMatches;
-use command_parts::options::{DeclareOptions, RefuteOptions, VerifyOptions};
+use command_parts::options::{DeclareOptions, Refinements, RefuteOptions, VerifyOptions};
 use std::alloc::Global;
 use wordset::WordSet;
 
@@ -111,6 +111,8 @@ pub enum Task<'a> {
         out: Destination<'a>,
         /// What it is proposed for.
         options: DeclareOptions,
+        /// What is made of it if a certificate is found.
+        refinements: Refinements,
     },
     /// To write the declaration in numbers.
     Place {
@@ -373,7 +375,12 @@ fn declare_task<'a>(
 {
     let out = no_source(result_of(found, operands.last), inputs)?;
     let options = declare_options(found)?;
-    Ok(Task::Declare { out, options })
+    let refinements = refinements_of(found);
+    Ok(Task::Declare {
+        out,
+        options,
+        refinements,
+    })
 }
 
 /// To write what a certificate says.

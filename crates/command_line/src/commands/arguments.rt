@@ -374,6 +374,20 @@ const CROSS: Argument = Argument {
     help: "after the listing, writes a table of the symbols, with the places where each is defined and used",
 };
 
+const TIGHT: Argument = Argument {
+    name: "tight",
+    short: None,
+    form: Form::Flag,
+    help: "leaves out what a certificate shows to be needless, and says on standard error what goes",
+};
+
+const EXITS: Argument = Argument {
+    name: "exits",
+    short: None,
+    form: Form::Flag,
+    help: "adds for each routine what AC and the link are shown to be when it returns",
+};
+
 const READS: Argument = Argument {
     name: "reads",
     short: None,
@@ -579,7 +593,7 @@ pub(crate) const REPORT_ARGUMENTS: [Argument; 8] = [
     WHY_INPUT,
 ];
 
-pub(crate) const DECLARE_ARGUMENTS: [Argument; 9] = [
+pub(crate) const DECLARE_ARGUMENTS: [Argument; 11] = [
     TAPE_OR_SOURCE,
     DECLARATION_OUT,
     OUTPUT,
@@ -587,6 +601,8 @@ pub(crate) const DECLARE_ARGUMENTS: [Argument; 9] = [
     FROM,
     START,
     READS,
+    TIGHT,
+    EXITS,
     PROFILE,
     WHY_INPUT,
 ];

@@ -2,39 +2,77 @@
 # Times one loop of ISZ and JMP on the processor alone, on a world that is driven by events, and on SIMH's pdp8
 # (Debian's package simh), by turns in one run, and prints for each the least processor time of seven runs and the
 # millions of instructions a second. Other work on the machine slows a run down and never speeds it up.
+#
+# Where OLD names a program pdp8 of an older commit, it also times `pdp8 run` (a million instructions, CALLS times, 40
+# by default) and `pdp8 teletype` (the whole loop) without any option that stops or traces, by turns with the same of
+# the program PDP8, or of this repository's where PDP8 is not set. For the older program, build that commit in a tree
+# of its own and keep what it makes:
+#     git worktree add /tmp/old COMMIT && make -C /tmp/old run && cp /tmp/old/crates/pdp8/out/pdp8 /tmp/pdp8.old
+#     OLD=/tmp/pdp8.old bench/run.sh
+# `make run` takes as long as README.md says. Both programs have to be proved ones: one that was built without proofs
+# has checks in it, and is slower.
+#
 # usage: bench/run.sh [ROUNDS]; a round has 33,558,529 instructions. SIMH names another simulator than /usr/bin/pdp8.
 set -euo pipefail
 top=$(cd "$(dirname "$0")/.." && pwd)
 rounds=${1:-6}
+calls=${CALLS:-40}
+old=${OLD:-}
+program=${PDP8:-$top/crates/pdp8/out/pdp8}
 simh=${SIMH:-/usr/bin/pdp8}
 work=$(mktemp -d)
 trap 'rm -r "$work"' EXIT
 # Building runs the program once, whose lines are left out.
 (cd "$top/crates/speed" && rt run >"$work/built" 2>&1) || { cat "$work/built"; exit 1; }
-program=$top/crates/speed/out/speed
+[ -z "$old" ] || [ -x "$program" ] || (cd "$top/crates/pdp8" && rt run <stdin >"$work/built" 2>&1) || { cat "$work/built"; exit 1; }
+speed=$top/crates/speed/out/speed
 
 if ! echo quit | "$simh" 2>&1 | grep -q 'PDP-8 simulator'; then
     echo "bench/run.sh: SIMH's pdp8 isn't installed, so its column is left out"
     simh=
 fi
+count=$(printf '%o' $(((4096 - rounds) & 4095)))
 # The same loop, deposited cell by cell.
 {
     printf 'deposit %s\n' '200 7300' '201 2210' '202 5201' '203 2211' '204 5201' '205 2212' '206 5201' '207 7402'
-    printf 'deposit 212 %o\nrun 200\nexamine PC\nexamine AC\nexamine 212\nquit\n' $(((4096 - rounds) & 4095))
+    printf 'deposit 212 %s\nrun 200\nexamine PC\nexamine AC\nexamine 212\nquit\n' "$count"
 } >"$work/loop.ini"
+# The same loop on a tape.
+printf '*200;7300;2210;5201;2211;5201;2212;5201;7402;0;0;%s\n$\n' "$count" >"$work/loop.pal"
+[ -z "$old" ] || "$program" assemble -o "$work/loop.bin" "$work/loop.pal"
 
 # Seconds of processor time that a command takes; what it writes goes to a file.
 TIMEFORMAT=%U
 seconds() { { time "${@:2}" >"$1" 2>&1 </dev/null; } 2>&1; }
+# Runs a million instructions of the loop, so many times.
+runs() { for _ in $(seq "$calls"); do "$1" run "$work/loop.bin" --steps 1000000; done; }
+# The times of a program's runs and of its session, under a name.
+of_program() {
+    echo "$1run $(seconds "$work/$1run" runs "$2")"
+    echo "$1teletype $(seconds "$work/$1teletype" "$2" teletype "$work/loop.bin")"
+}
 
 for _ in 1 2 3 4 5 6 7; do
-    echo "cpu $(seconds "$work/cpu" "$program" cpu "$rounds")"
-    echo "world $(seconds "$work/world" "$program" world "$rounds")"
+    echo "cpu $(seconds "$work/cpu" "$speed" cpu "$rounds")"
+    echo "world $(seconds "$work/world" "$speed" world "$rounds")"
     [ -z "$simh" ] || echo "simh $(seconds "$work/simh" "$simh" "$work/loop.ini")"
+    if [ -n "$old" ]; then
+        of_program '' "$program"
+        of_program old- "$old"
+    fi
 done >"$work/times"
 cat "$work/cpu" "$work/world"
 [ -z "$simh" ] || grep -E '^(HALT|PC|AC|212)' "$work/simh" | paste -sd' '
-awk -v steps=$((rounds * 33558529 + 1)) '
+# Programs that end otherwise are not compared.
+if [ -n "$old" ]; then
+    sort -u "$work/run" "$work/old-run" "$work/teletype" "$work/old-teletype"
+    cmp "$work/run" "$work/old-run"
+    cmp "$work/teletype" "$work/old-teletype"
+fi
+awk -v steps=$((rounds * 33558529 + 1)) -v calls="$calls" '
     !($1 in least) || $2 < least[$1] { least[$1] = $2 }
-    END { for (name in least) printf "%-6s %.3f s %6.1f million instructions a second\n", name, least[name], steps / least[name] / 1e6 }
+    END { for (name in least) {
+        done = name ~ /run$/ ? calls * 1e6 : steps
+        printf "%-12s %.3f s %6.1f million instructions a second\n", name, least[name], done / least[name] / 1e6
+    } }
 ' "$work/times" | sort

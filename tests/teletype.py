@@ -5,7 +5,8 @@ pseudo-terminal as the other end of a line, by socat, where it is installed.
 usage: tests/teletype.py PDP8    PDP8 is the built program; names what went otherwise, exit status 1 where anything did
 
 The programs are those of tests/cases/teletype.md: the game `guess`, which answers each line, and the line editor `edit`, which
-takes a key back at a rubout; and examples/echo. `pdp8` alone says that it waits for a tape. No gate runs this: it wants tmux, and waits for screens.
+takes a key back at a rubout; and examples/echo, which is also stopped, interrupted and run from its source. `pdp8` alone says that it waits for a
+tape. No gate runs this: it wants tmux, and waits for screens.
 """
 import contextlib
 import os
@@ -26,7 +27,8 @@ def programs(pdp8, folder):
         sources = {block.name: '\n'.join(block.lines) + '\n' for block in blocks_of(file.read()) if block.kind == 'file'}
     with open(os.path.join(TOP, 'examples', 'echo.pal'), encoding='utf-8') as file:
         sources['echo.pal'] = file.read()
-    for name in ('guess', 'edit', 'echo'):
+    sources['punch.pal'] = '*200\nTAD .+5;PLS;KSF;JMP .-1;HLT;301\n$\n'
+    for name in ('guess', 'edit', 'echo', 'punch'):
         with open(os.path.join(folder, f'{name}.pal'), 'w', encoding='utf-8') as file:
             file.write(sources[f'{name}.pal'])
         subprocess.run([pdp8, 'assemble', f'{name}.bin', f'{name}.pal'], cwd=folder, check=True)
@@ -114,6 +116,29 @@ TELLING = [
     ((), ['^X ends the session when the program asks for a key']),
     (('C-x',), ['^X ends the session when the program asks for a key', '', 'INTERRUPTED 0203 AC=0000 L=0 PC=0203 STEPS=3', 'OVER']),
 ]
+# A session of a source is stopped where the routine that types is reached for the second time: the second key isn't typed. The lines of the last
+# instructions begin on a line of their own.
+STOPPING = [
+    ((), [TOLD]),
+    (('H',), [TOLD, 'H']),
+    (('I',), [TOLD, 'H', '0202 6031 KSF AC=0000 L=1', '0204 6036 KRB AC=0311 L=1', '0205 4213 JMS C013 AC=0311 L=1',
+              'STOPPED 0214 AC=0311 L=1 PC=0214 STEPS=18', '0213 0206', 'OVER']),
+]
+# What was punched before ^E is in the file, and the cell is shown.
+PUNCHING = [
+    ((), [TOLD]),
+    (('C-e',), [TOLD, 'INTERRUPTED 0203 AC=0301 L=0 PC=0203 STEPS=3', 'PUNCHED 1 frame to punched', '0205 0301', '301', 'OVER']),
+]
+
+
+def left_by(key):
+    """A session that ends by a key, behind which the terminal delivers lines and shows keys again."""
+    return [((), [TOLD]), (('A',), [TOLD, 'A']), ((key,), ['icanon', 'echo', 'OVER'])]
+
+
+# What docs/TELETYPE.md says to type, and then how the terminal is set. The shell of the test itself survives ^C.
+SET_AND_PUT_BACK = ("trap : 2; (trap 'stty sane' 0 1 2 3 15; stty -icanon -echo; pdp8 teletype echo.bin; :); clear; "
+                    "stty -a | tr ' ;' '\\n\\n' | grep -x -e icanon -e echo")
 # Nothing is asked for, and the end of standard input is no tape.
 WAITING = ['pdp8 waits for a tape on standard input; pdp8 help lists the commands']
 ALONE = [
@@ -134,6 +159,10 @@ def at_a_terminal(folder, pdp8):
         play(folder, pdp8, "stty raw -echo; printf 'READY\\r\\n'; pdp8 teletype echo.bin 2>/dev/null", once_ready(ECHOING)),
         play(folder, pdp8, 'stty -icanon -echo; pdp8 teletype echo.bin', INTERRUPTING),
         play(folder, pdp8, 'stty -icanon -echo; pdp8 teletype echo.bin --interrupt 30', TELLING),
+        play(folder, pdp8, 'stty -icanon -echo; pdp8 teletype --source echo.pal --until TYPE+1,2 --last 3 --show TYPE', STOPPING),
+        play(folder, pdp8, "stty -icanon -echo; pdp8 teletype --source punch.pal --punch punched --show 205; od -An -b punched | tr -d ' '", PUNCHING),
+        play(folder, pdp8, SET_AND_PUT_BACK, left_by('C-e')),
+        play(folder, pdp8, SET_AND_PUT_BACK, left_by('C-c')),
         play(folder, pdp8, 'pdp8', ALONE),
     ]
 

@@ -137,8 +137,19 @@ class Changes:
         at = self.one(image)
         return image | {at: self.one([image[at] ^ 1 << self.numbers.randrange(12), self.numbers.randrange(4096)])}
 
+    def further_line(self, text):
+        """A line on how a routine returns or on what is to hold, of the declaration's own entries and of places near its start."""
+        entries = re.findall(r"^sub (\S+)", text, re.M) or ["0300"]
+        start = int(re.search(r"^start (\S+)", text, re.M).group(1), 8)
+        entry, place = self.one(entries), f"{start + self.one([0, 0, 1, 2, 3, self.numbers.randrange(32)]):04o}"
+        subject = self.one(["ac 0", "ac 0-3777", "ac 0-7777", "link 0", "link 1", "mq 0-7777", "cell 0010 0-7777", "cell 0300 0-3777"])
+        return self.one([f"skips {entry} {self.one(['1', '0-77', '7-20', '12'])}", f"moves {entry}", f"abandon {place}",
+                         f"holds {place} {subject}", f"returns {entry} {subject}", f"returns {entry} {self.one(['0', '1', '0 1'])} {subject}"])
+
     def changed_declaration(self, text):
-        kind = self.numbers.randrange(4)
+        kind = self.numbers.randrange(7)
+        if kind > 3:
+            return text + "".join(self.further_line(text) + "\n" for _ in range(self.one([1, 1, 2])))
         if kind == 0:
             return text + self.one(["read\n", "read 0000-0377\n", "read 0000-7777\n", "profile 8e\n"])
         if kind == 1:
@@ -149,9 +160,9 @@ class Changes:
         kind = self.numbers.randrange(8)
         if kind == 0:
             image = self.changed_image(image)
-        elif kind == 1:
+        elif kind in (1, 2):
             declaration = self.changed_declaration(declaration)
-        if kind > 1 or self.numbers.random() < 0.2:
+        if kind > 2 or self.numbers.random() < 0.2:
             certificate = self.changed_certificate(certificate)
         return image, declaration, certificate
 

@@ -16,12 +16,17 @@ import watch  # noqa: E402
 # Main, two routines with a second page for one of them, variables and a table of constants.
 MAIN, FIRST, SECOND = range(0o200, 0o212), range(0o221, 0o226), range(0o231, 0o236)
 ENTRIES, VARIABLES, CONSTANTS = [0o220, 0o230], [0o10, 0o11, 0o240, 0o241, 0o242], [0o250, 0o251, 0o252, 0o253]
+# Places of main to which a routine may jump.
+LEFT_FOR = [0o200, 0o204]
 OPERATES = [0o7000, 0o7200, 0o7300, 0o7001, 0o7040, 0o7041, 0o7240, 0o7650, 0o7640, 0o7440, 0o7410, 0o7604, 0o7402,
             0o7421, 0o7501, 0o7521, 0o7701, 0o7002, 0o7010, 0o7004, 0o7016, 0o7401]
 DEVICES = [0o6011, 0o6012, 0o6014, 0o6016, 0o6021, 0o6026, 0o6031, 0o6036, 0o6041, 0o6046, 0o6001, 0o6030, 0o6040]
 BROKEN_LINES = ["start 9", "main", "var 0300-0200", "sub 0300", "stop", "read 8", "profile 8a", "main 0-", "start",
                 "variable 5", "sub 0300 body returns 0", "sub 300 body 301 returns 8", "step 5", "sub 300 body 301",
-                "sub 300 body 301 returns 0 10", "pause 00200", "main 200 - 201", "start 0200 0201"]
+                "sub 300 body 301 returns 0 10", "pause 00200", "main 200 - 201", "start 0200 0201",
+                "skips 0220", "skips 0220 100", "skips 300 1", "moves", "moves 0300", "moves 0220-0230", "abandon", "abandon 0221",
+                "abandon 0200-0201", "holds 0300 ac 0", "holds ac 0", "holds 0200", "holds 0200 link 2", "holds 0200 ac 3-1",
+                "holds 0200 cell 0010", "holds 0200 0201 ac", "returns 0300 ac 0", "returns ac 0", "returns 0220 100 ac 0"]
 
 
 def reference(operation, cell, indirect=False):
@@ -60,8 +65,25 @@ class Chance:
             return self.one(DEVICES[:10])
         return self.one(OPERATES[:12] if self.share(0.85) else OPERATES + DEVICES)
 
+    def leaving(self, body, entry):
+        """A word of a body; in a routine now and then a jump straight to a place of main that may be declared for it."""
+        if entry and self.share(0.15):
+            return reference(5, self.one(LEFT_FOR))
+        return self.word(body, entry)
+
+    def moving(self):
+        """A call of the first routine, which stores a return word that it computes."""
+        added = self.one([0o7001, 0o7000, 0o7001, reference(1, CONSTANTS[3])])
+        words = [0o7200, reference(1, ENTRIES[0]), added, reference(3, *self.one([(ENTRIES[0], False)] * 4 + [(VARIABLES[2], True)]))]
+        return {MAIN[1]: reference(4, ENTRIES[0]), MAIN[0]: 0o7000, VARIABLES[2]: ENTRIES[0], FIRST[4]: reference(5, ENTRIES[0], True)} | dict(zip(FIRST, words))
+
+    def leaving_from_two(self):
+        """A call of the first routine, which calls the second one, which jumps to a place of main."""
+        return {MAIN[1]: reference(4, ENTRIES[0]), MAIN[0]: 0o7000, FIRST[0]: reference(4, ENTRIES[1]), SECOND[0]: self.one(OPERATES[:8]),
+                SECOND[1]: reference(5, self.one(LEFT_FOR), self.share(0.1))}
+
     def image(self):
-        image = {at: self.word(body, entry) for body, entry in ((MAIN, 0), (FIRST, ENTRIES[0]), (SECOND, ENTRIES[1]))
+        image = {at: self.leaving(body, entry) for body, entry in ((MAIN, 0), (FIRST, ENTRIES[0]), (SECOND, ENTRIES[1]))
                  for at in body}
         for body, entry in ((FIRST, ENTRIES[0]), (SECOND, ENTRIES[1])):
             image[body[-1]] = reference(5, entry, True)
@@ -69,6 +91,8 @@ class Chance:
         image[MAIN[-1]] = self.one([0o7402, reference(5, MAIN[0])])
         data = [0o237, 0o250, 0o251, 0o252, 0o7775, 0o220, 0o230, 5]
         image |= {at: self.one(data) for at in VARIABLES[2:] + CONSTANTS}
+        if self.share(0.4):
+            image |= self.one([self.moving, self.leaving_from_two])()
         if self.share(0.3):
             at = self.one(sorted(image))
             image[at] = self.numbers.randrange(4096)
@@ -82,9 +106,24 @@ class Chance:
             returns = " ".join(self.one(["0", "0", "0 1", "1 0", "0 1 2", "3", "0 0", ""]).split())
             lines.append(f"sub {entry:o} body {body[0]:o}-{body[3]:o} {body[-1]:o} returns {returns}".rstrip())
         lines += self.one([[], [], ["profile 8e"], ["profile 8i"]])
+        lines += [line for line in self.further_lines() if self.share(0.35)]
         lines += self.one([[], [], ["read 0010-0011 220-257"], ["read 240-253", "read 10"], ["read 0-7777"], ["read"]])
         self.numbers.shuffle(lines)
         return self.joined(self.spoiled(lines))
+
+    def subject(self):
+        """What an assertion says: most often what holds in most runs."""
+        return self.one(["link 0", "link 1", "ac 0-3777", "ac 0-6000 7000-7777", "ac 0", "mq 0", "mq 0-7777", "cell 240 0-7776",
+                         "cell 0010 0-777", "cell 250 237-253 5", "cell 220 0-3777", "cell 241 0"])
+
+    def further_lines(self):
+        """Lines on how routines return and on what is to hold, each of which may be left out."""
+        places = [f"{self.one([*MAIN, *FIRST, *SECOND]):04o}" for _ in range(self.one([1, 1, 2]))]
+        offsets = self.one(["", "", " 0", " 0 1", " 77"])
+        return [f"skips {self.one(ENTRIES):o} {self.one(['1', '1-3', '4 6', '10', '7-20', '0-77'])}",
+                f"moves {self.one(['220', '220', '230', '220 230'])}",
+                "abandon " + " ".join(f"{at:o}" for at in LEFT_FOR if self.share(0.7) or at == LEFT_FOR[0]),
+                f"holds {' '.join(places)} {self.subject()}", f"returns {self.one(ENTRIES):o}{offsets} {self.subject()}"]
 
     def spoiled(self, lines):
         """The lines, sometimes with a fault."""

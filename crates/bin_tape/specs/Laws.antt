@@ -12,7 +12,7 @@ TapeImageIsOne = (tape : List ℕ) (image image' : List (Option ℕ)) → IsTape
 abbrev pub TapeFaultIsOne : Type 0
 TapeFaultIsOne = (limit : ℕ) (fs : List ℕ) (fault fault' : TapeFault) → Refuses limit fs fault → Refuses limit fs fault' → fault ≡ fault'
 
--- Frames that are a tape as far as they are looked at aren't refused: no list of frames has both an image and a fault.
+-- Frames that are a tape as far as they are looked at are not refused: no list of frames has both an image and a fault.
 abbrev pub TapeIsNoFault : Type 0
 TapeIsNoFault = (limit : ℕ) (fs : List ℕ) (image : List (Option ℕ)) (fault : TapeFault) → IsTape (take limit fs) image → Refuses limit fs fault → ⊥
 

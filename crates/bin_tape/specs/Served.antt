@@ -29,7 +29,7 @@ pub record ServesAll (bytes : List ℕ) (new : Option (List ℕ)) (r : Result (L
   pub answer : ((r ≡ Err ReadFault) × StaysOpen given) ⊎ Answers (nat_lt 65536 (length bytes)) (reads (take 65536 bytes)) r
 
 -- What the source gave brings the answer of all its bytes, or a read failed before it had one. Nothing is said of a
--- source that doesn't tell its bytes.
+-- source that does not tell its bytes.
 abbrev pub Serves : Option (List ℕ) → Option (List ℕ) → Result (List (Option ℕ)) TapeFault → Type 0
 Serves None new r = ⊤
 Serves (Some bytes) new r = ServesAll bytes new r

@@ -1,9 +1,9 @@
-//! Why a tape isn't read.
+//! Why a tape is not read.
 
 use thiserror::Error;
 use word12::Word;
 
-/// Why a list of frames isn't read as a tape. Places count frames from 0.
+/// Why a list of frames is not read as a tape. Places count frames from 0.
 #[derive(Clone, Copy, PartialEq, Eq, Debug, Error)]
 pub enum TapeFault {
     /// As many frames as are looked at brought no answer, and another follows.
@@ -35,7 +35,7 @@ pub enum TapeFault {
     ReadFault,
 }
 
-/// Why a tape isn't written, or not to its end.
+/// Why a tape is not written, or not to its end.
 #[derive(Clone, Copy, PartialEq, Eq, Debug, Error)]
 pub enum WriteTapeFault {
     /// The image has no word.

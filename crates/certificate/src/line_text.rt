@@ -19,7 +19,7 @@ use wordset::{Links, WordSet};
 /// No line has more bytes, its line feed included.
 const MOST: usize = 49_153;
 
-/// The text of a line as far as it's written.
+/// The text of a line as far as it is written.
 #[derive(Drop)]
 pub struct LineText {
     bytes: ArrayVec<u8, MOST>,
@@ -163,7 +163,7 @@ impl LineText {
         self.set(&runs[first..first + usize::from(count)]);
     }
 
-    /// Adds an octal digit, where it's wanted.
+    /// Adds an octal digit, where it is wanted.
     pub fn digit_if(&mut self, digit: usize, is_wanted: bool)
         requires { digit < 8 }
         ensures { Adds self.old.bytes.items self.new.bytes.items

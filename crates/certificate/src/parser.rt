@@ -244,7 +244,7 @@ impl<A: Allocator> Parser<A> {
         take_line(line, kept, progress, runs, steps)
     }
 
-    /// Takes the rest of a line and its line feed. A line that lies whole in what was given isn't copied.
+    /// Takes the rest of a line and its line feed. A line that lies whole in what was given is not copied.
     fn take_end(&mut self, rest: &[u8]) -> Result<(), CertificateFault>
         requires small { IsSmall self.old }
         requires feed { NoFeed rest.now }

@@ -15,7 +15,7 @@ words_in line = slice_split (λ c. c == 32) line
 abbrev pub word_at : ℕ → List (List ℕ) → List ℕ
 word_at n words = get_or words n []
 
--- A run as it's spelled: one address, or its first and its last one with a dash between them. The first four digits are those of the
+-- A run as it is spelled: one address, or its first and its last one with a dash between them. The first four digits are those of the
 -- first address, and the last four those of the last.
 abbrev pub run_of : List ℕ → Words
 run_of text = between (octal_value (take 4 text)) (octal_value (drop (length text - 4) text))
@@ -24,7 +24,7 @@ run_of text = between (octal_value (take 4 text)) (octal_value (drop (length tex
 abbrev pub in_runs : List (List ℕ) → Words
 in_runs texts a = list_any (λ text. run_of text a) texts
 
--- A set of words as it's spelled: a dash where it's empty, else its runs with commas between them.
+-- A set of words as it is spelled: a dash where it is empty, else its runs with commas between them.
 abbrev pub set_of : List ℕ → Words
 set_of word a = nat_lt a 4096 && (if bytes_eq word (codes "-") then nothing a else in_runs (slice_split (λ c. c == 44) word) a)
 

@@ -12,7 +12,7 @@ is_read_fault (faults.Order n) = false
 is_read_fault faults.TooMany = false
 is_read_fault faults.NoMemory = false
 
--- This fault is one of the text's bytes: it isn't that memory was refused or that a read failed.
+-- This fault is one of the text's bytes: it is not that memory was refused or that a read failed.
 abbrev pub is_of_bytes : CertificateFault → Bool
 is_of_bytes faults.ReadFault = false
 is_of_bytes faults.NoMemory = false

@@ -20,7 +20,7 @@ abbrev pub Each : {A : Type 0} → (A → Type 0) → List A → Type 0
 Each p [] = Unit {0}
 Each p (x ∷ xs) = p x × Each p xs
 
--- A tracked cell is a cell, and its set isn't empty.
+-- A tracked cell is a cell, and its set is not empty.
 pub record IsTracked (c : TrackedCell) : Type 0 where
   pub address : c.address < 4096
   pub set : has_some c.set ≡ true
@@ -29,6 +29,6 @@ pub record IsTracked (c : TrackedCell) : Type 0 where
 abbrev pub EndsBefore : ℕ → Words → Type 0
 EndsBefore n s = (v : ℕ) → n ≤ v → s v ≡ false
 
--- The set is one of links: it's known by whether 0 and 1 are in it.
+-- The set is one of links: it is known by whether 0 and 1 are in it.
 abbrev pub IsOfLinks : Words → Type 0
 IsOfLinks s = s ≡ links_of (record { clear = s 0; set = s 1 })

@@ -48,7 +48,7 @@ abbrev pub routine_at : List Run → PackedRoutine → RoutineLine
 routine_at runs r = record { entry = r.entry; rank = r.rank; sites = one_at runs r.sets; writes = other_at runs r.sets }
 
 -- What packed registers say, whose runs these are: the first of the two sets is the accumulator's, the second that of MQ; the
--- links aren't kept as runs.
+-- links are not kept as runs.
 abbrev pub registers_at : List Run → PackedRegisters → Registers
 registers_at runs r = record { ac = one_at runs r.sets; mq = other_at runs r.sets; link = links_of r.link }
 

@@ -18,7 +18,7 @@ use domain::{Location, ReturnOffsets};
 use word12::Word;
 use wordset::Links;
 
-/// A line from some field on, or nothing once a field didn't read.
+/// A line from some field on, or nothing once a field did not read.
 #[derive(Clone, Copy, Debug)]
 pub struct Fields<'a> {
     rest: &'a [u8],
@@ -43,14 +43,14 @@ impl<'a> Fields<'a> {
         self.reads && self.rest.is_empty()
     }
 
-    /// A field didn't read.
+    /// A field did not read.
     pub fn fail(&mut self)
         ensures { left self.new ≡ None }
     {
         self.reads = false;
     }
 
-    /// Takes a byte, if it's the next one.
+    /// Takes a byte, if it is the next one.
     pub fn takes(&mut self, byte: u8) -> bool
         ensures taken { result ≡ true → IsSomeAnd (left self.new)
             (λ rest. left self.old ≡ Some (byte ∷ rest)) }
@@ -186,7 +186,7 @@ impl<'a> Fields<'a> {
         }
     }
 
-    /// Adds the runs of a set that isn't empty, and tells how many there are.
+    /// Adds the runs of a set that is not empty, and tells how many there are.
     pub fn some_set(&mut self, runs: &mut Runs) -> u16
         ensures front { Begins runs.old.items runs.new.items }
         ensures count { length runs.old.items + result ≡ length runs.new.items }

@@ -39,7 +39,7 @@ pub enum CertificateFault {
     /// The first line is that of no version.
     #[error("Version")]
     Version,
-    /// The line of this number, counted from 1, is none of the lines that may stand there, or isn't
+    /// The line of this number, counted from 1, is none of the lines that may stand there, or is not
     /// ended, or is lacking.
     #[error("BadLine {0}")]
     BadLine(usize),

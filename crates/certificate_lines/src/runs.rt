@@ -60,7 +60,7 @@ const MOST_RUNS: usize = 6144;
 /// The runs of a line's sets.
 pub type Runs = ArrayVec<Run, MOST_RUNS>;
 
-/// The last word of the run that begins at a word, by the words that aren't in the set.
+/// The last word of the run that begins at a word, by the words that are not in the set.
 pub fn last_before(others: &WordSet, low: Word) -> Word
     requires { words others.now low ≡ false }
     ensures { IsLastOf (words others.now) low result }
@@ -71,7 +71,7 @@ pub fn last_before(others: &WordSet, low: Word) -> Word
     }
 }
 
-/// Adds the runs of a set in rising order, of which there are at most 4096; where that's refused,
+/// Adds the runs of a set in rising order, of which there are at most 4096; where that is refused,
 /// some of them.
 fn push_runs<A: Allocator>(runs: &mut Vec<Run, A>, set: &WordSet) -> Result<(), AllocError>
     ensures front { Begins runs.old.items runs.new.items }

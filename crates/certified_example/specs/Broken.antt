@@ -1,4 +1,4 @@
--- Programs of one word, each of which isn't safe: its one word breaks a rule.
+-- Programs of one word, each of which is not safe: its one word breaks a rule.
 use Rattle.std.specs.Prelude.{ℕ, ◌==◌, false, if◌then◌else◌, Option, Some, None, []}
 use Rattle.instruct.specs.declared.Profile.TheVariants.{Pdp8I}
 use Rattle.wordset.specs.Words.{Words, nothing, one}
@@ -33,6 +33,6 @@ bare reads = record {
   returns = [];
 }
 
--- The program of this word isn't safe.
+-- The program of this word is not safe.
 abbrev pub IsUnsafe : ℕ → Option Words → Type 0
 IsUnsafe word reads = IsSafeInRuns (image_with word) (bare reads) → ⊥

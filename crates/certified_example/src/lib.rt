@@ -1,5 +1,5 @@
 //! Small programs: one with a routine, an auto-index pointer, a pause and a cell of changeable code,
-//! whose certificate meets every condition; programs that aren't safe; and for
+//! whose certificate meets every condition; programs that are not safe; and for
 //! each rule a step that it forbids and the others let through.
 #![tactic(auto)]
 
@@ -28,8 +28,8 @@ pub fn example_is_written()
     ensures { IsWritten }
 {}
 
-/// Programs of one word that keep the overlap rules and aren't safe: an unsupported word, DCA to no variable, JMS to no entry,
-/// a return with no call open, an undeclared HLT, and a read that isn't listed.
+/// Programs of one word that keep the overlap rules and are not safe: an unsupported word, DCA to no variable, JMS to no entry,
+/// a return with no call open, an undeclared HLT, and a read that is not listed.
 pub fn broken_are_unsafe()
     ensures declared { (reads : Option Words) → IsDeclared (bare reads) }
     ensures unsupported { IsUnsafe 0o7401 None }
@@ -43,7 +43,7 @@ pub fn broken_are_unsafe()
 /// For each of the eight rules a program and a step of one of its declared runs that this rule
 /// forbids and the seven others let through: an unsupported word, a DCA to no variable, a
 /// JMS to no entry, a return with no call open, an undeclared HLT, the step after one that changed
-/// fixed code, a read that isn't listed, and a step at an address where what is declared to hold does not. So none of
+/// fixed code, a read that is not listed, and a step at an address where what is declared to hold does not. So none of
 /// the rules follows from the seven others at the same step.
 ///
 /// Further steps of this kind show what `moves`, `skips`, `abandon` and `returns` are for: a routine stores in its entry, which no

@@ -1,5 +1,5 @@
 -- Events, and the plan of an operator, have one run.
-use Rattle.std.proofs.Common.{ℕ, ◌≡◌, ◌+◌, Bool, true, false, Option, Some, None, List, [], ◌∷◌, ◌++◌, refl, sym, ap, ◌∙◌, subst, take}
+use Rattle.std.proofs.Common.{ℕ, ◌≡◌, ◌+◌, Bool, true, false, Option, Some, None, List, [], ◌∷◌, ◌++◌, refl, sym, ap, ◌∙◌, subst}
 use Rattle.instruct.specs.declared.Profile.{Profile}
 use Rattle.peripherals.specs.declared.Event.{Event}
 use Rattle.peripherals.specs.declared.Seen.{Seen}
@@ -14,8 +14,7 @@ use Rattle.wordset.specs.Lanes.{words}
 use Rattle.command_parts.specs.declared.options.SummaryForm.{SummaryForm}
 use Rattle.command_parts.specs.declared.options.RunOptions.{RunOptions}
 use Rattle.machine_commands.specs.Follows.{Follows, Ended, Stuck, Stopped, Went, end_of, goes_on, counted}
-use Rattle.bin_tape.specs.Laws.{TapeImageIsOne}
-use Rattle.command_laws.specs.Laws.{RunsAreOne, SessionsAreOne, TypedAreOne, WatchedAsRun, as_declared}
+use Rattle.command_laws.specs.Laws.{RunsAreOne, SessionsAreOne, TypedAreOne, WatchedAsRun}
 use Rattle.machine_commands.specs.Running.{IsRunOf, fresh, status_of}
 use Rattle.machine_commands.specs.Schedule.{Comes, Over, Cut, Due, Final, Then, Schedule, Whole, first_place, operating}
 use Rattle.machine_commands.specs.Session.{IsHeld, plan_for, printed_in, summary_where}
@@ -135,12 +134,6 @@ typed_are_one options form frames bytes image text text' printed printed' punche
     held_one typing (first_sitting options.switches options.manner frames bytes) (run_of options) form image text text' printed printed' punched punched' status status' a b
 
 -- what is watched is what is run
-pub watched_as_run : TapeImageIsOne → WatchedAsRun
-watched_as_run one options form tape text reader keys explained told seen written printed punched status watched run =
-    let d = watched.declaration in
-    let image : run.image ≡ watched.image = one (take 65536 tape) run.image watched.image run.has_image watched.has_image in
-    let frames : run.frames ≡ watched.frames = run.frames_are ∙ sym watched.frames_are in
-    let bytes : run.bytes ≡ watched.bytes = run.bytes_are ∙ sym watched.bytes_are in
-    let come : Comes operating d.profile Whole (first_place (plan_for (as_declared d options) run.frames run.bytes)) (fresh run.image d.start) run.session.events = run.session.come in
-    let there : Comes operating d.profile Whole (first_place (plan_for options watched.frames watched.bytes)) (fresh watched.image d.start) run.session.events = rw (frames, bytes, image) at come in
-    comes_one operating d.profile (first_place (plan_for options watched.frames watched.bytes)) (fresh watched.image d.start) watched.watched.events run.session.events watched.watched.come there
+pub watched_as_run : WatchedAsRun
+watched_as_run options form image d frames keys explained named told seen written printed punched status watched run =
+    comes_one operating d.profile (first_place (plan_for options frames keys)) (fresh image d.start) watched.events run.events watched.come run.come

@@ -14,7 +14,7 @@ use Rattle.command_parts.proofs.AnswerLemmas.{refused, same_fault}
 use Rattle.command_parts.proofs.InputLemmas.{takes_no_text}
 use Rattle.diagnostics.specs.CertificateFaults.{IsCertificateInputFault}
 use Rattle.diagnostics.specs.CertificateInputs.{TakesCertificate}
-use Rattle.command_laws.specs.InOrder.{OneInOrder, ThreeInOrder, TwoInOrder, Work, Tells, Searches, Proposes, Drafts, Migrates, later_fault}
+use Rattle.command_laws.specs.InOrder.{OneInOrder, ThreeInOrder, TwoInOrder, Work, Tells, Searches, Proposes, Migrates, later_fault}
 
 -- an input that wasn't touched
 pub record IsAsItWas (one : Input) : Type 0 where
@@ -202,8 +202,6 @@ work_reads_nothing Searches (inl is) = not_memory is refl
 work_reads_nothing Searches (inr is) = absurd is
 work_reads_nothing Proposes (inl is) = not_memory is refl
 work_reads_nothing Proposes (inr is) = absurd is
-work_reads_nothing Drafts (inl is) = not_memory is refl
-work_reads_nothing Drafts (inr is) = absurd is
 work_reads_nothing Migrates (inl is) = absurd is
 work_reads_nothing Migrates (inr is) = absurd is
 
@@ -214,8 +212,6 @@ work_of_tape Searches f (inl is) = not_memory is refl
 work_of_tape Searches f (inr is) = absurd is
 work_of_tape Proposes f (inl is) = not_memory is refl
 work_of_tape Proposes f (inr is) = absurd is
-work_of_tape Drafts f (inl is) = not_memory is refl
-work_of_tape Drafts f (inr is) = absurd is
 work_of_tape Migrates f (inl is) = absurd is
 work_of_tape Migrates f (inr is) = absurd is
 
@@ -226,8 +222,6 @@ work_of_text Searches f (inl is) = not_memory is refl
 work_of_text Searches f (inr is) = absurd is
 work_of_text Proposes f (inl is) = not_memory is refl
 work_of_text Proposes f (inr is) = absurd is
-work_of_text Drafts f (inl is) = not_memory is refl
-work_of_text Drafts f (inr is) = absurd is
 work_of_text Migrates f (inl is) = absurd is
 work_of_text Migrates f (inr is) = absurd is
 

@@ -5,21 +5,18 @@ use Rattle.command_parts.specs.Faults.{IsDeclarationInputFault, IsEventsInputFau
 use Rattle.command_parts.specs.Inputs.{Input, IsGoodDeclaration, IsGoodEvents, IsGoodTape, TakesAtMost, TakesTape}
 use Rattle.command_parts.specs.declared.status.Fault.{Fault}
 use Rattle.command_parts.specs.declared.status.Fault.TheVariants.{NoMemory}
-use Rattle.reports.specs.DraftText.{IsDraftWorkFault}
 use Rattle.search_commands.specs.SearchFaults.{IsProposeFault, IsSearchFault}
 use Rattle.diagnostics.specs.CertificateFaults.{IsCertificateInputFault}
 use Rattle.diagnostics.specs.CertificateInputs.{IsGoodCertificate, TakesCertificate}
 
 -- The work that commands do once their inputs are good.
 pub data Work : Type 0 where
-  -- they judge, watch, refute, verify or explain
+  -- they judge or watch
   Tells : Work
   -- they look for a certificate
   Searches : Work
   -- they propose a declaration, or complete one
   Proposes : Work
-  -- they report what a search for a certificate had found
-  Drafts : Work
   -- they migrate a certificate
   Migrates : Work
 
@@ -28,7 +25,6 @@ abbrev pub later_fault : Work → Fault → Type 0
 later_fault Tells = IsLaterFault IsMemoryFault
 later_fault Searches = IsLaterFault IsSearchFault
 later_fault Proposes = IsLaterFault IsProposeFault
-later_fault Drafts = IsLaterFault IsDraftWorkFault
 later_fault Migrates = IsLaterFault NeverFails
 
 -- What the answer of a command says of its one input, where it is given which faults this may have, when it is good, and how
@@ -39,17 +35,17 @@ pub record OneInOrder {T : Type 0} (IsFault : Input → Fault → Type 0) (IsGoo
   pub faults : IfErr result (λ f. IsFault one f ⊎ (IsGood one.had × IsLater f))
   -- a read failed exactly where the answer says so
   pub reads : one.failed ≡ fails_to_read result
-  -- it isn't read past its limit
+  -- it is not read past its limit
   pub takes : Takes one.had one.left
 
 -- What the answer of a command says of a tape and of a declaration that is read after it, where it is given that the declaration
--- isn't touched.
+-- is not touched.
 pub record TwoInOrder {T : Type 0} (IsLater : Fault → Type 0) (tape text : Input) (untouched : Type 0) (result : Result T Fault) : Type 0 where
   -- a fault is that of the first input that has one, or after good ones that of the work
   pub faults : IfErr result (λ f. IsTapeInputFault tape f ⊎ (IsGoodTape tape.had × (IsDeclarationInputFault text f ⊎ (IsGoodDeclaration text.had × IsLater f))))
   -- a read failed exactly where the answer says so
   pub reads : tape.failed || text.failed ≡ fails_to_read result
-  -- the declaration isn't read after a tape that is refused, or whose read failed,
+  -- the declaration is not read after a tape that is refused, or whose read failed,
   pub unread : IfErr result (λ f. is_fault_of_tape f ≡ true → untouched)
   pub unread_after_failure : tape.failed ≡ true → untouched
   -- but only after a good one
@@ -60,7 +56,7 @@ pub record TwoInOrder {T : Type 0} (IsLater : Fault → Type 0) (tape text : Inp
 
 -- What the answer of a command says of a tape, of a declaration and of a third input, each of which is read after the one before,
 -- where it is given which faults the third may have, when it is good, how much of it is taken at most, and that the declaration
--- or the third isn't touched.
+-- or the third is not touched.
 pub record ThreeInOrder {T : Type 0} (IsFault : Input → Fault → Type 0) (IsGood : Option (List ℕ) → Type 0) (Takes : Option (List ℕ) → Option (List ℕ) → Type 0)
     (IsLater : Fault → Type 0) (tape text third : Input) (text_untouched third_untouched : Type 0) (result : Result T Fault) : Type 0 where
   -- a fault is that of the first input that has one, or after good ones that of the work
@@ -76,7 +72,7 @@ pub record ThreeInOrder {T : Type 0} (IsFault : Input → Fault → Type 0) (IsG
   -- but only after good ones
   pub declaration_after_tape : text_untouched ⊎ IsGoodTape tape.had
   pub third_after_declaration : third_untouched ⊎ IsGoodDeclaration text.had
-  -- where memory is refused the third wasn't read, or it was wanted for it, or it is good
+  -- where memory is refused the third was not read, or it was wanted for it, or it is good
   pub wanted : result ≡ Err NoMemory → third_untouched ⊎ (IsFault third NoMemory ⊎ IsGood third.had)
   -- no input is read past its limit
   pub takes_tape : TakesTape tape.had tape.left

@@ -29,13 +29,13 @@ use Rattle.machine_commands.specs.Running.{IsRunOf}
 use Rattle.peripherals.specs.Operator.{Plan}
 use Rattle.machine_commands.specs.Follows.{Follows}
 use Rattle.machine_commands.specs.Schedule.{Whole}
-use Rattle.machine_commands.specs.Session.{IsHeld, IsSession, IsSessionOf}
+use Rattle.machine_commands.specs.Session.{IsHeld, IsSessionOf, plan_for}
 use Rattle.machine_commands.specs.Teletype.{run_of, types_by}
 use Rattle.machine_commands.specs.declared.follow.End.{End}
 use Rattle.command_parts.specs.declared.options.TeletypeOptions.{TeletypeOptions}
 use Rattle.peripherals.specs.Devices.{WorldState}
 use Rattle.processor.specs.Runs.{Run, Taken}
-use Rattle.machine_commands.specs.WatchedSession.{IsSessionWatchedSo}
+use Rattle.machine_commands.specs.WatchedSession.{IsPlanWatchedSo}
 use Rattle.declaration.specs.Declaration.{Declaration}
 use Rattle.command_parts.specs.declared.options.SessionOptions.{SessionOptions}
 
@@ -110,11 +110,11 @@ as_declared d options = record options { run = record options.run { start = d.st
 -- declared start.
 abbrev pub WatchedAsRun : Type 0
 WatchedAsRun =
-    (options : SessionOptions) (form : SummaryForm) (tape text reader keys : List ℕ) (explained : Bool) (told : List ℕ) (seen : Status)
-    (written printed punched : List ℕ) (status : Status) →
-    (watched : IsSessionWatchedSo options None (Some tape) (Some text) (Some reader) (Some keys) explained told seen) →
-    (run : IsSession (as_declared watched.declaration options) form Whole (Some tape) (Some reader) (Some keys) status written printed punched) →
-    watched.watched.events ≡ run.session.events
+    (options : SessionOptions) (form : SummaryForm) (image : List (Option ℕ)) (d : Declaration) (frames keys : List ℕ)
+    (explained : Bool) (named : ℕ → Bool) (told : List ℕ) (seen : Status) (written printed punched : List ℕ) (status : Status) →
+    (watched : IsPlanWatchedSo None (plan_for options frames keys) image d explained named told seen) →
+    (run : IsSessionOf (as_declared d options).run form Whole (plan_for (as_declared d options) frames keys) image written printed punched status) →
+    watched.events ≡ run.events
 
 -- Sources that tell their bytes, which are these parts.
 abbrev pub telling : List (List ℕ) → List (Option (List ℕ))
@@ -203,14 +203,14 @@ FaultIsNotWritten =
     IsFault (permanent_symbols profile) parts fault →
     (IsAssembled profile (telling parts) text → ⊥) × (IsListing profile (telling parts) text → ⊥)
 
--- A source that means an image isn't refused its listing for any fault of the source.
+-- A source that means an image is not refused its listing for any fault of the source.
 abbrev pub MeantIsListed : Type 0
 MeantIsListed =
     (profile : Profile) (parts : List (List ℕ)) (symbols : List (Name × ℕ)) (image : List (Option ℕ))
     (marks : List Bool) (left : List (Option (List ℕ))) (fault : PalFault) →
     Means (permanent_symbols profile) parts symbols image → IsListFault profile marks (telling parts) left (Source fault) → ⊥
 
--- A source with a fault isn't refused its listing for any other fault of the source.
+-- A source with a fault is not refused its listing for any other fault of the source.
 abbrev pub FaultIsTheOne : Type 0
 FaultIsTheOne =
     (profile : Profile) (parts : List (List ℕ)) (fault told : PalFault) (marks : List Bool) (left : List (Option (List ℕ))) →

@@ -8,7 +8,6 @@ ghost use Rattle.diagnostics.specs.CertificateFaults.{ReadsCertificate, ReadsCer
 ghost use Rattle.command_laws.specs.InOrder.{CertificateInOrder, CertifiedInOrder, RunInOrder, TapeInOrder, TwoInOrder, Work, later_fault};
 ghost use Rattle.command_laws.specs.Laws.{AssembledIsWritten, ChecksAreOne, EmptyHasNoTape, FaultIsNotWritten, FaultIsTheOne, FaultIsTold, FollowsTheTable, GuessIsAccepted, GuessIsRead, MeantIsListed, MeantIsRead, MeantIsWritten, MigratedIsCheckedAlike, ReadIsMeant, RunsAreOne, RunsEnd, SessionsAreOne, SessionsEnd, TapeIsOne, TapeIsThere, TypedAreOne, WatchedAsRun, WrittenIsAssembled};
 
-use bin_tape::laws::tapes_have_one_answer;
 use pal_asm::laws::{meant_are_words, sources_have_one_answer};
 use peripherals::laws::events_are_runs;
 use streams::ByteSource;
@@ -46,9 +45,7 @@ pub fn runs_follow_the_table()
 /// run is on the declared machine and begins at the declared start.
 pub fn watched_sessions_are_runs()
     ensures { WatchedAsRun }
-{
-    tapes_have_one_answer();
-}
+{}
 
 /// From a source to its tape and to the image that is read of the tape is one function, in both
 /// directions: a source that means an image with a word has a tape, and one without a word has none;
@@ -89,7 +86,7 @@ pub fn assemblies_are_exact()
 }
 
 /// The bytes of a tape, a declaration and a certificate have at most one verdict. To what `guess` writes
-/// it is yes, and to what `migrate` writes it is that of the certificate which was migrated, unless it's
+/// it is yes, and to what `migrate` writes it is that of the certificate which was migrated, unless it is
 /// longer than what is read.
 pub fn checks_are_one()
     ensures one { ChecksAreOne }
@@ -109,7 +106,7 @@ pub fn single_inputs_are_told<T>()
 {}
 
 /// Of a command that reads a tape and a declaration, and then does its work: a fault is that of the first input that
-/// has one, or after good ones that of the work; a read failed exactly where the answer says so; the declaration isn't
+/// has one, or after good ones that of the work; a read failed exactly where the answer says so; the declaration is not
 /// touched after a tape that is refused or whose read failed, but only after a good one; and no more is taken than
 /// may be.
 pub fn two_inputs_are_read_in_order<D: ByteSource, T>()

@@ -46,7 +46,7 @@ const SESSION: Entry = Entry {
     name: "teletype",
     usage: "pdp8 teletype [OPTIONS] <TAPE>",
     about: "Runs a tape with you at the teletype: what it prints appears at once, and it gets a key when it asks for one",
-    after_help: "Keys come from standard input, what is printed goes to standard output, and the summary goes to standard error. The session ends at a halt, at an unsupported word, or when a key is asked for and none is left, or the key of --interrupt is struck.\n\nExample:\n  pdp8 teletype echo.bin",
+    after_help: "Keys come from standard input, what is printed goes to standard output, and the summary goes to standard error. The session ends at a halt and at an unsupported word. It also ends when the program asks for a key and none is left, or the key of --interrupt is struck.\n\nExample:\n  pdp8 teletype echo.bin",
 };
 
 const DUMP: Entry = Entry {
@@ -80,14 +80,14 @@ const SOURCE_OF_TAPE: Entry = Entry {
 const WATCH: Entry = Entry {
     name: "watch",
     usage: "pdp8 watch [OPTIONS] <TAPE> <DECLARATION> [EVENTS]",
-    about: "Writes whether a run complies with its declaration, or which rule it first violates and where",
+    about: "Says whether a run complies with its declaration, or which rule it violates first, and where",
     after_help: "Examples:\n  pdp8 watch hello.bin hello.declaration hello.events\n  pdp8 watch --source hello.pal hello.declaration hello.events",
 };
 
 const CHECK: Entry = Entry {
     name: "check",
     usage: "pdp8 check [OPTIONS] <TAPE> <DECLARATION> <CERTIFICATE>",
-    about: "Writes whether a certificate shows that no run violates its declaration",
+    about: "Says whether a certificate shows that no run violates its declaration",
     after_help: "Examples:\n  pdp8 check hello.bin hello.declaration hello.certificate --why\n  pdp8 check --source hello.pal hello.declaration hello.certificate --why",
 };
 
@@ -101,7 +101,7 @@ const REPORT: Entry = Entry {
 const DECLARE: Entry = Entry {
     name: "declare",
     usage: "pdp8 declare [OPTIONS] <TAPE> [-o] <OUT>",
-    about: "Proposes a declaration: what the program of a tape may do",
+    about: "Proposes a declaration, which says what the program of a tape may do",
     after_help: "A file stays as it was if there is nothing to write; with --source, OUT is given by -o. If no certificate is found, the declaration is written all the same, with comments that say why, if there is room for them, and the status is 1.\n\nExamples:\n  pdp8 declare hello.bin -o new.declaration\n  pdp8 declare --source hello.pal -o new.declaration",
 };
 
@@ -130,7 +130,7 @@ const MIGRATE: Entry = Entry {
     name: "migrate",
     usage: "pdp8 migrate [OPTIONS] <CERTIFICATE> [-o] <OUT>",
     about: "Converts a certificate to version 2, which says what MQ may hold, or to version 3",
-    after_help: "The operand OUT is emptied before the certificate is read, even if the certificate is then refused. In version 3, each fact about a routine also names the calls of the routine that it holds for. A certificate of a later version stays as it is.\n\nExamples:\n  pdp8 migrate hello.certificate -o hello-2.certificate\n  pdp8 migrate --certificate 3 --declaration hello.declaration hello.certificate -o hello-3.certificate",
+    after_help: "The operand OUT is emptied before the certificate is read, even if the certificate is then refused. In version 3, each fact in a routine also names the calls of this routine for which it holds. A certificate of a later version stays as it is.\n\nExamples:\n  pdp8 migrate hello.certificate -o hello-2.certificate\n  pdp8 migrate --certificate 3 --declaration hello.declaration hello.certificate -o hello-3.certificate",
 };
 
 const EXPLAIN: Entry = Entry {

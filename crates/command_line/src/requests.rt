@@ -84,7 +84,7 @@ pub fn parse_arguments<'a, S: AsStr>(
             request: request_of(alloc, name, found)?,
             explained: found.get_flag("why"),
         }),
-        // clap refuses a line without a command, so this isn't reached.
+        // clap refuses a line without a command, so this is not reached.
         None => Err(CommandLineFault::Memory),
     }
 }

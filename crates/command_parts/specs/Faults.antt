@@ -49,7 +49,7 @@ abbrev pub fault_of_tape : TapeFault → Fault
 fault_of_tape ReadFault = Device Read
 fault_of_tape fault = Tape fault
 
--- Why a text wasn't read, as a fault of the command: a read that failed is the device's, and a want of memory is
+-- Why a text was not read, as a fault of the command: a read that failed is the device's, and a want of memory is
 -- nobody's.
 abbrev pub fault_of_input : InputFault → Fault
 fault_of_input input_fault.ReadFailed = Device Read
@@ -85,30 +85,30 @@ abbrev pub fault_of_proposal : ProposeFault → Fault
 fault_of_proposal propose_fault.NoMemory = fault.NoMemory
 fault_of_proposal fault = Declare fault
 
--- The text of events has this fault, and it isn't a want of memory, which is no fault of a text.
+-- The text of events has this fault, and it is not a want of memory, which is no fault of a text.
 abbrev pub IsEventsFault : List ℕ → EventsFault → Type 0
 IsEventsFault text events_fault.NoMemory = ⊥
 IsEventsFault text fault = FailsAsEvents text fault
 
--- The text of a declaration has this fault, and it isn't a want of memory, which is no fault of a text.
+-- The text of a declaration has this fault, and it is not a want of memory, which is no fault of a text.
 abbrev pub IsDeclarationFault : List ℕ → DeclarationFault → Type 0
 IsDeclarationFault text declaration_fault.NoMemory = ⊥
 IsDeclarationFault text fault = FailsAsDeclaration text fault
 
--- Why a tape wasn't read: it has this fault, or a read failed. Reading a tape takes no memory.
+-- Why a tape was not read: it has this fault, or a read failed. Reading a tape takes no memory.
 abbrev pub IsTapeInputFault : Input → Fault → Type 0
 IsTapeInputFault tape (Tape fault) = IfSome tape.had (λ bytes. Refuses 65536 bytes fault)
 IsTapeInputFault tape (Device Read) = FailsInTape tape
 IsTapeInputFault tape _ = ⊥
 
--- Why a text of events wasn't read: it has this fault, a read failed, or memory was refused once some of it had come.
+-- Why a text of events was not read: it has this fault, a read failed, or memory was refused once some of it had come.
 abbrev pub IsEventsInputFault : Input → Fault → Type 0
 IsEventsInputFault text (Events fault) = IfSome text.had (λ bytes. IsEventsFault bytes fault)
 IsEventsInputFault text (Device Read) = FailsInText most_event_bytes text
 IsEventsInputFault text fault.NoMemory = HasCome text
 IsEventsInputFault text _ = ⊥
 
--- Why a declaration's text wasn't read: it has this fault, a read failed, or memory was refused once some of it had
+-- Why a declaration's text was not read: it has this fault, a read failed, or memory was refused once some of it had
 -- come.
 abbrev pub IsDeclarationInputFault : Input → Fault → Type 0
 IsDeclarationInputFault text (Declared fault) = IfSome text.had (λ bytes. IsDeclarationFault bytes fault)
@@ -116,7 +116,7 @@ IsDeclarationInputFault text (Device Read) = FailsInText most_declaration_bytes 
 IsDeclarationInputFault text fault.NoMemory = HasCome text
 IsDeclarationInputFault text _ = ⊥
 
--- Why frames or keys weren't read: a read failed, or memory was refused once some had come.
+-- Why frames or keys were not read: a read failed, or memory was refused once some had come.
 abbrev pub IsBytesFault : ℕ → Input → Fault → Type 0
 IsBytesFault most bytes (Device Read) = FailsBefore most bytes
 IsBytesFault most bytes fault.NoMemory = HasCome bytes

@@ -37,7 +37,7 @@ pub struct Stops {
 pub struct SummaryForm<'n> {
     /// It begins on a line of its own, also behind characters that leave a line open.
     pub apart: bool,
-    /// What was printed was seen, and isn't told again.
+    /// What was printed was seen, and is not told again.
     pub seen: bool,
     /// The file that what was punched goes to, if it goes to one: then the summary names it, and tells the number of
     /// frames in place of the frames.
@@ -69,7 +69,7 @@ pub struct SessionOptions {
 pub struct DeclareOptions {
     /// Where the program starts.
     pub start: Word,
-    /// The machine that it's for.
+    /// The machine that it is for.
     pub profile: Profile,
     /// Whether the cells that may be read are listed.
     pub reads: bool,
@@ -100,7 +100,7 @@ pub struct RefuteOptions {
 pub struct VerifyOptions {
     /// Where the program starts, if no declaration says it.
     pub start: Word,
-    /// The machine that it's for, if no declaration says it.
+    /// The machine that it is for, if no declaration says it.
     pub profile: Profile,
     /// How a run that breaks the declaration is looked for.
     pub search: RefuteOptions,

@@ -23,7 +23,7 @@ pub enum Status {
     /// Done.
     Done = 0,
     /// An input was refused, a run ended at an unsupported word, a watched run broke a rule, a
-    /// condition fails, a search found nothing, or a proposal isn't shown to be kept.
+    /// condition fails, a search found nothing, or a proposal is not shown to be kept.
     Refused = 1,
     /// The command line is bad.
     Usage = 2,
@@ -46,10 +46,10 @@ impl Status {
 /// What went wrong with a file or a stream.
 #[derive(Clone, Copy, PartialEq, Eq, Debug, Error)]
 pub enum DeviceFault {
-    /// It couldn't be opened or read.
+    /// It could not be opened or read.
     #[error("ReadFault")]
     Read,
-    /// It couldn't be made or written.
+    /// It could not be made or written.
     #[error("WriteFault")]
     Write,
 }

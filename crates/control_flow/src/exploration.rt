@@ -96,18 +96,18 @@ struct Exploration<A: Allocator> {
     alloc: A,
     map: Map,
     places: Vec<Visit, A>,
-    /// The returns by offsets of which the words don't tell.
+    /// The returns by offsets of which the words do not tell.
     returns: Vec<SeenReturn, A>,
     /// The entries to which a JMS was seen to go.
     called: WordSet,
     /// The declaration by which runs are watched. All cells that are no code may change.
     declaration: Declaration<A>,
     lessons: u32,
-    /// Whether what was learned can't be declared.
+    /// Whether what was learned cannot be declared.
     is_undeclarable: bool,
 }
 
-/// What runs of a tape's program are seen to do, beside what its words tell; none where that can't be
+/// What runs of a tape's program are seen to do, beside what its words tell; none where that cannot be
 /// declared.
 pub fn explore_runs<A: Allocator + Copy>(
     alloc: A,
@@ -159,7 +159,7 @@ fn seen_in<A: Allocator>(record: &Record<A>) -> ObservedRuns {
     }
 }
 
-/// The declaration of a map, in which all cells that are no code may change; none where it can't be
+/// The declaration of a map, in which all cells that are no code may change; none where it cannot be
 /// declared.
 fn declared<A: Allocator + Copy>(
     alloc: A,
@@ -316,7 +316,7 @@ impl<A: Allocator + Copy> Exploration<A> {
         Ok(())
     }
 
-    /// Widens the declaration by what was learned. False where that can't be declared.
+    /// Widens the declaration by what was learned. False where that cannot be declared.
     fn widen<'x>(&mut self, image: &'x Image, record: &'x Record<A>) -> Result<bool, NoMemory>
         ensures profile { (meaning self.new.declaration).profile
             ≡ (meaning self.old.declaration).profile }
@@ -510,7 +510,7 @@ impl<A: Allocator + Copy> Exploration<A> {
         }
     }
 
-    /// What was seen in all; none where it can't be declared.
+    /// What was seen in all; none where it cannot be declared.
     fn finish(
         mut self,
         image: &Image,

@@ -28,14 +28,14 @@ pub struct Map {
     pub(crate) returns: [WordSet; 8],
     /// The cells that ISZ or DCA name, and pointers that are stepped.
     pub(crate) stored: WordSet,
-    /// The words of tables that a JMS whose target isn't known is taken to reach; and those that a JMP is.
+    /// The words of tables that a JMS whose target is not known is taken to reach; and those that a JMP is.
     pub(crate) called: WordSet,
     pub(crate) jumped: WordSet,
     /// The cells in which runs were seen to halt, where another word may stand there.
     pub(crate) halted: WordSet,
     /// The cells to which routines were seen to jump, though they are main's.
     pub(crate) left: WordSet,
-    /// The cells that can't be entries, by what runs were seen to do.
+    /// The cells that cannot be entries, by what runs were seen to do.
     pub(crate) banned: WordSet,
     pub(crate) round: Round,
 }
@@ -55,11 +55,11 @@ pub(crate) struct Round {
     pub(crate) named: WordSet,
     /// The cells that hold a HLT.
     pub(crate) halts: WordSet,
-    /// Whether some instruction stores through a pointer whose word isn't known.
+    /// Whether some instruction stores through a pointer whose word is not known.
     pub(crate) stores_anywhere: bool,
-    /// Where control goes to what can't be in the body, or stands at an unsupported word.
+    /// Where control goes to what cannot be in the body, or stands at an unsupported word.
     pub(crate) astray: WordSet,
-    /// JMS and JMP words of which it isn't known where they go.
+    /// JMS and JMP words of which it is not known where they go.
     pub(crate) calls: WordSet,
     pub(crate) jumps: WordSet,
 }
@@ -112,7 +112,7 @@ impl Map {
         map
     }
 
-    /// Where control can't be followed.
+    /// Where control cannot be followed.
     pub fn unfollowed(&self) -> WordSet {
         let mut cells = self.round.astray;
         if self.called.is_empty() {
@@ -124,7 +124,7 @@ impl Map {
         cells
     }
 
-    /// Whether some instruction stores through a pointer whose word isn't known.
+    /// Whether some instruction stores through a pointer whose word is not known.
     pub fn stores_anywhere(&self) -> bool {
         self.round.stores_anywhere
     }
@@ -186,7 +186,7 @@ impl Map {
     }
 
     /// Follows the body of an entry, and gives its cells. Those of bodies that were followed before
-    /// can't be in it.
+    /// cannot be in it.
     pub(crate) fn follow_routine(&mut self, tape: &Tape<'_>, entry: Word) -> WordSet {
         let mut walk = Traversal::new(Some(entry));
         let here = ProgramPoint {

@@ -156,7 +156,7 @@ impl Map {
         }
     }
 
-    /// Goes on from ISZ. That of the routine's own entry counts the return word up, and doesn't skip.
+    /// Goes on from ISZ. That of the routine's own entry counts the return word up, and does not skip.
     fn count(
         &mut self,
         tape: &Tape<'_>,
@@ -198,7 +198,7 @@ impl Map {
         }
     }
 
-    /// Goes on after a call of an entry, as far as it's known how the routine returns.
+    /// Goes on after a call of an entry, as far as it is known how the routine returns.
     fn enter(&mut self, tape: &Tape<'_>, walk: &mut Traversal, here: &ProgramPoint, entry: Word) {
         if is_auto_index(entry) || entry == self.start || self.banned.contains(entry) {
             self.round.astray.insert(here.at);
@@ -242,7 +242,7 @@ impl Map {
         }
     }
 
-    /// Goes on from JMP where it isn't known where it goes.
+    /// Goes on from JMP where it is not known where it goes.
     fn jump_by_table(&mut self, tape: &Tape<'_>, walk: &mut Traversal, here: &ProgramPoint) {
         self.round.jumps.insert(here.at);
         let jumped = self.jumped;

@@ -9,7 +9,7 @@ use declaration::Owner;
 use word12::Word;
 use wordset::WordSet;
 
-/// Where a step was made, and the running routine's entry, if it wasn't main.
+/// Where a step was made, and the running routine's entry, if it was not main.
 #[derive(Clone, Copy)]
 pub(crate) struct Visit {
     pub(crate) entry: Option<Word>,
@@ -30,7 +30,7 @@ pub(crate) struct Visits<'a> {
     pub(crate) places: &'a [Visit],
     /// By address the routine that ran when one was first made.
     pub(crate) owners: &'a [Option<Owner>],
-    /// The returns by offsets of which the words didn't tell.
+    /// The returns by offsets of which the words did not tell.
     pub(crate) returns: &'a [SeenReturn],
     pub(crate) seen: ObservedRuns,
 }
@@ -74,7 +74,7 @@ impl<'a> Tape<'a> {
         self.visits.map(|visits| visits.seen)
     }
 
-    /// The offsets by which the routine of an entry was seen to return, though its words don't tell them.
+    /// The offsets by which the routine of an entry was seen to return, though its words do not tell them.
     pub(crate) fn offsets(&self, entry: Word) -> WordSet {
         match self.visits {
             None => WordSet::empty(),

@@ -25,7 +25,7 @@ fn push_word<A: Allocator>(text: &mut Vec<u8, A>, word: Word) -> Result<(), Allo
     text.extend_from_slice(&word.to_octal())
 }
 
-/// Adds a range of words, after a space: its first word, and the last where it's another one.
+/// Adds a range of words, after a space: its first word, and the last where it is another one.
 pub fn push_range<A: Allocator>(
     text: &mut Vec<u8, A>,
     first: Word,
@@ -103,7 +103,7 @@ fn push_offset<A: Allocator>(text: &mut Vec<u8, A>, offset: Word) -> Result<(), 
     text.extend_from_slice(&digits[2..])
 }
 
-/// Adds a range of offsets, after a space: its first offset, and the last where it's another one.
+/// Adds a range of offsets, after a space: its first offset, and the last where it is another one.
 fn push_offsets<A: Allocator>(
     text: &mut Vec<u8, A>,
     first: Word,

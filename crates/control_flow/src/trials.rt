@@ -23,7 +23,7 @@ pub(crate) fn loaded(image: &Image) -> WordSet {
 
 impl Map {
     /// Goes on after each halt behind which there is code: what comes there leads to no cell that
-    /// can't be in the body, and to none that is named as a datum. Some halts are as they are.
+    /// cannot be in the body, and to none that is named as a datum. Some halts are as they are.
     pub(crate) fn try_halts(&mut self, tape: &Tape<'_>, decided: &WordSet) {
         let mut tried = *decided;
         for _trial in 0..MOST_TRIALS {
@@ -40,7 +40,7 @@ impl Map {
         }
     }
 
-    /// Goes on by JMS and JMP words of which it isn't known where they go, to each word of a table
+    /// Goes on by JMS and JMP words of which it is not known where they go, to each word of a table
     /// behind which there is code.
     pub(crate) fn try_tables(&mut self, tape: &Tape<'_>) {
         let words = self.table_words(tape);

@@ -21,7 +21,7 @@ impl ProgramPoint {
     }
 }
 
-/// A body while it is followed: the routine's entry, if it isn't main's; whether its words don't tell by which offsets it returns;
+/// A body while it is followed: the routine's entry, if it is not main's; whether its words do not tell by which offsets it returns;
 /// and by offset the cells that were met and those from which to go on.
 #[derive(Drop)]
 pub(crate) struct Traversal {
@@ -58,7 +58,7 @@ impl Traversal {
         }
     }
 
-    /// Meets a cell, from which to go on if it wasn't met. Where the return word was counted up by more than 7, this is most likely
+    /// Meets a cell, from which to go on if it was not met. Where the return word was counted up by more than 7, this is most likely
     /// done in a loop.
     pub(crate) fn meet(&mut self, spot: ProgramPoint) {
         let Some(met) = self.met.get_mut(spot.offset) else {

@@ -1,4 +1,4 @@
--- A declaration as it's kept in code, and the declaration that it means.
+-- A declaration as it is kept in code, and the declaration that it means.
 use Rattle.std.specs.Prelude.{ℕ, ◌==◌, ◌&&◌, ◌||◌, List, map, slice_index_or, false, Option, Some, None}
 use Rattle.std.specs.List.{list_any}
 use Rattle.std.specs.Option.{option_map}
@@ -16,7 +16,7 @@ use Rattle.declaration.specs.declared.Owner.{Owner}
 use Rattle.declaration.specs.declared.Owner.TheVariants as owner
 use Rattle.declaration.specs.declared.Routine.{Routine as KeptRoutine}
 
--- A declaration as it's kept: its sets are kept by lanes.
+-- A declaration as it is kept: its sets are kept by lanes.
 pub record Kept : Type 0 where
   pub start : ℕ
   pub profile : Profile

@@ -107,7 +107,7 @@ pub record Adds (c : Contents) (text : List ℕ) (after : Contents) : Type 0 whe
   pub follows : MayFollow c line
   pub added : after ≡ with_line c line
 
--- All lines of a text that isn't too long are good, and this is what they say together.
+-- All lines of a text that is not too long are good, and this is what they say together.
 pub record HasLines (text : List ℕ) (c : Contents) : Type 0 where
   pub lines : List Line
   pub good : HasGoodLines text lines

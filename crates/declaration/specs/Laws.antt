@@ -1,4 +1,4 @@
--- What the definitions of a text of a declaration leave open: nothing. Want of memory isn't a fault of the text.
+-- What the definitions of a text of a declaration leave open: nothing. Want of memory is not a fault of the text.
 use Rattle.std.specs.Prelude.{◌≡◌, ◌≢◌, ℕ, ◌⊎◌, List}
 use Rattle.declaration.specs.Declaration.{Declaration}
 use Rattle.declaration.specs.Text.{Declares, Fails}

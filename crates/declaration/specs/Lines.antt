@@ -22,7 +22,7 @@ pub record FurtherOffsets : Type 0 where
   pub entry : ℕ
   pub offsets : Words
 
--- What a line says: nothing, where it's empty; the start; cells of main's body; a routine; variable cells; stops;
+-- What a line says: nothing, where it is empty; the start; cells of main's body; a routine; variable cells; stops;
 -- pauses; the machine; cells that may be read; further offsets of a routine; entries in which their routines may store;
 -- places for which calls may be abandoned; what is to hold at places; what is to hold at returns.
 pub data Line : Type 0 where
@@ -41,19 +41,19 @@ pub data Line : Type 0 where
   Holds : PlaceAssertion → Line
   Returns : ReturnAssertion → Line
 
--- The list of a first word and of others as they read; none where one of them doesn't read.
+-- The list of a first word and of others as they read; none where one of them does not read.
 abbrev pub read_first : {X : Type 0} → Option X → Option (List X) → Option (List X)
 read_first None others = None
 read_first (Some x) None = None
 read_first (Some x) (Some xs) = Some (x ∷ xs)
 
--- All of these words, each as it reads, in their order; none where one of them doesn't read. No words make an empty
+-- All of these words, each as it reads, in their order; none where one of them does not read. No words make an empty
 -- list.
 abbrev pub all_read : {X : Type 0} → (List ℕ → Option X) → List (List ℕ) → Option (List X)
 all_read read [] = Some []
 all_read read (word ∷ words) = read_first (read word) (all_read read words)
 
--- One word or more, each as it reads, in their order; none where there is no word, or one of them doesn't read.
+-- One word or more, each as it reads, in their order; none where there is no word, or one of them does not read.
 abbrev pub some_read : {X : Type 0} → (List ℕ → Option X) → List (List ℕ) → Option (List X)
 some_read read [] = None
 some_read read (word ∷ words) = all_read read (word ∷ words)
@@ -66,7 +66,7 @@ is_dash c = c == 45
 abbrev pub address_of : List ℕ → Option Words
 address_of word = option_map one (octal_word word)
 
--- The cells from one address to another, which isn't below it.
+-- The cells from one address to another, which is not below it.
 abbrev pub span : Option ℕ → Option ℕ → Option Words
 span None high = None
 span (Some low) None = None
@@ -99,7 +99,7 @@ abbrev pub ranges_of : List (List ℕ) → Option Words
 ranges_of words = option_map any_of (some_read range_of words)
 
 -- The cells at one or more addresses; none where there is no word, or one spells no address, as a range with a dash
--- doesn't.
+-- does not.
 abbrev pub addresses_of : List (List ℕ) → Option Words
 addresses_of words = option_map any_of (some_read address_of words)
 

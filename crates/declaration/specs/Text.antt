@@ -191,8 +191,8 @@ in_two_bodies c a = nat_le 2 (bodies_at c a)
 abbrev pub is_entry_twice : Contents → Words
 is_entry_twice c a = nat_le 2 (entries_at c a)
 
--- A cell overlaps: it's in two bodies; it's an entry and in a body, or an entry and a variable; it's the entry of two
--- routines; or it's both a stop and a pause.
+-- A cell overlaps: it is in two bodies; it is an entry and in a body, or an entry and a variable; it is the entry of two
+-- routines; or it is both a stop and a pause.
 abbrev pub overlaps : Contents → Words
 overlaps c a =
     in_two_bodies c a || (is_entry c a && in_bodies c a) || (is_entry c a && c.variable a) || is_entry_twice c a
@@ -216,7 +216,7 @@ is_named_entry c a =
 abbrev pub is_held : Contents → Words
 is_held c a = list_any (λ h. h.places a) c.holds
 
--- The cell is named as an entry and is none; or calls may be abandoned for it, and it isn't in main's body; or something is
+-- The cell is named as an entry and is none; or calls may be abandoned for it, and it is not in main's body; or something is
 -- to hold at it, and it is in no body.
 abbrev pub misplaced : Contents → Words
 misplaced c a =
@@ -244,7 +244,7 @@ pub record HasIndexEntry (c : Contents) (a : ℕ) : Type 0 where
   pub apart : HasNoneFrom 0 (overlaps c)
   pub least : IsFirstFrom 0 (entry_in_index c) a
 
--- There is a start, nothing overlaps, no entry is an auto-index cell, and the start isn't in main's body.
+-- There is a start, nothing overlaps, no entry is an auto-index cell, and the start is not in main's body.
 pub record StartsOutside (c : Contents) : Type 0 where
   pub start : ℕ
   pub starts : c.starts ≡ start ∷ []
@@ -286,7 +286,7 @@ RuleFails c TooMany = ⊥
 RuleFails c NoMemory = ⊥
 
 -- Each of these texts of lines says what it stands for here: none is bad, there is at most one start and one machine,
--- and there aren't too many routines, lines of further offsets and assertions.
+-- and there are not too many routines, lines of further offsets and assertions.
 pub record AreGood (texts : List (List ℕ)) (lines : List Line) : Type 0 where
   pub say : map line_of texts ≡ map Some lines
   pub starts : length (contents lines).starts ≤ 1
@@ -295,7 +295,7 @@ pub record AreGood (texts : List (List ℕ)) (lines : List Line) : Type 0 where
   pub few_skips : length (contents lines).skips ≤ most_skips
   pub few_assertions : assertions_in (contents lines) ≤ most_assertions
 
--- All lines of a text that isn't too long are good, and they say these.
+-- All lines of a text that is not too long are good, and they say these.
 pub record HasGoodLines (text : List ℕ) (lines : List Line) : Type 0 where
   pub short : length text ≤ most_bytes
   pub good : AreGood (text_lines text) lines
@@ -313,7 +313,7 @@ pub record ListsRoutines (text : List ℕ) (routines : List KeptRoutine) : Type 
   pub good : HasGoodLines text lines
   pub listed : map subroutine_of routines ≡ (contents lines).routines
 
--- In a text that isn't too long, this line with this number stands after lines that are good and say these.
+-- In a text that is not too long, this line with this number stands after lines that are good and say these.
 pub record StandsAfter (text : List ℕ) (lines : List Line) (number : ℕ) (line : List ℕ) : Type 0 where
   pub short : length text ≤ most_bytes
   pub before : List (List ℕ)
@@ -351,7 +351,7 @@ LineFails c number line StartNotInMain = ⊥
 LineFails c number line (HaltNotInBody a) = ⊥
 LineFails c number line (Misplaced a) = ⊥
 
--- The first line of the text that isn't good fails so.
+-- The first line of the text that is not good fails so.
 pub record FailsAtLine (text : List ℕ) (fault : DeclarationFault) : Type 0 where
   pub lines : List Line
   pub number : ℕ
@@ -365,7 +365,7 @@ pub record FailsAtRule (text : List ℕ) (fault : DeclarationFault) : Type 0 whe
   pub good : HasGoodLines text lines
   pub fails : RuleFails (contents lines) fault
 
--- This text fails so: without looking at a line where it is too long; at its first line that isn't good; or by the first
+-- This text fails so: without looking at a line where it is too long; at its first line that is not good; or by the first
 -- rule that is broken by what all its lines say.
 abbrev pub Fails : List ℕ → DeclarationFault → Type 0
 Fails text (BadLine number) = FailsAtLine text (BadLine number)

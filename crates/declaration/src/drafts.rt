@@ -314,7 +314,7 @@ impl<A: Allocator> Draft<A> {
 }
 
 impl<A: Allocator> Draft<A> {
-    /// The cells of which something is said that they aren't there for.
+    /// The cells of which something is said that they are not there for.
     fn misplaced(&self, bodies: &Coverage, entries: &Coverage) -> WordSet
         requires bodies { Counts bodies.now (bodies_at (gathered self.now)) }
         requires entries { Counts entries.now (entries_at (gathered self.now)) }

@@ -44,14 +44,14 @@ pub enum DeclarationFault {
     /// No line gives the start.
     #[error("NoStart")]
     NoStart,
-    /// The cell is in two bodies; or it's an entry, and in a body, a variable or another entry; or
-    /// it's both a stop and a pause.
+    /// The cell is in two bodies; or it is an entry, and in a body, a variable or another entry; or
+    /// it is both a stop and a pause.
     #[error("Overlap {0}")]
     Overlap(Word),
     /// The entry is one of the cells 0010 to 0017, which an indirect reference steps.
     #[error("EntryInAutoIndex {0}")]
     EntryInAutoIndex(Word),
-    /// The start isn't in main's body.
+    /// The start is not in main's body.
     #[error("StartNotInMain")]
     StartNotInMain,
     /// The text has more than 16,384 bytes, or more than 64 `sub` lines, 64 `skips` lines or 256
@@ -62,7 +62,7 @@ pub enum DeclarationFault {
     #[error("HaltNotInBody {0}")]
     HaltNotInBody(Word),
     /// `skips`, `moves` or `returns` names the cell, which is no entry; or `abandon` names it, and it
-    /// isn't in main's body; or something is to hold at it, and it's in no body.
+    /// is not in main's body; or something is to hold at it, and it is in no body.
     #[error("Misplaced {0}")]
     Misplaced(Word),
     /// A growth of a list of routines, of offsets or of assertions was refused.
@@ -548,7 +548,7 @@ impl<A: Allocator> Declaration<A> {
         self.reads.is_some()
     }
 
-    /// Whether a cell may be read: it's on the list of reads, or there is none.
+    /// Whether a cell may be read: it is on the list of reads, or there is none.
     pub fn may_read(&self, at: Word) -> bool
         ensures { IsTrue result ↔ IsListed (meaning self.now).reads at }
     {
@@ -570,7 +570,7 @@ fn routine_with(routines: &[Routine], at: Word) -> Option<Owner>
         .map(|routine| Owner::Routine(routine.entry))
 }
 
-/// The declaration of a text that isn't too long.
+/// The declaration of a text that is not too long.
 fn parse_lines<A: Allocator + Copy>(
     alloc: A,
     text: &[u8],
@@ -587,7 +587,7 @@ fn parse_lines<A: Allocator + Copy>(
     }
 }
 
-/// What the lines of a text that isn't too long say together.
+/// What the lines of a text that is not too long say together.
 fn read_lines<A: Allocator + Copy>(alloc: A, text: &[u8]) -> Result<Draft<A>, DeclarationFault>
     requires { length text.now ≤ most_bytes }
     ensures found { IfOk result (λ draft. HasLines text.now (gathered draft)) }

@@ -46,7 +46,7 @@ enum Form {
     Address,
 }
 
-/// What a line says, if it isn't bad.
+/// What a line says, if it is not bad.
 pub fn read_line(line: &[u8]) -> Option<DeclarationLine>
     ensures { option_map said result ≡ line_of line.now }
 {
@@ -301,7 +301,7 @@ fn address(word: &[u8]) -> Option<WordSet>
     text::octal_word(word).map(WordSet::one)
 }
 
-/// The cells of an address, or from one address to another, which isn't below it.
+/// The cells of an address, or from one address to another, which is not below it.
 fn range(word: &[u8]) -> Option<WordSet>
     ensures { option_map words result ≡ range_of word.now }
 {

@@ -11,7 +11,7 @@ use Rattle.command_parts.specs.Answers.{FailsBy, Reads, ReadsDeclaration, ReadsT
 use Rattle.command_parts.specs.Inputs.{Input}
 use Rattle.diagnostics.specs.CertificateInputs.{FailsInCertificate, IsGoodCertificate, TakesCertificate}
 
--- Why a certificate's text wasn't read: it has this fault, a read failed before the bytes given brought an answer, or
+-- Why a certificate's text was not read: it has this fault, a read failed before the bytes given brought an answer, or
 -- memory was refused once a line had come that is kept.
 abbrev pub IsCertificateInputFault : Input → Fault → Type 0
 IsCertificateInputFault text (Certificate fault) = IfSome text.had (λ bytes. reading bytes ≡ Err fault)

@@ -87,7 +87,7 @@ abbrev pub verdict_text : Declaration → Result (Unit {0}) Refusal → List ℕ
 verdict_text d (Ok _) = yes_text d
 verdict_text d (Err r) = no_text r
 
--- A program that isn't certified is refused.
+-- A program that is not certified is refused.
 abbrev pub verdict_status : Result (Unit {0}) Refusal → Status
 verdict_status (Ok _) = Done
 verdict_status (Err r) = Refused

@@ -48,17 +48,17 @@ abbrev pub asked_text : Condition → List ℕ
 asked_text condition.V1 = codes "there is a fact at the start, and it holds for every start"
 asked_text condition.V2 = codes "a fact is in a body, and has offsets only in a routine; routine and exit lines are at entries"
 asked_text condition.V3 = codes "at most 64 words are possible, and each is supported"
-asked_text condition.V4 = codes "wherever the run may go on there is a fact in the same body that allows what is possible"
+asked_text condition.V4 = codes "at each address where the run may continue there is a fact in the same body, which allows all that is possible"
 asked_text condition.V5 = codes "each cell that a word may write, except the cell in which a JMS stores, is a variable or an entry"
 asked_text condition.V6 = codes "each cell that a word may write, except the cell in which a JMS stores, is in the routine's written set or is its entry"
 asked_text condition.V7 = codes "a JMS calls listed entries of lower rank, and not through an auto-index cell"
-asked_text condition.V8 = codes "the callee's entry and what it may write are in the caller's written set, and the caller's entry is not in the callee's"
+asked_text condition.V8 = codes "the caller's written set contains the callee's entry and all that the callee may write, and the callee's written set does not contain the caller's entry"
 asked_text condition.V9 = codes "a JMS is at a listed site of its callee, at an address of at most 7767"
 asked_text condition.V10 = codes "the fact at the callee's first address allows what is possible"
 asked_text condition.V11 = codes "the fact at each return address allows what is possible"
 asked_text condition.V12 = codes "a return is through the routine's own entry, by declared offsets, and the exit lines allow what is possible"
 asked_text condition.V13 = codes "a HLT is at a declared halt"
-asked_text condition.V14 = codes "no word writes an entry, except that a JMS stores its return address there, an ISZ may increment the routine's own, and a DCA may store in it where a `moves` line names it"
+asked_text condition.V14 = codes "no instruction writes an entry, except that a JMS stores its return address there, an ISZ may increment its own routine's entry, and a DCA may store in its own routine's entry if a `moves` line names it"
 asked_text condition.V15 = codes "each cell that a word may read is on the list of reads or is the routine's entry"
 asked_text condition.V16 = codes "what is declared to hold here, or when the routine of this entry returns, holds"
 
@@ -67,7 +67,7 @@ asked_text condition.V16 = codes "what is declared to hold here, or when the rou
 abbrev pub sums_asked_text : Condition → List ℕ
 sums_asked_text condition.V1 = codes "the facts at the start allow every start"
 sums_asked_text condition.V2 = codes "each fact is in a body, and has sites and offsets only in a routine; routine and exit lines are at entries"
-sums_asked_text condition.V4 = codes "wherever the run may go on there are facts in the same body that allow what is possible"
+sums_asked_text condition.V4 = codes "at each address where the run may continue there are facts in the same body, which allow all that is possible"
 sums_asked_text condition.V9 = codes "a JMS is at a listed site of its callee, at an address of at most 7776"
 sums_asked_text condition.V10 = codes "the facts at the callee's first address allow what is possible"
 sums_asked_text condition.V11 = codes "the facts at each return address allow what is possible"
@@ -186,12 +186,12 @@ gap_text (gap.Cell c w) = (codes "the cell " ++ octal_text c) ++ (codes " may ho
 gap_text (gap.Sum s w) = sum_may_be (sum_of s) w
 gap_text (gap.Equation s w) = word_told (sum_of s) w ++ codes " may be false"
 gap_text (gap.Chain c v w l) =
-    (codes "while the cell " ++ octal_text c) ++ (codes " holds " ++ octal_text v) ++ (codes " AC may be " ++ octal_text w) ++
+    (codes "while the cell " ++ octal_text c) ++ (codes " holds " ++ octal_text v) ++ (codes ", AC may be " ++ octal_text w) ++
     (codes " with the link " ++ link_text l)
 
 -- The link with which something is possible, before what is.
 abbrev pub with_link_text : ℕ → List ℕ
-with_link_text l = (codes "with the link " ++ link_text l) ++ codes " "
+with_link_text l = (codes "with the link " ++ link_text l) ++ codes ", "
 
 -- A word that a name may hold.
 abbrev pub name_may_hold : Location → ℕ → List ℕ
@@ -299,7 +299,7 @@ counting_text OfSums = codes ", the routine's own entry, past offset 77 or past 
 abbrev pub moving_text : ℕ → ℕ → ℕ → List ℕ
 moving_text e w s =
     (codes "it may store " ++ octal_text w) ++ (around (codes " in ") e (codes "") ++
-    around (codes ", which is not 0 to 77 behind the return address of the call at ") s (codes ""))
+    around (codes ": this word is not 0 to 77 past the return address of the call at ") s (codes ""))
 
 -- An address, and behind it that a line with it is to be added, up to its end.
 abbrev pub advised_text : List ℕ → ℕ → List ℕ → List ℕ

@@ -173,10 +173,10 @@ fn push_test<L: MessageWriter, D: Allocator>(
             push_text_and_address(text, b"the skip at ", test)?;
             text.push_text(b" ")?;
             push_name(text, image, declaration, test)?;
-            text.push_text(b" tests a sum with it and could show that\n")
+            text.push_text(b" tests a sum that contains it, and could show this\n")
         }
         None => text.push_text(
-            b"no skip in this body tests a sum with it; a test or a mask before the instruction could show that\n",
+            b"no skip in this body tests a sum that contains it; a test or a mask before the instruction could show this\n",
         ),
     }
 }

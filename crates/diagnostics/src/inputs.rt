@@ -73,7 +73,7 @@ fn push_certificate<A: Allocator>(
             push_said(
                 text,
                 file,
-                "its first line is none of `PDP8-CERTIFICATE 1`, `2` and `3`: is it a certificate?",
+                "its first line is not `PDP8-CERTIFICATE 1`, `2` or `3`: is it a certificate?",
             )
         }
         CertificateFault::BadLine(number) => {

@@ -43,7 +43,7 @@ tape_word (Some w) = one w
 abbrev pub has_cell : Words → Words
 has_cell cells a = nat_lt a 4096 && cells a
 
--- A cell that isn't written is outside the written set; the accumulator never is.
+-- A cell that is not written is outside the written set; the accumulator never is.
 abbrev pub is_outside : Words → Location → Bool
 is_outside written Ac = false
 is_outside written (Cell a) = not (has_cell written a)

@@ -106,7 +106,7 @@ abbrev pub joined_relations : Rules → List Relation → Fact → Fact
 joined_relations OfSums kept exit = adding_all OfSums kept exit
 joined_relations OfEquations kept exit = record exit { relations = kept ++ exit.relations }
 
--- After a call: the fact of the exit, with the sites and offsets of the fact at the JMS, its sets of the cells that weren't
+-- After a call: the fact of the exit, with the sites and offsets of the fact at the JMS, its sets of the cells that were not
 -- written, and its relations between them.
 unfoldable pub joined : Rules → Fact → Fact → Words → Fact
 joined rules call exit written =

@@ -4,20 +4,26 @@
 ghost use Rattle.std.specs.Prelude.{◌≡◌, false};
 
 use crate::fixtures::{HALT, HALT_CERTIFICATE, HALT_DECLARED, HALT_SEVERAL, LETTER, UNDECLARED};
-use command_laws::assembling::{assemble, list};
-use command_laws::checking::check;
-use command_laws::declaring::{DeclareOptions, declare};
-use command_laws::explaining::explain;
-use command_laws::guessing::guess;
-use command_laws::migrating::migrate;
-use command_laws::running::{RunOptions, dump, run, run_events};
-use command_laws::session::{Outputs, SessionOptions, SummaryForm, run_session};
-use command_laws::sourcing::{declared_source, source};
-use command_laws::status::{DeviceFault, Fault, Status};
-use command_laws::stuck::guess_or_explain;
-use command_laws::watched_session::watch_session;
-use command_laws::watching::watch;
+use analyser::{Attempt, guess_or_draft};
+use command_parts::inputs::bytes_from;
+use command_parts::options::{DeclareOptions, RunOptions, SessionOptions, SummaryForm};
+use command_parts::outcome::write_text;
+use command_parts::programs::program_from;
+use command_parts::status::{DeviceFault, Fault, Status};
+use diagnostics::verdicts::certificates::{certified_from, write_certificate};
+use diagnostics::verdicts::messages::check_message;
 use instruct::Profile;
+use machine_commands::messages::watch_session_message;
+use machine_commands::running::{dump, run, run_events};
+use machine_commands::session::{Outputs, run_session};
+use machine_commands::watching::watch;
+use search_commands::checking::check;
+use search_commands::declaring::declare;
+use search_commands::guessing::guess;
+use search_commands::migrating::migrate;
+use search_commands::stuck::draft_message;
+use source_commands::assembling::{assemble, list};
+use source_commands::sourcing::{declared_source, source};
 use std::alloc::{Allocator, Global};
 use testing::Refusing;
 use testing::memory::{MemorySink, MemorySource};
@@ -44,7 +50,7 @@ enum Command {
     Explain,
     Declare,
     Guess,
-    GuessOrExplain,
+    /// A search that is stuck, with what is said of it.
     Stuck,
     Migrate,
 }
@@ -178,17 +184,65 @@ fn watched_with_operator<A: Allocator + Copy>(
 ) -> Result<Status, Fault>
     requires { out.old.failed ≡ false }
 {
-    watch_session(
+    let mut tape = plan.source(0, HALT);
+    let program = program_from(alloc, &mut tape, &mut plan.source(1, HALT_DECLARED))?;
+    let options = session();
+    let frames = bytes_from(alloc, &mut plan.source(2, b"\x00\x01"), options.run.rounds)?;
+    let keys = bytes_from(alloc, &mut plan.source(3, b"A"), options.run.rounds)?;
+    let seen = watch_session_message(
         alloc,
-        &mut plan.source(0, HALT),
-        &mut plan.source(1, HALT_DECLARED),
-        &mut plan.source(2, b"\x00\x01"),
-        &mut plan.source(3, b"A"),
-        session(),
+        &program.image,
+        &program.declaration,
+        &frames,
+        &keys,
+        &options,
         None,
         false,
-        out,
-    )
+    )?;
+    write_text(out, seen.told.as_bytes())?;
+    Ok(seen.status)
+}
+
+/// What is said of a certificate, and why the verdict is no.
+fn explained<A: Allocator + Copy>(
+    alloc: A,
+    plan: &Plan,
+    out: &mut MemorySink<Global>,
+) -> Result<Status, Fault>
+    requires { out.old.failed ≡ false }
+{
+    let certified = certified_from(
+        alloc,
+        &mut plan.source(0, HALT),
+        &mut plan.source(1, UNDECLARED),
+        &mut plan.source(2, HALT_CERTIFICATE),
+    )?;
+    let program = &certified.program;
+    let certificate = &certified.certificate;
+    let verdict = check_message(alloc, &program.image, &program.declaration, certificate)?;
+    write_text(out, verdict.told.as_bytes())?;
+    Ok(verdict.status)
+}
+
+/// What is said of a search that is stuck.
+fn stuck<A: Allocator + Copy>(
+    alloc: A,
+    plan: &Plan,
+    out: &mut MemorySink<Global>,
+) -> Result<Status, Fault>
+    requires { out.old.failed ≡ false }
+{
+    let mut tape = plan.source(0, HALT);
+    let program = program_from(alloc, &mut tape, &mut plan.source(1, UNDECLARED))?;
+    let (image, declaration) = (&program.image, &program.declaration);
+    match &guess_or_draft(alloc, image, declaration)? {
+        Attempt::Found(certificate) => write_certificate(certificate, out),
+        Attempt::Stuck(at, draft) => {
+            let told = draft_message(alloc, image, declaration, draft, *at)?;
+            write_text(out, told.as_bytes())?;
+            Ok(Status::Refused)
+        }
+    }
 }
 
 /// What a command on promises answers.
@@ -211,10 +265,8 @@ fn promised<A: Allocator + Copy>(
             let mut certificate = plan.source(2, HALT_SEVERAL);
             check(alloc, &mut tape, &mut text, &mut certificate, out)
         }
-        Command::Explain => {
-            let mut text = plan.source(1, UNDECLARED);
-            explain(alloc, &mut tape, &mut text, &mut certificate, out)
-        }
+        Command::Explain => explained(alloc, plan, out),
+        Command::Stuck => stuck(alloc, plan, out),
         Command::Declare => {
             let options = DeclareOptions {
                 start: Word::from_index(0o200),
@@ -256,27 +308,6 @@ fn operated<A: Allocator + Copy>(alloc: A, heap: Global, plan: &Plan) -> Observe
     ObservedResult { answer, out, total }
 }
 
-/// What is left by a guess that says why it is stuck.
-fn guessed<A: Allocator + Copy>(
-    alloc: A,
-    heap: Global,
-    plan: &Plan,
-    text: &[u8],
-) -> ObservedResult {
-    let mut found = plan.sink(0, heap);
-    let mut report = plan.sink(1, heap);
-    let answer = guess_or_explain(
-        alloc,
-        &mut plan.source(0, HALT),
-        &mut plan.source(1, text),
-        &mut found,
-        &mut report,
-    );
-    let total = found.bytes().len().saturating_add(report.bytes().len());
-    let out = if plan.output == 0 { found } else { report };
-    ObservedResult { answer, out, total }
-}
-
 /// What a command leaves by a plan. It takes its memory from the first allocator, and what it writes is
 /// kept by the second.
 fn left_by<A: Allocator + Copy>(
@@ -287,8 +318,6 @@ fn left_by<A: Allocator + Copy>(
 ) -> ObservedResult {
     match command {
         Command::Session => operated(alloc, heap, plan),
-        Command::GuessOrExplain => guessed(alloc, heap, plan, HALT_DECLARED),
-        Command::Stuck => guessed(alloc, heap, plan, UNDECLARED),
         _ => {
             let mut out = plan.sink(0, heap);
             let answer = answered(alloc, command, plan, &mut out);
@@ -341,6 +370,9 @@ const VERDICT: &[u8] = b"yes: 1 body cells, 0 variable cells, 0 entries, 1 halts
 const REASON: &[u8] = b"no: V13 at 0200\n0200 7402 HLT\nV13 asks: a HLT is at a declared halt\n\
     it halts, and no halt is declared there\nfact 0200 ac 0000-7777 link 01 offsets -\n";
 
+const STUCK: &[u8] = b"0200 7402 HLT\nV13 asks: a HLT is at a declared halt\n\
+    it halts, and no halt is declared there\n";
+
 const PROPOSED: &[u8] = b"start 0200\nmain 0200\nstop 0200 / HLT\n";
 
 const MIGRATED: &[u8] =
@@ -348,7 +380,7 @@ const MIGRATED: &[u8] =
 
 /// Commands, how many reads of each input they make, and what goes to their first output. A tape is read up to the first
 /// frame of its trailer, a text until its end was told.
-const COMMANDS: [(Command, [usize; 4], &[u8]); 19] = [
+const COMMANDS: [(Command, [usize; 4], &[u8]); 18] = [
     (Command::Assemble, [6, 7, 0, 0], TAPE),
     (Command::List, [6, 7, 0, 0], LISTING),
     (Command::Source, [11, 0, 0, 0], SOURCE),
@@ -365,8 +397,7 @@ const COMMANDS: [(Command, [usize; 4], &[u8]); 19] = [
     (Command::Explain, [11, 20, 65, 0], REASON),
     (Command::Declare, [11, 0, 0, 0], PROPOSED),
     (Command::Guess, [11, 29, 0, 0], HALT_CERTIFICATE),
-    (Command::GuessOrExplain, [11, 29, 0, 0], HALT_CERTIFICATE),
-    (Command::Stuck, [11, 20, 0, 0], b""),
+    (Command::Stuck, [11, 20, 0, 0], STUCK),
     (Command::Migrate, [65, 0, 0, 0], MIGRATED),
 ];
 
@@ -393,10 +424,7 @@ fn with_room(output: usize, room: usize) -> Plan {
 /// says that a write failed, until there is room for all. Where the command looks for a certificate,
 /// which takes longer than all else here, every ninth room is tried.
 fn writes_in_turn(heap: Global, command: Command, output: usize, text: &[u8]) -> bool {
-    let searches = matches!(
-        command,
-        Command::Declare | Command::Guess | Command::GuessOrExplain
-    );
+    let searches = matches!(command, Command::Declare | Command::Guess | Command::Stuck);
     for room in 0..text.len() {
         if searches && room % 9 != 0 {
             continue;
@@ -422,7 +450,7 @@ fn each_write_that_fails_leaves_a_front(rt: HostRuntime) {
 }
 
 /// Whether each request for memory that is refused is answered so, with a front of a text at most, and
-/// without one where the command doesn't write as it goes, until none is refused.
+/// without one where the command does not write as it goes, until none is refused.
 fn memory_in_turn(heap: Global, command: Command, output: usize, text: &[u8]) -> bool {
     let goes_on = matches!(command, Command::Trace | Command::Session);
     for count in 0..1000u64 {
@@ -468,19 +496,4 @@ fn each_refusal_of_memory_for_faults_leaves_a_fault(rt: HostRuntime) {
         assert!(rt; is_fault, "{count}");
     }
     assert!(rt; false, "memory is always refused");
-}
-
-/// What is reported of a search that is stuck.
-const REPORT: &[u8] = b"pdp8: guess: Stuck 0200\n0200 7402 HLT\n\
-    V13 asks: a HLT is at a declared halt\nit halts, and no halt is declared there\n";
-
-#[test]
-fn a_report_that_fails_changes_no_answer(rt: HostRuntime) {
-    for more in 0..10usize {
-        let room = more * 15;
-        let left = left_by(rt.alloc(), rt.alloc(), Command::Stuck, &with_room(1, room));
-        assert_eq!(rt; left.answer, Ok(Status::Refused));
-        assert_eq!(rt; left.out.bytes(), &REPORT[..REPORT.len().min(room)]);
-    }
-    assert!(rt; memory_in_turn(rt.alloc(), Command::Stuck, 1, REPORT));
 }

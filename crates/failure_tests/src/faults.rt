@@ -1,7 +1,7 @@
 //! Faults that no small input has.
 
 use analyser::GuessFault;
-use command_laws::status::{Fault, Status};
+use command_parts::status::{Fault, Status};
 use std::test::Fail;
 
 #[test]

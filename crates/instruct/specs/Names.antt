@@ -122,7 +122,7 @@ device_name_if (Some operation) = device_name operation
 device_name_if None = codes "?"
 
 -- The name of a word by its kind: as a memory reference, an operate word of group 1, 2 or 3, or a device word of the
--- profile; a question mark for a word that isn't supported.
+-- profile; a question mark for a word that is not supported.
 abbrev pub name_by_kind : Instruction → Profile → ℕ → List ℕ
 name_by_kind Memory profile word = memory_name word
 name_by_kind Operate1 profile word = spaced (group1_names word)

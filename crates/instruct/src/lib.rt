@@ -47,7 +47,7 @@ pub enum Instruction {
     Operate3,
     /// A word of the teletype, the reader or the punch, or IOF.
     Iot,
-    /// A word that the machine of this profile doesn't have here.
+    /// A word that the machine of this profile does not have here.
     Unsupported,
 }
 
@@ -94,7 +94,7 @@ impl Operation {
 /// The kind of a word on a machine of a profile.
 #[tactic(auto, using(crate::proofs::KindLemmas::kinds), unfolding(crate::specs::Instructions::instruction_of))]
 pub fn decode(word: Word, profile: Profile) -> Instruction
-    // The kind doesn't depend on where the word stands.
+    // The kind does not depend on where the word stands.
     ensures meaning { (at : ℕ) → result ≡ kind_of (meaning_of profile at word) }
     ensures kind { result ≡ instruction_of profile word }
 {

@@ -90,7 +90,7 @@ fn name_page(word: Word) -> &'static str
     }
 }
 
-/// Adds a name, with a space before it where it isn't the first.
+/// Adds a name, with a space before it where it is not the first.
 fn push_name(text: &mut ArrayString<32>, name: &str)
     requires room { length text.old.bytes ≤ 28 }
     requires three { length name.now ≡ 3 }

@@ -67,7 +67,7 @@ AreValid t d c = (p : Parts) × AreRead t d c p × IsValid (case_of p)
 abbrev pub FailFirst : (tape declaration certificate : List ℕ) → Refusal → Type 0
 FailFirst t d c r = (p : Parts) × AreRead t d c p × IsFirst (case_of p) r.condition r.address
 
--- The parts are looked at in the order tape, declaration, certificate, conditions; the first that isn't good refuses, with
+-- The parts are looked at in the order tape, declaration, certificate, conditions; the first that is not good refuses, with
 -- its fault. Memory may be wanting for the declaration's list of routines, for the certificate where it has a line that is
 -- kept, and for the rooms of the judgement where all three are good.
 abbrev pub IsRefused : (tape declaration certificate : List ℕ) → CertifyFault → Type 0

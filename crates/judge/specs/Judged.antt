@@ -6,7 +6,7 @@ use Rattle.certificate_lines.specs.Certificate.{Certificate}
 use Rattle.judge.specs.Landing.{Case}
 use Rattle.judge.specs.declared.case.Case.{Case as KeptCase}
 
--- The case of a tape's words, a declaration as it's kept, and what is claimed.
+-- The case of a tape's words, a declaration as it is kept, and what is claimed.
 abbrev pub judged : List (Option ℕ) → Kept → Certificate → Case
 judged image declaration certificate = record {
   image = image_of image;

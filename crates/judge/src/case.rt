@@ -381,7 +381,7 @@ impl<A: Allocator, C: Claims> Case<'_, A, C> {
         put_sites(&self.claims.rules(), sites, claimed);
     }
 
-    /// The sites of the routine of an entry, none where it isn't listed.
+    /// The sites of the routine of an entry, none where it is not listed.
     fn sites_of(&self, entry: Word) -> WordSet
         ensures { words result ≡ (C.claims self.now.claims.now).sites entry }
     {

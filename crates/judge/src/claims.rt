@@ -49,7 +49,7 @@ pub trait Claims {
             (λ w. IsFirstFrom from (names_routine (claims self.now)) w) };
 
     /// The least address from a number on at which something is claimed: that of a fact, or the entry
-    /// of a routine that is named. It's looked first at one line, as below.
+    /// of a routine that is named. It is looked first at one line, as below.
     fn next_claimed(&self, from: usize, near: usize) -> Option<Word>
         ensures { MatchOption result
             (HasNoneFrom from (claimed (claims self.now)))

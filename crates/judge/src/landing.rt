@@ -171,7 +171,7 @@ impl<A: Allocator, C: Claims, const K: usize, const S: usize> Point<'_, A, C, K,
         }
     }
 
-    /// Whether the running routine may abandon all open calls by a word: it isn't main, the word is a JMP and no return, and there
+    /// Whether the running routine may abandon all open calls by a word: it is not main, the word is a JMP and no return, and there
     /// are places for which calls may be abandoned.
     fn may_abandon(&self, word: Word) -> bool
         ensures { AbandonsIf result (case_of C.claims self.now) self.now.place.routine

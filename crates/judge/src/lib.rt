@@ -40,7 +40,7 @@ pub use verdict::{Certified, CertifyFault, certify};
 /// definitions alone. The accumulator, the link and MQ are free too. Its premises are that the
 /// machine follows the instruction table of the declared profile in one field with interrupts off,
 /// that memory holds the tape's words at the start, and that the operator starts at the declared
-/// start, presses CONTINUE at pauses alone, sets the switches freely and deposits nothing. It doesn't
+/// start, presses CONTINUE at pauses alone, sets the switches freely and deposits nothing. It does not
 /// say that a run ends, that a program computes what its author meant, or that a declaration is
 /// wise; and it says nothing of reads where none are listed.
 pub fn headline()

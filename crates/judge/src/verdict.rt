@@ -28,7 +28,7 @@ use std::alloc::Allocator;
 use std::marker::Model;
 use thiserror::Error;
 
-/// Why a program isn't certified: the first part that isn't good, in this order.
+/// Why a program is not certified: the first part that is not good, in this order.
 #[derive(Clone, Copy, PartialEq, Eq, Debug, Error)]
 pub enum CertifyFault {
     /// The bytes are no tape.

@@ -49,7 +49,7 @@ number_value None = Err Form
 abbrev pub value_of : List (Name × ℕ) → List ℕ → Result ℕ AddressFault
 value_of own bytes = symbol_value (known [] own (record { letters = name bytes }))
 
--- The address so many cells above an address, or below it. It isn't taken modulo 10000.
+-- The address so many cells above an address, or below it. It is not taken modulo 10000.
 abbrev pub moved : ℕ → Bool → ℕ → Result ℕ AddressFault
 moved at true count = if nat_lt at count then Err Memory else Ok (at - count)
 moved at false count = if nat_lt (at + count) 4096 then Ok (at + count) else Err Memory

@@ -122,7 +122,7 @@ abbrev pub placed_text : List (Name × ℕ) → List ℕ → Placed
 placed_text own text =
     if nat_lt 16384 (length text) then Err TooMany else placed_all own (slice_split is_feed text)
 
--- Why a text isn't in numbers: its fault, or that memory was refused.
+-- Why a text is not in numbers: its fault, or that memory was refused.
 abbrev pub IsPlaceFault : Placed → PlaceFault → Type 0
 IsPlaceFault meant NoMemory = Unit {0}
 IsPlaceFault meant fault = meant ≡ Err fault

@@ -95,7 +95,7 @@ NumberedIsMeant =
     IsNumbered parts text tape numbers → IsTape (take 65536 tape) image → Declares numbers declaration →
     IsProgram parts text image declaration
 
--- The tape isn't refused.
+-- The tape is not refused.
 abbrev pub NumberedIsTape : Type 0
 NumberedIsTape =
     (parts : List (List ℕ)) (text tape numbers : List ℕ) (fault : TapeFault) →

@@ -47,7 +47,7 @@ after_colon [] = []
 after_colon (first ∷ more) = if first == 58 then more else []
 
 -- The line of a declaration that the line of a source at a place holds, and a line feed: the characters behind the `/:` with which
--- its comment begins, and none where it doesn't begin so. What is no character is passed over, also between `/` and `:`. An address
+-- its comment begins, and none where it does not begin so. What is no character is passed over, also between `/` and `:`. An address
 -- that is left out is that of the first of these words that stands there.
 abbrev pub declared_line : List PlacedWord → SourcePlace → List ℕ → List ℕ
 declared_line words place line = located (address_on words place) (after_colon (characters (after_first is_slash_code line))) ++ 10 ∷ []

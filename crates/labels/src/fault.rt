@@ -12,7 +12,7 @@ pub enum PlaceFault {
     /// A word with a capital letter on this line is neither an address nor a range.
     #[error("BadLine {0}")]
     BadLine(usize),
-    /// The source doesn't define a symbol on this line.
+    /// The source does not define a symbol on this line.
     #[error("NoSymbol {0}")]
     NoSymbol(usize),
     /// An address on this line is below 0000 or above 7777.
@@ -34,7 +34,7 @@ pub enum PlaceFault {
 pub enum AddressFault {
     /// It is neither an address nor a range.
     Form,
-    /// The source doesn't define the symbol.
+    /// The source does not define the symbol.
     Symbol,
     /// An address is below 0000 or above 7777.
     Memory,

@@ -6,7 +6,7 @@ use bin_tape::laws::tapes_have_one_answer;
 use pal_asm::laws::meant_are_words;
 
 /// What is read of the tape of a source and of its declaration in numbers is what the source and the
-/// declaration mean: the image of the source, and the declaration that the numbers declare. The tape isn't
+/// declaration mean: the image of the source, and the declaration that the numbers declare. The tape is not
 /// refused.
 pub fn numbered_programs_are_meant()
     ensures meant { NumberedIsMeant }

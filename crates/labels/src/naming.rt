@@ -37,7 +37,7 @@ pub(crate) struct Spelling {
     behind: usize,
 }
 
-/// The bytes between two places; none where they aren't within.
+/// The bytes between two places; none where they are not within.
 fn bytes_between(bytes: &[u8], start: usize, end: usize) -> &[u8] {
     match bytes.get(start..end) {
         Some(found) => found,
@@ -342,7 +342,7 @@ fn reads_back<A: Allocator + Copy, S: Allocator + Copy>(
 }
 
 /// Adds a line as somebody wrote it, if that is read back as this one; else with symbols; or in numbers where
-/// the one with symbols isn't read back either.
+/// the one with symbols is not read back either.
 fn push_line<A: Allocator + Copy, S: Allocator + Copy>(
     alloc: A,
     own: &SymbolTable<S>,
@@ -443,8 +443,8 @@ fn named_by<A: Allocator + Copy, S: Allocator + Copy>(
 /// Writes a declaration in numbers with the symbols of a source: an address with a tag as that tag, the
 /// first of several; an address at most 77 cells behind a tag as the last tag before it, `+` and a number;
 /// another one that an assignment gives a symbol as that symbol. Ranges are written by their two addresses.
-/// Comments stay, and what isn't four digits or a range of them, offsets, and the words that a subject is to have. A line that
-/// wouldn't be read back byte by byte stays in numbers, and so does the whole where it wouldn't, as where
+/// Comments stay, and what is not four digits or a range of them, offsets, and the words that a subject is to have. A line that
+/// would not be read back byte by byte stays in numbers, and so does the whole where it would not, as where
 /// it has more than 16,384 bytes with symbols. A line of `written`, the text that somebody wrote and of which
 /// each line has its line in the numbers, stays as it is where it means that line. Which names are taken, and
 /// which lines stay, is only tested.

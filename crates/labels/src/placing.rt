@@ -251,7 +251,7 @@ fn place_lines<A: Allocator, S: Allocator + Copy>(
     Ok(())
 }
 
-/// Writes a declaration that isn't too long in numbers.
+/// Writes a declaration that is not too long in numbers.
 fn place_all<A: Allocator, S: Allocator + Copy>(
     alloc: A,
     text: &[u8],

@@ -90,7 +90,7 @@ fn after_colon(comment: &[u8]) -> &[u8]
 }
 
 /// Adds the line of a declaration that a line of a source holds beside a statement with this address, if there is a
-/// statement; it's empty where that holds none.
+/// statement; it is empty where that holds none.
 fn push_declared<A: Allocator + Copy>(
     alloc: A,
     text: &mut Vec<u8, A>,
@@ -151,7 +151,7 @@ pub(crate) fn reads_on(ending: Ending) -> bool
     }
 }
 
-/// Whether the part behind one with this fault is read: it isn't.
+/// Whether the part behind one with this fault is read: it is not.
 pub(crate) fn reads_on_after(fault: TextFault) -> Result<bool, AllocError>
     ensures { result ≡ reads_on_after fault }
 {
@@ -206,7 +206,7 @@ fn lines_with<A: Allocator + Copy>(
 /// The lines of a declaration that stand within a source: for each line of the source a line, which has what
 /// follows the `/:` with which a comment begins, and is empty where there is no such comment. So a line
 /// has the number that it has in the source, counted on from part to part. What stands behind `$` or
-/// PAUSE isn't looked at, nor is a part that has no form, nor any part behind it.
+/// PAUSE is not looked at, nor is a part that has no form, nor any part behind it.
 ///
 /// # Errors
 ///

@@ -100,7 +100,7 @@ fn guessed_within(
 /// CLA and HLT: a word each whose outcomes are asked for.
 const TWO_WORDS: &[u8] = b"start 200\nmain 200-201\nstop 201\n";
 
-/// TAD 0300 and HLT: the first word reads what isn't on the list, so its outcomes aren't asked for.
+/// TAD 0300 and HLT: the first word reads what is not on the list, so its outcomes are not asked for.
 const UNREAD: &[u8] = b"start 200\nmain 200-201\nstop 201\nread 301\n";
 
 #[test]
@@ -132,7 +132,7 @@ fn proposed_within(heap: Global, limit: u32) -> Option<(bool, usize, u32)> {
 #[test]
 fn what_is_shown_stays_where_turns_run_out(rt: HostRuntime) {
     // Each of the five words takes a turn, first with all variables but 0206, then with 0207 and 0300. Where
-    // no turn is left for the first ones it's seen which two cells the program writes.
+    // no turn is left for the first ones it is seen which two cells the program writes.
     assert_eq!(rt; proposed_within(rt.alloc(), 10), Some((true, 2, 10)));
     assert_eq!(rt; proposed_within(rt.alloc(), 9), Some((true, 4090, 9)));
     assert_eq!(rt; proposed_within(rt.alloc(), 5), Some((true, 4090, 5)));

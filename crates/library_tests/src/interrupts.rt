@@ -18,7 +18,7 @@ impl<'t> InterruptedStream<'t> {
         InterruptedStream { times, fails, rest }
     }
 
-    /// What an interruption or a failure answers, if it's due.
+    /// What an interruption or a failure answers, if it is due.
     fn refuse(&mut self) -> io::Result<()> {
         if self.times > 0 {
             self.times -= 1;

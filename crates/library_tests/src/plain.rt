@@ -34,7 +34,7 @@ pub fn meet(a: &WordSet, b: &WordSet) -> WordSet
     found
 }
 
-/// The words of the first set that the second doesn't have.
+/// The words of the first set that the second does not have.
 pub fn minus(a: &WordSet, b: &WordSet) -> WordSet
     ensures { SameWords (words result) (difference (words a.now) (words b.now)) }
 {

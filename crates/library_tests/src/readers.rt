@@ -51,7 +51,7 @@ fn a_read_of_a_tape_that_fails_is_told(rt: HostRuntime) {
         );
         assert!(rt; source.failed());
     }
-    // The 73rd frame begins the trailer, so the 74th isn't read.
+    // The 73rd frame begins the trailer, so the 74th is not read.
     let mut source = MemorySource::new(HELLO_TAPE).in_pieces(1).failing_after(73);
     assert!(rt; read_from(&mut source).is_ok());
     assert!(rt; !source.failed());

@@ -127,7 +127,7 @@ fn answer_of<A: Allocator + Copy>(alloc: A, heap: Global, call: &Call<'_>) -> An
 }
 
 /// How many requests a call makes where none is refused and how it ends then, if each refusal is told; else the
-/// request of which the refusal isn't told.
+/// request of which the refusal is not told.
 fn in_turn(heap: Global, call: &Call<'_>) -> (u64, Answer) {
     for count in 0..10_000u64 {
         let tight = Refusing::new(heap, count);
@@ -223,10 +223,10 @@ fn each_refusal_is_told(rt: HostRuntime) {
     }
 }
 
-/// A line that isn't a routine's.
+/// A line that is not a routine's.
 const NO_ROUTINE: &[u8] = b"PDP8-CERTIFICATE 1\nroutine 0214 rank 00 sites 0207 writes - \nend\n";
 
-/// Calls that ask for memory just so often, and how they end. A part has a token and a statement, and a line where a byte isn't
+/// Calls that ask for memory just so often, and how they end. A part has a token and a statement, and a line where a byte is not
 /// ignored.
 const COUNTED: [(Call<'static>, u64, Answer); 13] = [
     (Call::Events(b"\nbad"), 0, Answer::Fault),

@@ -8,7 +8,7 @@ use instruct::Profile;
 use pal_asm::assemble;
 use std::test::Fail;
 
-/// Takes nothing, and doesn't say that it failed.
+/// Takes nothing, and does not say that it failed.
 #[derive(Drop)]
 struct FullWriter {
     failed: bool,

@@ -13,7 +13,7 @@ use Rattle.machine_commands.specs.declared.follow.End.{End}
 use Rattle.machine_commands.specs.declared.follow.End.TheVariants.{Halted, Unsupported, Bound}
 use Rattle.machine_commands.specs.Trace.{trace_of}
 
--- A run goes on after what was seen, unless the word isn't supported, or the run ends at a halt and there is one.
+-- A run goes on after what was seen, unless the word is not supported, or the run ends at a halt and there is one.
 abbrev pub goes_on : Bool → Seen → Bool
 goes_on ends_at_halt (seen.Unsupported word) = false
 goes_on ends_at_halt seen.Halted = not ends_at_halt
@@ -25,12 +25,12 @@ counted seen.Ran = 1
 counted seen.Halted = 1
 counted _ = 0
 
--- The end of a run that wasn't stuck: the HLT at which the machine is halted, or its bound.
+-- The end of a run that was not stuck: the HLT at which the machine is halted, or its bound.
 abbrev pub end_at : Option ℕ → ℕ → End
 end_at (Some at) pc = Halted at
 end_at None pc = Bound pc
 
--- The end of a run that isn't stuck, in this world: the HLT at which the machine is halted, or else its bound, with the
+-- The end of a run that is not stuck, in this world: the HLT at which the machine is halted, or else its bound, with the
 -- program counter.
 abbrev pub end_of : WorldState → End
 end_of w = end_at w.halted_at w.state.pc
@@ -39,7 +39,7 @@ end_of w = end_at w.halted_at w.state.pc
 pub data Follows (profile : Profile) (ends_at_halt : Bool) : List Event → WorldState → List ℕ → ℕ → End → WorldState → Type 0 where
   -- there is no event left
   Ended : (w : WorldState) → Follows profile ends_at_halt [] w [] 0 (end_of w) w
-  -- the word isn't supported, and nothing changes
+  -- the word is not supported, and nothing changes
   Stuck : (e : Event) (es : List Event) (w x : WorldState) (word : ℕ) →
       seen_of profile w e ≡ seen.Unsupported word → Happens profile w e x →
       Follows profile ends_at_halt (e ∷ es) w [] 0 (Unsupported x.state.pc) x

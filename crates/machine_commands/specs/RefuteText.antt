@@ -1,6 +1,5 @@
 -- What `refute` writes.
-use Rattle.std.specs.Prelude.{ℕ, ◌≡◌, ◌+◌, ◌++◌, ◌⊎◌, Bool, codes, decimal, length, List, [], Option}
-use Rattle.std.specs.Io.KnownBytes.{Appends}
+use Rattle.std.specs.Prelude.{ℕ, ◌≡◌, ◌+◌, ◌++◌, Bool, codes, decimal, length, List, [], Option}
 use Rattle.peripherals.specs.declared.Event.{Event}
 use Rattle.peripherals.specs.EventText.{Spells}
 use Rattle.peripherals.specs.Loading.{image_of}
@@ -9,7 +8,6 @@ use Rattle.policy.specs.declared.rules.Rule.{Rule}
 use Rattle.policy.specs.declared.watcher.Watched.TheVariants.{Broken}
 use Rattle.policy.specs.Watching.{BreaksAt}
 use Rattle.command_parts.specs.declared.options.RefuteOptions.{RefuteOptions}
-use Rattle.command_parts.specs.Answers.{OfProgram}
 use Rattle.command_parts.specs.declared.status.Status.{Status}
 use Rattle.command_parts.specs.declared.status.Status.TheVariants.{Done, Refused}
 use Rattle.machine_commands.specs.Running.{fresh}
@@ -20,7 +18,7 @@ abbrev pub unbroken_text : ℕ → List ℕ
 unbroken_text steps = codes "not broken in " ++ decimal steps ++ codes " steps\n"
 
 -- The list spells a run that breaks the declaration: of these events, from the declared start with all registers and all cells
--- that aren't on the tape 0, the last one is the first step that isn't legal. What is told is what `watch` says of them: its
+-- that are not on the tape 0, the last one is the first step that is not legal. What is told is what `watch` says of them: its
 -- place, and the least rule that it breaks.
 pub record IsWitnessOf (explained : Bool) (image : List (Option ℕ)) (declaration : Declaration) (list told : List ℕ) : Type 0 where
   pub events : List Event
@@ -31,30 +29,9 @@ pub record IsWitnessOf (explained : Bool) (image : List (Option ℕ)) (declarati
   pub last : event + 1 ≡ length events
   pub is : IsTold (Broken event rule) explained told
 
--- The frames are a tape and the text is that of a declaration; the list spells a run that breaks it, and this is told of it.
-abbrev pub IsWitness : Option (List ℕ) → Option (List ℕ) → Bool → List ℕ → List ℕ → Type 0
-IsWitness frames text explained list told = OfProgram frames text (IsWitnessOf explained) list told
-
 -- What is found in search of a run that breaks the declaration: the command is refused, and the list spells such a run of which
 -- this is told; or it is done, there is no list, and what is told says in how many steps none was found.
 abbrev pub IsRefutationOf : RefuteOptions → List (Option ℕ) → Declaration → Status → List ℕ → List ℕ → Type 0
 IsRefutationOf options image declaration Refused list told = IsWitnessOf options.explained image declaration list told
 IsRefutationOf options image declaration Done list told = (list ≡ []) × (told ≡ unbroken_text options.steps)
 IsRefutationOf options image declaration _ list told = ⊥
-
--- The list spells such a run, whatever is told of it.
-abbrev pub IsWitnessText : Option (List ℕ) → Option (List ℕ) → Bool → List ℕ → Type 0
-IsWitnessText frames text explained list = (told : List ℕ) × IsWitness frames text explained list told
-
--- This is told of such a run, or says that none was found.
-abbrev pub IsToldOfWitness : Option (List ℕ) → Option (List ℕ) → RefuteOptions → List ℕ → Type 0
-IsToldOfWitness frames text options told =
-    ((list : List ℕ) × IsWitness frames text options.explained list told) ⊎ (told ≡ unbroken_text options.steps)
-
--- Such a run was appended to the one sink, and what is told of it to the other.
-pub record WritesWitness (frames text : Option (List ℕ)) (explained : Bool) (old new report_old report_new : Option (List ℕ)) : Type 0 where
-  pub list : List ℕ
-  pub told : List ℕ
-  pub is : IsWitness frames text explained list told
-  pub written : Appends old new list
-  pub reported : Appends report_old report_new told

@@ -48,11 +48,11 @@ EndsWithStep ToStep = Unit {0}
 EndsWithStep UpToAny = ⊥
 
 -- From a state of a schedule and a world these events come: each is due where it comes. They are all that come in the run, or,
--- where the run isn't told whole, the first of them.
+-- where the run is not told whole, the first of them.
 pub data Comes {S : Type 0} (schedule : Schedule S) (profile : Profile) (extent : Extent) : S → WorldState → List Event → Type 0 where
   -- nothing is due any more
   Over : (s : S) (w : WorldState) → schedule.due s w ≡ None → Comes schedule profile extent s w []
-  -- what comes further isn't told
+  -- what comes further is not told
   Cut : (s : S) (w : WorldState) → MayEnd extent schedule s w → Comes schedule profile extent s w []
   -- a step is due, and it is the last event that is told
   Due : (s : S) (w : WorldState) → schedule.due s w ≡ Some Step → EndsWithStep extent → Comes schedule profile extent s w (Step ∷ [])

@@ -98,7 +98,7 @@ summary_where named form ToStep end w steps = []
 summary_where named form UpToAny end w steps = []
 
 -- From an image the events that come lead to an end. The text is the trace, if one is asked for, the summary, and the cells to be
--- shown, each with its word in the world in which the run ended; and these are the characters printed and the bytes punched. Where the run isn't whole, this is what its first events leave.
+-- shown, each with its word in the world in which the run ended; and these are the characters printed and the bytes punched. Where the run is not whole, this is what its first events leave.
 pub record IsHeld (comes : Profile → WorldState → Extent → List Event → Type 0) (options : RunOptions) (form : SummaryForm) (extent : Extent) (image : List (Option ℕ)) (text printed punched : List ℕ) (status : Status) : Type 0 where
   pub events : List Event
   pub come : comes options.profile (fresh image options.start) extent events
@@ -142,7 +142,7 @@ pub record IsSession (options : SessionOptions) (form : SummaryForm) (extent : E
   pub session : IsSessionOf options.run form extent (plan_for options frames bytes) image text printed punched status
 
 -- What a run with an operator that has a fault may be about to write, to print and to punch. The summary, which a whole run
--- alone has, is written last: after it only that write itself can fail, so it's about to be written only where the report
+-- alone has, is written last: after it only that write itself can fail, so it is about to be written only where the report
 -- failed. Where neither the report nor the teletype failed, the run came to its end or to an event that prints or punches.
 pub record IsPartOfSession (options : SessionOptions) (form : SummaryForm) (reported typed : Bool) (tape reader keys : Option (List ℕ)) (extent : Extent) (text printed punched : List ℕ) : Type 0 where
   pub summed : extent ≡ Whole → reported ≡ true
@@ -182,7 +182,7 @@ failures report teletype punch = record { report = report; teletype = teletype; 
 
 -- A front of each of three such texts, which are told to some extent, was appended: all of the report and of what was punched
 -- unless the write of it failed, and all that was printed unless the teletype failed or the report did, which comes before it.
--- Where a write failed its front isn't all. Whatever failed, at most the last character wasn't typed; and before the summary,
+-- Where a write failed its front is not all. Whatever failed, at most the last character was not typed; and before the summary,
 -- which is written last, all was typed and punched.
 pub record FrontsOf (P : Extent → List ℕ → List ℕ → List ℕ → Type 0) (failed : Failures) (old new : Taken) : Type 0 where
   pub extent : Extent

@@ -71,7 +71,7 @@ steps_in Step = 1
 steps_in _ = 0
 
 -- An event is due, and leads from one state of a schedule to the next: whatever comes after it comes with it, the run ends with
--- it where it doesn't go on, and it may break off before it where it prints or punches.
+-- it where it does not go on, and it may break off before it where it prints or punches.
 pub record IsNext {S : Type 0} (comes : S → Profile → WorldState → Extent → List Event → Type 0) (s t : S) (w : WorldState) (e : Event) : Type 0 where
   pub on : (p : Profile) (m : WorldState) (extent : Extent) (es : List Event) →
       goes_on true (seen_of p w e) ≡ true → Happens p w e m → comes t p m extent es → comes s p w extent (e ∷ es)

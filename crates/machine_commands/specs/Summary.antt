@@ -20,7 +20,7 @@ end_text (Bound at) = codes "BOUND " ++ octal_text at
 end_text (Stopped at) = codes "STOPPED " ++ octal_text at
 end_text (Interrupted at) = codes "INTERRUPTED " ++ octal_text at
 
--- The accumulator, the link and the program counter, as the first line of a summary shows them; MQ isn't shown.
+-- The accumulator, the link and the program counter, as the first line of a summary shows them; MQ is not shown.
 abbrev pub registers_text : State → List ℕ
 registers_text s =
     codes " AC=" ++ octal_text s.ac ++ (codes " L=" ++ link_text s.link) ++ codes " PC=" ++ octal_text s.pc
@@ -51,7 +51,7 @@ summary end w steps =
     state_line end w steps ++ output_line (codes "PRINTED") w.devices.printer.output ++
     output_line (codes "PUNCHED") w.devices.punch.output
 
--- The line of a cell, if it is named: its address and its word. A cell that isn't has no line.
+-- The line of a cell, if it is named: its address and its word. A cell that is not has no line.
 abbrev pub cell_line : Bool → ℕ → ℕ → List ℕ
 cell_line true at word = octal_text at ++ codes " " ++ octal_text word ++ codes "\n"
 cell_line false at word = []

@@ -14,11 +14,11 @@ use Rattle.machine_commands.specs.Schedule.{Comes, Extent, Whole}
 use Rattle.machine_commands.specs.Session.{Failures, FrontsOf, IsHeld, IsHeldFault, Taken, extent_unread}
 use Rattle.machine_commands.specs.Typing.{first_sitting, typing}
 
--- These are all bytes that a source has. Nothing is said of a source that doesn't tell its bytes.
+-- These are all bytes that a source has. Nothing is said of a source that does not tell its bytes.
 abbrev pub AreAll : Option (List ℕ) → List ℕ → Type 0
 AreAll had all = IfSome had (λ bytes. all ≡ bytes)
 
--- How the tape is run: from the start and on the machine of the session, without a trace. Rounds aren't counted.
+-- How the tape is run: from the start and on the machine of the session, without a trace. Rounds are not counted.
 abbrev pub run_of : TeletypeOptions → RunOptions
 run_of options = record { start = options.start; rounds = 0; trace = false; profile = options.profile; show = options.show }
 

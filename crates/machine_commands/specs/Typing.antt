@@ -19,7 +19,7 @@ pub record Sitting : Type 0 where
   pub last : Option Event
   pub asked : Bool
 
--- Whether a key is asked for after an event in a world: an instruction asks for one or doesn't, a key is the answer, and anything
+-- Whether a key is asked for after an event in a world: an instruction asks for one or does not, a key is the answer, and anything
 -- else leaves it as it was.
 abbrev pub asked_after : Bool → WorldState → Event → Bool
 asked_after asked w Step = asks w

@@ -29,8 +29,8 @@ abbrev pub watched_status : Watched → Status
 watched_status Clean = Done
 watched_status (Broken n r) = Refused
 
--- What is seen of the declared run of these events, which begins with all registers and all cells that aren't on the
--- tape 0: each step is legal, or this is the first that isn't, with the least rule that it breaks.
+-- What is seen of the declared run of these events, which begins with all registers and all cells that are not on the
+-- tape 0: each step is legal, or this is the first that is not, with the least rule that it breaks.
 abbrev pub IsSeen : List (Option ℕ) → Declaration → List Event → Watched → Type 0
 IsSeen image d events Clean = IsClean (image_of image) d events (fresh image d.start)
 IsSeen image d events (Broken n r) = BreaksAt (image_of image) d events (fresh image d.start) n r

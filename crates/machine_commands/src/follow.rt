@@ -99,7 +99,7 @@ fn event_of_round(index: usize) -> Event
     }
 }
 
-/// The end of a run that isn't stuck.
+/// The end of a run that is not stuck.
 pub(crate) fn end_of<A: Allocator>(world: &World<A>) -> End
     ensures { result ≡ end_of (view world.now) }
 {
@@ -178,7 +178,7 @@ pub fn follow<A: Allocator, W: ByteSink>(
     ensures refused { OnErr result (W.mark out.new ≡ false → RanToOutput
         (profile_of world.old) (ends_at_halt course.now) trace (events_in course.now)
         (view world.old) (view world.new) (W.taken out.old) (W.taken out.new)) }
-    // Where a line wasn't written whole, the world is the one after its event, and the whole lines of
+    // Where a line was not written whole, the world is the one after its event, and the whole lines of
     // the events before it went out.
     ensures broke { W.mark out.new ≡ true → RanIntoLine
         (profile_of world.old) (ends_at_halt course.now) (events_in course.now)

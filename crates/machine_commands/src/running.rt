@@ -113,7 +113,7 @@ pub fn run<A: Allocator + Copy, R: ByteSource, W: ByteSink>(
 }
 
 /// Runs a tape by the events of a text in place of rounds, and writes as [`run`] does. The run ends
-/// early at an unsupported word alone; `rounds` of the options isn't looked at.
+/// early at an unsupported word alone; `rounds` of the options is not looked at.
 ///
 /// # Errors
 ///
@@ -150,7 +150,7 @@ pub fn run_events<A: Allocator + Copy, R: ByteSource, E: ByteSource, W: ByteSink
         (W.taken out.old) (W.taken out.new) }
     ensures marks { W.mark out.new ≡ fails_to_write result }
     ensures reads { R.mark tape.new || E.mark text.new ≡ fails_to_read result }
-    // The text isn't read after a tape that is refused, or whose read failed.
+    // The text is not read after a tape that is refused, or whose read failed.
     ensures unread { IfErr result (λ fault. is_fault_of_tape fault ≡ true → text.new ≡ text.old) }
     ensures unread_after_failure { R.mark tape.new ≡ true → text.new ≡ text.old }
     // No input is read past its limit.

@@ -354,7 +354,7 @@ pub fn teletype_with_stops<
         typist.new ≡ typist.old) }
     ensures unread_after_failure { R.mark tape.new ≡ true → typist.new ≡ typist.old }
     // A write failed exactly where the answer says so; where it says that a read failed one did, and a read
-    // that failed is told unless what was punched couldn't be written after it.
+    // that failed is told unless what was punched could not be written after it.
     ensures marks { (W.mark out.new.report || T.mark out.new.teletype) || P.mark out.new.punch
         ≡ fails_to_write result }
     ensures reads { fails_to_read result ≡ true →

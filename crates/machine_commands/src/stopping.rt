@@ -218,7 +218,7 @@ pub fn run_events_with_stops<A: Allocator + Copy, R: ByteSource, E: ByteSource, 
     // A write failed exactly where the answer says so, and so did a read.
     ensures marks { W.mark out.new ≡ fails_to_write result }
     ensures reads { R.mark tape.new || E.mark text.new ≡ fails_to_read result }
-    // The text isn't read after a tape that is refused, or whose read failed.
+    // The text is not read after a tape that is refused, or whose read failed.
     ensures unread { IfErr result (λ fault. is_fault_of_tape fault ≡ true → text.new ≡ text.old) }
     ensures unread_after_failure { R.mark tape.new ≡ true → text.new ≡ text.old }
     // No input is read past its limit.

@@ -82,7 +82,7 @@ fn asks<A: Allocator>(world: &World<A>) -> bool
     asks_with(next_word(world), world.panel().keyboard.flag)
 }
 
-/// The byte of a key, on a teletype that sets channel 8 or doesn't.
+/// The byte of a key, on a teletype that sets channel 8 or does not.
 fn struck_as(byte: u8, mark: bool) -> u8
     ensures { result ≡ struck_as mark byte }
 {

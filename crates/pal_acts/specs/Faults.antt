@@ -19,7 +19,7 @@ pub record Meets (acts : List PlacedAct) (Such : List PlacedAct → PlacedAct �
   pub parts : acts ≡ reverse earlier ++ next ∷ later
   pub such : Such earlier next
 
--- The first fault that isn't a word's: it is that of an act at this place, and the acts before it have these symbols.
+-- The first fault that is not a word's: it is that of an act at this place, and the acts before it have these symbols.
 abbrev pub Stops : List (Name × ℕ) → ℕ → List PlacedAct → SourcePlace → FaultCode → Type 0
 Stops permanent limit acts place code = Meets acts (λ before next. (place ≡ next.place)
     × ((own : List (Name × ℕ)) × Defines permanent limit before own × (next_taken permanent limit own before next ≡ Err code)))
@@ -28,7 +28,7 @@ Stops permanent limit acts place code = Meets acts (λ before next. (place ≡ n
 abbrev pub Finds : Values → List PlacedAct → SourcePlace → FaultCode → Type 0
 Finds σ acts place code = Meets acts (λ before next. (place ≡ next.place) × Encodes σ before × (word_of σ (location σ before) next.terms next.act ≡ Some (Err code)))
 
--- The fault of a source is the first one that isn't a word's. Where there is none, it is the first of a word, with the
+-- The fault of a source is the first one that is not a word's. Where there is none, it is the first of a word, with the
 -- symbols of the whole source.
 abbrev pub IsRefused : List (Name × ℕ) → ℕ → List PlacedAct → SourcePlace → FaultCode → Type 0
 IsRefused permanent limit acts place code = Stops permanent limit acts place code

@@ -29,7 +29,7 @@ given code limit own n (Some w) v = if nat_eq w v then Ok own else Err code
 
 module _ (permanent : List (Name × ℕ)) (limit : ℕ) (own : List (Name × ℕ)) where
   -- The own symbols after an act at this location, where these are those before it, or its fault. That of a word is looked
-  -- for later. A direction can't be given a value.
+  -- for later. A direction cannot be given a value.
   abbrev pub taken : ℕ → List SignedTerm → Act → Result (List (Name × ℕ)) FaultCode
   taken here e (act.Wrong c) = Err c
   taken here e (act.Tag n) = given DuplicateTag limit own n (known permanent own n) here

@@ -50,7 +50,7 @@ abbrev pub Keeps : Values → PlacedAct → List PlacedWord → ℕ → List Pla
 Keeps σ next kept here kept' here' = (before : List PlacedAct) → here ≡ location σ before → kept ≡ reverse (words σ before) → Encodes σ before
     → (kept' ≡ reverse (words σ (next ∷ before))) × Encodes σ (next ∷ before) × (here' ≡ location σ (next ∷ before))
 
--- An act at this location isn't kept: it is to be a word and is none, or memory was refused for it.
+-- An act at this location is not kept: it is to be a word and is none, or memory was refused for it.
 abbrev pub BreaksKeeping : Values → ℕ → PlacedAct → ActsFault → Type 0
 BreaksKeeping σ here next (Fault place code) = (place ≡ next.place) × (word_of σ here next.terms next.act ≡ Some (Err code))
 BreaksKeeping σ here next NoMemory = (w : ℕ) × (word_of σ here next.terms next.act ≡ Some (Ok w))

@@ -72,7 +72,7 @@ abbrev pub word_value : Values → ℕ → List SignedTerm → Result ℕ FaultC
 word_value σ here [] = ok_or (value σ here []) Undefined
 word_value σ here (j ∷ js) = if is_one_of references j.sign j.term then reference σ here (term_value σ here j.term) (marks js) else ok_or (value σ here (j ∷ js)) Undefined
 
--- The word of an act at this location, or why it is none; an act that isn't to be a word has neither.
+-- The word of an act at this location, or why it is none; an act that is not to be a word has neither.
 abbrev pub word_of : Values → ℕ → List SignedTerm → Act → Option (Result ℕ FaultCode)
 word_of σ here e act.Word = Some (word_value σ here e)
 word_of σ here e _ = None

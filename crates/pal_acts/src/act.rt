@@ -44,7 +44,7 @@ pub enum Act {
     Origin,
     /// `symbol=e`: the symbol gets the value of the expression.
     Assign(Name),
-    /// `DECIMAL=e`, `OCTAL=e` or `PAUSE=e`: these can't be given a value, which is told after the
+    /// `DECIMAL=e`, `OCTAL=e` or `PAUSE=e`: these cannot be given a value, which is told after the
     /// symbols of the expression were looked at.
     AssignDirection,
     /// A word, which goes to the current location.

@@ -17,7 +17,7 @@ pub enum FaultCode {
     /// A symbol that has no value.
     #[error("UA")]
     Undefined,
-    /// A reference to an address that the word can't name.
+    /// A reference to an address that the word cannot name.
     #[error("IR")]
     IllegalReference,
     /// A 1,025th symbol of the user.

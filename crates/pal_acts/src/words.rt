@@ -162,7 +162,7 @@ impl<'p, A: Allocator + Copy> Symbols<'p, A> {
     /// # Errors
     ///
     /// `Undefined` where a symbol has no value, and `IllegalReference` where an operation that takes
-    /// an address can't name the one that follows it.
+    /// an address cannot name the one that follows it.
     #[inline(always)]
     pub fn word(&self, here: Word, joins: &[SignedTerm]) -> Result<Word, FaultCode>
         ensures { result ≡ word_value (known self.now.permanent.now.entries self.now.own.entries)

@@ -25,11 +25,11 @@ abbrev pub tag_by : List ℕ → Token → TokenKind → Act
 tag_by source t kind.Symbol = act.Tag (name_of source t)
 tag_by source t _ = act.Wrong DuplicateTag
 
--- A tag gives its symbol the current location; DECIMAL, OCTAL and PAUSE can't be given one.
+-- A tag gives its symbol the current location; DECIMAL, OCTAL and PAUSE cannot be given one.
 abbrev pub tag_act : SourcePlace → List ℕ → Token → PlacedAct
 tag_act p source t = placed p [] (tag_by source t t.kind)
 
--- What is assigned a value: a symbol, or a direction, which can't be given one.
+-- What is assigned a value: a symbol, or a direction, which cannot be given one.
 abbrev pub assigned : List ℕ → Option Token → Act
 assigned source (Some name) = act.Assign (name_of source name)
 assigned source None = act.AssignDirection

@@ -1,4 +1,4 @@
--- What the definitions of meanings, faults and listings leave open: nothing. Want of memory isn't a fault of a source.
+-- What the definitions of meanings, faults and listings leave open: nothing. Want of memory is not a fault of a source.
 use Rattle.std.specs.Prelude.{◌≡◌, ℕ, List, [], ◌∷◌, Option, ◌⊎◌}
 use Rattle.std.specs.List.{AllByRecursion}
 use Rattle.instruct.specs.declared.Profile.{Profile}

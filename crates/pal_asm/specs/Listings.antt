@@ -13,7 +13,7 @@ use Rattle.pal_asm.specs.Sources.{TextLine, IsReadSo}
 abbrev pub is_at : SourcePlace → PlacedWord → Bool
 is_at p w = nat_eq w.place.part p.part && nat_eq w.place.line p.line
 
--- Characters from the first one on that is no space and no tab: those at the front of a line aren't listed.
+-- Characters from the first one on that is no space and no tab: those at the front of a line are not listed.
 abbrev pub without_front : List ℕ → List ℕ
 without_front [] = []
 without_front (c ∷ cs) = if nat_eq c (char " ") || nat_eq c (char "\t") then without_front cs else c ∷ cs

@@ -91,7 +91,7 @@ pub record IsRead (part : NumberedPart) (before : Radix) (old new : List PlacedA
   pub does : PartDoes part.number part.last before part.source.now acts reached.radix reached.close
   pub new_is : new ≡ old ++ acts
 
--- A part isn't read to its end: a statement has no form, and what was kept so far is in front of what is kept now.
+-- A part is not read to its end: a statement has no form, and what was kept so far is in front of what is kept now.
 abbrev pub StopsPart : List ℕ → List PlacedAct → List PlacedAct → StatementFault → Type 0
 StopsPart source old new (text.Illegal line) = IsIllegal source line × ((more : List PlacedAct) × (new ≡ old ++ more))
 StopsPart source old new text.NoMemory = Unit {0}
@@ -144,7 +144,7 @@ RefusesActs permanent acts NoMemory = Unit {0}
 abbrev pub is_before : SourcePlace → PlacedWord → Bool
 is_before p w = nat_lt w.place.part p.part || (nat_eq w.place.part p.part && nat_lt w.place.line p.line)
 
--- Words from the first one on that isn't before this place.
+-- Words from the first one on that is not before this place.
 abbrev pub skip : SourcePlace → List PlacedWord → List PlacedWord
 skip p [] = []
 skip p (w ∷ ws) = if is_before p w then skip p ws else w ∷ ws

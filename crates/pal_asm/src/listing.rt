@@ -93,7 +93,7 @@ fn stands_before(place: SourcePlace, word: PlacedWord) -> bool
     word.place.part < place.part || (word.place.part == place.part && word.place.line < place.line)
 }
 
-/// The words from the first one on that isn't before this place.
+/// The words from the first one on that is not before this place.
 fn from_place(place: SourcePlace, words: &[PlacedWord]) -> &[PlacedWord]
     ensures { result.now ≡ skip place words.now }
 {
@@ -129,7 +129,7 @@ fn push_words<'w, A: Allocator>(
     Ok(rest)
 }
 
-/// Whether a byte at the front of a line isn't listed.
+/// Whether a byte at the front of a line is not listed.
 fn is_dropped(byte: u8) -> bool
     ensures { result ≡ is_no_text byte }
 {

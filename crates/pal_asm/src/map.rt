@@ -179,7 +179,7 @@ fn map_reading<A: Allocator + Copy>(
     }
 }
 
-/// What a source means whose parts aren't too many or too long, with its lines, or its fault.
+/// What a source means whose parts are not too many or too long, with its lines, or its fault.
 fn map_parts<A: Allocator + Copy>(
     alloc: A,
     parts: &[&[u8]],

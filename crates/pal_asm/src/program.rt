@@ -142,7 +142,7 @@ fn assemble_reading<A: Allocator + Copy>(
     }
 }
 
-/// What a source means whose parts aren't too many or too long, with its listing, or its fault.
+/// What a source means whose parts are not too many or too long, with its listing, or its fault.
 fn assemble_parts<A: Allocator + Copy>(
     alloc: A,
     parts: &[&[u8]],

@@ -117,7 +117,7 @@ pub(crate) struct Reading<'s, A: Allocator> {
     pub(crate) fronts: Vec<PartText<'s>, A>,
 }
 
-/// Reads the parts of a source that aren't too many or too long, one after another.
+/// Reads the parts of a source that are not too many or too long, one after another.
 fn read_parts<'s, A: Allocator + Copy>(
     alloc: A,
     parts: &[&'s [u8]],
@@ -144,7 +144,7 @@ fn read_parts<'s, A: Allocator + Copy>(
     Ok(())
 }
 
-/// Reads a source whose parts aren't too many or too long.
+/// Reads a source whose parts are not too many or too long.
 pub(crate) fn read_source<'s, A: Allocator + Copy>(
     alloc: A,
     parts: &[&'s [u8]],

@@ -22,7 +22,7 @@ pub(crate) struct NumberedPart<'s> {
     pub(crate) source: &'s [u8],
 }
 
-/// What a tag does: DECIMAL, OCTAL and PAUSE can't be given a value.
+/// What a tag does: DECIMAL, OCTAL and PAUSE cannot be given a value.
 fn tag_of(source: &[u8], token: Token) -> Act
     requires { IsWithin (length source.now) token }
     ensures { result ≡ tag_by source.now token token.kind }

@@ -99,7 +99,7 @@ fn translate_acts<A: Allocator + Copy>(
     }
 }
 
-/// What a source means whose parts aren't too many or too long, or its fault.
+/// What a source means whose parts are not too many or too long, or its fault.
 fn translate_parts<A: Allocator + Copy>(
     alloc: A,
     parts: &[&[u8]],

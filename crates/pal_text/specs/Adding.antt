@@ -9,7 +9,7 @@ use Rattle.pal_text.specs.declared.tokens.Token.{Token}
 use Rattle.pal_text.specs.Characters.{char, line, in_comment, meaning_after}
 use Rattle.pal_text.specs.Tokens.{is_space, longer, absorbs, kind_of, token, end_token}
 
--- Of two neighbours of which one is a space that doesn't count, the other.
+-- Of two neighbours of which one is a space that does not count, the other.
 abbrev pub without_space : Token → Token → Option Token
 without_space last next =
     if is_space next.kind && absorbs last.kind then Some last else
@@ -27,7 +27,7 @@ abbrev pub one_or_both : Token → Token → List Token → Option Token → Lis
 one_or_both next t ts (Some one) = one ∷ ts
 one_or_both next t ts None = next ∷ t ∷ ts
 
--- The tokens with one more at the end. A space at the front of the first statement doesn't count.
+-- The tokens with one more at the end. A space at the front of the first statement does not count.
 abbrev pub added : Token → List Token → List Token
 added next [] = if is_space next.kind then [] else next ∷ []
 added next (t ∷ ts) = one_or_both next t ts (joined t next)

@@ -26,7 +26,7 @@ is_direction kind.Octal = true
 is_direction kind.Pause = true
 is_direction _ = false
 
--- What may be a tag or be assigned by its form, though DECIMAL, OCTAL and PAUSE can't be given a value.
+-- What may be a tag or be assigned by its form, though DECIMAL, OCTAL and PAUSE cannot be given a value.
 abbrev pub is_name : TokenKind → Bool
 is_name kind.Symbol = true
 is_name k = is_direction k

@@ -8,7 +8,7 @@ abbrev pub line_start : List ℕ → ℕ
 line_start [] = 0
 line_start (b ∷ before) = after (line_start before) (length before + 1) (λ c. line_start before) (meaning_after before b)
 
--- A byte that isn't ignored stands after the last line end.
+-- A byte that is not ignored stands after the last line end.
 abbrev pub is_begun : List ℕ → Bool
 is_begun [] = false
 is_begun (b ∷ before) = after (is_begun before) false (λ c. true) (meaning_after before b)
@@ -23,7 +23,7 @@ abbrev pub ended_lines : List ℕ → List Line
 ended_lines [] = []
 ended_lines (b ∷ before) = after (ended_lines before) (line_of (line_start before) (length before) ∷ ended_lines before) (λ c. ended_lines before) (meaning_after before b)
 
--- The lines that have ended and, where a byte that isn't ignored stands after the last line end, the one that it
+-- The lines that have ended and, where a byte that is not ignored stands after the last line end, the one that it
 -- begins.
 abbrev pub lines : List ℕ → List Line
 lines before = if is_begun before then line_of (line_start before) (length before) ∷ ended_lines before else ended_lines before

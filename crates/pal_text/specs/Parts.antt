@@ -26,7 +26,7 @@ abbrev pub past : ℕ → List Statement → ℕ
 past n [] = n
 past n (s ∷ ss) = past (s.last + 1) ss
 
--- What a refusal of a part that isn't too long says of it.
+-- What a refusal of a part that is not too long says of it.
 abbrev pub IsFault : List ℕ → TextFault → Type 0
 IsFault source (Illegal n) = IsIllegal source n
 IsFault source TooLong = ⊥

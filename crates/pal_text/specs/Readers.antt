@@ -25,7 +25,7 @@ pub record IsNext (source : List ℕ) (n : ℕ) (found : DelimitedStatement) (ow
   pub count_is : m ≡ found.statement.last + 1
   pub close_is : close ≡ closing (length source) own found.mark found.statement.form
 
--- What a reader finds: the next statement, where the part hasn't ended, or how it has.
+-- What a reader finds: the next statement, where the part has not ended, or how it has.
 abbrev pub Finds : Progress → PartItem → Progress → Type 0
 Finds old (next.Statement found) new = (old.close ≡ None) × IsNext old.source old.count found new.own new.count new.close
 Finds old (next.End c) new = (old.close ≡ Some c) × (new.close ≡ Some c) × (new.count ≡ old.count) × (new.own ≡ [])
@@ -43,6 +43,6 @@ abbrev pub StopsAt : List ℕ → ℕ → StatementFault → Type 0
 StopsAt source n (Illegal line) = IsBroken source n line
 StopsAt source n NoMemory = HasToken source n
 
--- A reader tells a fault only where the part hasn't ended.
+-- A reader tells a fault only where the part has not ended.
 abbrev pub BreaksNext : Progress → StatementFault → Type 0
 BreaksNext at fault = (at.close ≡ None) × StopsAt at.source at.count fault

@@ -45,7 +45,7 @@ mark_kind c = if is_line_code c then kind.End else kind_of c
 abbrev pub line_past : ℕ → ℕ → ℕ
 line_past n c = if is_line_code c then n + 1 else n
 
--- A space at the end of a statement doesn't count.
+-- A space at the end of a statement does not count.
 abbrev pub trimmed : List Token → List Token
 trimmed [] = []
 trimmed (t ∷ ts) = if is_space t.kind then ts else t ∷ ts
@@ -91,7 +91,7 @@ abbrev pub IsCut : List Token → Type 0
 IsCut [] = Unit {0}
 IsCut (t ∷ ts) = is_end t.kind ≡ true
 
--- A token that doesn't end a statement.
+-- A token that does not end a statement.
 abbrev pub IsOpen : Token → Type 0
 IsOpen t = is_end t.kind ≡ false
 
@@ -108,7 +108,7 @@ abbrev pub stands_by : Option PartEnd → Place → ReaderState
 stands_by (Some c) next = Ended c
 stands_by None next = Begins next
 
--- Where the part hasn't ended, so many tokens stand before the next statement.
+-- Where the part has not ended, so many tokens stand before the next statement.
 abbrev pub StandsAt : List ℕ → ℕ → ReaderState → Type 0
 StandsAt source count (Begins place) = IsPlaceIn source place × (count ≡ length (tokens (front source place.at)))
 StandsAt source count (Ended c) = Unit {0}

@@ -70,7 +70,7 @@ pub data Stand (tokens : List Token) (size : ℕ) : List Piece → List Statemen
   goes_on : (p : Piece) (ps : List Piece) (s : Statement) (ss : List Statement) (c : PartEnd) → Fills tokens p s → closing size (own tokens p) p.mark s.form ≡ None
       → Stand tokens size ps ss c → Stand tokens size (p ∷ ps) (s ∷ ss) c
 
--- The first piece that is no statement is on this line, and the part doesn't end before it.
+-- The first piece that is no statement is on this line, and the part does not end before it.
 pub data Breaks (tokens : List Token) (size : ℕ) : List Piece → ℕ → Type 0 where
   here : (p : Piece) (ps : List Piece) → IsNone tokens p → Breaks tokens size (p ∷ ps) p.mark.line
   later : (p : Piece) (ps : List Piece) (s : Statement) (n : ℕ) → Fills tokens p s → closing size (own tokens p) p.mark s.form ≡ None → Breaks tokens size ps n → Breaks tokens size (p ∷ ps) n

@@ -1,4 +1,4 @@
--- The tokens of a part: its runs of characters, and then these without the spaces that don't count. Lists of bytes and of
+-- The tokens of a part: its runs of characters, and then these without the spaces that do not count. Lists of bytes and of
 -- tokens have the newest first here, but for `all_tokens`.
 use Rattle.std.specs.Prelude.{ℕ, ◌+◌, Bool, true, false, ◌||◌, ◌&&◌, if◌then◌else◌, List, [], ◌∷◌, length, reverse, Option, Some, None, nat_eq, nat_le}
 use Rattle.std.specs.Option.{option_map_or}
@@ -76,19 +76,19 @@ is_end End = true
 is_end Dollar = true
 is_end _ = false
 
--- Spaces beside these don't count: , = + - and the ends of a statement.
+-- Spaces beside these do not count: , = + - and the ends of a statement.
 abbrev pub absorbs : TokenKind → Bool
 absorbs Comma = true
 absorbs Equals = true
 absorbs k = is_sign k || is_end k
 
--- A space after these tokens, the newest first, doesn't count: it follows one beside which spaces don't, or it stands
+-- A space after these tokens, the newest first, does not count: it follows one beside which spaces do not, or it stands
 -- at the front of the part.
 abbrev pub absorbs_after : List Token → Bool
 absorbs_after [] = true
 absorbs_after (t ∷ ts) = absorbs t.kind
 
--- Runs without the spaces that don't count; the first argument says whether what follows them is one of these.
+-- Runs without the spaces that do not count; the first argument says whether what follows them is one of these.
 abbrev pub counted : Bool → List Token → List Token
 counted followed [] = []
 counted followed (t ∷ ts) = if is_space t.kind && (followed || absorbs_after ts) then counted false ts else t ∷ counted (absorbs t.kind) ts

@@ -5,7 +5,7 @@ ghost use Rattle.pal_text.specs.Faults.{fault_of};
 
 use thiserror::Error;
 
-/// Why the next statement of a part isn't read.
+/// Why the next statement of a part is not read.
 #[derive(Clone, Copy, PartialEq, Eq, Debug, Error)]
 pub enum StatementFault {
     /// The statement is on this line, counted from 1, and has no form.

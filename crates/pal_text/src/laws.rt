@@ -21,7 +21,7 @@ pub fn comments_add_nothing()
     ensures { CommentsAddNothing }
 {}
 
-/// What follows the end of a statement doesn't change how the statement and those before it are
+/// What follows the end of a statement does not change how the statement and those before it are
 /// read.
 pub fn statements_stay()
     ensures { StatementsStay }

@@ -45,7 +45,7 @@ fn put_lines<A: Allocator>(out: &mut Vec<Line, A>, bytes: &[u8]) -> Result<(), A
 }
 
 /// The lines of these bytes in order. What stands after the last line's end is one only where a
-/// byte of it isn't ignored.
+/// byte of it is not ignored.
 ///
 /// # Errors
 ///

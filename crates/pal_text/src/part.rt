@@ -115,7 +115,7 @@ fn gather<A: Allocator + Copy>(
     }
 }
 
-/// Reads a part that isn't too long.
+/// Reads a part that is not too long.
 fn read_part<'s, A: Allocator + Copy>(alloc: A, source: &'s [u8]) -> Result<Part<'s, A>, TextFault>
     requires { length source.now ≤ 65536 }
     ensures source { IfOk result (λ part. part.source.now ≡ source.now) }

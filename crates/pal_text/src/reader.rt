@@ -180,7 +180,7 @@ impl<'s, A: Allocator + Copy> StatementReader<'s, A> {
         ensures found { IfOk result (λ next. Finds self.old next self.new) }
         // Where the part has ended it says so, and nothing else, so also whenever it is asked again,
         ensures over { (close : Closed) → self.old.close ≡ Some close → result ≡ Ok (End close) }
-        // and where it hasn't, a statement is left or a fault.
+        // and where it has not, a statement is left or a fault.
         ensures open { self.old.close ≡ None → rest self.old.source self.old.count ≢ [] }
         ensures within { OnOk result (AllByRecursion (IsWithin (length self.old.source))
             self.new.own) }

@@ -79,7 +79,7 @@ pub(crate) fn is_a_space(kind: TokenKind) -> bool
     matches!(kind, TokenKind::Space)
 }
 
-/// Whether a space beside a token of this kind doesn't count.
+/// Whether a space beside a token of this kind does not count.
 fn absorbs_spaces(kind: TokenKind) -> bool
     ensures { result ≡ absorbs kind }
 {
@@ -120,7 +120,7 @@ fn longer_kind(kind: TokenKind, next: TokenKind) -> Option<TokenKind>
     }
 }
 
-/// The one token that two neighbours make, where the second doesn't stand after the first.
+/// The one token that two neighbours make, where the second does not stand after the first.
 fn join(last: Token, next: Token) -> Option<Token>
     ensures { result ≡ joined last next }
 {

@@ -12,7 +12,7 @@ pub record Keyboard : Type 0 where
   pub flag : Bool
   pub buffer : ℕ
 
--- The tape reader: its flag, the byte of the last frame, and whether a frame was asked for and hasn't come yet.
+-- The tape reader: its flag, the byte of the last frame, and whether a frame was asked for and has not come yet.
 pub record Reader : Type 0 where
   pub flag : Bool
   pub buffer : ℕ
@@ -32,7 +32,7 @@ pub record Devices : Type 0 where
   pub punch : Writer
   pub switches : ℕ
 
--- The printer or the punch when a program is loaded: its flag is clear, it isn't busy, and it was given no byte.
+-- The printer or the punch when a program is loaded: its flag is clear, it is not busy, and it was given no byte.
 abbrev pub idle_writer : Writer
 idle_writer = record { flag = false; busy = false; output = [] }
 

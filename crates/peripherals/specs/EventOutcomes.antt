@@ -33,7 +33,7 @@ abbrev pub seen_of_enabled : Profile → WorldState → Event → Seen
 seen_of_enabled profile w Step = seen_of_step (instruction profile w.state) (word_at_pc w)
 seen_of_enabled profile w _ = Changed
 
--- What the caller is told of an event that comes in this world: that it isn't enabled, or else what it does.
+-- What the caller is told of an event that comes in this world: that it is not enabled, or else what it does.
 abbrev pub seen_of : Profile → WorldState → Event → Seen
 seen_of profile w e = if is_enabled w e then seen_of_enabled profile w e else NotEnabled
 

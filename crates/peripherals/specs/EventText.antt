@@ -53,14 +53,14 @@ LinesSpell (line ∷ lines) events =
     (first : List Event) × (others : List Event) × (line_events line ≡ Some first) × LinesSpell lines others
     × (events ≡ first ++ others)
 
--- This text spells these events: it isn't too long, each line is good, and there aren't too many events.
+-- This text spells these events: it is not too long, each line is good, and there are not too many events.
 pub record Spells (text : List ℕ) (events : List Event) : Type 0 where
   pub short : length text ≤ most_bytes
   pub spells : LinesSpell (text_lines text) events
   pub few : length events ≤ most_events
 
--- In a text that isn't too long, this line with this number stands after these, which are good: they spell these events,
--- which aren't too many.
+-- In a text that is not too long, this line with this number stands after these, which are good: they spell these events,
+-- which are not too many.
 pub record GoodBefore (text : List ℕ) (before : List (List ℕ)) (line : List ℕ) (number : ℕ) (events : List Event) : Type 0 where
   pub short : length text ≤ most_bytes
   pub stands : StandsAt (text_lines text) before line number
@@ -76,7 +76,7 @@ LineFails events number line TooMany =
 LineFails events number line NoMemory =
     (more : List Event) × (line_events line ≡ Some more) × (0 < length more) × (length events + length more ≤ most_events)
 
--- The first line that isn't good fails so.
+-- The first line that is not good fails so.
 pub record FailsAtLine (text : List ℕ) (fault : EventsFault) : Type 0 where
   pub before : List (List ℕ)
   pub line : List ℕ
@@ -85,7 +85,7 @@ pub record FailsAtLine (text : List ℕ) (fault : EventsFault) : Type 0 where
   pub good : GoodBefore text before line number events
   pub fails : LineFails events number line fault
 
--- This text fails so: without looking at a line where it is too long, and else at its first line that isn't good.
+-- This text fails so: without looking at a line where it is too long, and else at its first line that is not good.
 abbrev pub Fails : List ℕ → EventsFault → Type 0
 Fails text (BadLine number) = FailsAtLine text (BadLine number)
 Fails text TooMany = (most_bytes < length text) ⊎ FailsAtLine text TooMany

@@ -6,7 +6,7 @@ use Rattle.peripherals.specs.declared.Event.{Event}
 use Rattle.peripherals.specs.declared.Event.TheVariants.{Step, Key, PrinterDone, ReaderDone, PunchDone, Switches, Continue}
 use Rattle.peripherals.specs.Devices.{Reader, Writer, Devices, idle, WorldState, Instructs}
 
--- A key is struck: the keyboard's flag is set and its buffer holds the byte, also where the last key wasn't taken yet.
+-- A key is struck: the keyboard's flag is set and its buffer holds the byte, also where the last key was not taken yet.
 abbrev pub struck : ℕ → Devices → Devices
 struck byte v = record v { keyboard = record { flag = true; buffer = byte } }
 
@@ -31,7 +31,7 @@ pub record Steps (profile : Profile) (w x : WorldState) : Type 0 where
   pub runs : w.halted_at ≡ None → Instructs profile w x
   pub halted : (at : ℕ) → w.halted_at ≡ Some at → x ≡ w
 
--- From w an event leads to x. An event that isn't enabled changes nothing. Events carry bytes and words.
+-- From w an event leads to x. An event that is not enabled changes nothing. Events carry bytes and words.
 abbrev pub Happens : Profile → WorldState → Event → WorldState → Type 0
 Happens profile w Step x = Steps profile w x
 Happens profile w (Key byte) x = (byte < 256) × (x ≡ with_devices w (struck byte w.devices))

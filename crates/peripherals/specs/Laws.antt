@@ -1,4 +1,4 @@
--- What the definitions of events and of their texts leave open: nothing. Want of memory isn't a fault of a text.
+-- What the definitions of events and of their texts leave open: nothing. Want of memory is not a fault of a text.
 use Rattle.std.specs.Prelude.{◌≡◌, ◌≢◌, ℕ, ◌⊎◌, false, List}
 use Rattle.peripherals.specs.declared.Event.{Event}
 use Rattle.peripherals.specs.declared.event_text.EventsFault.{EventsFault}
@@ -16,12 +16,12 @@ abbrev pub EventsLeadToOneWorld : Type 0
 EventsLeadToOneWorld =
     (profile : Profile) (w : WorldState) (event : Event) (x y : WorldState) → Happens profile w event x → Happens profile w event y → x ≡ y
 
--- An event that isn't enabled changes nothing.
+-- An event that is not enabled changes nothing.
 abbrev pub IdleEventsChangeNothing : Type 0
 IdleEventsChangeNothing =
     (profile : Profile) (w x : WorldState) (event : Event) → is_enabled w event ≡ false → Happens profile w event x → x ≡ w
 
--- A step at a word that isn't supported changes nothing.
+-- A step at a word that is not supported changes nothing.
 abbrev pub UnsupportedStepsChangeNothing : Type 0
 UnsupportedStepsChangeNothing =
     (profile : Profile) (w x : WorldState) (word : ℕ) → seen_of profile w Step ≡ Unsupported word → Happens profile w Step x → x ≡ w

@@ -10,13 +10,13 @@ use Rattle.peripherals.specs.EventText.{most_events, line_events}
 abbrev pub repeated : RepeatedEvent → List Event
 repeated more = replicate more.times more.event
 
--- To so many events these aren't added: they are too many, or, where memory is refused, some.
+-- To so many events these are not added: they are too many, or, where memory is refused, some.
 abbrev pub RefusesMore : ℕ → ℕ → EventsFault → Type 0
 RefusesMore had more (BadLine number) = ⊥
 RefusesMore had more TooMany = most_events < had + more
 RefusesMore had more NoMemory = (0 < more) × (had + more ≤ most_events)
 
--- A line adds its events to those before it, and then there aren't too many.
+-- A line adds its events to those before it, and then there are not too many.
 pub record Adds (events : List Event) (line : List ℕ) (after : List Event) : Type 0 where
   pub more : List Event
   pub brings : line_events line ≡ Some more

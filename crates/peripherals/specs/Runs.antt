@@ -9,7 +9,7 @@ use Rattle.peripherals.specs.declared.Event.TheVariants.{Step}
 use Rattle.peripherals.specs.Devices.{WorldState}
 use Rattle.peripherals.specs.Events.{Happens}
 
--- A word of this meaning is an instruction, whichever; only `Undefined`, that of a word without a meaning, isn't
+-- A word of this meaning is an instruction, whichever; only `Undefined`, that of a word without a meaning, is not
 -- supported.
 abbrev pub is_supported : Meaning → Bool
 is_supported Undefined = false

@@ -44,11 +44,11 @@ abbrev pub does_punch : DecodedInstruction → Bool
 does_punch (fetch.Device word) = punches word
 does_punch _ = false
 
--- The output of a device after a word that gives it the low eight bits of the accumulator, or doesn't.
+-- The output of a device after a word that gives it the low eight bits of the accumulator, or does not.
 abbrev pub put_out : Bool → ℕ → List ℕ → List ℕ
 put_out gives ac output = if gives then output ++ (ac % 256) ∷ [] else output
 
--- What the devices answer doesn't depend on what they have put out.
+-- What the devices answer does not depend on what they have put out.
 abbrev pub panel_answer : Panel → ℕ → Answer
 panel_answer p = answer_to (devices_of p [] [])
 

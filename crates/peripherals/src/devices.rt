@@ -16,7 +16,7 @@ use word12::Word;
 /// The keyboard: its flag, and the byte of the last key.
 #[derive(Clone, Copy, PartialEq, Eq, Debug)]
 pub struct Keyboard {
-    /// A key was struck and hasn't been taken.
+    /// A key was struck and has not been taken.
     pub flag: bool,
     /// The byte of the last key.
     pub buffer: u8,
@@ -25,11 +25,11 @@ pub struct Keyboard {
 /// The tape reader.
 #[derive(Clone, Copy, PartialEq, Eq, Debug)]
 pub struct Reader {
-    /// A frame has come and hasn't been taken.
+    /// A frame has come and has not been taken.
     pub flag: bool,
     /// The byte of the last frame.
     pub buffer: u8,
-    /// A frame was asked for and hasn't come.
+    /// A frame was asked for and has not come.
     pub fetching: bool,
 }
 

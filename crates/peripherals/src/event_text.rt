@@ -22,7 +22,7 @@ const MOST_BYTES: usize = 65_536;
 /// The most events of a text, and of one line.
 const MOST_EVENTS: u32 = 1_000_000;
 
-/// Why a text of events isn't read.
+/// Why a text of events is not read.
 #[derive(Clone, Copy, PartialEq, Eq, Debug, Error)]
 pub enum EventsFault {
     /// The line of this number, counted from 1, is none of the lines that there are.
@@ -66,7 +66,7 @@ pub fn events<A: Allocator>(alloc: A, text: &[u8]) -> Result<Vec<Event, A>, Even
     read_lines(alloc, text)
 }
 
-/// The events that a text lists which isn't too long.
+/// The events that a text lists which is not too long.
 fn read_lines<A: Allocator>(alloc: A, text: &[u8]) -> Result<Vec<Event, A>, EventsFault>
     requires { length text.now ≤ most_bytes }
     ensures found { IfOk result (λ events. Spells text.now events.items) }
@@ -88,7 +88,7 @@ struct EventList<A: Allocator> {
 }
 
 impl<A: Allocator> EventList<A> {
-    /// Appends an event some times over, where there aren't too many then.
+    /// Appends an event some times over, where there are not too many then.
     fn append(&mut self, more: RepeatedEvent) -> Result<(), EventsFault>
         ensures appended { OnOk result
             (self.new.events.items ≡ self.old.events.items ++ repeated more) }
@@ -124,7 +124,7 @@ impl<A: Allocator> LineTaker for EventList<A> {
     }
 }
 
-/// The events of a line, if it isn't bad.
+/// The events of a line, if it is not bad.
 fn read_line(line: &[u8]) -> Option<RepeatedEvent>
     ensures { option_map repeated result ≡ line_events line.now }
 {

@@ -13,7 +13,7 @@ pub fn events_lead_to_one_world()
     ensures { EventsLeadToOneWorld }
 {}
 
-/// An event that isn't enabled changes nothing, nor does a step at a word that isn't supported.
+/// An event that is not enabled changes nothing, nor does a step at a word that is not supported.
 pub fn idle_events_change_nothing()
     ensures idle { IdleEventsChangeNothing }
     ensures unsupported { UnsupportedStepsChangeNothing }

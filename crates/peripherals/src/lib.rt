@@ -24,7 +24,7 @@ use word12::{Link, Word};
 pub use world::World;
 
 /// Something that happens to a machine and its devices: one action of the processor, a device or
-/// the operator. An event that isn't enabled changes nothing.
+/// the operator. An event that is not enabled changes nothing.
 #[derive(Clone, Copy, PartialEq, Eq, Debug)]
 pub enum Event {
     /// The processor tries one instruction, while it runs.
@@ -46,7 +46,7 @@ pub enum Event {
 /// What an event did.
 #[derive(Clone, Copy, PartialEq, Eq, Debug)]
 pub enum Seen {
-    /// The event wasn't enabled, and changed nothing.
+    /// The event was not enabled, and changed nothing.
     NotEnabled,
     /// A device, the switches or the machine's running took note of it.
     Changed,
@@ -54,7 +54,7 @@ pub enum Seen {
     Ran,
     /// An instruction was carried out, and halted the machine.
     Halted,
-    /// The word at the program counter isn't supported; nothing changed.
+    /// The word at the program counter is not supported; nothing changed.
     Unsupported(Word),
 }
 

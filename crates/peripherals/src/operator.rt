@@ -161,7 +161,7 @@ fn rest_of(bytes: &[u8]) -> &[u8]
     }
 }
 
-/// The byte of a key, on a teletype that sets channel 8 or doesn't.
+/// The byte of a key, on a teletype that sets channel 8 or does not.
 fn struck_as(key: u8, mark: bool) -> u8
     ensures { result ≡ struck_as mark key }
 {

@@ -195,7 +195,7 @@ impl<A: Allocator> World<A> {
         self.panel.reader.fetching
     }
 
-    /// A key was struck and hasn't been taken.
+    /// A key was struck and has not been taken.
     pub(crate) fn key_is_there(&self) -> bool
         ensures { result ≡ (view self.now).devices.keyboard.flag }
     {
@@ -249,7 +249,7 @@ impl<A: Allocator> World<A> {
 
     /// Applies one event.
     ///
-    /// An event that isn't enabled changes nothing. `Seen` tells what was done.
+    /// An event that is not enabled changes nothing. `Seen` tells what was done.
     ///
     /// # Errors
     ///

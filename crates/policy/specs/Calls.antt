@@ -9,7 +9,7 @@ pub record Call : Type 0 where
   pub entry : ℕ
   pub after : ℕ
 
--- The calls that haven't returned, the last one first.
+-- The calls that have not returned, the last one first.
 abbrev pub Calls : Type 0
 Calls = List Call
 

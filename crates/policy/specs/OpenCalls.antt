@@ -23,6 +23,6 @@ open_calls cs = put_on cs []
 abbrev pub machine_of : {A : Type 0} → Watcher A → WorldState
 machine_of w = view w.world
 
--- The calls that haven't returned, the last call first.
+-- The calls that have not returned, the last call first.
 abbrev pub calls_of : {A : Type 0} → Watcher A → Calls
 calls_of w = open_calls w.calls.items

@@ -37,7 +37,7 @@ abbrev pub written_by : Meaning → Cells → Words
 written_by m memory a = pointer_of m a || stored_at m memory a
 
 -- The cells that an instruction reads: the pointer of an indirect reference, and the operand of AND, TAD and ISZ. The
--- instruction word itself doesn't count.
+-- instruction word itself does not count.
 abbrev pub read_by : Meaning → Cells → Words
 read_by (And i c) memory a = (i && (a == c)) || (a == place i c memory)
 read_by (Tad i c) memory a = (i && (a == c)) || (a == place i c memory)
@@ -123,7 +123,7 @@ abbrev pub HoldsAtReturn : Declaration → ℕ → State → Calls → Type 0
 HoldsAtReturn d e s [] = Unit {0}
 HoldsAtReturn d e s (k ∷ ks) = k.entry ≡ e → EachHoldsBy d.returns e (minus (s.memory e) k.after) s
 
--- The same of an instruction, if it's a return.
+-- The same of an instruction, if it is a return.
 abbrev pub ReturnsHold : Declaration → Meaning → State → Calls → Type 0
 ReturnsHold d (Jmp i c) s ks = i ≡ true → d.entry c ≡ true → HoldsAtReturn d c s ks
 ReturnsHold d _ s ks = Unit {0}

@@ -61,7 +61,7 @@ abbrev pub IsClean : Image → Declaration → List Event → WorldState → Typ
 IsClean image d events w =
     (m : ℕ) (x : WorldState) (ks : Calls) → TriesAt d events w m x ks → IsLegal image d x.state ks
 
--- The first enabled step of the declared run from w that isn't legal is event n, and the least rule that it breaks is r.
+-- The first enabled step of the declared run from w that is not legal is event n, and the least rule that it breaks is r.
 pub record BreaksAt (image : Image) (d : Declaration) (events : List Event) (w : WorldState) (n : ℕ) (r : Rule) : Type 0 where
   pub world : WorldState
   pub calls : Calls

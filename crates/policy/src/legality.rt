@@ -20,7 +20,7 @@ use processor::{Cpu, DecodedInstruction, Memory, Reference};
 use std::alloc::Allocator;
 use word12::{Link, Word};
 
-/// A call that hasn't returned: the entry, and the address after the JMS.
+/// A call that has not returned: the entry, and the address after the JMS.
 #[derive(Clone, Copy, PartialEq, Eq, Debug)]
 pub struct Call {
     pub entry: Word,
@@ -183,7 +183,7 @@ fn returns<A: Allocator>(
     }
 }
 
-/// Whether a cell may be read: it's on the list of reads, if there is one, or is the own entry.
+/// Whether a cell may be read: it is on the list of reads, if there is one, or is the own entry.
 #[inline(always)]
 fn may_load<A: Allocator>(declaration: &Declaration<A>, calls: &[Call], cell: Word) -> bool
     ensures { result ≡ may_load (meaning declaration.now) (current (open_calls calls.now)) cell }
@@ -374,7 +374,7 @@ fn holds_at_return<A: Allocator>(
     }
 }
 
-/// Whether what is to hold at an instruction is so, if it's a return.
+/// Whether what is to hold at an instruction is so, if it is a return.
 fn returns_hold<A: Allocator>(
     declaration: &Declaration<A>,
     instruction: &DecodedInstruction,
@@ -412,7 +412,7 @@ fn assertions_hold<A: Allocator>(
 /// The instruction at the program counter, where a step keeps all rules; else the least rule that it
 /// breaks.
 ///
-/// It doesn't look whether fixed code is as the tape had it: its caller knows that it is.
+/// It does not look whether fixed code is as the tape had it: its caller knows that it is.
 #[inline(always)]
 pub fn legal_instruction<A: Allocator>(
     declaration: &Declaration<A>,

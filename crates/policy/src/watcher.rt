@@ -43,7 +43,7 @@ pub enum Watched {
     },
 }
 
-/// A machine that is watched: its world, and beside it the calls that haven't returned, the last call
+/// A machine that is watched: its world, and beside it the calls that have not returned, the last call
 /// last.
 ///
 /// It takes one event after the other, and tells the rule that a step would break. `watch` does so
@@ -144,7 +144,7 @@ impl<A: Allocator> Watcher<A> {
         &self.world
     }
 
-    /// The calls that haven't returned, the last call last.
+    /// The calls that have not returned, the last call last.
     pub fn calls(&self) -> &[Call]
         ensures { open_calls result.now ≡ calls_of self.now }
     {
@@ -184,7 +184,7 @@ impl<A: Allocator> Watcher<A> {
         }
     }
 
-    /// Tries the next instruction of a machine that runs. It's carried out where it breaks no rule.
+    /// Tries the next instruction of a machine that runs. It is carried out where it breaks no rule.
     #[inline(always)]
     fn try_instruction<D: Allocator>(
         &mut self,
@@ -215,7 +215,7 @@ impl<A: Allocator> Watcher<A> {
         }
     }
 
-    /// Tries the next instruction, as `next` does at a step: while the machine runs it's carried out where
+    /// Tries the next instruction, as `next` does at a step: while the machine runs it is carried out where
     /// it breaks no rule.
     ///
     /// # Errors
@@ -269,7 +269,7 @@ impl<A: Allocator> Watcher<A> {
         }
     }
 
-    /// Takes one event: it happens as in a declared run, or it's a step that breaks a rule, which is
+    /// Takes one event: it happens as in a declared run, or it is a step that breaks a rule, which is
     /// told and not carried out. The declaration is the same for all events.
     ///
     /// # Errors
@@ -286,7 +286,7 @@ impl<A: Allocator> Watcher<A> {
         ensures watches { IfOk result (Watches (meaning declaration.now)
             (machine_of self.old) (calls_of self.old) event
             (machine_of self.new) (calls_of self.new)) }
-        // A step that breaks a rule isn't carried out, nor is one whose memory was refused.
+        // A step that breaks a rule is not carried out, nor is one whose memory was refused.
         ensures machine_kept { IfOk result (λ told. (rule : Rule) → told ≡ Some rule
             → machine_of self.new ≡ machine_of self.old) }
         ensures calls_kept { IfOk result (λ told. (rule : Rule) → told ≡ Some rule
@@ -344,7 +344,7 @@ fn watch_events<A: Allocator, D: Allocator>(
 /// enabled keeps the rules of the declaration.
 ///
 /// The run begins at the declared start, on the declared machine, with the tape's words over the
-/// given start. A CONTINUE is enabled at a pause alone. A step at a word that isn't supported
+/// given start. A CONTINUE is enabled at a pause alone. A step at a word that is not supported
 /// breaks the first rule. After the step that is told no event is looked at.
 ///
 /// # Errors

@@ -9,7 +9,7 @@ abbrev pub Image : Type 0
 Image = ℕ → Option ℕ
 
 -- A start of the machine at an address: memory holds the tape's words; the accumulator, the link, MQ and every cell
--- that isn't on the tape are free.
+-- that is not on the tape are free.
 pub record IsStart (image : Image) (at : ℕ) (s : State) : Type 0 where
   pub pc : s.pc ≡ at
   pub ac : s.ac < 4096

@@ -40,7 +40,7 @@ pub enum DecodedInstruction {
     Operate3(Word),
     /// A device word.
     Device(Word),
-    /// The word isn't supported.
+    /// The word is not supported.
     Unsupported(Word),
 }
 

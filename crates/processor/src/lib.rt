@@ -303,7 +303,7 @@ impl Cpu {
 
     /// Carries out the instruction at the program counter.
     ///
-    /// A word that the machine of this profile doesn't have changes nothing and is given back in
+    /// A word that the machine of this profile does not have changes nothing and is given back in
     /// `Unsupported`. After `Halted` the program counter has moved on: the next step is what
     /// CONTINUE leads to.
     #[inline(always)]

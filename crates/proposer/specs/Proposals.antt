@@ -44,7 +44,7 @@ abbrev pub IsShown : {A : Type 0} → List (Option ℕ) → Kept → Verdict A �
 IsShown image d (Safe c) = IsSafe (image_of image) (meaning d) × IsFor d (certified.meaning c) × IsValid (judged image d (certified.claims c))
 IsShown image d _ = ⊤
 
--- A want of memory isn't told as a declaration's fault.
+-- A want of memory is not told as a declaration's fault.
 abbrev pub IsTold : ProposeFault → Type 0
 IsTold (Undeclarable declaration_fault.NoMemory) = ⊥
 IsTold _ = ⊤

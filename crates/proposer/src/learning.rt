@@ -65,7 +65,7 @@ impl Refinement {
     }
 }
 
-/// What a program may do that starts at an address, by the words of its tape; none where that can't be declared.
+/// What a program may do that starts at an address, by the words of its tape; none where that cannot be declared.
 fn by_words<A: Allocator + Copy>(
     alloc: A,
     image: &Image,

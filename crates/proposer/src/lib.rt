@@ -60,7 +60,7 @@ pub struct Proposal<A: Allocator> {
     pub declaration: Declaration<A>,
     /// Its text.
     pub text: Vec<u8, A>,
-    /// The addresses at which control goes where it isn't known, or to what can't be in the body, or
+    /// The addresses at which control goes where it is not known, or to what cannot be in the body, or
     /// where an unsupported word stands. There the declaration stops short.
     pub unfollowed: WordSet,
     /// In which runs it was seen what the program does, if it was.
@@ -81,7 +81,7 @@ pub struct Proposal<A: Allocator> {
 /// # Errors
 ///
 /// `Undeclarable` where what was found breaks a limit or a rule of declarations, as one of more than
-/// 64 routines; `Mismatch` where it isn't what was asked; and `NoMemory`. That no certificate is found
+/// 64 routines; `Mismatch` where it is not what was asked; and `NoMemory`. That no certificate is found
 /// is no error: the verdict tells it.
 pub fn propose<A: Allocator + Copy>(
     alloc: A,
@@ -117,7 +117,7 @@ pub fn propose<A: Allocator + Copy>(
     }
 }
 
-/// The proposal by what runs were seen to do; another one where that can't be declared.
+/// The proposal by what runs were seen to do; another one where that cannot be declared.
 fn by_runs<'x, A: Allocator + Copy>(
     alloc: A,
     image: &'x Image,
@@ -376,7 +376,7 @@ fn proposed<A: Allocator + Copy>(
     })
 }
 
-/// The fault of a declaration, as it's told.
+/// The fault of a declaration, as it is told.
 fn refused(fault: DeclarationFault) -> ProposeFault
     ensures { IsTold result }
 {

@@ -12,7 +12,7 @@ use Rattle.refuter.specs.Witnesses.{begun_from_zero}
 abbrev pub PutsWords : Image → Type 0
 PutsWords image = (a w : ℕ) → image a ≡ Some w → w < 4096
 
--- Where a run from the declared start, with all else 0, breaks a rule by some event, the program isn't safe: what one run
+-- Where a run from the declared start, with all else 0, breaks a rule by some event, the program is not safe: what one run
 -- does no certificate can rule out.
 abbrev pub BrokenIsUnsafe : Type 0
 BrokenIsUnsafe =

@@ -8,7 +8,7 @@ use Rattle.policy.specs.Watching.{BreaksAt}
 use Rattle.processor.specs.Runs.{Image}
 use Rattle.refuter.specs.declared.Witness.{Witness}
 
--- The world in which a declared run begins where all registers, and all cells that aren't on the tape, are 0.
+-- The world in which a declared run begins where all registers, and all cells that are not on the tape, are 0.
 abbrev pub begun_from_zero : Image → Declaration → WorldState
 begun_from_zero image d = record {
   state = record { ac = 0; link = 0; mq = 0; pc = d.start; memory = laid image (λ _. 0) };
@@ -16,7 +16,7 @@ begun_from_zero image d = record {
   halted_at = None;
 }
 
--- Of a run that begins so, the first step that isn't legal is the event that a witness tells, and the least rule that it
+-- Of a run that begins so, the first step that is not legal is the event that a witness tells, and the least rule that it
 -- breaks is the rule that it tells.
 abbrev pub Breaks : {A : Type 0} → Image → Declaration → Witness A → Type 0
 Breaks image d w = BreaksAt image d w.events.items (begun_from_zero image d) w.event w.rule

@@ -2,7 +2,7 @@
 
 ghost use Rattle.refuter.specs.Laws.{BrokenIsUnsafe};
 
-/// A program of which a run breaks the declaration isn't safe. So where a search gives a run, no certificate is
+/// A program of which a run breaks the declaration is not safe. So where a search gives a run, no certificate is
 /// accepted, and where one is accepted, no search gives a run.
 pub fn broken_programs_are_unsafe()
     ensures { BrokenIsUnsafe }

@@ -1,6 +1,6 @@
 //! Looks for a run that breaks a declaration.
 //!
-//! The text of what a search finds is read again and watched once more: so what is given doesn't rest on
+//! The text of what a search finds is read again and watched once more: so what is given does not rest on
 //! how it was found.
 #![tactic(auto)]
 
@@ -114,7 +114,7 @@ fn try_once<A: Allocator + Copy, D: Allocator>(
 }
 
 /// Looks for a run that breaks a declaration, from the declared start with all registers, and all cells
-/// that aren't on the tape, 0. The same seed gives the same run. That one is found isn't promised.
+/// that are not on the tape, 0. The same seed gives the same run. That one is found is not promised.
 ///
 /// A turn is a step of a machine that is watched, while it is looked for one and while what was found is
 /// made shorter; the last look at it takes none. What is found ends with the step that breaks the rule,

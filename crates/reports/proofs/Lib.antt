@@ -1,1 +1,2 @@
+pub mod ReachedLemmas
 pub mod ShownLemmas

@@ -1,5 +1,6 @@
 pub mod Head
 pub mod Kinds
+pub mod Laws
 pub mod DraftText
 pub mod ReportText
 pub mod Shown

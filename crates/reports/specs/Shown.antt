@@ -35,7 +35,8 @@ abbrev pub fact_of : Bool → ClaimCache → KnownFact
 fact_of true cache = cache.even
 fact_of false cache = cache.odd
 
--- What is said of a cell of a body without a fact: after a yes that no run comes there, and otherwise that there is no fact.
+-- What is said of a cell of a body without a fact: after a yes that no run comes there, which is so by the laws of reports, and
+-- otherwise that there is no fact.
 abbrev pub unknown_in_body : Finding → FactAbsence
 unknown_in_body Shown = NeverReached
 unknown_in_body _ = NoFact

@@ -45,4 +45,5 @@ pub fn listing_below<A: Allocator + Copy, D: Allocator, C: Allocator>(
 }
 
 pub mod drafting;
+pub mod laws;
 pub mod reporting;

@@ -30,7 +30,7 @@ const DECLARING: [&[u8]; 13] = [
     b"abandon", b"holds", b"returns",
 ];
 
-/// Whether these are the characters of a text, as a source has them and a tape hasn't.
+/// Whether these are the characters of a text, as a source has them and a tape has not.
 fn is_text(bytes: &[u8]) -> bool {
     bytes
         .iter()
@@ -60,7 +60,7 @@ fn is_tape(bytes: &[u8]) -> bool {
     tape_from(&mut frames).is_ok()
 }
 
-/// What is in a file that isn't empty.
+/// What is in a file that is not empty.
 fn kind_of(bytes: &[u8]) -> Kind {
     if !is_text(bytes) {
         return if is_tape(bytes) {
@@ -393,7 +393,7 @@ pub(crate) fn source_hint(
     shown_line(alloc, &told)
 }
 
-/// What is in a file that can be read twice and isn't empty. Standard input and pipes cannot be read twice.
+/// What is in a file that can be read twice and is not empty. Standard input and pipes cannot be read twice.
 fn kind_in<R: Files + Input>(rt: &R, alloc: Global, name: &str) -> Option<Kind> {
     if is_read_once(rt, name) {
         return None;

@@ -258,7 +258,7 @@ impl<A: Allocator + Copy> FailedTestTrace<A> {
         Ok(())
     }
 
-    /// Lets a hint wait: where it isn't known to be a good one, once in sixteen times.
+    /// Lets a hint wait: where it is not known to be a good one, once in sixteen times.
     fn follow(
         &self,
         place: usize,

@@ -36,7 +36,7 @@ pub(crate) struct Hint<A: Allocator> {
     pub(crate) is_direct: bool,
 }
 
-/// The hints of one test that are direct, or that aren't.
+/// The hints of one test that are direct, or that are not.
 #[derive(Drop)]
 struct Queue<A: Allocator> {
     is_direct: bool,
@@ -48,7 +48,7 @@ struct Queue<A: Allocator> {
 pub(crate) struct Hints<A: Allocator> {
     alloc: A,
     queues: Vec<Queue<A>, A>,
-    /// The queues of each address: of hints that aren't direct, and of those that are.
+    /// The queues of each address: of hints that are not direct, and of those that are.
     queue_of: Vec<Option<usize>, A>,
     /// Those of runs that came nearer to their own goal.
     nearer: HeapCircularBuffer<Hint<A>, A>,
@@ -131,8 +131,8 @@ impl<A: Allocator + Copy> Hints<A> {
         }
     }
 
-    /// A queue by chance: of the first five that come up the first that isn't empty and is direct, or
-    /// isn't, as chance has it; else the last one.
+    /// A queue by chance: of the first five that come up the first that is not empty and is direct, or
+    /// is not, as chance has it; else the last one.
     fn pick_queue(&self, random: &mut Random) -> usize {
         let wants_direct = random.once_in(2);
         let mut number = random.below(self.queues.len());

@@ -38,7 +38,7 @@ pub(crate) enum Progress {
     GoesOn,
     /// It is over, and broke no rule.
     Over,
-    /// The next step breaks a rule, and isn't made.
+    /// The next step breaks a rule, and is not made.
     Broken,
 }
 
@@ -85,7 +85,7 @@ pub(crate) struct Run<A: Allocator> {
     stirred: u32,
     last_asked: u32,
     last_new: u32,
-    /// Up to so many events it's certain that the run goes on.
+    /// Up to so many events it is certain that the run goes on.
     certain: u32,
     /// After so many events without anything new the run is over when an input is asked for.
     most_stale: u32,

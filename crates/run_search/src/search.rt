@@ -95,7 +95,7 @@ pub(crate) struct ViolatingRun<A: Allocator> {
 /// A run that can go on.
 #[derive(Drop)]
 pub struct ActiveRun<A: Allocator> {
-    /// The machine, and the calls that haven't returned.
+    /// The machine, and the calls that have not returned.
     pub watcher: Watcher<A>,
     pub(crate) run: Run<A>,
     pub(crate) plan: Plan<A>,
@@ -169,7 +169,7 @@ impl<A: Allocator + Copy> RunSearch<A> {
     }
 
     /// One run, for which a trial is lent: it is begun anew. If the run breaks a rule, what is told are its
-    /// events as a text, without those that aren't needed, as far as that was found out. A turn is taken
+    /// events as a text, without those that are not needed, as far as that was found out. A turn is taken
     /// for each step.
     ///
     /// # Errors
@@ -340,7 +340,7 @@ impl<A: Allocator + Copy> RunSearch<A> {
     }
 
     /// What steps were seen to do in all runs so far, apart from those that only break a rule once more;
-    /// nothing but how many runs there were, where that isn't recorded.
+    /// nothing but how many runs there were, where that is not recorded.
     pub fn record(&self) -> &Record<A> {
         &self.record
     }

@@ -1,4 +1,4 @@
-//! Makes a run that breaks a rule shorter: what isn't needed is taken out, first half of it, then a
+//! Makes a run that breaks a rule shorter: what is not needed is taken out, first half of it, then a
 //! quarter, and so on down to each input and each event by itself.
 
 ghost use Rattle.std.specs.Prelude.{◌≡◌, ◌≤◌};

@@ -241,7 +241,7 @@ impl<A: Allocator + Copy> RunSearch<A> {
         Ok(progress)
     }
 
-    /// The same, and records what the step does, if it's made.
+    /// The same, and records what the step does, if it is made.
     #[inline(never)]
     fn step_recorded<D: Allocator>(
         &mut self,

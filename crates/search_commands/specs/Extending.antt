@@ -4,7 +4,7 @@ use Rattle.wordset.specs.Words.{Words, IsWithin}
 use Rattle.declaration.specs.Declaration.{Declaration}
 use Rattle.proposer.specs.Widths.{KeepsCell}
 
--- Where reads aren't listed they still aren't, and where they are listed each cell is listed still.
+-- Where reads are not listed they still are not, and where they are listed each cell is listed still.
 abbrev pub KeepsReads : Option Words → Option Words → Type 0
 KeepsReads None more = more ≡ None
 KeepsReads (Some cells) None = ⊥

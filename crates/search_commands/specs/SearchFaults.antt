@@ -12,7 +12,7 @@ IsSearchFault (Guess guess_fault.NoMemory) = ⊥
 IsSearchFault (Guess fault) = Unit {0}
 IsSearchFault fault = IsMemoryFault fault
 
--- What was found can't be declared, or memory was refused.
+-- What was found cannot be declared, or memory was refused.
 abbrev pub IsProposeFault : Fault → Type 0
 IsProposeFault (Declare propose_fault.NoMemory) = ⊥
 IsProposeFault (Declare (propose_fault.Undeclarable declaration_fault.NoMemory)) = ⊥

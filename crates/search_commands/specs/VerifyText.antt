@@ -14,7 +14,6 @@ use Rattle.command_parts.specs.declared.options.VerifyOptions.{VerifyOptions}
 use Rattle.command_parts.specs.declared.status.Status.{Status}
 use Rattle.command_parts.specs.declared.status.Status.TheVariants.{Done, Refused}
 use Rattle.command_parts.specs.Answers.{OfProgram}
-use Rattle.command_parts.specs.Inputs.{HasImage}
 use Rattle.search_commands.specs.declared.verifying.InconclusiveReason.{InconclusiveReason}
 use Rattle.search_commands.specs.declared.verifying.InconclusiveReason.TheVariants.{Stuck, TurnsSpent}
 use Rattle.search_commands.specs.declared.verifying.Answer.{Answer}
@@ -23,8 +22,8 @@ use Rattle.search_commands.specs.declared.verifying.ProposalAnswer.{ProposalAnsw
 use Rattle.search_commands.specs.WidenedText.{HasReason, reason_text}
 
 -- The answer is true of a tape's words and a declaration. After a yes every condition holds of the certificate, and so no
--- run of the program breaks the declaration. After a no the run breaks it: its last event is the first step that isn't
--- legal, and its text is read as these events. Where it isn't known nothing is said.
+-- run of the program breaks the declaration. After a no the run breaks it: its last event is the first step that is not
+-- legal, and its text is read as these events. Where it is not known nothing is said.
 abbrev pub IsAnswer : {A : Type 0} → List (Option ℕ) → Declaration → Answer A → Type 0
 IsAnswer image d (Yes c) = IsYes (checked_case image d (meaning c)) × AreLines (meaning c)
 IsAnswer image d (No w) = Breaks (image_of image) d w × IsSpelled w × IsLast w
@@ -34,7 +33,7 @@ IsAnswer image d (NotKnown lack) = ⊤
 abbrev pub no_text : ℕ → Rule → List ℕ
 no_text n r = codes "no: event " ++ decimal n ++ codes " rule " ++ decimal (number_of r) ++ codes "\n"
 
--- The line that says why it isn't known.
+-- The line that says why it is not known.
 abbrev pub lack_text : InconclusiveReason → List ℕ
 lack_text (Stuck at) = (codes "not known: stuck at " ++ octal_text at) ++ codes "\n"
 lack_text TurnsSpent = codes "not known: turns spent" ++ codes "\n"
@@ -84,9 +83,3 @@ pub record IsProposedAnswerOf {A : Type 0} (options : VerifyOptions) (image : Li
   pub answers : IsAnswer image declaration p.answer
   pub reason : HasReason image declaration p.answer p.obstacle
   pub is : IsTold (proposed_text p.answer (answer_text declaration p.answer) ++ reason_text p.obstacle) options.search.explained told
-
--- The frames are a tape, and this is told of such an answer for it.
-pub record IsProposedAnswer {A : Type 0} (options : VerifyOptions) (frames : Option (List ℕ)) (p : ProposalAnswer A) (told : List ℕ) : Type 0 where
-  pub image : List (Option ℕ)
-  pub tape : HasImage frames image
-  pub is : IsProposedAnswerOf options image p told

@@ -11,7 +11,7 @@ use Rattle.search_commands.specs.declared.verifying.Answer.TheVariants.{Yes, No,
 -- What a run does that no declaration allows; an address comes after it.
 abbrev pub obstacle_words : Obstacle → List ℕ
 obstacle_words (Unsupported at) = codes "the machine does not support the word at "
-obstacle_words (Unset at) = codes "control comes to a cell into which nothing has put a word, "
+obstacle_words (Unset at) = codes "control comes to a cell that was neither loaded nor stored into, "
 obstacle_words (RunsEntry at) = codes "control comes to the word that a JMS stores at "
 obstacle_words (Shared at) = codes "two routines execute the word at "
 obstacle_words (CallsBody at) = codes "a JMS stores into the code at "

@@ -125,7 +125,7 @@ fn first_word(text: &[u8]) -> Parted<'_>
     }
 }
 
-/// The place of the first byte by which ranges and offsets in a row aren't spelled.
+/// The place of the first byte by which ranges and offsets in a row are not spelled.
 fn place_of_other(text: &[u8]) -> Option<usize> {
     text.iter().position(|byte| !is_spaced(*byte))
 }
@@ -217,7 +217,7 @@ fn has_next(line: &[u8], word: &[u8]) -> bool {
     }
 }
 
-/// What is left where a range or an offset is put in behind a space, and isn't the next word of the line anyhow.
+/// What is left where a range or an offset is put in behind a space, and is not the next word of the line anyhow.
 fn behind_put<'a>(old: &'a [u8], new: &'a [u8]) -> Option<Growth<'a>>
     ensures grows { IfSome result (λ left.
         Grows left.old.now left.new.now → Grows old.now new.now) }

@@ -6,7 +6,6 @@ mod adding;
 pub mod checking;
 pub mod completing;
 pub mod declaring;
-pub mod explaining;
 mod extending;
 pub mod guessing;
 mod keeping;

@@ -430,15 +430,3 @@ pub fn verify_proposed_message<A: Allocator + Copy>(
         why,
     })
 }
-
-/// A line, and after it a text as it reads without a source.
-pub(crate) fn joined<A: Allocator>(
-    line: Vec<u8, A>,
-    why: &Message<A>,
-) -> Result<Vec<u8, A>, AllocError>
-    ensures { IfOk result (λ text. text.items ≡ line.items ++ plain why.now) }
-{
-    let mut text = line;
-    text.extend_from_slice(why.as_bytes())?;
-    Ok(text)
-}

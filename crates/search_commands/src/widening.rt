@@ -192,7 +192,7 @@ fn obstacle_words(obstacle: &Obstacle) -> &'static [u8]
 {
     match obstacle {
         Obstacle::Unsupported(_) => b"the machine does not support the word at ",
-        Obstacle::Unset(_) => b"control comes to a cell into which nothing has put a word, ",
+        Obstacle::Unset(_) => b"control comes to a cell that was neither loaded nor stored into, ",
         Obstacle::RunsEntry(_) => b"control comes to the word that a JMS stores at ",
         Obstacle::Shared(_) => b"two routines execute the word at ",
         Obstacle::CallsBody(_) => b"a JMS stores into the code at ",

@@ -52,7 +52,7 @@ pub record HasFault (profile : Profile) (sources : List (Option (List ℕ))) (fa
   pub read : AreRead sources parts
   pub is : IsFault (permanent_symbols profile) parts fault
 
--- Why the parts of a source aren't assembled.
+-- Why the parts of a source are not assembled.
 abbrev pub IsAssemblyFault : Profile → List (List ℕ) → Fault → Type 0
 IsAssemblyFault profile parts (Source fault) = IsFault (permanent_symbols profile) parts fault
 IsAssemblyFault profile parts fault.NoMemory = Unit {0}

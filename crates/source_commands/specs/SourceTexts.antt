@@ -21,12 +21,12 @@ AreRead (source ∷ sources) (part ∷ parts) = IfSome source (λ bytes. part �
 abbrev pub is_bad_number : ℕ → Bool
 is_bad_number n = nat_lt n 1 || nat_lt 16 n
 
--- A part with these bytes isn't too long.
+-- A part with these bytes is not too long.
 abbrev pub IsShort : List ℕ → Type 0
 IsShort bytes = length bytes ≤ 65536
 
 -- Of sources with these marks, which had these bytes and have those left, the read of one failed: their number is good,
--- none before it is too long, and the bytes that it gave until then aren't too many.
+-- none before it is too long, and the bytes that it gave until then are not too many.
 pub record FailsToReadPart (marks : List Bool) (sources left : List (Option (List ℕ))) : Type 0 where
   pub at : ℕ
   pub failed : slice_get marks at ≡ Some true
@@ -44,7 +44,7 @@ pub record IsLong (had : Option (List ℕ)) : Type 0 where
   pub is : IfSome had (λ bytes. part ≡ bytes)
   pub long : 65536 < length part
 
--- Why the part of this number isn't read from a source that had these bytes and has those left: it is too long, its read
+-- Why the part of this number is not read from a source that had these bytes and has those left: it is too long, its read
 -- failed, or memory was refused.
 abbrev pub IsPartFault : ℕ → Option (List ℕ) → Option (List ℕ) → Fault → Type 0
 IsPartFault n had has (Source fault) = (fault ≡ fault_at TooLong n 0) × IsLong had

@@ -115,7 +115,7 @@ pub fn assemble<A: Allocator + Copy, R: ByteSource, W: ByteSink>(
     ensures tape { OnOk result (Writes (IsAssembled profile (map R.remaining sources.old))
         (W.taken out.old) (W.taken out.new)) }
     // A fault of the source is its one fault; that of a read comes only where the number of sources
-    // is good and those before it aren't too long.
+    // is good and those before it are not too long.
     ensures faults { IfErr result (IsSourceFault profile (map R.mark sources.new)
         (map R.remaining sources.old) (map R.remaining sources.new)) }
     // Where a write failed, a front of that tape went out,
@@ -130,7 +130,7 @@ pub fn assemble<A: Allocator + Copy, R: ByteSource, W: ByteSink>(
     // A bad number of sources is told, and nothing is read.
     ensures number { is_bad_number (length sources.old) ≡ true →
         (result ≡ Err (Source (fault_at TooLong 0 0))) × (sources.new ≡ sources.old) }
-    // The sources after one that is too long, or whose read failed, aren't read.
+    // The sources after one that is too long, or whose read failed, are not read.
     ensures unread { (at : ℕ) → IsLongAt (map R.remaining sources.old) at →
         LeavesThoseAfter at sources.old sources.new }
     ensures unread_after_failure { (at : ℕ) → slice_get (map R.mark sources.new) at ≡ Some true →

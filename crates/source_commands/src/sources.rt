@@ -81,7 +81,7 @@ pub(crate) fn read_parts<A: Allocator + Copy, R: ByteSource>(
     // A bad number of parts is told, and nothing is read.
     ensures told { is_bad_number (length sources.old) ≡ true →
         (result ≡ Err (Source (fault_at TooLong 0 0))) × (sources.new ≡ sources.old) }
-    // The sources after one that is too long, or whose read failed, aren't read.
+    // The sources after one that is too long, or whose read failed, are not read.
     ensures unread { (at : ℕ) → IsLongAt (map R.remaining sources.old) at →
         LeavesThoseAfter at sources.old sources.new }
     ensures unread_after_failure { (at : ℕ) → slice_get (map R.mark sources.new) at ≡ Some true →
@@ -90,7 +90,7 @@ pub(crate) fn read_parts<A: Allocator + Copy, R: ByteSource>(
     ensures unread_after { (at : ℕ) →
         HasLeft (map R.remaining sources.old) (map R.remaining sources.new) at →
         LeavesThoseAfter at sources.old sources.new }
-    // Of a part no more is taken than it may have and a byte, which tells that it's too long.
+    // Of a part no more is taken than it may have and a byte, which tells that it is too long.
     ensures takes { EachTakesAtMost 65537 (map R.remaining sources.old)
         (map R.remaining sources.new) }
 {

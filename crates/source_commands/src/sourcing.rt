@@ -92,7 +92,7 @@ pub fn declared_source<A: Allocator + Copy, R: ByteSource, D: ByteSource, W: Byt
     // A write failed exactly where the answer says so, and so did a read.
     ensures marks { W.mark out.new ≡ fails_to_write result }
     ensures reads { R.mark tape.new || D.mark declaration.new ≡ fails_to_read result }
-    // The declaration isn't read after a tape that is refused, or whose read failed,
+    // The declaration is not read after a tape that is refused, or whose read failed,
     ensures unread { IfErr result (λ fault. is_fault_of_tape fault ≡ true →
         declaration.new ≡ declaration.old) }
     ensures unread_after_failure { R.mark tape.new ≡ true → declaration.new ≡ declaration.old }

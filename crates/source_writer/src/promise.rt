@@ -92,7 +92,7 @@ fn push_address_line<A: Allocator>(
     end_line(text)
 }
 
-/// Adds the start, and the machine where it isn't the 8/I.
+/// Adds the start, and the machine where it is not the 8/I.
 fn push_start<A: Allocator>(
     text: &mut Vec<u8, A>,
     start: Word,

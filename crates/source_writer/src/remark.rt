@@ -15,7 +15,7 @@ const MOST_CHARACTERS: usize = 40;
 /// The least word that is shown as a negative number too, where the code names it.
 const LEAST_NAMED_NEGATIVE: usize = 0o7401;
 
-/// The same where it doesn't.
+/// The same where it does not.
 const LEAST_NEGATIVE: usize = 0o7701;
 
 /// Behind how many words at most a call is looked for whose arguments they are.

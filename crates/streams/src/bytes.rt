@@ -22,7 +22,7 @@ pub trait ByteSource {
     /// Whether a read found the end of input.
     ghost ended: { Self → Bool };
 
-    /// Fills the front of a piece, and says how much of it. To fill nothing of a piece that isn't
+    /// Fills the front of a piece, and says how much of it. To fill nothing of a piece that is not
     /// empty is the end of input, and after it there is nothing to read and nothing that can fail.
     /// Nobody reads on after a read that failed.
     ///
@@ -48,10 +48,10 @@ pub trait ByteSink {
     /// The bytes taken so far, where the sink tells them.
     ghost taken: { Self → Option (List ℕ) };
 
-    /// Whether a write failed, or took nothing of a piece that isn't empty.
+    /// Whether a write failed, or took nothing of a piece that is not empty.
     ghost mark: { Self → Bool };
 
-    /// Takes the front of a piece, and says how much of it. To take nothing of a piece that isn't
+    /// Takes the front of a piece, and says how much of it. To take nothing of a piece that is not
     /// empty counts as a failure, and sets the mark. Nobody writes on after a write that failed.
     ///
     /// # Errors

@@ -13,7 +13,7 @@ use thiserror::Error;
 /// How many bytes one read asks for at most.
 const PIECE: usize = 512;
 
-/// Why the bytes of a source weren't gathered.
+/// Why the bytes of a source were not gathered.
 #[derive(Clone, Copy, PartialEq, Eq, Debug, Error)]
 pub enum InputFault {
     /// A read failed.
@@ -34,7 +34,7 @@ impl From<AllocError> for InputFault {
     }
 }
 
-/// The bytes that a source still gives, `limit` of them at most. What it has past the limit isn't
+/// The bytes that a source still gives, `limit` of them at most. What it has past the limit is not
 /// read: who wants to know whether there is more asks for one byte more than is taken.
 ///
 /// # Errors

@@ -6,7 +6,7 @@ ghost use Rattle.streams.specs.Taking.{TakesAll, RefusesFirst};
 
 use crate::text::Lines;
 
-/// What takes lines one by one, and refuses a line that isn't good.
+/// What takes lines one by one, and refuses a line that is not good.
 pub trait LineTaker {
     /// Why a line is refused.
     type Fault;
@@ -33,7 +33,7 @@ pub trait LineTaker {
 ///
 /// # Errors
 ///
-/// Why the first line that isn't good is refused, as a taker that took those before it refuses it.
+/// Why the first line that is not good is refused, as a taker that took those before it refuses it.
 pub fn take_lines<T: LineTaker>(taker: &mut T, text: &[u8]) -> Result<(), T::Fault>
     requires { length text.now < 2 ^ 63 }
     ensures taken { OnOk result (TakesAll T.takes taker.old (text_lines text.now) taker.new) }

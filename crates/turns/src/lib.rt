@@ -30,7 +30,7 @@ pub enum GuessFault {
 /// Why nothing is proposed.
 #[derive(Clone, Copy, PartialEq, Eq, Debug, Error)]
 pub enum ProposeFault {
-    /// What was found can't be declared, as where there are more than 64 routines.
+    /// What was found cannot be declared, as where there are more than 64 routines.
     #[error("Undeclarable {0}")]
     Undeclarable(DeclarationFault),
     /// What was found has another start, is for another machine than was asked, or lists other cells; or

@@ -96,7 +96,7 @@ fn returned_by<A: Allocator, D: Allocator>(
     held
 }
 
-/// The sites of the routine of an entry, none where it isn't listed.
+/// The sites of the routine of an entry, none where it is not listed.
 fn sites_of<A: Allocator, D: Allocator>(case: &Case<'_, D, Certificate<A>>, entry: Word) -> WordSet
     ensures { words result ≡ (claims case.now.claims.now).sites entry }
 {

@@ -327,7 +327,7 @@ impl Word {
     ///
     /// # Errors
     ///
-    /// In this order: `Empty` for no character, `NotOctal` where a character isn't one of 0 to 7,
+    /// In this order: `Empty` for no character, `NotOctal` where a character is not one of 0 to 7,
     /// `TooLarge` for a number above 7777 octal.
     pub fn from_octal(text: &[u8]) -> Result<Word, OctalFault>
         ensures { result ≡ octal_reading text.now }

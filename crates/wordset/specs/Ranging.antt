@@ -4,7 +4,7 @@ use Rattle.wordset.specs.Words.{Words, IsFirstFrom, HasNoneFrom}
 use Rattle.wordset.specs.Lanes.{words}
 use Rattle.wordset.specs.declared.ranges.Ranges.{Ranges}
 
--- The words from the first to the last are in the set, and the word behind the last isn't.
+-- The words from the first to the last are in the set, and the word behind the last is not.
 pub record IsLastFrom (first : ℕ) (set : Words) (last : ℕ) : Type 0 where
   pub small : last < 4096
   pub reached : first ≤ last

@@ -15,15 +15,15 @@ minus a b = (a + (4096 - b % 4096)) % 4096
 abbrev pub Words : Type 0
 Words = ℕ → Bool
 
--- The two sets have the same words; larger numbers don't matter.
+-- The two sets have the same words; larger numbers do not matter.
 abbrev pub SameWords : Words → Words → Type 0
 SameWords a b = (v : ℕ) → v < 4096 → a v ≡ b v
 
--- Each word of the one set is in the other; larger numbers don't matter.
+-- Each word of the one set is in the other; larger numbers do not matter.
 abbrev pub IsWithin : Words → Words → Type 0
 IsWithin a b = (v : ℕ) → v < 4096 → a v ≡ true → b v ≡ true
 
--- Each link of the one set, 0 or 1, is in the other; larger numbers don't matter.
+-- Each link of the one set, 0 or 1, is in the other; larger numbers do not matter.
 abbrev pub IsLinkWithin : Words → Words → Type 0
 IsLinkWithin a b = (k : ℕ) → k < 2 → a k ≡ true → b k ≡ true
 

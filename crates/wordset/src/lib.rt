@@ -246,7 +246,7 @@ impl WordSet {
         }
     }
 
-    /// The words of this set that the other doesn't have.
+    /// The words of this set that the other does not have.
     pub fn minus(&self, other: &WordSet) -> WordSet
         ensures { words result ≡ difference (words self.now) (words other.now) }
     {

@@ -9,7 +9,7 @@ use crate::WordSet;
 use word12::Word;
 
 /// The ranges of a set from some word on, in order, each by its first and its last word: all words
-/// between them are in the set, and their neighbours aren't.
+/// between them are in the set, and their neighbours are not.
 #[derive(Clone, Copy, Debug)]
 pub struct Ranges<'a> {
     set: &'a WordSet,

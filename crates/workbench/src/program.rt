@@ -73,7 +73,7 @@ pub fn exit_status<R: Env + Files + Input + Print + Eprint + AllocGlobal>(
 
 /// Carries out a command line whose files are none twice, and tells the fault that stops it: first its line, since the file that has it is
 /// looked at once more for those below, of which the last says so if it was given in the place of another. Of an answer that is no fault it
-/// says what the command doesn't.
+/// says what the command does not.
 #[inline(never)]
 fn carry_out<R: Files + Input + Print + Eprint>(
     rt: &R,
@@ -103,7 +103,7 @@ fn carry_out<R: Files + Input + Print + Eprint>(
     }
 }
 
-/// Why the arguments weren't copied: one is no text, or memory was refused.
+/// Why the arguments were not copied: one is no text, or memory was refused.
 fn refusal_of(kind: ErrorKind) -> CommandLineFault {
     match kind {
         ErrorKind::InvalidData => CommandLineFault::Misuse(Misuse::NotText),
@@ -195,7 +195,7 @@ fn answer<R: Files + Input + Print + Eprint>(
     }
 }
 
-/// Says what is meant by a code, or which codes there are. A code that there isn't is a bad command line.
+/// Says what is meant by a code, or which codes there are. A code that there is not is a bad command line.
 #[inline(never)]
 fn explain_code<R: Print + Eprint>(
     rt: &R,

@@ -263,7 +263,7 @@ const TRACE_LONG: Argument = Argument {
     name: "trace-long",
     short: None,
     form: Form::Flag,
-    help: "writes a longer line for each instruction that is executed: how it reads, with --source its label and its statement, and the cells that it read and wrote",
+    help: "writes a longer line for each instruction that is executed: the instruction (with --source, its label and its statement) and the cells that it read and wrote",
 };
 
 const READER: Argument = Argument {
@@ -317,7 +317,7 @@ const INTERRUPT: Argument = Argument {
     name: "interrupt",
     short: None,
     form: Form::Value("K"),
-    help: "the key that ends the session when the program asks for one: an octal number, such as 5 for ^E, or off. Without it ^E at a terminal, and none in other cases or with --raw",
+    help: "the key that ends the session when the program asks for one: an octal number, such as 5 for ^E, or off for none. If the option is not given, it is ^E at a terminal without --raw, and otherwise none",
 };
 
 const SWITCHES: Argument = Argument {
@@ -363,7 +363,7 @@ const LAST: Argument = Argument {
 };
 
 const LAST_WATCHED: Argument = Argument {
-    help: "before the verdict, writes a line for each of the last N instructions that are executed; if a rule is violated, of those before it",
+    help: "writes a line for each of the last N instructions before the verdict; if a rule is violated, these are the instructions before the one that violates it",
     ..LAST
 };
 
@@ -434,14 +434,14 @@ const WHY_VERIFY: Argument = Argument {
     name: "why",
     short: Some('w'),
     form: Form::Flag,
-    help: "also writes why, or after a yes what the declaration lists needlessly",
+    help: "also says why; after a yes, says what the declaration lists although it is not needed",
 };
 
 const WHY_CHECK: Argument = Argument {
     name: "why",
     short: Some('w'),
     form: Form::Flag,
-    help: "also writes what violates the condition, or after a yes what the declaration lists needlessly",
+    help: "also says what violates the condition; after a yes, says what the declaration lists although it is not needed",
 };
 
 const WHY_GUESS: Argument = Argument {

@@ -20,13 +20,13 @@ static CONDITIONS: [Explanation; 16] = [
         code: "V3",
         subject: Subject::Asked("each word that the cell may hold is an instruction"),
         meaning: "at most 64 words are possible, and each is supported",
-        advice: "A word of the PDP-8/E (docs/MACHINE.md), such as MQL, needs\n`profile 8e`. V3 also fails at a cell that is not on the tape and is never\nstored in, because it may hold any word: does the program run on, or jump to a\nmonitor or loader? In code that changes, mask the word (`AND`) before it is\nstored, so that few words are possible.",
+        advice: "A word of the PDP-8/E (docs/MACHINE.md), such as MQL, needs\n`profile 8e`. V3 also fails at a cell that is not on the tape and into which\nnothing is stored, because such a cell may hold any word. Does the program run\npast its end, or jump to a monitor or loader? In code that changes, mask the\nword (`AND`) before it is stored, so that few words are possible.",
     },
     Explanation {
         code: "V4",
         subject: Subject::Asked("there is a fact wherever the run goes on, and it is entailed"),
-        meaning: "wherever the run may go on there is a fact in the same body that allows\nwhat is possible",
-        advice: "If the address is outside the body, the program runs on past its\nlast instruction, or jumps into data or into a routine. End it with HLT or JMP,\nor declare more of it as the body. If a routine leaves by a JMP for the main\nprogram, and its calls are then over, an `abandon` line is needed. Otherwise\nthe fact there claims more than is true: run `guess` again, or write there what\nholds in every iteration of a loop. In version 3 several facts may be at an\naddress. What is possible must then be allowed by one of the facts there, or it\nis split among them by one name, which is AC or a cell: for each word that it\nmay hold, one of the facts there has this word and allows everything that is\npossible with the words that it has.",
+        meaning: "at each address where the run may continue there is a fact in the same\nbody, which allows all that is possible",
+        advice: "If the address is outside the body, the program runs on past its\nlast instruction, or jumps into data or into a routine. End it with HLT or JMP,\nor declare more of it as the body. If a routine jumps to the main program and\nthereby ends all open calls, add an `abandon` line. Otherwise the fact there\nclaims more than is true: run `guess` again, or write there what holds in every\niteration of a loop. In version 3 several facts may be at an address. One of\nthem must then allow all that is possible. Otherwise all that is possible must\nbe split among them by the words of AC or of one cell: for each word that it\nmay hold, one of the facts there includes this word, and allows everything that\nis possible while AC or the cell holds a word that this fact includes.",
     },
     Explanation {
         code: "V5",
@@ -44,12 +44,12 @@ static CONDITIONS: [Explanation; 16] = [
         code: "V7",
         subject: Subject::Asked("a JMS goes to a listed entry of lower rank"),
         meaning: "a JMS calls listed entries of lower rank, and not through an auto-index\ncell",
-        advice: "Declare the routine, as in `sub 0206 body 0207-0211 returns 0`. A\nJMS through a pointer needs a pointer outside 0010 to 0017 that can hold only\nthe addresses of entries. In a routine, the callee must have a lower rank; main\nmay call any routine. So calls that form a cycle (recursion) cannot be\ncertified: such a call overwrites a return address that is still needed. Break\nthe cycle: Stuck names the call in it that has the lowest address.",
+        advice: "Declare the routine, as in `sub 0206 body 0207-0211 returns 0`. The\npointer of an indirect JMS must be outside 0010 to 0017, and must be able to\nhold only addresses of entries. In a routine, the callee must have a lower\nrank; main may call any routine. So calls that form a cycle (recursion) cannot\nbe certified: such a call overwrites a return address that is still needed.\nBreak the cycle: Stuck names the call in it that has the lowest address.",
     },
     Explanation {
         code: "V8",
         subject: Subject::Asked("the caller's written set includes what its callee writes"),
-        meaning: "the callee's entry and what it may write are in the caller's written\nset, and the caller's entry is not in the callee's",
+        meaning: "the caller's written set contains the callee's entry and all that the\ncallee may write, and the callee's written set does not contain the caller's\nentry",
         advice: "The caller's line needs the callee's entry and all that the callee\nwrites, as in `writes 0206,0213`. This condition asks nothing of instructions\nin main.",
     },
     Explanation {
@@ -68,13 +68,13 @@ static CONDITIONS: [Explanation; 16] = [
         code: "V11",
         subject: Subject::Asked("what the exit says is enough for the caller"),
         meaning: "the fact at each return address allows what is possible",
-        advice: "This is asked for each exit line of the callee. The exit, together\nwith what the caller knew about cells that the callee does not write, must\nentail the fact at the return address, which must be in the caller's own body.\nSay in the exit what holds there, or expect less after the call. If the return\naddress is outside the body, declare the cells after the JMS as code, or\ncorrect the return offset. If these cells are text that the routine reads, V12\nsays what to do. In version 3 it is asked for each exit line that has the call\namong its sites, and V4 says what the facts at the return address must allow.",
+        advice: "This is checked for each exit line of the callee. The exit,\ntogether with what the caller knew about cells that the callee does not write,\nmust entail the fact at the return address, which must be in the caller's own\nbody. Say in the exit what holds there, or expect less after the call. If the\nreturn address is outside the body, declare the cells after the JMS as code, or\ncorrect the return offset. If these cells are text that the routine reads, V12\nsays what to do. In version 3 this is checked for each exit line that has the\ncall among its sites, and V4 says what the facts at the return address must\nallow.",
     },
     Explanation {
         code: "V12",
         subject: Subject::Asked("a return uses the routine's own entry and a declared offset"),
         meaning: "a return is through the routine's own entry, by declared offsets, and\nthe exit lines allow what is possible",
-        advice: "Declare the offset, as in `returns 0 1`, or increment the return\nword (ISZ of the entry) as declared. Return only through the routine's own\nentry. In a certificate each offset needs its exit line, and the fact at the\nreturn must entail it. In version 3 an offset may have several exit lines,\nwhich must allow what is possible as V4 says it of facts. Offsets of a `sub`\nline are 0 to 7, and a `skips` line declares others up to 77. So a routine that\nreads the text after its JMS in a loop up to a zero, and then returns beyond\nthe zero, gets a certificate in version 3, which has a fact for each offset, if\nno text has more than 77 words, the zero among them. A longer text gets none:\nput its address after the JMS (`returns 1`), or into AC.",
+        advice: "Declare the offset, as in `returns 0 1`, or increment the return\nword (ISZ of the entry) as declared. Return only through the routine's own\nentry. In a certificate each offset needs its exit line, and the fact at the\nreturn must entail it. In version 3 an offset may have several exit lines; for\nthem V4 applies as it does for several facts. Offsets of a `sub` line are 0 to\n7, and a `skips` line declares others up to 77. So a routine can read the text\nafter its JMS in a loop up to a zero, and then return past the zero. It can get\na certificate in version 3, with a fact for each offset, if no text has more\nthan 77 words, counting the zero. For a longer text there is none: put the\naddress of the text after the JMS (`returns 1`), or into AC.",
     },
     Explanation {
         code: "V13",
@@ -85,8 +85,8 @@ static CONDITIONS: [Explanation; 16] = [
     Explanation {
         code: "V14",
         subject: Subject::Asked("return words are not overwritten"),
-        meaning: "no word writes an entry, except that a JMS stores its return address\nthere, an ISZ may increment the routine's own, and a DCA may store in it where\na `moves` line names it",
-        advice: "A routine cannot make its caller skip on return by incrementing the\ncaller's return word. Let it make a skip return of its own, and let its caller\nthen increment its own return word. An ISZ may increment its routine's own\nentry, up to offset 7, or in version 3 up to 77, if it can store nowhere else.\nA routine that stores a computed return word with DCA needs a `moves` line; the\nDCA must name the entry itself, and each word that AC may hold there must be 0\nto 77 past the return address of each call. A routine that returns through a\ncopy of its return word, in another cell, gets no certificate: rule 1 is\nviolated.",
+        meaning: "no instruction writes an entry, except that a JMS stores its return\naddress there, an ISZ may increment its own routine's entry, and a DCA may\nstore in its own routine's entry if a `moves` line names it",
+        advice: "A routine cannot make its caller skip on return by incrementing the\ncaller's return word. Let the routine return with a skip itself, and let its\ncaller then increment the caller's own return word. An ISZ may increment its\nroutine's own entry, up to offset 7, or in version 3 up to 77, if it can store\nnowhere else. A routine that stores a computed return word with DCA needs a\n`moves` line; the DCA must name the entry itself, and each word that AC may\nhold there must be 0 to 77 past the return address of each call. A routine that\nreturns through a copy of its return word, in another cell, gets no\ncertificate: rule 1 is violated.",
     },
     Explanation {
         code: "V15",
@@ -98,7 +98,7 @@ static CONDITIONS: [Explanation; 16] = [
         code: "V16",
         subject: Subject::Asked("what is declared to hold holds"),
         meaning: "what is declared to hold here, or when the routine of this entry\nreturns, holds",
-        advice: "Each word that the fact leaves to AC, the link, MQ or the cell must\nbe one that the `holds` line names. If it is so in each run, say it in the\ncertificate too, by a relation or by a fact for each case; otherwise name more\nwords, or correct the program. For a `returns` line the same is asked of the\nexit lines of the routine for the offsets that it names.",
+        advice: "The fact must allow AC, the link, MQ or the cell only words that\nthe `holds` line names. If every run complies with the line, let the\ncertificate say so, by a relation or by a fact for each case. Otherwise name\nmore words in the line, or correct the program. For a `returns` line the same\nis required of the routine's exit lines, for the offsets that the line names.",
     },
 ];
 

@@ -26,7 +26,7 @@ static FAULTS: [Explanation; 44] = [
         code: "WrongField",
         subject: Subject::Fault("tape: WrongField 1"),
         meaning: "the frame at this place selects a field other than 0",
-        advice: "the tape loads a field other than 0; nothing can be said about that\nhere",
+        advice: "the tape loads a field other than 0, and `pdp8` has only field 0",
     },
     Explanation {
         code: "Truncated",
@@ -163,7 +163,7 @@ static FAULTS: [Explanation; 44] = [
     Explanation {
         code: "Misplaced",
         subject: Subject::Fault("declaration: Misplaced 0204"),
-        meaning: "a line names the address and may not: `skips`, `moves` and `returns` name entries, `abandon` names cells of main's body, and `holds` names cells of bodies",
+        meaning: "a line names an address that it must not name: `skips`, `moves` and `returns` name entries, `abandon` names cells of main's body, and `holds` names cells of bodies",
         advice: "correct the address, or declare the routine or the body that has it",
     },
     Explanation {
@@ -229,7 +229,7 @@ static FAULTS: [Explanation; 44] = [
     Explanation {
         code: "Stuck",
         subject: Subject::Fault("guess: Stuck 0203"),
-        meaning: "usually the address of an instruction that `check` would refuse by what is known there; in a circle of calls, that of the call with the lowest address",
+        meaning: "no certificate was found: the address is usually that of an instruction that `check` would refuse, given what the search knows there; if calls form a cycle, it is that of the call in it with the lowest address",
         advice: "`--why` names the condition",
     },
     Explanation {
@@ -247,7 +247,7 @@ static FAULTS: [Explanation; 44] = [
     Explanation {
         code: "Mismatch",
         subject: Subject::Fault("declare: Mismatch"),
-        meaning: "what was found is not for the start, machine or reads that were asked for; no program is known for which this happens",
+        meaning: "what was found is not for the start, the machine or the reads that were requested; no program is known for which this happens",
         advice: "write the declaration by hand",
     },
     Explanation {

@@ -13,7 +13,7 @@ static RULES: [Explanation; 8] = [
     Explanation {
         code: "rule2",
         subject: Subject::Asked("writes"),
-        meaning: "Each cell that the step writes is a variable, or it is the running\nroutine's own entry and the step is an ISZ, or a DCA that names the entry where\na `moves` line names it too.\nfor example: a pointer in 0010 to 0017 is incremented before it is used, so it\nmust begin one lower",
+        meaning: "Each cell that the step writes is a variable or the running routine's\nown entry. An ISZ may write that entry; a DCA may, if it names the entry itself\nand a `moves` line names it too; no other step may.\nfor example: a pointer in 0010 to 0017 is incremented before it is used, so it\nmust begin one lower",
         advice: "add a `var` line for what is meant to change, including such a\npointer; otherwise as for V5 and V14",
     },
     Explanation {
@@ -49,8 +49,8 @@ static RULES: [Explanation; 8] = [
     Explanation {
         code: "rule8",
         subject: Subject::Asked("assertions"),
-        meaning: "What a `holds` line declares of the step's address holds before the\nstep. If the step is a JMP I through the entry of the last call, what a\n`returns` line declares of this entry, and of the offset from the call's return\naddress to the word in the entry, holds too.\nfor example: a routine that is to return with AC 0 returns with what it read",
-        advice: "correct the program, or name the words that may be there",
+        meaning: "Before the step, every `holds` line about its address holds. If the step\nis a JMP I through the entry of the last call, every `returns` line about this\nentry and this offset holds too, where the offset is the distance from the\ncall's return address to the word in the entry.\nfor example: a routine that is to return with AC 0 returns with what it read",
+        advice: "correct the program, or declare the other words too",
     },
 ];
 

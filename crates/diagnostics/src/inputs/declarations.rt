@@ -65,7 +65,7 @@ fn push_overlap<A: Allocator>(
     let cell = at.value();
     writeln!(
         text,
-        "{name}: {cell:04o} is in two bodies, or is both an entry and in a body or a variable, or is both a stop and a pause; remove it from one of them"
+        "{name}: {cell:04o} has two roles that exclude each other: two bodies have it, or it is an entry and also in a body or a variable, or it is both a stop and a pause; remove one of the roles"
     )
     .map_err(|_| NoMemory)
 }

@@ -134,7 +134,7 @@ fn follow_session<
 ///
 /// # Errors
 ///
-/// As for `run_session`, and `Device` where a file can't be opened or made.
+/// As for `run_session`, and `Device` where a file cannot be opened or made.
 #[inline(never)]
 pub(crate) fn hold_session_on<R: Files + Input + Print + Eprint, S: ByteSource>(
     rt: &R,
@@ -224,7 +224,7 @@ fn tell_key<R: Eprint>(rt: &R, key: Option<u8>) {
 ///
 /// # Errors
 ///
-/// As for `teletype`, and `Device` where a file can't be opened or made.
+/// As for `teletype`, and `Device` where a file cannot be opened or made.
 #[inline(never)]
 pub(crate) fn hold_teletype_session_on<R: Files + Input + Print + Eprint, S: ByteSource>(
     rt: &R,

@@ -16,7 +16,7 @@ fn asked(condition: Condition) -> &'static [u8]
             b"a fact is in a body, and has offsets only in a routine; routine and exit lines are at entries",
         Condition::V3 => b"at most 64 words are possible, and each is supported",
         Condition::V4 =>
-            b"wherever the run may go on there is a fact in the same body that allows what is possible",
+            b"at each address where the run may continue there is a fact in the same body, which allows all that is possible",
         Condition::V5 =>
             b"each cell that a word may write, except the cell in which a JMS stores, is a variable or an entry",
         Condition::V6 =>
@@ -24,7 +24,7 @@ fn asked(condition: Condition) -> &'static [u8]
         Condition::V7 =>
             b"a JMS calls listed entries of lower rank, and not through an auto-index cell",
         Condition::V8 =>
-            b"the callee's entry and what it may write are in the caller's written set, and the caller's entry is not in the callee's",
+            b"the caller's written set contains the callee's entry and all that the callee may write, and the callee's written set does not contain the caller's entry",
         Condition::V9 => b"a JMS is at a listed site of its callee, at an address of at most 7767",
         Condition::V10 => b"the fact at the callee's first address allows what is possible",
         Condition::V11 => b"the fact at each return address allows what is possible",
@@ -32,7 +32,7 @@ fn asked(condition: Condition) -> &'static [u8]
             b"a return is through the routine's own entry, by declared offsets, and the exit lines allow what is possible",
         Condition::V13 => b"a HLT is at a declared halt",
         Condition::V14 =>
-            b"no word writes an entry, except that a JMS stores its return address there, an ISZ may increment the routine's own, and a DCA may store in it where a `moves` line names it",
+            b"no instruction writes an entry, except that a JMS stores its return address there, an ISZ may increment its own routine's entry, and a DCA may store in its own routine's entry if a `moves` line names it",
         Condition::V15 =>
             b"each cell that a word may read is on the list of reads or is the routine's entry",
         Condition::V16 =>
@@ -49,7 +49,7 @@ fn sums_asked(condition: Condition) -> &'static [u8]
         Condition::V2 =>
             b"each fact is in a body, and has sites and offsets only in a routine; routine and exit lines are at entries",
         Condition::V4 =>
-            b"wherever the run may go on there are facts in the same body that allow what is possible",
+            b"at each address where the run may continue there are facts in the same body, which allow all that is possible",
         Condition::V9 => b"a JMS is at a listed site of its callee, at an address of at most 7776",
         Condition::V10 => b"the facts at the callee's first address allow what is possible",
         Condition::V11 => b"the facts at each return address allow what is possible",

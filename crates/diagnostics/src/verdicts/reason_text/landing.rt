@@ -51,11 +51,11 @@ fn push_while<L: MessageWriter>(
 ) -> Result<(), AllocError>
     ensures { OnOk result (L.text text.new ≡ L.text text.old ++
         ((codes "while the cell " ++ octal_text cell) ++ (codes " holds " ++ octal_text word) ++
-        (codes " AC may be " ++ octal_text ac) ++ (codes " with the link " ++ link_text link))) }
+        (codes ", AC may be " ++ octal_text ac) ++ (codes " with the link " ++ link_text link))) }
 {
     push_text_and_address(text, b"while the cell ", cell)?;
     push_text_and_word(text, b" holds ", word)?;
-    push_text_and_word(text, b" AC may be ", ac)?;
+    push_text_and_word(text, b", AC may be ", ac)?;
     text.push_text(b" with the link ")?;
     push_link_digit(text, link)?;
     Ok(())
@@ -110,7 +110,7 @@ fn push_with_link<L: MessageWriter>(text: &mut L, link: Link) -> Result<(), Allo
 {
     text.push_text(b"with the link ")?;
     push_link_digit(text, link)?;
-    text.push_text(b" ")?;
+    text.push_text(b", ")?;
     Ok(())
 }
 

@@ -240,7 +240,7 @@ fn push_moving<L: MessageWriter>(
     push_around(text, b" in ", entry, b"")?;
     push_around(
         text,
-        b", which is not 0 to 77 behind the return address of the call at ",
+        b": this word is not 0 to 77 past the return address of the call at ",
         site,
         b"",
     )?;

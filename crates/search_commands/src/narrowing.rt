@@ -6,7 +6,7 @@ use certificate::Certificate;
 use control_flow::{push_range, push_skips};
 use declaration::{Declaration, Routine};
 use std::alloc::{AllocError, Allocator};
-use streams::text::{self, Words};
+use streams::text::{Words, is, octal_word};
 use usage::{Register, Surplus, returned, surplus_of};
 use word12::Word;
 use wordset::WordSet;
@@ -78,10 +78,10 @@ fn entries_without_use<D: Allocator>(
 /// The cells of a word that is an address, or a range of them.
 fn range_of(word: &[u8]) -> Option<WordSet> {
     let Some(at) = word.iter().position(|byte| *byte == b'-') else {
-        return text::octal_word(word).map(WordSet::one);
+        return octal_word(word).map(WordSet::one);
     };
-    let low = text::octal_word(word.get(..at)?)?;
-    let high = text::octal_word(word.get(at.saturating_add(1)..)?)?;
+    let low = octal_word(word.get(..at)?)?;
+    let high = octal_word(word.get(at.saturating_add(1)..)?)?;
     if low.value() > high.value() {
         return None;
     }
@@ -234,7 +234,7 @@ impl<'a, D: Allocator, C: Allocator> Needless<'a, D, C> {
         rest: Words<'_>,
     ) -> Result<(), AllocError> {
         let mut words = rest;
-        let entry = words.next().and_then(text::octal_word);
+        let entry = words.next().and_then(octal_word);
         let routines = self.declaration.routines();
         match entry.and_then(|entry| routine_of(routines, entry)) {
             Some(routine) => self.push_routine(text, line, routine),
@@ -250,7 +250,7 @@ impl<'a, D: Allocator, C: Allocator> Needless<'a, D, C> {
         rest: Words<'_>,
     ) -> Result<(), AllocError> {
         let mut words = rest;
-        let Some(entry) = words.next().and_then(text::octal_word) else {
+        let Some(entry) = words.next().and_then(octal_word) else {
             return push_whole(text, line);
         };
         let listed = cells_of(words);
@@ -266,6 +266,28 @@ impl<'a, D: Allocator, C: Allocator> Needless<'a, D, C> {
         push_whole(text, comment)
     }
 
+    /// Adds a line that gives permissions to entries or cells, or another line, without what goes of it.
+    fn push_permission<A: Allocator>(
+        &self,
+        text: &mut Vec<u8, A>,
+        line: &[u8],
+        name: &[u8],
+        rest: Words<'_>,
+    ) -> Result<(), AllocError> {
+        let surplus = &self.surplus;
+        if is(name, "moves") {
+            let gone = surplus.unmoved.union(&self.entries);
+            return push_cells(text, line, &gone, Spelling::Addresses);
+        }
+        if is(name, "abandon") {
+            return push_cells(text, line, &surplus.unabandoned, Spelling::Addresses);
+        }
+        if is(name, "skips") {
+            return self.push_further(text, line, rest);
+        }
+        push_whole(text, line)
+    }
+
     /// Adds a line without what goes of it.
     fn push_line<A: Allocator>(
         &self,
@@ -275,22 +297,25 @@ impl<'a, D: Allocator, C: Allocator> Needless<'a, D, C> {
         let (front, _) = parted(line);
         let mut words = Words::of(front);
         let surplus = &self.surplus;
-        match words.next() {
-            Some(b"main") => push_cells(text, line, &self.cells, Spelling::Ranges),
-            Some(b"var") => push_cells(text, line, &surplus.unwritten, Spelling::Ranges),
-            Some(b"read") => push_cells(text, line, &surplus.unread, Spelling::RangesOrNone),
-            Some(b"stop" | b"pause") => {
-                push_cells(text, line, &surplus.unhalted, Spelling::Addresses)
-            }
-            Some(b"moves") => {
-                let gone = surplus.unmoved.union(&self.entries);
-                push_cells(text, line, &gone, Spelling::Addresses)
-            }
-            Some(b"abandon") => push_cells(text, line, &surplus.unabandoned, Spelling::Addresses),
-            Some(b"sub") => self.push_sub(text, line, words),
-            Some(b"skips") => self.push_further(text, line, words),
-            _ => push_whole(text, line),
+        let Some(name) = words.next() else {
+            return push_whole(text, line);
+        };
+        if is(name, "main") {
+            return push_cells(text, line, &self.cells, Spelling::Ranges);
         }
+        if is(name, "var") {
+            return push_cells(text, line, &surplus.unwritten, Spelling::Ranges);
+        }
+        if is(name, "read") {
+            return push_cells(text, line, &surplus.unread, Spelling::RangesOrNone);
+        }
+        if is(name, "stop") || is(name, "pause") {
+            return push_cells(text, line, &surplus.unhalted, Spelling::Addresses);
+        }
+        if is(name, "sub") {
+            return self.push_sub(text, line, words);
+        }
+        self.push_permission(text, line, name, words)
     }
 }
 

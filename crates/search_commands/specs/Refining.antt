@@ -6,7 +6,7 @@ use Rattle.declaration.specs.Text.{Declares}
 use Rattle.policy.specs.Runs.{IsSafe}
 use Rattle.search_commands.specs.Adding.{AddsOnly}
 
--- The second declaration says no less than the first: start and machine are the same, it allows nothing that the first does not, and
+-- The second declaration is no wider than the first: start and machine are the same, it allows nothing that the first does not, and
 -- it lists reads exactly where the first does. What is to hold at places is the same.
 pub record IsNoWider (given less : Declaration) : Type 0 where
   pub start_is : less.start ≡ given.start
@@ -15,14 +15,14 @@ pub record IsNoWider (given less : Declaration) : Type 0 where
   pub listed : is_some less.reads ≡ is_some given.reads
   pub holds : less.holds ≡ given.holds
 
--- The text declares something that says no less than a declaration, and no run of the program with these words breaks it.
+-- The text declares something that is no wider than a declaration, and no run of the program with these words breaks it.
 pub record IsShownNoWider (image : List (Option ℕ)) (given : Declaration) (text : List ℕ) : Type 0 where
   pub declaration : Declaration
   pub declares : Declares text declaration
   pub is : IsNoWider given declaration
   pub safe : IsSafe (image_of image) declaration
 
--- The second text is the first, or the first declares a program, and the second one declares no less of it, and is shown.
+-- The first text declares a program, and what the second one declares is no wider, and is shown.
 pub record IsShownChange (image : List (Option ℕ)) (text written : List ℕ) : Type 0 where
   pub given : Declaration
   pub declares : Declares text given

@@ -62,7 +62,7 @@ pub struct Refinement<A: Allocator> {
     pub told: Message<A>,
 }
 
-/// Whether a declaration says no less than another one.
+/// Whether a declaration is no wider than another one.
 fn is_no_wider<A: Allocator, B: Allocator>(given: &Declaration<A>, less: &Declaration<B>) -> bool
     ensures { result ≡ true → IsNoWider (meaning given.now) (meaning less.now) }
 {
@@ -81,7 +81,7 @@ fn is_no_wider<A: Allocator, B: Allocator>(given: &Declaration<A>, less: &Declar
     adds_only(given, given, less)
 }
 
-/// What a text declares, if that is no less than a declaration says, and a certificate is found for it.
+/// What a text declares, if that is no wider than a declaration, and a certificate is found for it.
 fn shown_no_wider<A: Allocator + Copy, D: Allocator>(
     alloc: A,
     image: &Image,

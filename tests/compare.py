@@ -114,6 +114,10 @@ def compare_verdicts(asked, folder):
     return all([worker('verdicts.py', asked.program, programs, folder, count, asked.seed) for programs in ('examples', 'tests/version3')])
 
 
+def compare_forged(asked, folder):
+    return all([worker('forged.py', asked.program, programs, folder, asked.seed) for programs in ('tests/version3', 'examples')])
+
+
 def compare_watched(asked, folder):
     return all([worker('watched.py', asked.program, TOP / programs, asked.count or 1000, 1000, asked.seed)
                 for programs in ('tests/style-of-1970', 'tests/version3')])
@@ -167,6 +171,7 @@ COMPARISONS = {
     'facts': (compare_facts, 'generated facts of all versions and their outcomes with those in reference/'),
     'watched': (compare_watched, 'what gets a yes of the programs in the style of 1970 and of version 3, in runs of chance'),
     'verdicts': (compare_verdicts, 'verdicts on changed programs and certificates of all versions with the checkers in reference/'),
+    'forged': (compare_forged, 'verdicts on certificates of version 3 with one line, or one word of a set, left out in turn'),
     'second-reader': (compare_second_reader, 'the fullest tape with a reader in Python'),
     'palbart': (compare_palbart, 'images with palbart'),
     'written-sources': (compare_written_sources, 'sources of generated tapes, read back, with palbart'),

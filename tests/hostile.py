@@ -27,7 +27,7 @@ KINDS = {
     'tape': 'TooLong|NoWord|NoOrigin|BadFrame \\d+|WrongField \\d+|Truncated|NoChecksum|Checksum [0-7]{4} [0-7]{4}|EmptyImage',
     'source': '(IC|RD|DT|UA|IR|ST|NB|PA|TL) \\d+ \\d+',
     'declaration': 'BadLine \\d+|TwoStarts \\d+|TwoProfiles \\d+|NoStart|Overlap [0-7]{4}|EntryInAutoIndex [0-7]{4}|StartNotInMain'
-                   '|TooMany|HaltNotInBody [0-7]{4}',
+                   '|TooMany|HaltNotInBody [0-7]{4}|Misplaced [0-7]{4}',
     'certificate': 'Version|BadLine \\d+|Order \\d+|TooMany',
     'events': 'BadLine \\d+|TooMany',
     'guess': 'TurnsSpent|Stuck [0-7]{4}',
@@ -36,8 +36,8 @@ KINDS = {
 FAULT = re.compile('pdp8: (?:%s)\n' % '|'.join(f'{kind}: (?:{names})' for kind, names in KINDS.items()))
 SUMMARY = re.compile(r'(HALT|UNSUPPORTED|BOUND) [0-7]{4} AC=[0-7]{4} L=[01] PC=[0-7]{4} STEPS=\d+\n(PRINTED( [0-7]{3})+\n)?(PUNCHED( [0-7]{3})+\n)?')
 DUMP = re.compile(r'([0-7]{4} [0-7]{4} [A-Z0-9 ?]+\n)*')
-WATCH = re.compile(r'clean\n|broken: event \d+ rule [1-7]\n')
-REFUTED = re.compile(r'not broken in 20000 steps\n|broken: event \d+ rule [1-7]\n')
+WATCH = re.compile(r'clean\n|broken: event \d+ rule [1-8]\n')
+REFUTED = re.compile(r'not broken in 20000 steps\n|broken: event \d+ rule [1-8]\n')
 CHECK = re.compile(r'yes: \d+ body cells, \d+ variable cells, \d+ entries, \d+ halts(, \d+ read cells)?(, \d+ assertions)?\n|no: V\d+ at [0-7]{4}\n')
 DECLARED = re.compile(r'(/ [^\n]*\n)*(profile 8e\n)?start [0-7]{4}\n([a-z]+( [^\n]*)?\n)+')
 # What follows the line of a source's fault under --why: the same fault with its column.

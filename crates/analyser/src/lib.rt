@@ -145,7 +145,7 @@ fn found_by<A: Allocator + Copy, D: Allocator>(
     found_with(alloc, search, program, version, Patience::OfAllCells, turns)
 }
 
-/// Searches, and gives the certificate of what was found. Where its text is too long to be read again,
+/// Searches, and gives the certificate of what was found. If its text is too long to be read again,
 /// one more search fills all sets, and what it finds takes the place of that certificate.
 fn found_within<A: Allocator + Copy, D: Allocator>(
     alloc: A,
@@ -232,10 +232,10 @@ fn drafted_by<A: Allocator + Copy, D: Allocator>(
     }
 }
 
-/// Looks for facts, exits and written sets that show a tape's words safe under a declaration. What
-/// is found is a certificate that the judge accepts, of version 1 for a PDP-8/I and of version 2 for a
-/// PDP-8/E, or of version 3 where none of these is found: no run of the program breaks the declaration. That
-/// one is found is not promised. A turn is one `post`, taken right before it.
+/// Looks for facts, exits and written sets that show a tape's words safe under a declaration. What is found
+/// is a certificate that the judge accepts, of version 1 for a PDP-8/I and of version 2 for a PDP-8/E, or of
+/// version 3 where none of these is found: no run of the program violates the declaration. That one is found
+/// is not promised. A turn is one `post`, taken right before it.
 ///
 /// # Errors
 ///
@@ -266,7 +266,7 @@ pub fn guess_within<A: Allocator + Copy, D: Allocator>(
     or_by_sums(alloc, image, declaration, found, turns)
 }
 
-/// Looks for a guess within 2,000,000 turns, and tells how many were taken.
+/// Looks for a guess within 2,000,000 turns, and returns how many were taken.
 ///
 /// # Errors
 ///
@@ -281,7 +281,7 @@ pub fn guess_counted<A: Allocator + Copy, D: Allocator>(
     ensures lines { IfOk result.0 (λ c. AreLines (meaning c)) }
     ensures version { IfOk result.0 (λ c. IsVersionFor
         (declared declaration.now).profile (meaning c).version) }
-    // There are 2,000,000 turns, and only where all are spent is it told that they are.
+    // There are 2,000,000 turns, and only if all are spent is it told that they are.
     ensures limit { result.1.limit ≡ 2000000 }
     ensures within { result.1.spent ≤ result.1.limit }
     ensures spent { IfErr result.0 (IsSpentUp result.1) }
@@ -347,7 +347,7 @@ pub fn guess_or_draft_within<A: Allocator + Copy, D: Allocator>(
     }
 }
 
-/// Looks for a guess, or a draft of one, within 2,000,000 turns, and tells how many were taken.
+/// Looks for a guess, or a draft of one, within 2,000,000 turns, and returns how many were taken.
 ///
 /// # Errors
 ///
@@ -365,7 +365,7 @@ pub fn guess_or_draft_counted<A: Allocator + Copy, D: Allocator>(
     ensures lines { IfOk result.0 (λ a. AreLines (meaning (claimed_by a))) }
     ensures version { IfOk result.0 (HasVersionFor
         (declared declaration.now).profile) }
-    // There are 2,000,000 turns, and only where all are spent is it told that they are.
+    // There are 2,000,000 turns, and only if all are spent is it told that they are.
     ensures limit { result.1.limit ≡ 2000000 }
     ensures within { result.1.spent ≤ result.1.limit }
     ensures spent { IfErr result.0 (IsSpentUp result.1) }
@@ -445,7 +445,7 @@ fn found_or_drafted<A: Allocator + Copy, D: Allocator>(
 }
 
 /// The draft of the search for a certificate in the version of the machine, where a search for one of version 3 is stuck. Where
-/// the former finds a certificate, and for any other fault of the latter, this fault is told.
+/// the former finds a certificate, and for any other fault of the latter, this fault is reported.
 fn drafted<A: Allocator + Copy, D: Allocator>(
     alloc: A,
     image: &Image,

@@ -1,4 +1,4 @@
-//! Certificates of version 3: facts with relations of sums, told apart in one way after another.
+//! Certificates of version 3: facts with relations of sums, distinguished in one way after another.
 
 ghost use Rattle.std.specs.Prelude.{◌≡◌, ◌≤◌, IfErr, IfOk};
 ghost use Rattle.certificate_lines.specs.CertificateInCode.{meaning};
@@ -20,14 +20,14 @@ use wordset::WordSet;
 /// The most turns of one try.
 const MOST_TURNS: u32 = 20_000;
 
-/// So many tries at most are made with facts told apart by calls: with none, with those of routines that look at their return
-/// word, and with those of one routine more in each.
+/// So many tries at most are made with facts distinguished by calls: with none, with those of routines that look at their
+/// return word, and with those of one routine more in each.
 const MOST_CALLS: usize = 6;
 
-/// By the words of so many cells at most facts are told apart, one after another.
+/// By the words of so many cells at most facts are distinguished, one after another.
 const MOST_CELLS: usize = 12;
 
-/// Looks for facts that are told apart in one way.
+/// Looks for facts that are distinguished in one way.
 fn tried<A: Allocator + Copy, D: Allocator>(
     search: &mut SumSearch<A>,
     program: &SumProgram<'_, D>,
@@ -54,8 +54,8 @@ fn tried<A: Allocator + Copy, D: Allocator>(
     }
 }
 
-/// The routines whose facts are told apart by the call besides, if a try is stuck: first those that look at their return word,
-/// then the one in whose body it is stuck.
+/// The routines whose facts are distinguished by the call besides, if a try is stuck: first those that look at their return
+/// word, then the one in whose body it is stuck.
 fn more_called<D: Allocator>(
     program: &SumProgram<'_, D>,
     split: &Split,
@@ -71,8 +71,8 @@ fn more_called<D: Allocator>(
     Some(WordSet::one(entry))
 }
 
-/// The same, with facts of more and more routines told apart by the call where a try is stuck. The lent way to tell them apart
-/// becomes the last one.
+/// The same, with facts of more and more routines distinguished by the call where a try is stuck. The lent way to distinguish
+/// them becomes the last one.
 fn tried_by_calls<A: Allocator + Copy, D: Allocator>(
     search: &mut SumSearch<A>,
     program: &SumProgram<'_, D>,
@@ -103,7 +103,7 @@ fn tried_by_calls<A: Allocator + Copy, D: Allocator>(
     Err(GuessFault::Stuck(stuck))
 }
 
-/// The same, with facts told apart by the words of one of some cells, one after another.
+/// The same, with facts distinguished by the words of one of some cells, one after another.
 fn tried_by_cells<A: Allocator + Copy, D: Allocator>(
     search: &mut SumSearch<A>,
     program: &SumProgram<'_, D>,
@@ -134,8 +134,8 @@ fn tried_by_cells<A: Allocator + Copy, D: Allocator>(
     Err(GuessFault::Stuck(stuck))
 }
 
-/// Looks for a certificate of version 3: with one fact at an address, and where that is stuck with facts that are told apart by
-/// the call, then by the link, then by the words of a cell.
+/// Looks for a certificate of version 3: with one fact at an address, and where that is stuck with facts that are distinguished
+/// by the call, then by the link, then by the words of a cell.
 pub(crate) fn found_by_sums<A: Allocator + Copy, D: Allocator>(
     alloc: A,
     image: &Image,

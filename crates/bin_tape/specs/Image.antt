@@ -2,7 +2,7 @@
 use Rattle.std.specs.Prelude.{◌≡◌, ◌≢◌, ◌<◌, ℕ, List, Option, None, slice_get, unwrap_or, length}
 use Rattle.std.specs.Option.{ForSome}
 
--- The word at an address, if there is one. Contracts see an image as the list of its 4096 cells.
+-- The word at an address, if there is one. In contracts an image is the list of its 4096 cells.
 abbrev pub word_at : List (Option ℕ) → ℕ → Option ℕ
 word_at image a = unwrap_or (slice_get image a) None
 

@@ -41,7 +41,7 @@ pub enum WriteTapeFault {
     /// The image has no word.
     #[error("EmptyImage")]
     EmptyImage,
-    /// A write failed or took nothing, after a front of the tape went out.
+    /// A write failed or took nothing, after a prefix of the tape went out.
     #[error("WriteFault")]
     WriteFault,
 }

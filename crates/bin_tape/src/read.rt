@@ -113,13 +113,13 @@ pub fn read_from<R: ByteSource>(source: &mut R) -> Result<Image, TapeFault>
     // So the tape that is written of an image is read, as that image.
     ensures written { IfSome (R.remaining source.old) (λ bytes. (image : List (Option ℕ)) →
         IsWrittenTape bytes image → R.mark source.new ≡ false → result ≡ Ok image) }
-    // Where no read failed, a fault comes where it is that of the source's bytes,
+    // If no read failed, a fault comes where it is that of the source's bytes,
     ensures refused { R.mark source.new ≡ false → IfErr result (λ fault.
         IfSome (R.remaining source.old) (λ bytes. Refuses 65536 bytes fault)) }
     // and whichever is that of the bytes comes.
     ensures exact { IfSome (R.remaining source.old) (λ bytes. (fault : TapeFault) →
         Refuses 65536 bytes fault → R.mark source.new ≡ false → result ≡ Err fault) }
-    // ReadFault comes exactly where a read failed,
+    // ReadFault comes if and only if a read failed,
     ensures failed { R.mark source.new ≡ failed_to_read result }
     // and the bytes given before it bring no answer: no trailer has come, and they are no more than
     // are looked at.

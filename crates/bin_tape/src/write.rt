@@ -124,7 +124,7 @@ fn frame_sum(frames: &[u8]) -> Word
     sum
 }
 
-/// The whole tape of an image, or nothing where it has no word.
+/// The whole tape of an image, or nothing if it has no word.
 fn tape_of(image: &Image) -> Option<Frames>
     ensures empty { IsNone result ↔ IsEmptyImage image.now }
     ensures tape { IfSome result (λ tape. tape ≡ written_tape image.now) }
@@ -148,7 +148,7 @@ fn tape_of(image: &Image) -> Option<Frames>
 /// # Errors
 ///
 /// `EmptyImage` where the image has no word; nothing is written then. `WriteFault` where a write
-/// failed or took nothing, which the mark shows; a front of the tape went out before it.
+/// failed or took nothing, which the mark shows; a prefix of the tape went out before it.
 pub fn write_tape<W: ByteSink>(image: &Image, sink: &mut W) -> Result<(), WriteTapeFault>
     requires unmarked { W.mark sink.old ≡ false }
     ensures whole { OnOk result

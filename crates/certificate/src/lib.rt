@@ -79,7 +79,7 @@ impl<A: Allocator + Copy> Certificate<A> {
         ensures read { IfOk result (λ c. reading bytes.now ≡ Ok (meaning c)) }
         // or the fault that it is read as, unless memory is refused.
         ensures refused { IfErr result (λ f. (f ≡ faults.NoMemory) ⊎ (reading bytes.now ≡ Err f)) }
-        // Memory is refused only where the text has a line to keep.
+        // Memory is refused only if the text has a line to keep.
         ensures memory { result ≡ Err faults.NoMemory → AsksForMemory bytes.now }
     {
         let mut parser = Parser::new(alloc);
@@ -109,7 +109,8 @@ impl<A: Allocator> Certificate<A> {
     ///
     /// # Errors
     ///
-    /// `WriteFault` where a write failed or took nothing, which the mark shows; a front of the text went out before it.
+    /// `WriteFault` where a write failed or took nothing, which the mark shows; a prefix of the text went out before
+    /// it.
     pub fn write<W: ByteSink>(&self, sink: &mut W) -> Result<(), WriteFault>
         requires unmarked { W.mark sink.old ≡ false }
         ensures whole { OnOk result (Appends (W.taken sink.old) (W.taken sink.new)
@@ -125,7 +126,7 @@ impl<A: Allocator> Certificate<A> {
     }
 
     /// Writes the lines of the fact with a number among those at an address, the first of which has number 0, as its text has
-    /// them, and nothing where there are fewer. The sink has met no failure yet.
+    /// them, and nothing if there are fewer. The sink has met no failure yet.
     ///
     /// # Errors
     ///
@@ -229,7 +230,7 @@ impl<A: Allocator> Certificate<A> {
     }
 
     /// Whether the line at a place is that of a fact at an address, which the lent fact then says; the place becomes that of
-    /// the line behind the fact's own, where the next one at this address stands if there is one. Else all is left as it is.
+    /// the line after the fact's own, where the next one at this address stands if there is one. Else all is left as it is.
     pub fn next_fact(&self, at: Word, line: &mut usize, fact: &mut CertifiedFact) -> bool
         requires { IsBeforeFacts self.now line.old at }
         ensures none { result ≡ false → facts_from self.now line.old at ≡ [] }
@@ -363,7 +364,7 @@ pub fn reading_law()
 {}
 
 /// The certificate that [`Certificate::with_sites`] makes claims what the other one does, with sites: each fact at an address and
-/// each exit is the same but for them.
+/// each exit is the same except for them.
 #[tactic(auto, using(crate::proofs::SumGivenLemmas::sites_are_added))]
 pub fn sites_law()
     ensures { SitesAreAdded }

@@ -119,7 +119,7 @@ impl<A: Allocator> Certificate<A> {
         Certificate { version, kept }
     }
 
-    /// The sites of the routine of an entry by its line; none where it has no line.
+    /// The sites of the routine of an entry by its line; none if it has no line.
     fn sites_of(&self, entry: Word) -> WordSet
         ensures { words result ≡ (claims self.now).sites entry }
     {

@@ -263,7 +263,7 @@ impl<A: Allocator> Parser<A> {
         self.end()
     }
 
-    /// Takes the bytes up to a line feed and with it, or else all of them, and tells how many.
+    /// Takes the bytes up to a line feed and with it, or else all of them, and returns how many.
     fn take(&mut self, bytes: &[u8]) -> Result<usize, CertificateFault>
         requires { IsSmall self.old }
         ensures small { IsSmall self.new }

@@ -15,7 +15,7 @@ use certificate_lines::CertificateFault;
 use std::alloc::Allocator;
 use streams::ByteSource;
 
-/// How many bytes are asked for in all at most: one more than a certificate may have.
+/// How many bytes are requested in all at most: one more than a certificate may have.
 const LIMIT: usize = 1_048_577;
 
 /// How many bytes one read asks for at most.
@@ -68,12 +68,12 @@ impl<A: Allocator + Copy> Certificate<A> {
         // or the fault that they are read as, unless memory is refused or a read fails.
         ensures refused { IfErr result (λ fault. (fault ≡ NoMemory) ⊎ ((fault ≡ ReadFault) ⊎
             IfSome (R.remaining source.old) (λ bytes. reading bytes ≡ Err fault))) }
-        // ReadFault comes exactly where a read failed,
+        // ReadFault comes if and only if a read failed,
         ensures failed { R.mark source.new ≡ failed_to_read result }
         // and the bytes given before it bring no answer.
         ensures unanswered { result ≡ Err ReadFault →
             Gave (R.remaining source.old) (R.remaining source.new) IsUnanswered }
-        // Memory is refused only where the bytes that were given have a line to keep.
+        // Memory is refused only if the bytes that were given have a line to keep.
         ensures memory { result ≡ Err NoMemory →
             Gave (R.remaining source.old) (R.remaining source.new) AsksForMemory }
         // At most 1,048,577 bytes are taken, and at most 511 past the one that brings the answer.

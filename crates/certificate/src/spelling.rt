@@ -193,7 +193,7 @@ impl LineText {
         self.push(b'-');
     }
 
-    /// Adds a term behind the first one with its coefficient, each after a space.
+    /// Adds a term after the first one with its coefficient, each after a space.
     fn summand(&mut self, summand: &Summand)
         ensures { Adds self.old.bytes.items self.new.bytes.items (further_text (summand_of summand.now)) }
     {
@@ -227,7 +227,7 @@ impl LineText {
         self.third(sum.second.coefficient, &sum.third);
     }
 
-    /// Adds the one word of a set by its runs, and nothing where it has none or several.
+    /// Adds the one word of a set by its runs, and nothing if it has none or several.
     fn only_word(&mut self, runs: &[Run])
         ensures { Adds self.old.bytes.items self.new.bytes.items (word_text (only (set_of_runs runs.now))) }
     {

@@ -10,7 +10,8 @@ use Rattle.certificate_lines.specs.Certificate.{Certificate}
 use Rattle.certificate_lines.specs.Reading.{Text, certificate_of, facts_at, exits_at}
 use Rattle.certificate_lines.specs.Packed.{Packed, said_lines}
 
--- A certificate as it is kept: the version of its text, and the lines after the first one, packed, but for the end.
+-- A certificate as it is kept: the version of its text, and the lines after the first one, packed, except for the
+-- end.
 pub record Kept : Type 0 where
   pub version : Version
   pub lines : Packed
@@ -48,7 +49,7 @@ IsBeforeFacts c i a = BeginAt (4096 + a) (lines_from c i)
 abbrev pub IsBeforeExits : Kept → ℕ → ℕ → ℕ → Type 0
 IsBeforeExits c i e o = BeginAt (8192 + (64 * e + o)) (lines_from c i)
 
--- These facts are one more than those, which come behind it.
+-- These facts are one more than those, which come after it.
 abbrev pub Follows : List Fact → List Fact → Type 0
 Follows fs rest = (f : Fact) × (fs ≡ f ∷ rest)
 

@@ -21,7 +21,7 @@ offset_set_text s = if some_below 64 s then offset_marks 64 s else codes "-"
 abbrev pub with_run : ℕ → ℕ → Words → Words
 with_run low high s v = s v || (nat_le low v && nat_le v high)
 
--- The text of the terms behind the second one, whose coefficient is this.
+-- The text of the terms after the second one, whose coefficient is this.
 abbrev pub third_text : ℕ → Option ℕ → List ℕ
 third_text c cell = flat_map further_text (third_terms c cell)
 

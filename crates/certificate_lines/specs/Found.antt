@@ -109,7 +109,7 @@ abbrev pub FitUnderFirst : List Line → Type 0
 FitUnderFirst [] = Unit {0}
 FitUnderFirst (l ∷ ls) = FitUnder ls
 
--- The lines behind the details at the front.
+-- The lines after the details at the front.
 abbrev pub behind_details : List Line → List Line
 behind_details [] = []
 behind_details (l ∷ ls) = if is_detail l then behind_details ls else l ∷ ls

@@ -67,7 +67,7 @@ abbrev pub coefficient_of : List ℕ → ℕ
 coefficient_of word =
     if reads word (codes "+") then 1 else (if reads word (codes "-") then 4095 else octal_value word)
 
--- The terms behind the first one, by the words of a line up to "in".
+-- The terms after the first one, by the words of a line up to "in".
 abbrev pub further_in : List (List ℕ) → Sum
 further_in [] = []
 further_in (c ∷ []) = []
@@ -153,8 +153,8 @@ is_step (Adds w) = nat_lt w 4096
 abbrev pub most_offsets : Version → ℕ
 most_offsets v = if is_of_sums v then 64 else 8
 
--- The line is of its form: addresses and words are below 4096, ranks below 64, and sets are not empty but for sites, written cells and
--- offsets; a sum is as it is kept, and a chain has 1 to 16 steps.
+-- The line is of its form: addresses and words are below 4096, ranks below 64, and sets are not empty except for sites, written cells
+-- and offsets; a sum is as it is kept, and a chain has 1 to 16 steps.
 abbrev pub has_form : Version → Line → Bool
 has_form v (RoutineIs r) = nat_lt r.entry 4096 && nat_lt r.rank 64
 has_form v (FactIs a s r o) = nat_lt a 4096 && has_registers v r

@@ -55,7 +55,7 @@ detail_is_before _ _ = false
 abbrev pub may_be_level : Version → Line → Bool
 may_be_level v l = is_of_sums v && has_details l
 
--- A line may come behind another one of the same group: its place is behind it, or the same where several may stand.
+-- A line may come behind another one of the same group: its place is after it, or the same where several may stand.
 abbrev pub may_follow : Version → Line → Line → Bool
 may_follow v l last =
     if is_detail l then detail_is_before last l

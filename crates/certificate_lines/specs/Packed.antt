@@ -28,7 +28,7 @@ use Rattle.certificate_lines.specs.FieldSpelling.{Registers}
 use Rattle.certificate_lines.specs.Runs.{set_at, registers_at, routine_at, AreWithin}
 use Rattle.certificate_lines.specs.Lines.{Line, RoutineIs, FactIs, ExitIs, CellIs, SumIs, ChainIs, End}
 
--- The terms behind the second one, whose coefficient is this: a cell that has minus this coefficient, or none.
+-- The terms after the second one, whose coefficient is this: a cell that has minus this coefficient, or none.
 abbrev pub third_terms : ℕ → Option ℕ → Sum
 third_terms c None = []
 third_terms c (Some z) = record { coefficient = minus 0 c; term = Holding (Cell z) } ∷ []

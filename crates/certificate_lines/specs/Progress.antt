@@ -19,7 +19,8 @@ abbrev pub next_place : List Line → ℕ
 next_place [] = 0
 next_place (l ∷ ls) = place_of_head l + 1
 
--- The newest of the lines is kept, if there is one, but for its sets and steps, which do not matter for the order.
+-- The newest of the lines is kept, if there is one, except for its sets and steps, which do not matter for the
+-- order.
 abbrev pub IsNewest : Option PackedLine → List Line → Type 0
 IsNewest None ls = ls ≡ []
 IsNewest (Some l) [] = ⊥
@@ -36,7 +37,7 @@ pub record TracksOthers (p : Progress) (before : List Line) : Type 0 where
   pub sums : p.sums ≡ how_many is_sum (details_of_last before)
   pub chains : p.chains ≡ how_many is_chain (details_of_last before)
 
--- What is kept is that of these lines. The number is that of the text's next line: the first one has the version, and these stand behind it.
+-- What is kept is that of these lines. The number is that of the text's next line: the first one has the version, and these stand after it.
 pub record Tracks (p : Progress) (before : List Line) : Type 0 where
   pub number : p.number ≡ length before + 2
   pub others : TracksOthers p before

@@ -60,7 +60,7 @@ fact_said sites r offsets ls = record {
   offsets = offsets;
 }
 
--- All offsets. An exit's fact has all of them, since nothing is asked of them.
+-- All offsets. An exit's fact has all of them, since nothing is required of them.
 abbrev pub all_offsets : Words
 all_offsets o = nat_lt o 64
 
@@ -83,7 +83,7 @@ routine_at [] e = None
 routine_at (RoutineIs r ∷ ls) e = if r.entry == e then Some r else routine_at ls e
 routine_at (_ ∷ ls) e = routine_at ls e
 
--- What a routine's line says, or nothing where there is none.
+-- What a routine's line says, or nothing if there is none.
 abbrev pub is_listed : Option RoutineLine → Bool
 is_listed None = false
 is_listed (Some r) = true
@@ -93,12 +93,12 @@ abbrev pub rank_in : Option RoutineLine → ℕ
 rank_in None = 0
 rank_in (Some r) = r.rank
 
--- The addresses of the calls that it lists, and none where there is no such line.
+-- The addresses of the calls that it lists, and none if there is no such line.
 abbrev pub sites_in : Option RoutineLine → Words
 sites_in None = nothing
 sites_in (Some r) = r.sites
 
--- The cells that the routine and its callees may write, and none where there is no such line.
+-- The cells that the routine and its callees may write, and none if there is no such line.
 abbrev pub writes_in : Option RoutineLine → Words
 writes_in None = nothing
 writes_in (Some r) = r.writes
@@ -134,7 +134,7 @@ begun line =
     else (if bytes_eq line (version_text Two) then After Two []
     else (if bytes_eq line (version_text Three) then After Three [] else Failed faults.Version))
 
--- Where reading stands after a further line: behind it, or at its first fault: it is none, no such line may stand there, it is out of
+-- Where reading stands after a further line: after it, or at its first fault: it is none, no such line may stand there, it is out of
 -- order, or there is no room for it. The first line, which names the version, is line 1.
 abbrev pub with_line : Version → List Line → Option Line → Progress
 with_line v before None = Failed (faults.BadLine (length before + 2))

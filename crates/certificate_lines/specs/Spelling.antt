@@ -59,7 +59,7 @@ term_text (Behind x k) = codes "[" ++ octal_text x ++ codes "+" ++ octal_text k 
 abbrev pub coefficient_text : ℕ → List ℕ
 coefficient_text c = if c == 1 then codes "+" else (if c == 4095 then codes "-" else octal_text c)
 
--- A term behind the first one, with its coefficient, each after a space.
+-- A term after the first one, with its coefficient, each after a space.
 abbrev pub further_text : Summand → List ℕ
 further_text s = codes " " ++ coefficient_text s.coefficient ++ codes " " ++ term_text s.term
 

@@ -186,7 +186,7 @@ impl<'a> Fields<'a> {
         }
     }
 
-    /// Adds the runs of a set that is not empty, and tells how many there are.
+    /// Adds the runs of a set that is not empty, and returns how many there are.
     pub fn some_set(&mut self, runs: &mut Runs) -> u16
         ensures front { Begins runs.old.items runs.new.items }
         ensures count { length runs.old.items + result ≡ length runs.new.items }
@@ -204,7 +204,7 @@ impl<'a> Fields<'a> {
         (runs.len() - before) as u16
     }
 
-    /// Adds the runs of a set of words, `-` for the empty one, and tells how many there are.
+    /// Adds the runs of a set of words, `-` for the empty one, and returns how many there are.
     pub fn set(&mut self, runs: &mut Runs) -> u16
         ensures front { Begins runs.old.items runs.new.items }
         ensures count { length runs.old.items + result ≡ length runs.new.items }

@@ -33,7 +33,7 @@ pub struct RoutineClaim {
     pub writes: WordSet,
 }
 
-/// Why a text is no certificate.
+/// Why a text is not a certificate.
 #[derive(Clone, Copy, PartialEq, Eq, Debug, Error)]
 pub enum CertificateFault {
     /// The first line is that of no version.

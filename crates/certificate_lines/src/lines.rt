@@ -138,7 +138,8 @@ fn push_chains<A: Allocator>(lines: &mut PackedLines<A>, chains: &[Chain]) -> Re
     Ok(())
 }
 
-/// Adds the details from a line on to a fact, up to the first line that is none, and tells where that stands.
+/// Adds the details from a line on to a fact, up to the first line that is none, and returns where that
+/// stands.
 fn add_details<A: Allocator>(
     fact: &mut CertifiedFact,
     lines: &PackedLines<A>,

@@ -232,14 +232,14 @@ pub struct LineView<'x> {
     pub line: &'x PackedLine,
 }
 
-/// The runs from one on, or none where that lies past all.
+/// The runs from one on, or none if that lies past all.
 pub fn runs_from(runs: &[Run], first: usize) -> &[Run]
     ensures { result.now ≡ drop first runs.now }
 {
     &runs[first.min(runs.len())..]
 }
 
-/// The steps from one on, or none where that lies past all.
+/// The steps from one on, or none if that lies past all.
 fn steps_from(steps: &[Step], first: usize) -> &[Step]
     ensures { result.now ≡ drop first steps.now }
 {

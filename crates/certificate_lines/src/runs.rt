@@ -88,7 +88,7 @@ fn push_runs<A: Allocator>(runs: &mut Vec<Run, A>, set: &WordSet) -> Result<(), 
     Ok(())
 }
 
-/// Adds the runs of a set, and tells how many there are.
+/// Adds the runs of a set, and returns how many there are.
 pub fn lay<A: Allocator>(runs: &mut Vec<Run, A>, set: &WordSet) -> Result<u16, AllocError>
     ensures front { Begins runs.old.items runs.new.items }
     ensures count { IfOk result (λ count.
@@ -100,7 +100,7 @@ pub fn lay<A: Allocator>(runs: &mut Vec<Run, A>, set: &WordSet) -> Result<u16, A
     Ok((runs.len() - first) as u16)
 }
 
-/// Adds the runs of two sets, and tells how many there are.
+/// Adds the runs of two sets, and returns how many there are.
 pub fn lay_two<A: Allocator>(
     runs: &mut Vec<Run, A>,
     one: &WordSet,

@@ -164,7 +164,7 @@ impl<'a> Fields<'a> {
         coefficient
     }
 
-    /// A term behind the first one with its coefficient, each after a space.
+    /// A term after the first one with its coefficient, each after a space.
     fn summand(&mut self) -> Summand
         ensures read { WasFirst self.old self.new (further_text (summand_of result)) }
         ensures only { (s : said.Summand) (rest : List ℕ) → is_term s.term ≡ true → s.coefficient < 4096 →
@@ -254,7 +254,7 @@ impl<'a> Fields<'a> {
         Step::Operates(word)
     }
 
-    /// Adds 1 to 16 steps, up to the end of the line, and tells how many there are.
+    /// Adds 1 to 16 steps, up to the end of the line, and returns how many there are.
     pub fn steps(&mut self, steps: &mut Steps) -> u8
         requires { steps.old.items ≡ [] }
         ensures count { result ≤ length steps.new.items }

@@ -1,4 +1,4 @@
--- Programs of one word, each of which is not safe: its one word breaks a rule.
+-- Programs of one word, each of which is not safe: its one word violates a rule.
 use Rattle.std.specs.Prelude.{ℕ, ◌==◌, false, if◌then◌else◌, Option, Some, None, []}
 use Rattle.instruct.specs.declared.Profile.TheVariants.{Pdp8I}
 use Rattle.wordset.specs.Words.{Words, nothing, one}

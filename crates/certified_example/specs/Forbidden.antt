@@ -11,7 +11,7 @@ use Rattle.policy.specs.Runs.{DeclaredRun}
 use Rattle.policy.specs.Watching.{Keeps}
 use Rattle.certified_example.specs.Broken.{bare}
 
--- A declared run leads to a step that breaks this rule, and keeps each of the others.
+-- A declared run leads to a step that violates this rule, and keeps each of the others.
 pub record BreaksAlone (rule : Rule) (image : Image) (d : Declaration) : Type 0 where
   pub first : State
   pub start : IsStart image d.start first

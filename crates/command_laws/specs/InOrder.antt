@@ -33,7 +33,7 @@ pub record OneInOrder {T : Type 0} (IsFault : Input → Fault → Type 0) (IsGoo
     (IsLater : Fault → Type 0) (one : Input) (result : Result T Fault) : Type 0 where
   -- a fault is that of the input, or after a good one that of the work
   pub faults : IfErr result (λ f. IsFault one f ⊎ (IsGood one.had × IsLater f))
-  -- a read failed exactly where the answer says so
+  -- a read failed if and only if the answer says so
   pub reads : one.failed ≡ fails_to_read result
   -- it is not read past its limit
   pub takes : Takes one.had one.left
@@ -43,7 +43,7 @@ pub record OneInOrder {T : Type 0} (IsFault : Input → Fault → Type 0) (IsGoo
 pub record TwoInOrder {T : Type 0} (IsLater : Fault → Type 0) (tape text : Input) (untouched : Type 0) (result : Result T Fault) : Type 0 where
   -- a fault is that of the first input that has one, or after good ones that of the work
   pub faults : IfErr result (λ f. IsTapeInputFault tape f ⊎ (IsGoodTape tape.had × (IsDeclarationInputFault text f ⊎ (IsGoodDeclaration text.had × IsLater f))))
-  -- a read failed exactly where the answer says so
+  -- a read failed if and only if the answer says so
   pub reads : tape.failed || text.failed ≡ fails_to_read result
   -- the declaration is not read after a tape that is refused, or whose read failed,
   pub unread : IfErr result (λ f. is_fault_of_tape f ≡ true → untouched)
@@ -62,7 +62,7 @@ pub record ThreeInOrder {T : Type 0} (IsFault : Input → Fault → Type 0) (IsG
   -- a fault is that of the first input that has one, or after good ones that of the work
   pub faults : IfErr result (λ f. IsTapeInputFault tape f ⊎ (IsGoodTape tape.had × (IsDeclarationInputFault text f ⊎ (IsGoodDeclaration text.had
       × (IsFault third f ⊎ (IsGood third.had × IsLater f))))))
-  -- a read failed exactly where the answer says so
+  -- a read failed if and only if the answer says so
   pub reads : (tape.failed || text.failed) || third.failed ≡ fails_to_read result
   -- no input is read after one that is refused, or whose read failed,
   pub unread : IfErr result (λ f. is_fault_of_tape f ≡ true → text_untouched × third_untouched)

@@ -96,7 +96,7 @@ pub fn checks_are_one()
 {}
 
 /// Of a command that reads one input, and then does its work: a fault is that of the input, or after a good one
-/// that of the work; a read failed exactly where the answer says so; and no more is taken than may be.
+/// that of the work; a read failed if and only if the answer says so; and no more is taken than may be.
 pub fn single_inputs_are_told<T>()
     ensures tape { (work : Work) (tape : Input) (result : Result T Fault) →
         ReadsOne (later_fault work) tape result → TapeInOrder (later_fault work) tape result }
@@ -106,8 +106,8 @@ pub fn single_inputs_are_told<T>()
 {}
 
 /// Of a command that reads a tape and a declaration, and then does its work: a fault is that of the first input that
-/// has one, or after good ones that of the work; a read failed exactly where the answer says so; the declaration is not
-/// touched after a tape that is refused or whose read failed, but only after a good one; and no more is taken than
+/// has one, or after good ones that of the work; a read failed if and only if the answer says so; the declaration is
+/// not touched after a tape that is refused or whose read failed, but only after a good one; and no more is taken than
 /// may be.
 pub fn two_inputs_are_read_in_order<D: ByteSource, T>()
     ensures { (work : Work) (tape : Input) (old new : D) (result : Result T Fault) →

@@ -43,20 +43,20 @@ pub record IsTeletypeGiven (found : ArgMatches) (session : TeletypeSession) : Ty
   pub punch : option_map (λ name. name.now) session.punch ≡ value found (codes "punch")
   pub options : AreTeletypeOptions found session.options
 
--- The words are those of the tape that is given, with the names of the machine that is asked for.
+-- The words are those of the tape that is given, with the names of the machine that is requested.
 pub record IsDumpGiven (found : ArgMatches) (dump : DumpRequest) : Type 0 where
   pub tape : option_map (λ name. name.now) dump.tape ≡ tape_given found
   pub machine : machine_given found ≡ Some dump.profile
   pub full : IsFlagGiven found (codes "full") dump.full
 
--- The source is of the tape and of the declaration that are given, for the start and the machine that are asked for.
+-- The source is of the tape and of the declaration that are given, for the start and the machine that are requested.
 pub record IsSourceGiven (found : ArgMatches) (source : SourceRequest) : Type 0 where
   pub tape : source.tape.now ≡ operand found (codes "TAPE")
   pub declaration : option_map (λ name. name.now) source.declaration ≡ value found (codes "declaration")
   pub start : start_given found ≡ Ok source.start
   pub machine : machine_given found ≡ Some source.profile
 
--- The certificate that is migrated and the declaration are those that are given. Nothing is said here of the version that is asked for.
+-- The certificate that is migrated and the declaration are those that are given. Nothing is said here of the version that is requested.
 pub record IsMigrateGiven (found : ArgMatches) (migrate : MigrateRequest) : Type 0 where
   pub certificate : migrate.certificate.now ≡ operand found (codes "CERTIFICATE")
   pub declaration : option_map (λ name. name.now) migrate.declaration ≡ value found (codes "declaration")

@@ -72,7 +72,7 @@ abbrev pub IsWordNamed : Option (List ℕ) → Option ℕ → Type 0
 IsWordNamed None word = word ≡ None
 IsWordNamed (Some text) word = (w : ℕ) × (word ≡ Some w) × (octal_reading text ≡ Ok w)
 
--- The version of a certificate that is asked for, if one is: 1, 2 or 3.
+-- The version of a certificate that is requested, if one is: 1, 2 or 3.
 abbrev pub version_named : List ℕ → Option Version
 version_named text =
     if bytes_eq text (codes "1") then Some One

@@ -30,17 +30,17 @@ last_with_tape command.Report found = value found (codes "CERTIFICATE")
 last_with_tape command.Watch found = value found (codes "EVENTS")
 last_with_tape _ found = value found (codes "OUT")
 
--- The declaration among the two words behind a source: the first of two, where the command needs its last word; otherwise the first.
+-- The declaration among the two words after a source: the first of two, where the command needs its last word; otherwise the first.
 abbrev pub declaration_behind : Bool → Option (List ℕ) → Option (List ℕ) → Option (List ℕ)
 declaration_behind true first second = if is_some second then first else None
 declaration_behind false first second = first
 
--- The word that a command needs behind a source: the last one, where it needs one.
+-- The word that a command needs after a source: the last one, where it needs one.
 abbrev pub last_behind : Bool → Option (List ℕ) → Option (List ℕ) → Option (List ℕ)
 last_behind true first second = if is_some second then second else first
 last_behind false first second = None
 
--- The operands behind a source are the words that stand there, where another one than the declaration is needed or not.
+-- The operands after a source are the words that stand there, where another one than the declaration is needed or not.
 pub record AreBehind (is_needed : Bool) (found : ArgMatches) (operands : OperandsAfterSource) : Type 0 where
   pub declaration : option_map (λ name. name.now) operands.declaration ≡ declaration_behind is_needed (value found (codes "TAPE")) (value found (codes "DECLARATION"))
   pub last : option_map (λ name. name.now) operands.last ≡ last_behind is_needed (value found (codes "TAPE")) (value found (codes "DECLARATION"))
@@ -49,12 +49,12 @@ pub record AreBehind (is_needed : Bool) (found : ArgMatches) (operands : Operand
 abbrev pub needs_out : ArgMatches → Bool
 needs_out found = not (has_value found (codes "output"))
 
--- The declaration of `declare` is the value of `--from`; its last operand stands behind the source.
+-- The declaration of `declare` is the value of `--from`; its last operand stands after the source.
 pub record AreOfDeclare (found : ArgMatches) (operands : OperandsAfterSource) : Type 0 where
   pub declaration : option_map (λ name. name.now) operands.declaration ≡ value found (codes "from")
   pub last : option_map (λ name. name.now) operands.last ≡ last_behind (needs_out found) (value found (codes "TAPE")) (value found (codes "DECLARATION"))
 
--- The operands of a command on a source are the words that stand behind it. `verify` needs none but the declaration, `watch` needs
+-- The operands of a command on a source are the words that stand after it. `verify` needs none but the declaration, `watch` needs
 -- events unless it has an operator, a search needs OUT unless `-o` is given, and the others need a certificate.
 abbrev pub AreWithSource : Bool → ProgramCommand → ArgMatches → OperandsAfterSource → Type 0
 AreWithSource operated command.Verify found operands = AreBehind false found operands
@@ -111,7 +111,7 @@ IsWatchGiven found last (Watch events show stopping) = events.now ≡ unwrap_or 
 IsWatchGiven found last (WatchSession session) = IsSessionGiven found session
 IsWatchGiven found last _ = ⊥
 
--- The search for a certificate is for the version that is asked for.
+-- The search for a certificate is for the version that is requested.
 abbrev pub IsGuessGiven : ArgMatches → Task → Type 0
 IsGuessGiven found (Guess out report version) = IsVersionNamed (value found (codes "certificate")) version
 IsGuessGiven found _ = ⊥

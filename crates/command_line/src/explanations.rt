@@ -97,7 +97,7 @@ fn is_meant(code: &str, given: &str) -> bool {
     code.eq_ignore_ascii_case(given) || is_spaced(code.as_bytes(), given.as_bytes())
 }
 
-/// Adds what a table says about a code, and tells whether it says anything.
+/// Adds what a table says about a code, and returns whether it says anything.
 fn push_from<A: Allocator>(
     text: &mut String<A>,
     table: &[Explanation],

@@ -39,7 +39,8 @@ pub enum Misuse {
     UntilRead,
     /// The value of `--show` has no cell, or something that the source of the program does not name.
     ShowOfSource,
-    /// The value of `--until` is no address that the source of the program names, or not one and a number.
+    /// The value of `--until` is not an address that the source of the program names, or not one and a
+    /// number.
     UntilOfSource,
     /// The value of `--until-write` has no cell, or something that the source of the program does not name.
     UntilWriteOfSource,

@@ -1,4 +1,4 @@
-//! The operands of commands on a program and its declaration: those of a tape, or those that stand behind a source. It is
+//! The operands of commands on a program and its declaration: those of a tape, or those that stand after a source. It is
 //! proved that they are the words that were given.
 
 ghost use Rattle.std.specs.Prelude.{◌≡◌, IfOk, Some, codes, false, map, not, option_map, true};
@@ -31,7 +31,7 @@ struct OperandsAfterSource<'a> {
     last: Option<&'a str>,
 }
 
-/// The operands that stand behind a source, where these two are given and the last one is needed or not.
+/// The operands that stand after a source, where these two are given and the last one is needed or not.
 fn operands_behind<'a>(
     is_needed: bool,
     first: Option<&'a str>,
@@ -178,7 +178,7 @@ fn watched_operands<'a>(
     declaration_and_last(found, "EVENTS")
 }
 
-/// The operands that stand behind the source of a command.
+/// The operands that stand after the source of a command.
 fn operands_with_source<'a>(
     called: ProgramCommand,
     found: &ArgMatches<'a>,

@@ -86,7 +86,7 @@ pub fn has_output(found: &ArgMatches<'_>) -> bool
     has_value(found, "output")
 }
 
-/// Where the report of a search that is stuck goes, if it is asked for: it is neither an input nor the
+/// Where the report of a search that is stuck goes, if it is requested: it is neither an input nor the
 /// result.
 pub fn report_of<'a>(
     found: &ArgMatches<'a>,
@@ -217,7 +217,7 @@ fn is_folder_name(name: &str) -> bool {
     name.is_empty() || name.ends_with('/')
 }
 
-/// What the names of the files for the results of `verify` begin with, if they are asked for. None of these inputs is
+/// What the names of the files for the results of `verify` begin with, if they are requested. None of these inputs is
 /// one of them.
 pub fn save_of<'a>(
     found: &ArgMatches<'a>,

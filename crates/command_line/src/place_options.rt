@@ -11,10 +11,10 @@ use streams::text::{Words, decimal_between, octal_word};
 use word12::Word;
 use wordset::WordSet;
 
-/// The greatest number of steps that may be asked for at a place.
+/// The greatest number of steps that may be requested at a place.
 const MOST_VISITS: u32 = 1_000_000;
 
-/// The greatest number of last instructions that may be asked for.
+/// The greatest number of last instructions that may be requested.
 const MOST_LAST: u32 = 1_000_000;
 
 /// The first place of a dash.
@@ -45,10 +45,10 @@ fn range(word: &[u8]) -> Option<WordSet> {
 
 /// What reads the words by which options name cells and places.
 pub trait AddressReader {
-    /// The cells of an address or a range; none where a word is neither.
+    /// The cells of an address or a range; none if a word is neither.
     fn cells(&self, word: &[u8]) -> Option<WordSet>;
 
-    /// The address that a word is; none where it is none.
+    /// The address that a word is; none if it is none.
     fn place(&self, word: &[u8]) -> Option<Word>;
 }
 
@@ -99,7 +99,7 @@ pub struct PlaceOptions<'a> {
     written: Vec<&'a str>,
     /// The values of `--until-read`.
     read: Vec<&'a str>,
-    /// How many of the last instructions are shown, if that is asked for.
+    /// How many of the last instructions are shown, if that is requested.
     last: Option<u32>,
 }
 
@@ -164,7 +164,7 @@ impl PlaceOptions<'_> {
         })
     }
 
-    /// How a run is followed, if it may be stopped or its last instructions are asked for.
+    /// How a run is followed, if it may be stopped or its last instructions are requested.
     ///
     /// # Errors
     ///
@@ -218,11 +218,11 @@ fn visits_of<C: AddressReader>(reader: &C, text: &[u8]) -> Option<VisitCount> {
 pub struct StopOptions {
     /// Where it is stopped.
     pub stops: Stops,
-    /// How many of its last instructions are shown, if that is asked for.
+    /// How many of its last instructions are shown, if that is requested.
     pub last: Option<u32>,
 }
 
-/// How many of the last instructions are shown, if that is asked for.
+/// How many of the last instructions are shown, if that is requested.
 fn last_of(found: &ArgMatches<'_>) -> Result<Option<u32>, CommandLineFault> {
     let Some(text) = found.get_str("last") else {
         return Ok(None);

@@ -1,4 +1,4 @@
-//! What may be asked for with a program and its declaration: the program is given by its tape, or with `--source` by
+//! What may be requested with a program and its declaration: the program is given by its tape, or with `--source` by
 //! its source. It is proved that the files of a program are those that were given.
 
 ghost use Rattle.std.specs.Prelude.{◌≡◌, IfOk, Some, codes, option_map, unwrap_or};
@@ -95,7 +95,7 @@ pub enum Task<'a> {
         out: Destination<'a>,
         /// Where the report of a search that is stuck goes.
         report: Option<&'a str>,
-        /// The version of the certificate, if one is asked for.
+        /// The version of the certificate, if one is requested.
         version: Option<Version>,
     },
     /// To search for a run that violates the declaration.
@@ -249,7 +249,7 @@ fn certificate_of<'a>(found: &ArgMatches<'a>, out: Option<&'a str>) -> Destinati
     }
 }
 
-/// The watched run with an operator that is asked for. Of a source, the names of the tape and of the declaration are
+/// The watched run with an operator that is requested. Of a source, the names of the tape and of the declaration are
 /// empty.
 fn session_on<'a>(
     found: &ArgMatches<'a>,
@@ -308,7 +308,7 @@ fn guessed_version(found: &ArgMatches<'_>) -> Result<Option<Version>, CommandLin
     }
 }
 
-/// The search for a certificate that is asked for. Of a search on a tape with a report each input must be a file,
+/// The search for a certificate that is requested. Of a search on a tape with a report each input must be a file,
 /// since it is read twice.
 fn guess_task<'a>(
     found: &ArgMatches<'a>,

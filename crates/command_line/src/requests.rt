@@ -13,7 +13,7 @@ use clap::ArgMatches;
 use std::alloc::Global;
 use std::convert::AsStr;
 
-/// What is asked for.
+/// What is requested.
 #[derive(Drop)]
 pub enum Request<'a> {
     /// To run a tape.
@@ -46,7 +46,7 @@ pub enum Request<'a> {
 /// A command line that can be carried out.
 #[derive(Drop)]
 pub struct CommandLine<'a> {
-    /// What is asked for.
+    /// What is requested.
     pub request: Request<'a>,
     /// Whether `--why` is given.
     pub explained: bool,

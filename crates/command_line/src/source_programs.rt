@@ -1,4 +1,4 @@
-//! What may be asked for with a source in place of a tape, without a declaration.
+//! What may be requested with a source in place of a tape, without a declaration.
 
 use crate::fault::CommandLineFault;
 use crate::names::FileNames;

@@ -1,4 +1,4 @@
-//! What may be asked for with a source that is assembled.
+//! What may be requested with a source that is assembled.
 
 use crate::fault::{CommandLineFault, Misuse};
 use crate::names::FileNames;
@@ -61,7 +61,7 @@ pub(crate) fn source_names<'a>(
     Ok(names)
 }
 
-/// The tape that is asked for. It does not go to a file that is named like a source: the operands may stand in the
+/// The tape that is requested. It does not go to a file that is named like a source: the operands may stand in the
 /// wrong order.
 pub(crate) fn assemble_request<'a>(
     alloc: Global,
@@ -80,7 +80,7 @@ pub(crate) fn assemble_request<'a>(
     })
 }
 
-/// The listing that is asked for.
+/// The listing that is requested.
 pub(crate) fn list_request<'a>(
     alloc: Global,
     found: &ArgMatches<'a>,

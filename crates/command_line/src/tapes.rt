@@ -1,4 +1,4 @@
-//! What may be asked for with a tape alone, or with a certificate alone.
+//! What may be requested with a tape alone, or with a certificate alone.
 
 ghost use Rattle.std.specs.Prelude.{◌≡◌, IfOk, codes, option_map};
 ghost use Rattle.command_line.specs.Machines.{IsDumpGiven, IsMigrateGiven, IsRunGiven, IsSourceGiven, tape_given};
@@ -102,7 +102,7 @@ impl<'a> DumpRequest<'a> {
     }
 }
 
-/// The list of words that is asked for.
+/// The list of words that is requested.
 pub(crate) fn dump_request<'a>(found: &ArgMatches<'a>) -> Result<DumpRequest<'a>, CommandLineFault>
     ensures { IfOk result (IsDumpGiven found.now) }
 {
@@ -144,7 +144,7 @@ impl<'a> SourceRequest<'a> {
     }
 }
 
-/// The source that is asked for.
+/// The source that is requested.
 pub(crate) fn source_request<'a>(
     found: &ArgMatches<'a>,
 ) -> Result<SourceRequest<'a>, CommandLineFault>
@@ -191,7 +191,7 @@ impl<'a> MigrateRequest<'a> {
     }
 }
 
-/// The name of the declaration's file, which is given if version 3 is asked for, and only then.
+/// The name of the declaration's file, which is given if version 3 is requested, and only then.
 fn declaration_of_sites<'a>(found: &ArgMatches<'a>) -> Result<Option<&'a str>, CommandLineFault>
     ensures { IfOk result (λ name. option_map (λ it. it.now) name ≡
         value found.now (codes "declaration")) }
@@ -208,7 +208,7 @@ fn declaration_of_sites<'a>(found: &ArgMatches<'a>) -> Result<Option<&'a str>, C
     Ok(declaration)
 }
 
-/// The certificate in another version that is asked for.
+/// The certificate in another version that is requested.
 pub(crate) fn migrate_request<'a>(
     found: &ArgMatches<'a>,
 ) -> Result<MigrateRequest<'a>, CommandLineFault>

@@ -18,7 +18,7 @@ use wordset::WordSet;
 /// How many rounds are made without `--steps`.
 const ROUNDS: u32 = 100_000;
 
-/// The most rounds that may be asked for.
+/// The most rounds that may be requested.
 const MOST_ROUNDS: u32 = 1_000_000;
 
 /// How often CONTINUE may be pressed at most.
@@ -27,7 +27,7 @@ const MOST_CONTINUES: u32 = 1_000_000;
 /// How many steps a search for a run makes without `--steps`.
 const SEARCH_STEPS: u32 = 20_000_000;
 
-/// The most steps that may be asked for of a search.
+/// The most steps that may be requested of a search.
 const MOST_SEARCH_STEPS: u32 = 100_000_000;
 
 /// The seed of a search without `--seed`.

@@ -41,11 +41,11 @@ output failed old new = record { failed = failed; old = old; new = new }
 pub record WritesAnswer {T : Type 0} (IsRight : T → List ℕ → Type 0) (out : Output) (result : Result T Fault) : Type 0 where
   -- with an answer, a text that is right for it was appended
   pub written : IfOk result (λ answer. Writes (IsRight answer) out.old out.new)
-  -- where a write failed, a front of a text that is right for some answer was appended
+  -- where a write failed, a prefix of a text that is right for some answer was appended
   pub front : out.failed ≡ true → FrontOf (λ text. (answer : T) × IsRight answer text) out.old out.new
   -- after any other fault the output is as it was
   pub nothing : OnErr result (out.failed ≡ false → out.new ≡ out.old)
-  -- a write failed exactly where the fault says so
+  -- a write failed if and only if the fault says so
   pub marks : out.failed ≡ fails_to_write result
 
 -- The fault is one of the work that follows good inputs, or a write failed.
@@ -60,8 +60,8 @@ NeverFails fault = ⊥
 abbrev pub IsMemoryFault : Fault → Type 0
 IsMemoryFault f = f ≡ fault.NoMemory
 
--- The command ends at an input: it has this fault, a read of it failed exactly where the fault says so, and nothing after it is
--- touched.
+-- The command ends at an input: it has this fault, a read of it failed if and only if the fault says so, and nothing after it
+-- is touched.
 pub record EndsAt {T : Type 0} (IsFault : Input → Fault → Type 0) (one : Input) (untouched : Type 0) (result : Result T Fault) : Type 0 where
   pub fault : Fault
   pub is : result ≡ Err fault

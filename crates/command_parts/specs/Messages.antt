@@ -6,7 +6,7 @@ use Rattle.command_parts.specs.declared.message.Message.{Message}
 abbrev pub plain : {A : Type 0} → Message A → List ℕ
 plain m = m.bytes.items
 
--- The text begins with these bytes, as they are: whatever else it has comes behind them.
+-- The text begins with these bytes, as they are: whatever else it has comes after them.
 pub record BeginsWith (front text : List ℕ) : Type 0 where
   pub rest : List ℕ
   pub is : text ≡ front ++ rest

@@ -1,4 +1,5 @@
--- What a command wrote: a text that is right for what was read, or a front of one where a write failed.
+-- What a command wrote: a text that is right for what was read, or a prefix of one where a write
+-- failed.
 use Rattle.std.specs.Prelude.{ℕ, ◌≡◌, ◌⊎◌, List, Option}
 use Rattle.std.specs.Io.KnownBytes.{Appends}
 use Rattle.streams.specs.Bytes.{AppendsFront}
@@ -9,7 +10,7 @@ pub record Writes (P : List ℕ → Type 0) (old new : Option (List ℕ)) : Type
   pub is : P text
   pub written : Appends old new text
 
--- A front of such a text was appended: a part of it or nothing, but not all.
+-- A prefix of such a text was appended: a part of it or nothing, but not all.
 pub record FrontOf (P : List ℕ → Type 0) (old new : Option (List ℕ)) : Type 0 where
   pub text : List ℕ
   pub is : P text

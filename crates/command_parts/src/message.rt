@@ -63,7 +63,7 @@ impl<A: Allocator> MessageWriter for Vec<u8, A> {
     }
 }
 
-/// What stands before a place of a text.
+/// What comes before a place of a text.
 #[derive(Clone, Copy, PartialEq, Eq, Debug)]
 pub enum AddressMark {
     /// The four digits of an address.
@@ -214,7 +214,7 @@ impl<A: Allocator> MessageWriter for Message<A> {
     }
 }
 
-/// Adds a text, and behind it an address.
+/// Adds a text, and after it an address.
 pub fn push_text_and_address<L: MessageWriter>(
     text: &mut L,
     before: &[u8],
@@ -226,7 +226,7 @@ pub fn push_text_and_address<L: MessageWriter>(
     text.push_address(at)
 }
 
-/// Adds a text, and behind it an address within a line of a declaration that is advised.
+/// Adds a text, and after it an address within a line of a declaration that is advised.
 pub fn push_text_and_advised<L: MessageWriter>(
     text: &mut L,
     before: &[u8],
@@ -238,7 +238,7 @@ pub fn push_text_and_advised<L: MessageWriter>(
     text.push_advised_address(at)
 }
 
-/// Adds a text, and behind it a word that is no address.
+/// Adds a text, and after it a word that is not an address.
 pub fn push_text_and_word<L: MessageWriter>(
     text: &mut L,
     before: &[u8],

@@ -84,14 +84,14 @@ pub struct Refinements {
     pub exits: bool,
 }
 
-/// How a run that breaks a declaration is looked for.
+/// How a run that violates a declaration is looked for.
 #[derive(Clone, Copy, PartialEq, Eq, Debug)]
 pub struct RefuteOptions {
     /// How many steps the search makes at most.
     pub steps: u32,
     /// Where the random numbers begin: the same seed gives the same answer.
     pub seed: u32,
-    /// It is said what the step is about to do that breaks a rule.
+    /// It is said what the step is about to do that violates a rule.
     pub explained: bool,
 }
 
@@ -102,7 +102,7 @@ pub struct VerifyOptions {
     pub start: Word,
     /// The machine that it is for, if no declaration says it.
     pub profile: Profile,
-    /// How a run that breaks the declaration is looked for.
+    /// How a run that violates the declaration is looked for.
     pub search: RefuteOptions,
 }
 
@@ -112,7 +112,7 @@ pub struct KeyOptions {
     /// They are struck as they come. Else a carriage return is struck for a line feed, and each key has
     /// channel 8 set, as people type at a terminal.
     pub raw: bool,
-    /// Each key has channel 8 set, also where the bytes are struck as they come.
+    /// Each key has channel 8 set, even if the bytes are struck as they come.
     pub mark: bool,
 }
 

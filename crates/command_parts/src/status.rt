@@ -22,7 +22,7 @@ use turns::{GuessFault, ProposeFault};
 pub enum Status {
     /// Done.
     Done = 0,
-    /// An input was refused, a run ended at an unsupported word, a watched run broke a rule, a
+    /// An input was refused, a run ended at an unsupported word, a watched run violated a rule, a
     /// condition fails, a search found nothing, or a proposal is not shown to be kept.
     Refused = 1,
     /// The command line is bad.

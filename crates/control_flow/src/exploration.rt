@@ -1,4 +1,4 @@
-//! What runs are seen to do. The search for a run that breaks a declaration drives the tape, and
+//! What runs are seen to do. The search for a run that violates a declaration drives the tape, and
 //! the declaration by which it is watched is widened wherever a step breaks it, as far as one can be.
 
 ghost use Rattle.std.specs.Prelude.{◌≡◌};
@@ -22,7 +22,7 @@ use turns::Turns;
 use word12::Word;
 use wordset::WordSet;
 
-/// How many steps are tried at most in all runs, with those that break a declaration.
+/// How many steps are tried at most in all runs, with those that violate a declaration.
 const MOST_STEPS: u32 = 3_000_000;
 
 /// How many runs are made at most: a tape on which each is short has shown by then what it does.
@@ -68,7 +68,7 @@ impl<A: Allocator> Findings<A> {
     }
 }
 
-/// What a step teaches that breaks a declaration.
+/// What a step teaches that violates a declaration.
 #[derive(Clone, Copy, PartialEq, Eq)]
 enum Refinement {
     /// Nothing.
@@ -107,7 +107,7 @@ struct Exploration<A: Allocator> {
     is_undeclarable: bool,
 }
 
-/// What runs of a tape's program are seen to do, beside what its words tell; none where that cannot be
+/// What runs of a tape's program are seen to do, beside what its words tell; none if that cannot be
 /// declared.
 pub fn explore_runs<A: Allocator + Copy>(
     alloc: A,
@@ -159,7 +159,7 @@ fn seen_in<A: Allocator>(record: &Record<A>) -> ObservedRuns {
     }
 }
 
-/// The declaration of a map, in which all cells that are no code may change; none where it cannot be
+/// The declaration of a map, in which all cells that are no code may change; none if it cannot be
 /// declared.
 fn declared<A: Allocator + Copy>(
     alloc: A,
@@ -214,7 +214,7 @@ impl<A: Allocator + Copy> Exploration<A> {
         Ok(())
     }
 
-    /// Goes on with a run up to a step that breaks the declaration, which is widened then. False where the
+    /// Goes on with a run up to a step that violates the declaration, which is widened then. False if the
     /// run is over.
     fn goes_on(
         &mut self,
@@ -238,7 +238,7 @@ impl<A: Allocator + Copy> Exploration<A> {
         self.learns(image, search, &trial.watcher)
     }
 
-    /// Learns of a step that breaks the declaration. False where no declaration allows it.
+    /// Learns of a step that violates the declaration. False if no declaration allows it.
     fn learns(
         &mut self,
         image: &Image,
@@ -292,7 +292,8 @@ impl<A: Allocator + Copy> Exploration<A> {
         Ok(())
     }
 
-    /// Collects the steps that were made from some places while the return word was counted up so far.
+    /// Collects the steps that were made from some places while the return word was incremented so
+    /// far.
     fn collect_from(
         &mut self,
         record: &Record<A>,
@@ -316,7 +317,7 @@ impl<A: Allocator + Copy> Exploration<A> {
         Ok(())
     }
 
-    /// Widens the declaration by what was learned. False where that cannot be declared.
+    /// Widens the declaration by what was learned. False if that cannot be declared.
     fn widen<'x>(&mut self, image: &'x Image, record: &'x Record<A>) -> Result<bool, NoMemory>
         ensures profile { (meaning self.new.declaration).profile
             ≡ (meaning self.old.declaration).profile }
@@ -354,7 +355,7 @@ impl<A: Allocator + Copy> Exploration<A> {
         }
     }
 
-    /// What a step teaches that breaks the declaration; it is taken into the map.
+    /// What a step teaches that violates the declaration; it is taken into the map.
     fn lesson(
         &mut self,
         image: &Image,
@@ -510,7 +511,7 @@ impl<A: Allocator + Copy> Exploration<A> {
         }
     }
 
-    /// What was seen in all; none where it cannot be declared.
+    /// What was seen in all; none if it cannot be declared.
     fn finish(
         mut self,
         image: &Image,

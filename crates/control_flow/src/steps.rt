@@ -156,7 +156,8 @@ impl Map {
         }
     }
 
-    /// Goes on from ISZ. That of the routine's own entry counts the return word up, and does not skip.
+    /// Goes on from ISZ. That of the routine's own entry increments the return word, and does not
+    /// skip.
     fn count(
         &mut self,
         tape: &Tape<'_>,

@@ -1,4 +1,4 @@
-//! What is tried: whether there is code behind a HLT, or where a word of a table leads.
+//! What is tried: whether there is code after a HLT, or where a word of a table leads.
 
 use crate::map::Map;
 use crate::tape::Tape;

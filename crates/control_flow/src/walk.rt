@@ -4,7 +4,7 @@ use declaration::Owner;
 use word12::Word;
 use wordset::WordSet;
 
-/// A cell of a body, and by how far the routine's return word may have been counted up there.
+/// A cell of a body, and by how far the routine's return word may have been incremented there.
 #[derive(Clone, Copy)]
 pub(crate) struct ProgramPoint {
     pub(crate) at: Word,
@@ -58,7 +58,7 @@ impl Traversal {
         }
     }
 
-    /// Meets a cell, from which to go on if it was not met. Where the return word was counted up by more than 7, this is most likely
+    /// Meets a cell, from which to go on if it was not met. If the return word was incremented by more than 7, this is most likely
     /// done in a loop.
     pub(crate) fn meet(&mut self, spot: ProgramPoint) {
         let Some(met) = self.met.get_mut(spot.offset) else {

@@ -1,4 +1,4 @@
--- A declaration: what the author of a program promises of its runs.
+-- A declaration: what the author of a program promises about its runs.
 use Rattle.std.specs.Prelude.{◌≡◌, ℕ, ◌<◌, true, false, ◌⊎◌, Option, Some, None, List}
 use Rattle.instruct.specs.declared.Profile.{Profile}
 use Rattle.wordset.specs.Words.{Words}
@@ -14,12 +14,13 @@ pub record Assertion : Type 0 where
   pub subject : Subject
   pub words : Words
 
--- What is to hold whenever control is at one of these places, before the instruction there.
+-- An assertion that must hold whenever control is at one of these addresses, before the instruction
+-- there.
 pub record PlaceAssertion : Type 0 where
   pub places : Words
   pub assertion : Assertion
 
--- What is to hold whenever the routine of the entry returns by one of these offsets.
+-- An assertion that must hold whenever the routine with this entry returns by one of these offsets.
 pub record ReturnAssertion : Type 0 where
   pub entry : ℕ
   pub offsets : Words
@@ -27,8 +28,8 @@ pub record ReturnAssertion : Type 0 where
 
 -- The start; for each routine the cells of its body; the entries, and for each the offsets at which it may return; the
 -- variable cells; the declared halts, at a stop or at a pause; the machine; the cells that may be read, if they are
--- listed; the entries of the routines that may store in them; the places for which all open calls may be abandoned; and
--- what is to hold at places and at returns.
+-- listed; the entries in which their routines may store; the addresses for which all open calls may be abandoned; and
+-- the assertions about addresses and about returns.
 pub record Declaration : Type 0 where
   pub start : ℕ
   pub body : Routine → Words
@@ -44,9 +45,9 @@ pub record Declaration : Type 0 where
   pub holds : List PlaceAssertion
   pub returns : List ReturnAssertion
 
--- The overlap rules. Bodies are disjoint; an entry is in no body, no variable and no auto-index cell; no cell is both a
--- stop and a pause; the program starts in main's body and halts in bodies; each cell that
--- `moves` names is an entry; and each place for which calls may be abandoned is in main's body.
+-- The overlap rules. Bodies are disjoint; an entry is not in a body, not a variable and not an auto-index cell; no cell
+-- is both a stop and a pause; the program starts in main's body and halts in bodies; each cell that `moves` names is an
+-- entry; and each address for which calls may be abandoned is in main's body.
 pub record IsDeclared (d : Declaration) : Type 0 where
   pub start_is_word : d.start < 4096
   pub entry_is_word : (e : ℕ) → d.entry e ≡ true → e < 4096
@@ -61,7 +62,7 @@ pub record IsDeclared (d : Declaration) : Type 0 where
   pub moves_entry : (e : ℕ) → d.moves e ≡ true → d.entry e ≡ true
   pub abandon_in_main : (a : ℕ) → d.abandon a ≡ true → d.body None a ≡ true
 
--- Where reads are listed, the cell is on the list.
+-- If reads are listed, the cell is on the list.
 abbrev pub IsListed : Option Words → ℕ → Type 0
 IsListed None a = Unit {0}
 IsListed (Some cells) a = cells a ≡ true

@@ -1,4 +1,4 @@
--- What each line of a declaration says, by its words.
+-- What each line of a declaration says, as a function of its words.
 use Rattle.std.specs.Prelude.{ℕ, ◌+◌, ◌==◌, ◌||◌, nat_le, Bool, if◌then◌else◌, codes, List, [], ◌∷◌, length, take, drop, Option, Some, None}
 use Rattle.std.specs.List.{list_any, position, before_first, after_first, find}
 use Rattle.std.specs.Option.{option_map}
@@ -11,20 +11,21 @@ use Rattle.declaration.specs.Declaration.{Assertion, PlaceAssertion, ReturnAsser
 use Rattle.declaration.specs.declared.Subject.{Subject}
 use Rattle.declaration.specs.declared.Subject.TheVariants.{Accumulator, Link, Mq, Cell}
 
--- A routine as a line gives it: its entry, the cells of its body, and the offsets at which it may return.
+-- A routine as a `sub` line declares it: its entry, the cells of its body, and the offsets by which it
+-- may return.
 pub record Subroutine : Type 0 where
   pub entry : ℕ
   pub body : Words
   pub offsets : Words
 
--- Further offsets of a routine as a line gives them: its entry, and the offsets.
+-- Further offsets of a routine as a `skips` line declares them: its entry, and the offsets.
 pub record FurtherOffsets : Type 0 where
   pub entry : ℕ
   pub offsets : Words
 
--- What a line says: nothing, where it is empty; the start; cells of main's body; a routine; variable cells; stops;
--- pauses; the machine; cells that may be read; further offsets of a routine; entries in which their routines may store;
--- places for which calls may be abandoned; what is to hold at places; what is to hold at returns.
+-- What a line says: nothing, if it is empty; the start; cells of main's body; a routine; variable cells; stops; pauses;
+-- the machine; cells that may be read; further offsets of a routine; entries in which their routines may store;
+-- addresses for which calls may be abandoned; an assertion about addresses; an assertion about returns.
 pub data Line : Type 0 where
   Nothing : Line
   Start : ℕ → Line
@@ -41,19 +42,20 @@ pub data Line : Type 0 where
   Holds : PlaceAssertion → Line
   Returns : ReturnAssertion → Line
 
--- The list of a first word and of others as they read; none where one of them does not read.
+-- The list of what a first word and other words spell; none if one of them spells nothing.
 abbrev pub read_first : {X : Type 0} → Option X → Option (List X) → Option (List X)
 read_first None others = None
 read_first (Some x) None = None
 read_first (Some x) (Some xs) = Some (x ∷ xs)
 
--- All of these words, each as it reads, in their order; none where one of them does not read. No words make an empty
--- list.
+-- The list of what all these words spell, in their order; none if one of them spells nothing. Without words it is
+-- the empty list.
 abbrev pub all_read : {X : Type 0} → (List ℕ → Option X) → List (List ℕ) → Option (List X)
 all_read read [] = Some []
 all_read read (word ∷ words) = read_first (read word) (all_read read words)
 
--- One word or more, each as it reads, in their order; none where there is no word, or one of them does not read.
+-- The list of what one or more words spell, in their order; none if there is no word, or if one of them spells
+-- nothing.
 abbrev pub some_read : {X : Type 0} → (List ℕ → Option X) → List (List ℕ) → Option (List X)
 some_read read [] = None
 some_read read (word ∷ words) = all_read read (word ∷ words)
@@ -77,8 +79,9 @@ abbrev pub range_split : List ℕ → Option ℕ → Option Words
 range_split word None = address_of word
 range_split word (Some n) = span (octal_word (take n word)) (octal_word (drop (n + 1) word))
 
--- The cells of a range as a word spells it: one address, or where the word has a dash, those from the address before
--- its first dash to the one after it, both included. None where that one is the lesser, or a part is no address.
+-- The cells of a range that a word spells: one address or, if the word has a dash, those from the address before its
+-- first dash to the address after it, both included. None if the second address is below the first, or if a part is
+-- not an address.
 abbrev pub range_of : List ℕ → Option Words
 range_of word = range_split word (position is_dash word)
 
@@ -90,16 +93,17 @@ offset_of word = if length word == 1 then octal_word word else None
 abbrev pub any_of : List Words → Words
 any_of sets a = list_any (λ set. set a) sets
 
--- The set of the offsets of this list.
+-- The set of the offsets in this list.
 abbrev pub these : List ℕ → Words
 these offsets o = list_any (λ offset. offset == o) offsets
 
--- The cells of one or more ranges, which may be single addresses; none where there is no word, or one spells no range.
+-- The cells of one or more ranges, which may be single addresses; none if there is no word, or if one of them does not
+-- spell a range.
 abbrev pub ranges_of : List (List ℕ) → Option Words
 ranges_of words = option_map any_of (some_read range_of words)
 
--- The cells at one or more addresses; none where there is no word, or one spells no address, as a range with a dash
--- does not.
+-- The cells at one or more addresses; none if there is no word, or if one of them does not spell an address (a
+-- range with a dash does not).
 abbrev pub addresses_of : List (List ℕ) → Option Words
 addresses_of words = option_map any_of (some_read address_of words)
 
@@ -107,7 +111,7 @@ addresses_of words = option_map any_of (some_read address_of words)
 abbrev pub offsets_read : List (List ℕ) → Option Words
 offsets_read words = option_map these (all_read offset_of words)
 
--- The word that stands between a body and its offsets.
+-- The word between a body and its offsets.
 abbrev pub is_returns : List ℕ → Bool
 is_returns word = bytes_eq word (codes "returns")
 
@@ -115,7 +119,7 @@ is_returns word = bytes_eq word (codes "returns")
 abbrev pub body_read : List (List ℕ) → Option Words
 body_read words = if list_any is_returns words then ranges_of (before_first is_returns words) else None
 
--- A routine, where all its parts read.
+-- A routine, if all its parts are spelled correctly.
 abbrev pub routine : Option ℕ → Option Words → Option Words → Option Line
 routine None body offsets = None
 routine (Some entry) None offsets = None
@@ -154,7 +158,7 @@ abbrev pub if_offsets : Option Words → Option Words
 if_offsets None = None
 if_offsets (Some set) = if has_some (difference set every_offset) then None else Some set
 
--- Further offsets, where the entry and they read.
+-- Further offsets, if the entry and the offsets are spelled correctly.
 abbrev pub further : Option ℕ → Option Words → Option Line
 further None offsets = None
 further (Some entry) None = None
@@ -170,7 +174,7 @@ abbrev pub is_subject : List ℕ → Bool
 is_subject word =
     bytes_eq word (codes "ac") || bytes_eq word (codes "mq") || bytes_eq word (codes "link") || bytes_eq word (codes "cell")
 
--- The assertion on a subject, where its words read.
+-- The assertion about a subject, if its words are spelled correctly.
 abbrev pub asserted : Subject → Option Words → Option Assertion
 asserted subject None = None
 asserted subject (Some words) = Some (record { subject = subject; words = words })
@@ -186,7 +190,7 @@ link_of [] = None
 link_of (word ∷ []) = bit_of word
 link_of (word ∷ other ∷ others) = None
 
--- The assertion on a cell, where its address and its words read.
+-- The assertion about a cell, if its address and its words are spelled correctly.
 abbrev pub asserted_of_cell : Option ℕ → Option Words → Option Assertion
 asserted_of_cell None words = None
 asserted_of_cell (Some a) words = asserted (Cell a) words
@@ -196,7 +200,7 @@ abbrev pub cell_assertion : List (List ℕ) → Option Assertion
 cell_assertion [] = None
 cell_assertion (cell ∷ rest) = asserted_of_cell (octal_word cell) (ranges_of rest)
 
--- An assertion by the name of its subject and the words after it.
+-- An assertion, given the name of its subject and the words after it.
 abbrev pub named_assertion : List ℕ → List (List ℕ) → Option Assertion
 named_assertion name rest =
     if bytes_eq name (codes "ac") then asserted Accumulator (ranges_of rest)
@@ -205,7 +209,7 @@ named_assertion name rest =
     else (if bytes_eq name (codes "cell") then cell_assertion rest
     else None)))
 
--- The assertion of a name, if there is one.
+-- The assertion that begins with this name, if there is a name.
 abbrev pub assertion_by : Option (List ℕ) → List (List ℕ) → Option Assertion
 assertion_by None rest = None
 assertion_by (Some name) rest = named_assertion name rest
@@ -214,7 +218,7 @@ assertion_by (Some name) rest = named_assertion name rest
 abbrev pub assertion_in : List (List ℕ) → Option Assertion
 assertion_in words = assertion_by (find is_subject words) (after_first is_subject words)
 
--- What is to hold at places, where they and the assertion read.
+-- An assertion about addresses, if these and the assertion are spelled correctly.
 abbrev pub holding : Option Words → Option Assertion → Option Line
 holding None assertion = None
 holding (Some places) None = None
@@ -224,12 +228,12 @@ holding (Some places) (Some assertion) = Some (Holds (record { places = places; 
 abbrev pub holds_line : List (List ℕ) → Option Line
 holds_line words = holding (addresses_of (before_first is_subject words)) (assertion_in words)
 
--- The offsets that these words spell, each of them one; all offsets where there is no word.
+-- The offsets that these words spell, one each; all offsets if there is no word.
 abbrev pub offsets_named : List (List ℕ) → Option Words
 offsets_named [] = Some every_offset
 offsets_named (word ∷ words) = if_offsets (addresses_of (word ∷ words))
 
--- What is to hold at returns, where the entry, the offsets and the assertion read.
+-- An assertion about returns, if the entry, the offsets and the assertion are spelled correctly.
 abbrev pub returning : Option ℕ → Option Words → Option Assertion → Option Line
 returning None offsets assertion = None
 returning (Some entry) None assertion = None
@@ -243,7 +247,8 @@ returns_line [] = None
 returns_line (entry ∷ words) =
     returning (octal_word entry) (offsets_named (before_first is_subject words)) (assertion_in words)
 
--- A line on how routines return, or on what is to hold, by its first word and those after it.
+-- A line about how routines return or about assertions, given its first word and the words after
+-- it.
 abbrev pub further_line : List ℕ → List (List ℕ) → Option Line
 further_line name rest =
     if bytes_eq name (codes "skips") then skips_line rest
@@ -253,7 +258,8 @@ further_line name rest =
     else (if bytes_eq name (codes "returns") then returns_line rest
     else None))))
 
--- A line by its first word and those after it. `read` alone brings a list of reads with no cell.
+-- A line, given its first word and the words after it. `read` alone is a list of reads without
+-- cells.
 abbrev pub named_line : List ℕ → List (List ℕ) → Option Line
 named_line name rest =
     if bytes_eq name (codes "start") then start_line rest
@@ -266,11 +272,12 @@ named_line name rest =
     else (if bytes_eq name (codes "read") then option_map (λ sets. Reads (any_of sets)) (all_read range_of rest)
     else further_line name rest)))))))
 
--- A line by its words. Any other line is bad.
+-- A line, given its words. Any other line is bad.
 abbrev pub line_by : List (List ℕ) → Option Line
 line_by [] = Some Nothing
 line_by (name ∷ rest) = named_line name rest
 
--- What a line of a text says, by its words, which spaces and tabs part; none where the line is bad.
+-- What a line of a text says, as a function of its words, which are separated by spaces and tabs;
+-- none if the line is bad.
 abbrev pub line_of : List ℕ → Option Line
 line_of text = line_by (words_of text)

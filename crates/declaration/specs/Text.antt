@@ -1,4 +1,4 @@
--- The declaration that a text makes, and which fault a text has.
+-- The declaration that a text has, or the fault that it has.
 use Rattle.std.specs.Prelude.{◌≡◌, ℕ, ◌+◌, ◌<◌, ◌≤◌, ◌==◌, nat_le, Bool, true, false, not, ◌&&◌, ◌||◌, ◌⊎◌, if◌then◌else◌, List, [], ◌∷◌, length, map, Option, Some, None}
 use Rattle.std.specs.List.{list_any, count_by, flat_map}
 use Rattle.instruct.specs.declared.Profile.{Profile}
@@ -14,26 +14,26 @@ use Rattle.declaration.specs.declared.Routine.{Routine as KeptRoutine}
 use Rattle.declaration.specs.declared.DeclarationFault.{DeclarationFault}
 use Rattle.declaration.specs.declared.DeclarationFault.TheVariants.{BadLine, TwoStarts, TwoProfiles, NoStart, Overlap, EntryInAutoIndex, StartNotInMain, TooMany, HaltNotInBody, Misplaced, NoMemory}
 
--- A text of a declaration has at most so many bytes.
+-- The maximum number of bytes of a text.
 abbrev pub most_bytes : ℕ
 most_bytes = 16384
 
--- A text declares at most so many routines, beside main.
+-- The maximum number of routines that a text declares, without main.
 abbrev pub most_routines : ℕ
 most_routines = 64
 
--- A text has at most so many lines of further offsets.
+-- The maximum number of lines with further offsets.
 abbrev pub most_skips : ℕ
 most_skips = 64
 
--- A text asserts at most so much, at places and at returns.
+-- The maximum number of assertions about addresses and about returns together.
 abbrev pub most_assertions : ℕ
 most_assertions = 256
 
 -- What lines say together: the starts, the machines and the routines in the order of their lines; the cells of main's
 -- body, the variables, the stops and the pauses; the cells that may be read, if some line lists them; further offsets in
--- the order of their lines; the entries in which their routines may store; the places for which calls may be abandoned;
--- and what is to hold at places and at returns, in the order of the lines.
+-- the order of their lines; the entries in which their routines may store; the addresses for which calls may be
+-- abandoned; and the assertions about addresses and about returns, in the order of the lines.
 pub record Contents : Type 0 where
   pub starts : List ℕ
   pub profiles : List Profile
@@ -49,77 +49,85 @@ pub record Contents : Type 0 where
   pub holds : List PlaceAssertion
   pub returns : List ReturnAssertion
 
--- The start that this line gives, as a list: none where it gives another thing.
+-- The start that this line declares, as a list; the list is empty if the line declares something
+-- else.
 abbrev pub start_in : Line → List ℕ
 start_in (Start a) = a ∷ []
 start_in _ = []
 
--- The machine that this line names, as a list: none where it says another thing.
+-- The machine that this line names, as a list; the list is empty if the line declares something
+-- else.
 abbrev pub profile_in : Line → List Profile
 profile_in (Machine p) = p ∷ []
 profile_in _ = []
 
--- The cells that this line gives to main's body, no cell where it says another thing.
+-- The cells that this line declares as main's body; no cell if it declares something else.
 abbrev pub main_in : Line → Words
 main_in (Main cells) = cells
 main_in _ = nothing
 
--- The routine that this line declares, as a list: none where it says another thing.
+-- The routine that this line declares, as a list; the list is empty if the line declares something
+-- else.
 abbrev pub routine_in : Line → List Subroutine
 routine_in (Sub r) = r ∷ []
 routine_in _ = []
 
--- The variable cells that this line gives, no cell where it says another thing.
+-- The cells that this line declares as variables; no cell if it declares something else.
 abbrev pub variable_in : Line → Words
 variable_in (Variables cells) = cells
 variable_in _ = nothing
 
--- The cells that this line gives as stops, no cell where it says another thing.
+-- The cells that this line declares as stops; no cell if it declares something else.
 abbrev pub stop_in : Line → Words
 stop_in (Stops cells) = cells
 stop_in _ = nothing
 
--- The cells that this line gives as pauses, no cell where it says another thing.
+-- The cells that this line declares as pauses; no cell if it declares something else.
 abbrev pub pause_in : Line → Words
 pause_in (Pauses cells) = cells
 pause_in _ = nothing
 
--- The cells that this line lists as those that may be read, no cell where it says another thing.
+-- The cells that may be read according to this line; no cell if it declares something else.
 abbrev pub reads_in : Line → Words
 reads_in (Reads cells) = cells
 reads_in _ = nothing
 
--- The line lists cells that may be read, be it none.
+-- The line is a list of reads, possibly an empty one.
 abbrev pub lists_reads : Line → Bool
 lists_reads (Reads cells) = true
 lists_reads _ = false
 
--- The further offsets that this line gives, as a list: none where it says another thing.
+-- The further offsets that this line declares, as a list; the list is empty if the line declares
+-- something else.
 abbrev pub skips_in : Line → List FurtherOffsets
 skips_in (Skips s) = s ∷ []
 skips_in _ = []
 
--- The entries that this line lets be stored in, no cell where it says another thing.
+-- The entries in which their routines may store according to this line; no cell if it declares
+-- something else.
 abbrev pub moves_in : Line → Words
 moves_in (Moves cells) = cells
 moves_in _ = nothing
 
--- The places for which this line lets calls be abandoned, no cell where it says another thing.
+-- The addresses for which calls may be abandoned according to this line; no cell if it declares
+-- something else.
 abbrev pub abandon_in : Line → Words
 abandon_in (Abandon cells) = cells
 abandon_in _ = nothing
 
--- What is to hold at places by this line, as a list: none where it says another thing.
+-- The assertion about addresses in this line, as a list; the list is empty if the line declares
+-- something else.
 abbrev pub holds_in : Line → List PlaceAssertion
 holds_in (Holds h) = h ∷ []
 holds_in _ = []
 
--- What is to hold at returns by this line, as a list: none where it says another thing.
+-- The assertion about returns in this line, as a list; the list is empty if the line declares
+-- something else.
 abbrev pub returns_in : Line → List ReturnAssertion
 returns_in (Returns r) = r ∷ []
 returns_in _ = []
 
--- The cells that some line gives.
+-- The cells that at least one of the lines declares.
 abbrev pub in_some : (Line → Words) → List Line → Words
 in_some cells_in lines a = list_any (λ line. cells_in line a) lines
 
@@ -141,16 +149,16 @@ contents lines = record {
   returns = flat_map returns_in lines;
 }
 
--- How much is asserted, at places and at returns.
+-- The number of assertions, about addresses and about returns together.
 abbrev pub assertions_in : Contents → ℕ
 assertions_in c = length c.holds + length c.returns
 
--- The machine that is meant: the 8/I where no line says.
+-- The declared machine: the 8/I if no line names one.
 abbrev pub profile_of : List Profile → Profile
 profile_of [] = Pdp8I
 profile_of (p ∷ more) = p
 
--- The declaration says what the lines say, whose one start is its start.
+-- The declaration says what the lines say, which have one start.
 pub record Says (c : Contents) (d : Declaration) : Type 0 where
   pub start : c.starts ≡ d.start ∷ []
   pub profile : d.profile ≡ profile_of c.profiles
@@ -206,24 +214,24 @@ entry_in_index c a = is_entry c a && is_auto_index a
 abbrev pub halt_outside : Contents → Words
 halt_outside c a = (c.stop a || c.pause a) && not (in_bodies c a)
 
--- The cell is named as an entry, by further offsets, as one in which its routine may store, or by what is to hold at its
--- returns.
+-- The cell is named as an entry: by further offsets, as an entry in which its routine may store, or by an assertion
+-- about returns.
 abbrev pub is_named_entry : Contents → Words
 is_named_entry c a =
     (list_any (λ s. s.entry == a) c.skips || c.moves a) || list_any (λ r. r.entry == a) c.returns
 
--- Something is to hold at the cell.
+-- There is an assertion about this address.
 abbrev pub is_held : Contents → Words
 is_held c a = list_any (λ h. h.places a) c.holds
 
--- The cell is named as an entry and is none; or calls may be abandoned for it, and it is not in main's body; or something is
--- to hold at it, and it is in no body.
+-- The cell is named as an entry but is not one; or calls may be abandoned for it, but it is not in main's body; or there is
+-- an assertion about it, but it is not in any body.
 abbrev pub misplaced : Contents → Words
 misplaced c a =
     (is_named_entry c a && not (is_entry c a)) || (c.abandon a && not (c.main a)) || (is_held c a && not (in_bodies c a))
 
--- What is said keeps the rules: nothing overlaps, no entry is an auto-index cell, the start is in main's body, each
--- declared halt is in some body, and nothing is misplaced.
+-- What the lines say complies with the rules: nothing overlaps, no entry is an auto-index cell, the start is in
+-- main's body, each declared halt is in some body, and nothing is misplaced.
 pub record KeepsRules (c : Contents) (start : ℕ) : Type 0 where
   pub apart : HasNoneFrom 0 (overlaps c)
   pub outside_index : HasNoneFrom 0 (entry_in_index c)
@@ -252,7 +260,8 @@ pub record StartsOutside (c : Contents) : Type 0 where
   pub outside_index : HasNoneFrom 0 (entry_in_index c)
   pub outside : c.main start ≡ false
 
--- The start is in main's body, all before is well too, and this is the least declared halt in no body.
+-- The start is in main's body, the conditions above hold too, and this is the lowest declared halt
+-- that is in no body.
 pub record HasHaltOutside (c : Contents) (a : ℕ) : Type 0 where
   pub start : ℕ
   pub starts : c.starts ≡ start ∷ []
@@ -261,7 +270,8 @@ pub record HasHaltOutside (c : Contents) (a : ℕ) : Type 0 where
   pub start_in_main : c.main start ≡ true
   pub least : IsFirstFrom 0 (halt_outside c) a
 
--- All declared halts are in bodies, all before is well too, and this is the least cell that is misplaced.
+-- All declared halts are in bodies, the conditions above hold too, and this is the lowest cell that is
+-- misplaced.
 pub record HasMisplaced (c : Contents) (a : ℕ) : Type 0 where
   pub start : ℕ
   pub starts : c.starts ≡ start ∷ []
@@ -271,7 +281,7 @@ pub record HasMisplaced (c : Contents) (a : ℕ) : Type 0 where
   pub halts_inside : HasNoneFrom 0 (halt_outside c)
   pub least : IsFirstFrom 0 (misplaced c) a
 
--- The first rule that is broken by what all lines say, and where.
+-- The first rule that the lines together violate, and the cell at which they do.
 abbrev pub RuleFails : Contents → DeclarationFault → Type 0
 RuleFails c NoStart = c.starts ≡ []
 RuleFails c (Overlap a) = HasOverlap c a
@@ -285,8 +295,8 @@ RuleFails c (TwoProfiles number) = ⊥
 RuleFails c TooMany = ⊥
 RuleFails c NoMemory = ⊥
 
--- Each of these texts of lines says what it stands for here: none is bad, there is at most one start and one machine,
--- and there are not too many routines, lines of further offsets and assertions.
+-- These are the meanings of these texts of lines: no line is bad, there is at most one start and at most one machine,
+-- and there are not too many routines, lines with further offsets and assertions.
 pub record AreGood (texts : List (List ℕ)) (lines : List Line) : Type 0 where
   pub say : map line_of texts ≡ map Some lines
   pub starts : length (contents lines).starts ≤ 1
@@ -295,12 +305,13 @@ pub record AreGood (texts : List (List ℕ)) (lines : List Line) : Type 0 where
   pub few_skips : length (contents lines).skips ≤ most_skips
   pub few_assertions : assertions_in (contents lines) ≤ most_assertions
 
--- All lines of a text that is not too long are good, and they say these.
+-- The text is not too long, all its lines are good, and this is what they say.
 pub record HasGoodLines (text : List ℕ) (lines : List Line) : Type 0 where
   pub short : length text ≤ most_bytes
   pub good : AreGood (text_lines text) lines
 
--- This text has this declaration: its lines are good, the declaration says what they say, and it keeps the rules.
+-- This text has this declaration: its lines are good, the declaration says what they say, and it complies with
+-- the rules.
 pub record Declares (text : List ℕ) (d : Declaration) : Type 0 where
   pub lines : List Line
   pub good : HasGoodLines text lines
@@ -313,14 +324,15 @@ pub record ListsRoutines (text : List ℕ) (routines : List KeptRoutine) : Type 
   pub good : HasGoodLines text lines
   pub listed : map subroutine_of routines ≡ (contents lines).routines
 
--- In a text that is not too long, this line with this number stands after lines that are good and say these.
+-- In a text that is not too long, this line, with this number, comes after lines that are good and say this.
 pub record StandsAfter (text : List ℕ) (lines : List Line) (number : ℕ) (line : List ℕ) : Type 0 where
   pub short : length text ≤ most_bytes
   pub before : List (List ℕ)
   pub stands : StandsAt (text_lines text) before line number
   pub good : AreGood before lines
 
--- The line says a routine, further offsets or an assertion, of which there are as many as are taken.
+-- The line declares a routine, further offsets or an assertion, although their maximum number has
+-- been reached.
 abbrev pub IsOneTooMany : Contents → Line → Type 0
 IsOneTooMany c (Sub r) = most_routines ≤ length c.routines
 IsOneTooMany c (Skips s) = most_skips ≤ length c.skips
@@ -328,7 +340,7 @@ IsOneTooMany c (Holds h) = most_assertions ≤ assertions_in c
 IsOneTooMany c (Returns r) = most_assertions ≤ assertions_in c
 IsOneTooMany c _ = ⊥
 
--- The line says a routine, further offsets or an assertion, for which memory is asked.
+-- The line declares a routine, further offsets or an assertion, for which memory is requested.
 abbrev pub AsksForRoom : Contents → Line → Type 0
 AsksForRoom c (Sub r) = length c.routines < most_routines
 AsksForRoom c (Skips s) = length c.skips < most_skips
@@ -336,8 +348,9 @@ AsksForRoom c (Holds h) = assertions_in c < most_assertions
 AsksForRoom c (Returns r) = assertions_in c < most_assertions
 AsksForRoom c _ = ⊥
 
--- After what was said, the line with this number, which says this, fails so: it is bad; it says a second start, a second
--- machine, or a routine, further offsets or an assertion more than are taken; or, where memory is refused, it asks for some.
+-- After what was said before, the line with this number and this meaning has this fault: it is bad; it is a second start or
+-- a second machine; it is one routine, one line of further offsets or one assertion too many; or memory is requested for it
+-- and refused.
 abbrev pub LineFails : Contents → ℕ → Option Line → DeclarationFault → Type 0
 LineFails c number line (BadLine n) = (n ≡ number) × (line ≡ None)
 LineFails c number line (TwoStarts n) = (n ≡ number) × (a : ℕ) × (line ≡ Some (Start a)) × (length c.starts ≡ 1)
@@ -351,7 +364,7 @@ LineFails c number line StartNotInMain = ⊥
 LineFails c number line (HaltNotInBody a) = ⊥
 LineFails c number line (Misplaced a) = ⊥
 
--- The first line of the text that is not good fails so.
+-- The first line of the text that is not good has this fault.
 pub record FailsAtLine (text : List ℕ) (fault : DeclarationFault) : Type 0 where
   pub lines : List Line
   pub number : ℕ
@@ -359,14 +372,14 @@ pub record FailsAtLine (text : List ℕ) (fault : DeclarationFault) : Type 0 whe
   pub stands : StandsAfter text lines number line
   pub fails : LineFails (contents lines) number (line_of line) fault
 
--- All lines of the text are good, and what they say breaks a rule.
+-- All lines of the text are good, and what they say violates a rule.
 pub record FailsAtRule (text : List ℕ) (fault : DeclarationFault) : Type 0 where
   pub lines : List Line
   pub good : HasGoodLines text lines
   pub fails : RuleFails (contents lines) fault
 
--- This text fails so: without looking at a line where it is too long; at its first line that is not good; or by the first
--- rule that is broken by what all its lines say.
+-- The text has this fault: it is too long, which is found without looking at any line; or its first line that is not good
+-- has the fault; or the fault is the first rule that its lines together violate.
 abbrev pub Fails : List ℕ → DeclarationFault → Type 0
 Fails text (BadLine number) = FailsAtLine text (BadLine number)
 Fails text (TwoStarts number) = FailsAtLine text (TwoStarts number)

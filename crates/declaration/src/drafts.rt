@@ -256,7 +256,7 @@ impl<A: Allocator> Draft<A> {
         })
     }
 
-    /// Looks for the first rule that is broken.
+    /// Looks for the first rule that is violated.
     fn keeps_rules(&self, start: Word) -> Result<(), DeclarationFault>
         requires { (gathered self.now).starts ≡ start ∷ [] }
         ensures kept { OnOk result (KeepsRules (gathered self.now) start) }

@@ -29,7 +29,7 @@ mod lines;
 /// The most bytes of a declaration.
 const MOST_BYTES: usize = 16_384;
 
-/// Why a text is no declaration.
+/// Why a text is not a declaration.
 #[derive(Clone, Copy, PartialEq, Eq, Debug, Error)]
 pub enum DeclarationFault {
     /// The line of this number, counted from 1, is none of the lines that there are.
@@ -61,8 +61,8 @@ pub enum DeclarationFault {
     /// The declared halt is in no body.
     #[error("HaltNotInBody {0}")]
     HaltNotInBody(Word),
-    /// `skips`, `moves` or `returns` names the cell, which is no entry; or `abandon` names it, and it
-    /// is not in main's body; or something is to hold at it, and it is in no body.
+    /// `skips`, `moves` or `returns` names the cell, which is not an entry; or `abandon` names it,
+    /// and it is not in main's body; or something is to hold at it, and it is in no body.
     #[error("Misplaced {0}")]
     Misplaced(Word),
     /// A growth of a list of routines, of offsets or of assertions was refused.

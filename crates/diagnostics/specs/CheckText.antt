@@ -66,8 +66,8 @@ yes_text d =
 abbrev pub no_text : Refusal → List ℕ
 no_text r = codes "no: " ++ condition_text r.condition ++ codes " at " ++ octal_text r.address ++ codes "\n"
 
--- What the conditions are asked of: the words of a tape's image, a declaration, and the certificate that these lines
--- make.
+-- What the conditions are checked for: the words of a tape's image, a declaration, and the certificate that these
+-- lines make.
 abbrev pub checked_case : List (Option ℕ) → Declaration → Text → Case
 checked_case image d c = record { image = image_of image; declaration = d; certificate = certificate_of c }
 

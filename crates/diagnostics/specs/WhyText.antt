@@ -118,18 +118,18 @@ abbrev pub term_text : Term → List ℕ
 term_text (Holding n) = name_text n
 term_text (Behind x k) = (codes "the word at " ++ octal_text x) ++ added_text k
 
--- What stands before a term: its sign, or a coefficient. Of the first term a plus sign is left out.
+-- What comes before a term: its sign, or a coefficient. Of the first term a plus sign is left out.
 abbrev pub coefficient_text : Bool → ℕ → List ℕ
 coefficient_text first c =
     if c == 1 then (if first then [] else codes " + ")
     else (if c == 4095 then (if first then codes "-" else codes " - ")
     else ((if first then [] else codes " + ") ++ octal_text c) ++ codes " * ")
 
--- A term with what stands before it.
+-- A term with what comes before it.
 abbrev pub summand_text : Bool → Summand → List ℕ
 summand_text first s = coefficient_text first s.coefficient ++ term_text s.term
 
--- Terms behind the first one.
+-- Terms after the first one.
 abbrev pub further_text : Sum → List ℕ
 further_text ss = flat_map (λ s. summand_text false s) ss
 
@@ -290,7 +290,7 @@ subject_word _ w = octal_text w
 abbrev pub denied_text : Subject → ℕ → List ℕ → List ℕ
 denied_text s w line = subject_text s ++ (codes " may be " ++ (subject_word s w ++ (codes ", which a `" ++ (line ++ codes "` line excludes"))))
 
--- How far an ISZ may count up the return word in its routine's own entry, by the rules.
+-- How far an ISZ may increment the return word in its routine's own entry, by the rules.
 abbrev pub counting_text : Rules → List ℕ
 counting_text OfEquations = codes ", the routine's own entry, past offset 7, the most in certificates of versions 1 and 2"
 counting_text OfSums = codes ", the routine's own entry, past offset 77 or past 7777"
@@ -301,7 +301,7 @@ moving_text e w s =
     (codes "it may store " ++ octal_text w) ++ (around (codes " in ") e (codes "") ++
     around (codes ": this word is not 0 to 77 past the return address of the call at ") s (codes ""))
 
--- An address, and behind it that a line with it is to be added, up to its end.
+-- An address, and after it that a line with it is to be added, up to its end.
 abbrev pub advised_text : List ℕ → ℕ → List ℕ → List ℕ
 advised_text before at line = (before ++ octal_text at) ++ ((line ++ octal_text at) ++ codes "`")
 
@@ -366,7 +366,7 @@ reason_text rules (reason.TooManyWords i n) = around_number (codes "") n (codes 
 reason_text rules (reason.ByWord i w b) = breach_text rules b
 reason_text rules (reason.ExitDeniesAssertion o i s w) = exit_named rules o i ++ denied_text s w (codes "returns")
 
--- The word that is shown: the one that breaks the condition, or else the tape's.
+-- The word that is shown: the one that violates the condition, or else the tape's.
 abbrev pub word_shown : List (Option ℕ) → ℕ → Option Reason → Option ℕ
 word_shown image at (Some (reason.ByWord i w b)) = Some w
 word_shown image at _ = word_at image at

@@ -25,7 +25,8 @@ use wordset::WordSet;
 /// How many addresses there are.
 const ADDRESSES: usize = 4096;
 
-/// The variable by which the instruction at an address refers to memory, if it does, but for a return.
+/// The variable by which the instruction at an address refers to memory, if it does, except for a
+/// return.
 fn pointer_at<D: Allocator>(image: &Image, declaration: &Declaration<D>, at: Word) -> Option<Word> {
     let word = image.get(at)?;
     let named = target(word, at);

@@ -15,7 +15,7 @@ cell_set_of c = record { address = c.cell; set = brief_words c.set }
 abbrev pub cell_sets_of : {CAP : ℕ} → CellSets CAP → List said.TrackedCell
 cell_sets_of cs = map cell_set_of (take cs.count cs.entries)
 
--- For each cell the words that all its entries allow, or all words where it has none.
+-- For each cell the words that all its entries allow, or all words if it has none.
 abbrev pub words_in_cells : List said.TrackedCell → ℕ → Words
 words_in_cells cells a = tracked a cells
 

@@ -17,7 +17,7 @@ pub record Relation : Type 0 where
 
 -- A fact: for each name the words that it may hold, which are all words for a cell of which nothing is said; relations of
 -- sums of two and three terms; chains; the words of MQ and the links that are possible; the sites from which the running
--- routine may have been called, and how far its return word may have been counted up.
+-- routine may have been called, and how far its return word may have been incremented.
 pub record Fact : Type 0 where
   pub set : Location → Words
   pub relations : List Relation
@@ -66,7 +66,7 @@ pub record Holds (f : Fact) (v : Values) (start : Cells) (link : ℕ) : Type 0 w
   pub relations : AllTrue v start f.relations
   pub chains : AllGiven v link f.chains
 
--- The greatest address from which a routine may be called. Return words are counted up by at most 7 by the rules of
+-- The greatest address from which a routine may be called. Return words are incremented by at most 7 by the rules of
 -- equations, and stay below 10000 there if no site is above 7767. The rules of sums test that a word of 7777 is not counted.
 abbrev pub last_site : Rules → ℕ
 last_site OfEquations = 4087
@@ -83,7 +83,7 @@ StandsIn pl f [] = pl.routine ≡ None
 StandsIn pl f (k ∷ ks) =
     (pl.routine ≡ Some k.entry) × (0 < k.after) × (k.after ≤ last_site pl.rules + 1) × (f.sites (k.after - 1) ≡ true)
 
--- A fact holds of the memory at the start, a state and a call list.
+-- A fact holds of the memory at the start, a state and a call stack.
 pub record Means (pl : Place) (start : Cells) (f : Fact) (s : State) (ks : Calls) : Type 0 where
   pub holds : Holds f (values pl.declaration start s.ac s.memory) start s.link
   pub mq : f.mq s.mq ≡ true

@@ -19,7 +19,7 @@ gives_allowed_from ac links c k v w l = ac w && (links l && gives_from c k v w l
 abbrev pub gives_allowed : Words → Words → Chain → ℕ → ℕ → ℕ → Bool
 gives_allowed ac links c v w l = ac w && (links l && gives c v w l)
 
--- There is no word and no link.
+-- There is not a word and no link.
 pub record IsEmpty (c : ChainWords) : Type 0 where
   pub cells : words c.cells ≡ nothing
   pub accumulators : words c.accumulators ≡ nothing

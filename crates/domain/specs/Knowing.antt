@@ -7,7 +7,7 @@ use Rattle.domain.specs.Terms.{Term, Holding, Behind, Sum}
 use Rattle.domain.specs.Facts.{Fact}
 use Rattle.domain.specs.Adding.{times, set_of_sum}
 
--- The words that some cells may have held at the start: the tape's word, or any word where the tape has none.
+-- The words that some cells may have held at the start: the tape's word, or any word if the tape has none.
 abbrev pub at_start : Image → Words → Words
 at_start image cells v = some_below 4096 (λ a. cells a && tape_word (image a) v)
 

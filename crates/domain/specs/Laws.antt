@@ -70,7 +70,7 @@ pub record SameButSets (f g : Fact) : Type 0 where
 abbrev pub AddingKeeps : Type 0
 AddingKeeps = (rules : Rules) (rs : List Relation) (f : Fact) → SameButSets f (adding_all rules rs f)
 
--- Where a fact holds and a relation is true, the fact holds to which the relation is added.
+-- If a fact holds and a relation is true, the fact holds to which the relation is added.
 abbrev pub AddedIsSo : Type 0
 AddedIsSo =
     (rules : Rules) (start : Cells) (f : Fact) (v : Values) (link : ℕ) (r : Relation) →
@@ -138,7 +138,7 @@ pub record FreeStaysTrue : Type 0 where
       (names : Location → Bool) (v w : Values) (link : ℕ) (cs : List Chain) →
       KeepsOthers names v w → AllGiven v link cs → AllGiven w link (chains_free_of names cs)
 
--- Where one name took a word of a set, the fact of this holds.
+-- If one name took a word of a set, the fact of this holds.
 abbrev pub TakingHolds : Type 0
 TakingHolds =
     (n : Location) (set : Words) (start : Cells) (f : Fact) (v w : Values) (link : ℕ) →
@@ -149,7 +149,7 @@ pub record GoesUp (a d : ℕ) (v w : Values) : Type 0 where
   pub more : w (Cell a) ≡ plus (v (Cell a)) d
   pub others : KeepsOthers (λ m. same m (Cell a)) v w
 
--- Where a word of a set was added to the word of a cell, a relation that was true is true as it moves by the set.
+-- If a word of a set was added to the word of a cell, a relation that was true is true as it moves by the set.
 abbrev pub MovedIsSo : Type 0
 MovedIsSo =
     (a d : ℕ) (by : Words) (start : Cells) (v w : Values) (r : Relation) →
@@ -163,27 +163,27 @@ AllMovedIsSo =
     GoesUp a d v w → d < 4096 → by d ≡ true → AllTrue v start rs →
     AllTrue w start (moved_relations a by rs)
 
--- A chain stays true where its cell is counted up, as it begins with so much less.
+-- A chain stays true if its cell is incremented, as it begins with so much less.
 abbrev pub ChainsAreCounted : Type 0
 ChainsAreCounted =
     (a d : ℕ) (v w : Values) (link : ℕ) (cs : List Chain) →
     GoesUp a d v w → AllGiven v link cs → AllGiven w link (map (after_count a d) cs)
 
--- Where a cell's word was counted up by 1, the fact of this holds.
+-- If a cell's word was incremented by 1, the fact of this holds.
 abbrev pub CountedHolds : Type 0
 CountedHolds =
     (pl : Place) (a : ℕ) (start : Cells) (f : Fact) (v w : Values) (link : ℕ) →
     IsBegun pl.image start → AreValues v → link < 2 → f.link link ≡ true → GoesUp a 1 v w →
     Holds f v start link → Holds (counted pl a f) w start link
 
--- Where one cell of a set took a word of those that it may take, the fact of this holds.
+-- If one cell of a set took a word of those that it may take, the fact of this holds.
 abbrev pub WeaklyUpdatedHolds : Type 0
 WeaklyUpdatedHolds =
     (cells : Words) (new : ℕ → Words) (a : ℕ) (start : Cells) (f : Fact) (v w : Values) (link : ℕ) →
     a < 4096 → cells a ≡ true → KeepsOthers (λ m. same m (Cell a)) v w → new a (w (Cell a)) ≡ true →
     Holds f v start link → Holds (weakly_updated cells new f) w start link
 
--- Where a step of a chain made the accumulator and the link, each chain is true with this step more.
+-- If a step of a chain made the accumulator and the link, each chain is true with this step more.
 abbrev pub LongerIsSo : Type 0
 LongerIsSo =
     (p : Step) (v w : Values) (link after : ℕ) (cs : List Chain) →
@@ -214,7 +214,7 @@ abbrev pub CountsReturn : Calls → Cells → Cells → Type 0
 CountsReturn [] before after = Unit {0}
 CountsReturn (k ∷ ks) before after = after k.entry ≡ before k.entry + 1
 
--- Then it is one of the offsets that are counted up, where it was not the greatest.
+-- Then it is one of the offsets that are incremented, where it was not the greatest.
 abbrev pub CountedUpIsSo : Type 0
 CountedUpIsSo =
     (f : Fact) (before after : Cells) (ks : Calls) →

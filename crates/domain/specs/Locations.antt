@@ -34,7 +34,7 @@ abbrev pub is_routine : Routine → ℕ → Bool
 is_routine None a = false
 is_routine (Some e) a = a == e
 
--- The tape's word, or all words where the tape has none.
+-- The tape's word, or all words if the tape has none.
 abbrev pub tape_word : Option ℕ → Words
 tape_word None = all_words
 tape_word (Some w) = one w

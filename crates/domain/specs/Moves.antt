@@ -1,4 +1,5 @@
--- What may happen to a fact: a cell's word is counted up, a name takes a new word, or one of several cells does.
+-- What may happen to a fact: a cell's word is incremented, a name takes a new word, or one of several cells
+-- does.
 use Rattle.std.specs.Prelude.{ℕ, ◌+◌, ◌-◌, ◌==◌, nat_lt, Bool, false, not, ◌&&◌, if◌then◌else◌, Option, Some, None, List, [], ◌∷◌, ◌++◌, map, filter, flat_map}
 use Rattle.std.specs.List.{list_any}
 use Rattle.wordset.specs.Words.{minus, Words, one, union, shifted, sums, meet, only, has_some}
@@ -45,7 +46,7 @@ abbrev pub has_behind : ℕ → Sum → Bool
 has_behind a sum = list_any (λ s. is_behind a s.term) sum
 
 -- A relation after a word of a set was added to the word of a cell, where the set has this word alone, or has others too.
--- The sum has become more by as much, times the cell's coefficient. What stands behind the cell is known then only if the
+-- The sum has become more by as much, times the cell's coefficient. What comes after the cell is known then only if the
 -- word is known that was added.
 abbrev pub moved_relation : ℕ → Words → Option ℕ → Relation → List Relation
 moved_relation a by (Some d) r =
@@ -58,7 +59,7 @@ moved_relation a by None r =
 abbrev pub moved_relations : ℕ → Words → List Relation → List Relation
 moved_relations a by relations = flat_map (moved_relation a by (only by)) relations
 
--- The fact after the cell's word was counted up by 1.
+-- The fact after the cell's word was incremented by 1.
 abbrev pub counted : Place → ℕ → Fact → Fact
 counted pl a f = record f {
   set = with_set (Cell a) (shifted (words_known pl f (Cell a)) 1) f.set;

@@ -62,8 +62,8 @@ narrowed image f =
     (flat_map (λ r. parts_of image f r.sum r.set) f.relations ++ flat_map (λ c. parts_of_chain f c) f.chains)
     (record f { link = λ l. f.link l && list_all (λ c. links_of_chain f c l) f.chains })
 
--- The words that a name may hold by a fact of which something is asked. By the rules of sums that is the narrowed fact
--- already; by those of equations it is the fact as it stands, and its sets are narrowed one by one.
+-- The words that a name may hold by a fact for which something is checked. By the rules of sums that is the narrowed
+-- fact already; by those of equations it is the fact as it stands, and its sets are narrowed one by one.
 abbrev pub words_by : Rules → Image → Fact → Location → Words
 words_by OfSums image f n = f.set n
 words_by OfEquations image f n = (narrowed image f).set n

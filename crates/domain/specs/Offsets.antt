@@ -8,6 +8,6 @@ use Rattle.domain.specs.declared.return_offsets.ReturnOffsets.{ReturnOffsets}
 abbrev pub offsets_in : ReturnOffsets → Words
 offsets_in r o = nat_lt o 64 && (bit_at r.bits o == 1)
 
--- All offsets by which a return word may have been counted up, 0 to 77.
+-- All offsets by which a return word may have been incremented, 0 to 77.
 abbrev pub every_offset : Words
 every_offset o = nat_lt o 64

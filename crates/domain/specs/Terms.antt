@@ -61,7 +61,7 @@ term_is_before (Holding n) (Behind y l) = true
 term_is_before (Behind x k) (Holding m) = false
 term_is_before (Behind x k) (Behind y l) = nat_lt x y || ((x == y) && nat_lt k l)
 
--- A term with a coefficient, or nothing where that is 0.
+-- A term with a coefficient, or nothing if that is 0.
 abbrev pub with_coefficient : ℕ → Term → Sum → Sum
 with_coefficient c t rest = if c == 0 then rest else record { coefficient = c; term = t } ∷ rest
 
@@ -81,7 +81,8 @@ collected (s ∷ ss) = with_summand s.coefficient s.term (collected ss)
 abbrev pub is_sign : ℕ → Bool
 is_sign c = (c == 1) || (c == 4095)
 
--- The sum as it is kept: its terms are collected, and one whose coefficient is no sign comes behind those with a sign.
+-- The sum as it is kept: its terms are collected, and one whose coefficient is not a sign comes behind those with a
+-- sign.
 abbrev pub arranged : Sum → Sum
 arranged sum =
     filter (λ s. is_sign s.coefficient) (collected sum) ++ filter (λ s. not (is_sign s.coefficient)) (collected sum)

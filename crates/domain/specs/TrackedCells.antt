@@ -7,7 +7,7 @@ pub record TrackedCell : Type 0 where
   pub address : ℕ
   pub set : Words
 
--- The words of a cell: those that all its entries allow, or all words where it has none.
+-- The words of a cell: those that all its entries allow, or all words if it has none.
 abbrev pub tracked : ℕ → List TrackedCell → Words
 tracked a [] v = all_words v
 tracked a (c ∷ cs) v = (if c.address == a then c.set v else true) && tracked a cs v

@@ -230,7 +230,7 @@ impl BriefSet {
         other.is_subset(self)
     }
 
-    /// Lets it have the words from one up to another, both of them; none where the second is the lesser.
+    /// Lets it have the words from one up to another, both of them; none if the second is the lesser.
     pub fn set_row(&mut self, first: Word, last: Word)
         ensures { brief_words self.new ≡ between first last }
     {

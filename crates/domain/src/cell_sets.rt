@@ -107,7 +107,7 @@ impl<const CAP: usize> CellSets<CAP> {
         self.count += 1;
     }
 
-    /// Adds a cell, which may hold the words from one up to another; none where the second is the lesser.
+    /// Adds a cell, which may hold the words from one up to another; none if the second is the lesser.
     pub fn push_row(&mut self, cell: Word, first: Word, last: Word)
         requires { length (cell_sets_of self.old) < CAP }
         ensures { cell_sets_of self.new ≡
@@ -168,7 +168,7 @@ impl<const CAP: usize> CellSets<CAP> {
         }
     }
 
-    /// Puts the words of a cell into a place for them: those that all its entries allow, or all words where it has none.
+    /// Puts the words of a cell into a place for them: those that all its entries allow, or all words if it has none.
     pub fn put_set_of(&self, cell: Word, place: &mut WordSet)
         ensures { words place.new ≡ tracked cell (cell_sets_of self.now) }
     {

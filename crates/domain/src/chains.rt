@@ -61,7 +61,7 @@ impl Default for Chain {
     }
 }
 
-/// The sum of two words, and the link behind it: a carry complements the link.
+/// The sum of two words, and the link after it: a carry complements the link.
 fn added(ac: Word, link: Link, word: Word) -> (Word, Link)
     ensures { result ≡ after_step (said.Adds word) (ac, link) }
 {

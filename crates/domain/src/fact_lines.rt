@@ -60,7 +60,7 @@ impl<const C: usize, const R: usize> SumFact<C, R> {
         self.ac = *set;
     }
 
-    /// Lets the accumulator hold the words from one to another, both of them; none where the second is the lesser.
+    /// Lets the accumulator hold the words from one to another, both of them; none if the second is the lesser.
     pub fn set_accumulator_row(&mut self, first: Word, last: Word)
         ensures fact { fact_in_code self.new ≡ record (fact_in_code self.old) {
           set = names_words (between first last) (cell_sets_of self.old.cells);
@@ -78,7 +78,7 @@ impl<const C: usize, const R: usize> SumFact<C, R> {
         self.mq = *set;
     }
 
-    /// Lets MQ hold the words from one to another, both of them; none where the second is the lesser.
+    /// Lets MQ hold the words from one to another, both of them; none if the second is the lesser.
     pub fn set_mq_row(&mut self, first: Word, last: Word)
         ensures fact { fact_in_code self.new ≡ record (fact_in_code self.old) { mq = between first last } }
         ensures cells { cell_sets_of self.new.cells ≡ cell_sets_of self.old.cells }
@@ -110,7 +110,7 @@ impl<const C: usize, const R: usize> SumFact<C, R> {
         self.sites.copy_from(sites);
     }
 
-    /// Lets it have been called from one of the sites from one to another, both of them; none where the second is the lesser.
+    /// Lets it have been called from one of the sites from one to another, both of them; none if the second is the lesser.
     pub fn set_sites_row(&mut self, first: Word, last: Word)
         ensures fact { fact_in_code self.new ≡ record (fact_in_code self.old) { sites = between first last } }
         ensures cells { cell_sets_of self.new.cells ≡ cell_sets_of self.old.cells }
@@ -118,7 +118,7 @@ impl<const C: usize, const R: usize> SumFact<C, R> {
         self.sites.set_row(first, last);
     }
 
-    /// Lets the return word have been counted up by one of these.
+    /// Lets the return word have been incremented by one of these.
     pub fn set_offsets(&mut self, offsets: ReturnOffsets)
         ensures fact { fact_in_code self.new ≡ record (fact_in_code self.old) { offsets = offsets_in offsets } }
         ensures cells { cell_sets_of self.new.cells ≡ cell_sets_of self.old.cells }
@@ -137,7 +137,7 @@ impl<const C: usize, const R: usize> SumFact<C, R> {
         self.cells.push(cell, set);
     }
 
-    /// Tells of one more cell, which may hold the words from one to another, both of them; none where the second is the
+    /// Tells of one more cell, which may hold the words from one to another, both of them; none if the second is the
     /// lesser.
     pub fn track_row(&mut self, cell: Word, first: Word, last: Word)
         requires { length (cell_sets_of self.old.cells) < C }

@@ -49,7 +49,7 @@ pub fn counted_holds()
     ensures counted { CountedHolds }
 {}
 
-/// Where a step made the accumulator and the link, each chain is true with this step more.
+/// If a step made the accumulator and the link, each chain is true with this step more.
 pub fn longer_is_so()
     ensures { LongerIsSo }
 {}
@@ -60,7 +60,7 @@ pub fn joined_holds()
     ensures keeps { JoinedKeeps }
 {}
 
-/// A return word that went up by one is known by the offsets that are counted up.
+/// A return word that went up by one is known by the offsets that are incremented.
 pub fn counted_up_is_so()
     ensures { CountedUpIsSo }
 {}

@@ -1,7 +1,7 @@
 //! Narrowing: each set of a fact is met once with what the relations and chains say of it, by the other sets as they stand.
 //!
 //! A relation with a set of n words in a row costs two sums of sets; so a narrowed fact takes some microseconds for each relation,
-//! and none where all is one word.
+//! and none if all is one word.
 
 ghost use Rattle.std.specs.Prelude.{◌≡◌, ◌<◌, ◌≤◌, ◌+◌, ◌*◌, ◌%◌, ◌&&◌, length, map, ℕ};
 ghost use Rattle.wordset.specs.Words.{some_below, plus};

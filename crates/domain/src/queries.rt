@@ -351,8 +351,8 @@ impl<const C: usize, const R: usize> SumFact<C, R> {
         self.keep_for_chains(self.chains.as_slice(), name, place);
     }
 
-    /// Puts the words that a name may hold by a fact of which something is asked into a place for them. By the rules of sums
-    /// the fact is narrowed already; by those of equations it stands as it was told.
+    /// Puts the words that a name may hold by a fact for which something is checked into a place for them. By the rules of
+    /// sums the fact is narrowed already; by those of equations it stands as it was told.
     pub fn put_words_by(&self, rules: &Rules, image: &Image, name: &Location, place: &mut WordSet)
         ensures { words place.new ≡
             words_by (rules_of rules.now) (image_of image.now) (fact_in_code self.now) (location_of name.now) }

@@ -112,7 +112,7 @@ impl Relation {
 impl Term {
     ghost use Rattle.domain.specs.InCode.{term_of};
 
-    /// The same word's term after a number was added to a cell's word: what stands behind the cell is behind it by so much less.
+    /// The same word's term after a number was added to a cell's word: what stands behind the cell is after it by so much less.
     pub fn counted(&self, cell: Word, by: Word) -> Term
         ensures { term_of result ≡ counted_term cell by (term_of self.now) }
     {
@@ -396,7 +396,7 @@ impl<const CAP: usize> Relations<CAP> {
         self.add_copy(relation);
     }
 
-    /// Adds what some relations say, but for those that speak of a name that a call may change.
+    /// Adds what some relations say, except for those that speak of a name that a call may change.
     pub fn add_outside(&mut self, others: &[Relation], written: &WordSet)
         requires { length (relations_of self.old) + length others.now ≤ CAP }
         ensures { (f : facts.Fact) → relations_of self.old ≡ f.relations → relations_of self.new ≡

@@ -1,4 +1,4 @@
-//! How far a return word may have been counted up, for counts up to 77.
+//! How far a return word may have been incremented, for counts up to 77.
 
 ghost use Rattle.std.specs.Prelude.{◌≡◌, ◌<◌, ◌↔◌, ℕ, IsTrue, true, false, if◌then◌else◌};
 ghost use Rattle.wordset.specs.Words.{nothing, with_word};
@@ -8,7 +8,7 @@ ghost use Rattle.domain.specs.Moves.{counted_up, offsets_between};
 use word12::Word;
 use wordset::WordSet;
 
-/// Some of the offsets 0 to 77, by which a routine's return word may have been counted up.
+/// Some of the offsets 0 to 77, by which a routine's return word may have been incremented.
 ///
 /// Contracts see them as `offsets_in` gives them.
 #[derive(Clone, Copy, Debug)]

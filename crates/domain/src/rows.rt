@@ -15,7 +15,7 @@ pub(crate) fn is_range_within(first: Word, last: Word, set: &WordSet) -> bool
     WordSet::range(first, last).is_subset(set)
 }
 
-/// Puts the words from one to another, both of them, into their place; none where the second is the lesser.
+/// Puts the words from one to another, both of them, into their place; none if the second is the lesser.
 pub(crate) fn put_row(place: &mut WordSet, first: Word, last: Word)
     ensures { words place.new ≡ between first last }
 {

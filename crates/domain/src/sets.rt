@@ -89,7 +89,7 @@ fn word_of(image: &Image, at: Word) -> Option<Word>
     image.get(at)
 }
 
-/// Adds the words that a cell may have held at the start to a set: the tape's word, or all words where the tape has none.
+/// Adds the words that a cell may have held at the start to a set: the tape's word, or all words if the tape has none.
 fn add_start(image: &Image, cell: Word, set: &mut WordSet)
     ensures { (v : ℕ) → words set.new v ≡ (words set.old v || tape_word (image_of image.now cell) v) }
 {

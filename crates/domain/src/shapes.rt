@@ -59,7 +59,7 @@ fn may_be_second(first: &Location, coefficient: Word, term: &Term) -> bool
     }
 }
 
-/// Whether two summands are a sum of one of the shapes but for the first coefficient.
+/// Whether two summands are a sum of one of the shapes except for the first coefficient.
 fn is_pair(first: &Term, second: &Summand) -> bool
     ensures { result ≡ is_pair (term_of first.now) (summand_of second.now) }
 {
@@ -69,7 +69,8 @@ fn is_pair(first: &Term, second: &Summand) -> bool
     }
 }
 
-/// Whether three summands are the accumulator and the difference of two cells, but for the first coefficient.
+/// Whether three summands are the accumulator and the difference of two cells, except for the first
+/// coefficient.
 fn is_triple(first: &Term, second: &Summand, third: &Summand) -> bool
     ensures { result ≡ is_triple (term_of first.now) (summand_of second.now) (summand_of third.now) }
 {

@@ -47,8 +47,8 @@ pub enum Rules {
 
 /// What is known of the machine whenever the program counter is at an address, and of the call in which it is: the words that
 /// the accumulator, MQ and at most C cells may hold, the links, at most R relations, chains, the sites from which the running
-/// routine may have been called, and how far its return word may have been counted up. A cell that is not told of may hold any
-/// word.
+/// routine may have been called, and how far its return word may have been incremented. A cell that is not told of may hold
+/// any word.
 ///
 /// A fact of a certificate has room for 64 cells and 32 relations. One that is worked with has more, in room that is lent for
 /// it again and again, and only what is told is written.
@@ -160,7 +160,7 @@ impl<const C: usize, const R: usize> SumFact<C, R> {
         &self.sites
     }
 
-    /// How far the running routine's return word may have been counted up.
+    /// How far the running routine's return word may have been incremented.
     pub fn offsets(&self) -> ReturnOffsets
         ensures { offsets_in result ≡ (fact_in_code self.now).offsets }
     {
@@ -177,7 +177,8 @@ impl<const C: usize, const R: usize> SumFact<C, R> {
         }
     }
 
-    /// Puts the words that a name may hold into a place for them, and all words for a term that is no name.
+    /// Puts the words that a name may hold into a place for them, and all words for a term that is not a
+    /// name.
     fn put_set_of_term(&self, term: &Term, place: &mut WordSet)
         ensures { words place.new ≡ set_of_term (fact_in_code self.now) (term_of term.now) }
     {

@@ -1,4 +1,4 @@
-//! What may happen to a fact: a cell's word is counted up, names take new words, a call returns.
+//! What may happen to a fact: a cell's word is incremented, names take new words, a call returns.
 
 ghost use Rattle.std.specs.Prelude.{◌≡◌, ◌<◌, ◌≤◌, ◌+◌, ◌*◌, ◌++◌, [], length, map};
 ghost use Rattle.wordset.specs.Words.{one};
@@ -115,7 +115,8 @@ impl<const C: usize, const R: usize> SumFact<C, R> {
         keep_chains_free_of(other.chains.as_slice(), names, &mut self.chains);
     }
 
-    /// Lets this fact be another after a cell's word was counted up by 1, where the cell has these words then.
+    /// Lets this fact be another after a cell's word was incremented by 1, where the cell has these words
+    /// then.
     pub fn take_counted<const D: usize, const S: usize>(
         &mut self,
         other: &SumFact<D, S>,

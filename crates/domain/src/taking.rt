@@ -22,7 +22,7 @@ use wordset::WordSet;
 /// What becomes of the words of the one cell, unknown which, that changes.
 #[derive(Drop)]
 enum Change<'a> {
-    /// Its word is counted up by 1.
+    /// Its word is incremented by 1.
     CountsUp,
     /// It takes a word of a set.
     Takes(&'a WordSet),
@@ -119,7 +119,7 @@ impl<const C: usize, const R: usize> SumFact<C, R> {
         );
     }
 
-    /// Lets this fact be another after one cell of a set, unknown which, was counted up by 1.
+    /// Lets this fact be another after one cell of a set, unknown which, was incremented by 1.
     pub fn take_counted_among<const D: usize, const S: usize>(
         &mut self,
         other: &SumFact<D, S>,

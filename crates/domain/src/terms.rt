@@ -303,7 +303,8 @@ impl Sum {
         }
     }
 
-    /// The sum as it is kept: its terms are collected, and one whose coefficient is no sign comes behind those with a sign.
+    /// The sum as it is kept: its terms are collected, and one whose coefficient is not a sign comes behind those with a
+    /// sign.
     pub fn arranged(&self) -> Sum
         ensures sum { sum_of result ≡ arranged (sum_of self.now) }
         ensures few { length (sum_of result) ≤ length (sum_of self.now) }

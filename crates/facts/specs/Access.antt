@@ -44,7 +44,7 @@ CallsAreForeseen =
     IsStateOf pl start f s ks → WritesAreDeclared pl f (instruction pl.declaration.profile s) →
     instruction pl.declaration.profile s ≡ Jms i c → called pl f (Jms i c) (place i c s.memory) ≡ true
 
--- In a state of a fact a cell that is no entry holds a word that is possible there by the fact.
+-- In a state of a fact a cell that is not an entry holds a word that is possible there by the fact.
 abbrev pub WordsAreForeseen : Type 0
 WordsAreForeseen =
     (pl : Place) (start : Cells) (f : Fact) (s : State) (ks : Calls) (a : ℕ) →

@@ -17,7 +17,8 @@ may_store pl f (Isz i c) a = targets pl i c f a
 may_store pl f (Dca i c) a = targets pl i c f a
 may_store pl f _ a = false
 
--- The cells that a word may write, a stepped pointer among them; save the one that a JMS itself writes.
+-- The cells that a word may write, a stepped pointer among them; except the one that a JMS itself
+-- writes.
 abbrev pub may_write : Place → Fact → Meaning → Words
 may_write pl f m a = pointer_of m a || may_store pl f m a
 
@@ -42,13 +43,13 @@ WritesAreDeclared pl f m =
     (a : ℕ) → a < 4096 → may_write pl f m a ≡ true →
     (pl.declaration.variable a ≡ true) ⊎ (pl.declaration.entry a ≡ true)
 
--- The return word may be counted up once more. By the rules of equations it is not seven up already, or more. By those of sums it
--- is not 77 up already, and it is not 7777, so that the ISZ does not skip.
+-- The return word may be incremented once more. By the rules of equations it is not seven up already, or more. By those of sums
+-- it is not 77 up already, and it is not 7777, so that the ISZ does not skip.
 abbrev pub MayCount : Rules → Fact → Type 0
 MayCount OfEquations f = (o : ℕ) → 7 ≤ o → o < 64 → f.offsets o ≡ false
 MayCount OfSums f = (f.offsets 63 ≡ false) × (own_words f 4095 ≡ false)
 
--- ISZ of the running routine's own entry alone, which may be counted up once more.
+-- ISZ of the running routine's own entry alone, which may be incremented once more.
 abbrev pub CountsItsReturn : Place → Fact → Meaning → ℕ → Type 0
 CountsItsReturn pl f (Isz i c) a =
     (pl.routine ≡ Some a) × (only (targets pl i c f) ≡ Some a) × MayCount pl.rules f
@@ -58,18 +59,18 @@ CountsItsReturn pl f _ a = ⊥
 abbrev pub reach : ℕ → Words
 reach a w = nat_lt a w && nat_le w (a + 64)
 
--- Each of these words lies 0 to 77 behind the return address of each of the fact's sites.
+-- Each of these words lies 0 to 77 past the return address of each of the fact's sites.
 abbrev pub AreInReach : Fact → Words → Type 0
 AreInReach f known = (a : ℕ) → a < 4096 → f.sites a ≡ true → IsWithin known (reach a)
 
 -- DCA that names the running routine's own entry directly, where the declaration lets the routine store there, and each word of
--- the accumulator lies 0 to 77 behind each return address.
+-- the accumulator lies 0 to 77 past each return address.
 abbrev pub MovesItsReturn : Place → Fact → Meaning → ℕ → Type 0
 MovesItsReturn pl f (Dca i c) a =
     (i ≡ false) × (pl.routine ≡ Some a) × (pl.declaration.moves a ≡ true) × AreInReach f (ac_of pl f)
 MovesItsReturn pl f _ a = ⊥
 
--- No cell that the word may write is an entry, save under such an ISZ or such a DCA.
+-- No cell that the word may write is an entry, except under such an ISZ or such a DCA.
 abbrev pub EntriesAreKept : Place → Fact → Meaning → Type 0
 EntriesAreKept pl f m =
     (a : ℕ) → a < 4096 → may_write pl f m a ≡ true → pl.declaration.entry a ≡ true →

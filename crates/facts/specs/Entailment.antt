@@ -100,7 +100,7 @@ LandsBy OfEquations pl f among = EntailsOne pl f among
 abbrev pub Lands : Place → Fact → List Fact → Type 0
 Lands pl f among = LandsBy pl.rules pl f among
 
--- Nothing need be asked of the fact: by the rules of sums, no state satisfies it under any link.
+-- Nothing need be required of the fact: by the rules of sums, no state satisfies it under any link.
 abbrev pub IsIdle : Rules → Place → Fact → Type 0
 IsIdle OfSums pl f = (l : ℕ) → l < 2 → f.link l ≡ true → IsVoid (with_one_link pl l f)
 IsIdle OfEquations pl f = ⊥

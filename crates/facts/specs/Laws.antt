@@ -16,7 +16,7 @@ use Rattle.transfer.specs.Outcomes.{Successor, Goes, CallsTo, Returns}
 use Rattle.transfer.specs.Operations.{outcomes_of}
 use Rattle.facts.specs.Entailment.{Entails, Lands, IsIdle}
 
--- A state is at one of an outcome's addresses, and its fact holds, of the same call list.
+-- A state is at one of an outcome's addresses, and its fact holds, of the same call stack.
 abbrev pub LandsIn : Place → Cells → State → Calls → Successor → Type 0
 LandsIn pl start t ks (Goes next f) = (next t.pc ≡ true) × Means pl start f t ks
 LandsIn pl start t ks (CallsTo next f) = ⊥

@@ -33,7 +33,7 @@ StartFactHolds =
     (pl : Place) (s : State) → pl.routine ≡ None → IsStart pl.image pl.declaration.start s →
     Means pl s.memory (start_fact pl.image) s []
 
--- Where it lands among facts, one of them holds of every start.
+-- If it lands among facts, one of them holds of every start.
 abbrev pub StartsLand : Type 0
 StartsLand =
     (pl : Place) (among : List Fact) (s : State) → pl.routine ≡ None → Lands pl (start_fact pl.image) among →
@@ -53,8 +53,8 @@ pub record IsEquation (r : Relation) : Type 0 where
   pub sum : r.sum ≡ difference_of left right
   pub set : r.set ≡ one more
 
--- By the rules of equations the test of a start is exact: the fact of all starts entails a fact of equations exactly where that
--- fact holds of every start.
+-- By the rules of equations the test of a start is exact: the fact of all starts entails a fact of equations if and only if
+-- that fact holds of every start.
 abbrev pub StartsAreExact : Type 0
 StartsAreExact =
     (pl : Place) (f : Fact) → pl.rules ≡ OfEquations → AreTapeWords pl.image → pl.routine ≡ None →

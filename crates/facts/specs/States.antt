@@ -1,4 +1,4 @@
--- States of the machine, and the words that change no call list.
+-- States of the machine, and the words that change no call stack.
 use Rattle.std.specs.Prelude.{◌≡◌, ℕ, ◌<◌, true, false, [], ◌∷◌}
 use Rattle.instruct.specs.Instructions.{Meaning, Jms, Jmp}
 use Rattle.processor.specs.Cells.{AreWords}
@@ -19,7 +19,7 @@ abbrev pub TopIsEntry : Declaration → Calls → Type 0
 TopIsEntry d [] = Unit {0}
 TopIsEntry d (k ∷ ks) = d.entry k.entry ≡ true
 
--- No JMS and no return, which change the call list.
+-- No JMS and no return, which change the call stack.
 abbrev pub IsOrdinary : Declaration → Meaning → Type 0
 IsOrdinary d (Jms i c) = ⊥
 IsOrdinary d (Jmp i c) = i ≡ true → d.entry c ≡ false

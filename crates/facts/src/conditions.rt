@@ -22,7 +22,7 @@ use transfer::named_if;
 use word12::Word;
 use wordset::WordSet;
 
-/// Whether no offset from 7 on is among those by which a return word may have been counted up.
+/// Whether no offset from 7 on is among those by which a return word may have been incremented.
 fn are_below_seven(offsets: ReturnOffsets) -> bool
     ensures { IsTrue result ↔ ((o : ℕ) → 7 ≤ o → o < 64 → offsets_in offsets o ≡ false) }
 {
@@ -49,7 +49,7 @@ fn may_go_up<const C: usize, const R: usize>(fact: &SumFact<C, R>) -> bool
     true
 }
 
-/// Whether the return word may be counted up once more by the rules.
+/// Whether the return word may be incremented once more by the rules.
 fn may_count<const C: usize, const R: usize>(rules: &Rules, fact: &SumFact<C, R>) -> bool
     ensures { IsTrue result ↔ MayCount (rules_of rules.now) (fact_in_code fact.now) }
 {
@@ -74,7 +74,7 @@ fn reach(at: Word) -> WordSet
     WordSet::range(Word::from_index(at.index() + 1), Word::from_index(last))
 }
 
-/// Whether each of some words lies 0 to 77 behind the return address of each of a fact's sites.
+/// Whether each of some words lies 0 to 77 past the return address of each of a fact's sites.
 fn are_in_reach<const C: usize, const R: usize>(fact: &SumFact<C, R>, known: &WordSet) -> bool
     ensures { IsTrue result ↔ AreInReach (fact_in_code fact.now) (words known.now) }
 {
@@ -242,8 +242,8 @@ impl<A: Allocator> Place<'_, A> {
         self.are_declared(&written)
     }
 
-    /// Whether a word counts the running routine's return word up, and may do so: an ISZ of its own entry alone, which may be
-    /// counted up once more.
+    /// Whether a word increments the running routine's return word, and may do so: an ISZ of its own entry alone, which may
+    /// be incremented once more.
     fn counts_its_return<const C: usize, const R: usize>(
         &self,
         fact: &SumFact<C, R>,
@@ -275,7 +275,7 @@ impl<A: Allocator> Place<'_, A> {
     }
 
     /// Whether a word stores in the running routine's own entry, and may do so: a DCA that names it directly, where the declaration
-    /// lets the routine store there, and each word of the accumulator lies 0 to 77 behind each return address.
+    /// lets the routine store there, and each word of the accumulator lies 0 to 77 past each return address.
     fn moves_its_return<const C: usize, const R: usize>(
         &self,
         fact: &SumFact<C, R>,
@@ -306,7 +306,8 @@ impl<A: Allocator> Place<'_, A> {
         are_in_reach(fact, &known)
     }
 
-    /// Whether a cell is no entry, or the one in which a word changes the running routine's return word.
+    /// Whether a cell is not an entry, or the one in which a word changes the running routine's return
+    /// word.
     fn keeps_entry<const C: usize, const R: usize>(
         &self,
         fact: &SumFact<C, R>,
@@ -325,8 +326,9 @@ impl<A: Allocator> Place<'_, A> {
         self.counts_its_return(fact, at, word, cell) || self.moves_its_return(fact, at, word, cell)
     }
 
-    /// Whether no cell that a word may write is an entry, save that ISZ may count the running routine's own up, as its only
-    /// target, where that may be counted up once more, and that DCA may store in it by its name, where that may be moved so.
+    /// Whether no cell that a word may write is an entry, except that ISZ may increment the running routine's own, as its
+    /// only target, where that may be incremented once more, and that DCA may store in it by its name, where that may be
+    /// moved so.
     pub fn entries_are_kept<const C: usize, const R: usize>(
         &self,
         fact: &SumFact<C, R>,

@@ -63,7 +63,7 @@ impl<A: Allocator> Place<'_, A> {
         }
     }
 
-    /// The outcomes of a memory reference: a stepped pointer counts up first.
+    /// The outcomes of a memory reference: a stepped pointer is incremented first.
     fn refer<const C: usize, const R: usize>(
         &self,
         at: Word,
@@ -159,9 +159,9 @@ impl<A: Allocator> Place<'_, A> {
         }
     }
 
-    /// Puts the outcomes of a word that stands at the address of a fact into room for them: what may come of it from a state
-    /// of the fact, where its writes are declared and change no entry but for an ISZ of the routine's own. They come in the order of
-    /// the definition; those that cannot come about are left out, and a word without a meaning has none, as has a HLT at a stop.
+    /// Puts the outcomes of a word that stands at the address of a fact into room for them: what may come of it from a state of the
+    /// fact, where its writes are declared and change no entry except for an ISZ of the routine's own. They come in the order of the
+    /// definition; those that cannot come about are left out, and a word without a meaning has none, as has a HLT at a stop.
     ///
     /// By the rules of sums the fact is narrowed before.
     #[inline(never)]

@@ -260,8 +260,8 @@ fn permits_all<'a>(
 }
 
 impl<A: Allocator> Place<'_, A> {
-    /// Puts the words that a name may hold, by a fact of which something is asked, into a place for them. By the rules of sums
-    /// the fact is narrowed already; by those of equations it stands as it was told.
+    /// Puts the words that a name may hold, by a fact for which something is checked, into a place for them. By the rules of
+    /// sums the fact is narrowed already; by those of equations it stands as it was told.
     pub fn put_known<K: KnownFact>(&self, fact: &K, name: &Location, place: &mut WordSet)
         ensures { words place.new ≡
             words_known (place_in_code self.now) (K.known fact.now) (location_of name.now) }

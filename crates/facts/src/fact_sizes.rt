@@ -8,8 +8,8 @@ use domain::SumFact;
 /// Room for a fact of a certificate.
 pub type Fact = SumFact<64, 32>;
 
-/// Room for the fact of which things are asked: one of a certificate, narrowed by the rules of sums, and as it stands by those
-/// of equations.
+/// Room for the fact for which things are checked: one of a certificate, narrowed by the rules of sums, and as it stands by
+/// those of equations.
 pub type NarrowedFact = SumFact<132, 68>;
 
 /// Room for a part of an outcome: the fact of one link, narrowed.

@@ -79,7 +79,7 @@ pub trait KnownFact {
     fn sites(&self) -> &BriefSet
         ensures { brief_words result.now ≡ (known self.now).sites };
 
-    /// How far the running routine's return word may have been counted up.
+    /// How far the running routine's return word may have been incremented.
     fn offsets(&self) -> ReturnOffsets
         ensures { offsets_in result ≡ (known self.now).offsets };
 

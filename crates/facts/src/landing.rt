@@ -265,8 +265,8 @@ impl<A: Allocator> Place<'_, A> {
         part.is_none()
     }
 
-    /// Whether nothing need be asked of a fact: by the rules of sums, no state satisfies it under any link. The fact itself is
-    /// left as it was.
+    /// Whether nothing need be required of a fact: by the rules of sums, no state satisfies it under any link. The fact itself
+    /// is left as it was.
     pub fn is_idle(&self, fact: &mut NextFact, rooms: &mut LandingWorkspace) -> bool
         ensures idle { IsTrue result ↔
             IsIdle (place_in_code self.now).rules (place_in_code self.now) (fact_in_code fact.old) }

@@ -70,9 +70,9 @@ pub enum Condition {
     V12,
     /// A HLT is at a declared halt.
     V13,
-    /// No entry may be written, a JMS's own cell apart, save that ISZ may count the routine's own
+    /// No entry may be written, a JMS's own cell apart, except that ISZ may count the routine's own
     /// as its only target where 7 is none of the offsets, and that DCA may store in it by its name,
-    /// where the declaration lets the routine do so and the word lies 0 to 77 behind each return
+    /// where the declaration lets the routine do so and the word lies 0 to 77 past each return
     /// address.
     V14,
     /// Each cell that may be read is on the list of reads, where there is one, or the routine's own
@@ -83,8 +83,8 @@ pub enum Condition {
     V16,
 }
 
-/// The step law: from a state of a fact, a step by the word at the program counter lands in one of
-/// the outcomes of the word, of the same call list. It is asked of words whose writes are declared and
+/// The step law: from a state of a fact, a step by the word at the program counter lands in one of the
+/// outcomes of the word, of the same call stack. It is asked of words whose writes are declared and
 /// keep the entries. It does not speak of a JMS, of a JMP I through an entry, or of a HLT that is not
 /// at a pause. By the rules of sums the fact may be the narrowed one.
 pub fn step_law()
@@ -92,8 +92,9 @@ pub fn step_law()
 {}
 
 /// The access law: whatever the step at a state of a fact reads, writes or calls is among what the
-/// fact says that its word may, and a cell that is no entry holds a word that is possible there. It
-/// is asked of words whose writes are declared, since one of them may be a pointer that is stepped.
+/// fact says that its word may, and a cell that is not an entry holds a word that is possible
+/// there. It is asked of words whose writes are declared, since one of them may be a pointer that
+/// is stepped.
 pub fn access_law()
     ensures reads { ReadsAreForeseen }
     ensures writes { WritesAreForeseen }
@@ -120,7 +121,7 @@ pub fn return_law()
 
 /// The fact of all starts holds of each start, whatever the accumulator, the link, MQ and the cells
 /// that are not on the tape hold; and so does one of the facts among which it lands. By the rules of
-/// equations it entails a fact of equations exactly where that fact holds of every start.
+/// equations it entails a fact of equations if and only if that fact holds of every start.
 pub fn start_law()
     ensures fact { StartFactHolds }
     ensures landed { StartsLand }

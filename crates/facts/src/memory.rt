@@ -254,7 +254,7 @@ impl<A: Allocator> Place<'_, A> {
         second.go_to(comes, at.increment());
     }
 
-    /// ISZ of the running routine's own entry counts the offsets up.
+    /// ISZ of the running routine's own entry increments the offsets.
     #[inline(never)]
     fn count_own<const C: usize, const R: usize>(
         &self,
@@ -315,7 +315,7 @@ impl<A: Allocator> Place<'_, A> {
         false
     }
 
-    /// ISZ of several variables counts an unknown one of them up.
+    /// ISZ of several variables increments an unknown one of them.
     #[inline(never)]
     fn count_several<const C: usize, const R: usize>(
         &self,

@@ -41,7 +41,8 @@ impl<A: Allocator> Place<'_, A> {
         }
     }
 
-    /// Puts the words that a name may hold, by a fact of which something is asked, into a place for them.
+    /// Puts the words that a name may hold, by a fact for which something is checked, into a place for
+    /// them.
     pub fn put_words_known<const C: usize, const R: usize>(
         &self,
         fact: &SumFact<C, R>,

@@ -22,7 +22,7 @@ use transfer::{put_one, word_of};
 use word12::Word;
 use wordset::WordSet;
 
-/// Puts the tape's word into a place for it, or all words where the tape has none.
+/// Puts the tape's word into a place for it, or all words if the tape has none.
 fn put_tape_word(word: Option<Word>, place: &mut WordSet)
     ensures { words place.new ≡ tape_word word }
 {
@@ -85,7 +85,7 @@ impl<A: Allocator> Place<'_, A> {
     }
 
     /// Puts the words that are possible at an address of a body into a place for them: a variable's words, else the tape's
-    /// word, or all words where the tape has none.
+    /// word, or all words if the tape has none.
     pub fn put_possible<const C: usize, const R: usize>(
         &self,
         fact: &SumFact<C, R>,
@@ -225,7 +225,7 @@ impl<A: Allocator> Place<'_, A> {
         self.one_target(single)
     }
 
-    /// Puts the fact after a cell's word was counted up by 1 into room for it.
+    /// Puts the fact after a cell's word was incremented by 1 into room for it.
     pub(crate) fn put_counted<const C: usize, const R: usize, const D: usize, const S: usize>(
         &self,
         fact: &SumFact<C, R>,

@@ -41,7 +41,7 @@ fn tape_at(image: &Image, cell: Word) -> Option<Word>
     image.get(cell)
 }
 
-/// Puts the words that a cell may hold at a start into a place for them: the tape's word, or all words where the tape has none.
+/// Puts the words that a cell may hold at a start into a place for them: the tape's word, or all words if the tape has none.
 fn put_tape_word(image: &Image, cell: Word, place: &mut WordSet)
     ensures { words place.new ≡ tape_word (image_of image.now cell) }
 {
@@ -105,7 +105,8 @@ impl StartFact<'_> {
         }
     }
 
-    /// Puts the words that a name may hold into a place for them, and all words for a term that is no name.
+    /// Puts the words that a name may hold into a place for them, and all words for a term that is not a
+    /// name.
     fn put_set_of_term(&self, term: &Term, place: &mut WordSet)
         ensures { words place.new ≡ set_of_term (start_in_code self.now) (term_of term.now) }
     {

@@ -449,8 +449,8 @@ fn each_write_that_fails_leaves_a_front(rt: HostRuntime) {
     assert!(rt; writes_in_turn(rt.alloc(), Command::Session, 2, b"\xc1"));
 }
 
-/// Whether each request for memory that is refused is answered so, with a front of a text at most, and
-/// without one where the command does not write as it goes, until none is refused.
+/// Whether each request for memory that is refused is answered so, with a prefix of a text at most,
+/// and without one where the command does not write as it goes, until none is refused.
 fn memory_in_turn(heap: Global, command: Command, output: usize, text: &[u8]) -> bool {
     let goes_on = matches!(command, Command::Trace | Command::Session);
     for count in 0..1000u64 {

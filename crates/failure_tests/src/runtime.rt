@@ -13,7 +13,7 @@ use workbench::exit_status;
 /// What standard input gives: a source with HLT at 0200.
 static INPUT: &[u8] = b"*200\nHLT\n$\n";
 
-/// What the file of this name has, if there is one. Where the name begins with `failing`, a read behind that fails.
+/// What the file of this name has, if there is one. If the name begins with `failing`, a read behind that fails.
 fn content(name: &str) -> Option<&'static [u8]> {
     match name {
         "halt.bin" => Some(HALT),
@@ -64,7 +64,7 @@ impl OutputBuffer {
     }
 }
 
-/// A file: the bytes still to be read, whether a read behind them fails, and where the written ones go.
+/// A file: the bytes still to be read, whether a read after them fails, and where the written ones go.
 #[derive(Drop)]
 pub struct FakeFile<'d> {
     rest: &'d [u8],

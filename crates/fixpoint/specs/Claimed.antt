@@ -43,7 +43,7 @@ abbrev pub said_in : said.Fact → List TrackedCell → said.Fact
 said_in f cells = record f { set = names_words (f.set Ac) cells }
 
 -- A sum that goes on with the first summand stands before one that goes on with the other: these two tell it, or else what comes
--- behind them does.
+-- after them does.
 abbrev pub told_by_first : Summand → Summand → Bool → Bool
 told_by_first s t rest =
     term_is_before s.term t.term ||

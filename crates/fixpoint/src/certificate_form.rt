@@ -111,7 +111,7 @@ fn has_one_word(set: &BriefSet) -> bool
     words.only().is_some()
 }
 
-/// Whether a relation is an equation: a name is one number more than a cell behind it.
+/// Whether a relation is an equation: a name is one number more than a cell after it.
 fn is_equation(relation: &Relation) -> bool
     ensures { result ≡ true → IsEquationLine (relation_of relation.now) }
 {

@@ -14,7 +14,7 @@ use word12::Word;
 use wordset::{Links, WordSet};
 
 /// A fact that holds where a run comes to an address, by the rules by which it was taken there, and how far the return word of
-/// the routine that runs there may have been counted up. By the rules of sums the fact is narrowed already.
+/// the routine that runs there may have been incremented. By the rules of sums the fact is narrowed already.
 #[derive(Drop)]
 pub(crate) struct IncomingFact<'a, F: KnownFact> {
     pub(crate) rules: Rules,
@@ -121,7 +121,7 @@ impl<F: KnownFact> IncomingFact<'_, F> {
         }
     }
 
-    /// Keeps those words of a set that are some number more than a word of another name; none where there is no number.
+    /// Keeps those words of a set that are some number more than a word of another name; none if there is no number.
     fn keep_more(&self, name: &Location, more: &Option<Word>, set: &mut WordSet) {
         match more {
             None => *set = WordSet::empty(),

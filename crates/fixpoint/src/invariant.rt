@@ -162,7 +162,7 @@ impl<A: Allocator> Invariant<A> {
         Ok(())
     }
 
-    /// Adds the relations between tracked cells, but for those that cannot be fulfilled.
+    /// Adds the relations between tracked cells, except for those that cannot be fulfilled.
     fn take_relations<F: KnownFact>(
         &mut self,
         tracked: &WordSet,

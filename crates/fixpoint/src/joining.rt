@@ -83,7 +83,8 @@ fn add_moved<A: Allocator, F: KnownFact>(
     Ok(())
 }
 
-/// Joins the words that a cell may hold now to those of its line, and tells whether it may hold any word then.
+/// Joins the words that a cell may hold now to those of its line, and returns whether it may hold any word
+/// then.
 fn grow<F: KnownFact>(
     line: &mut CellInvariant,
     known: &IncomingFact<'_, F>,
@@ -150,7 +151,7 @@ impl<A: Allocator + Copy> Invariant<A> {
         Ok(dropped || registers || growth.grew)
     }
 
-    /// Drops the relations that are not known, and tells whether there was one.
+    /// Drops the relations that are not known, and returns whether there was one.
     fn drop_relations<F: KnownFact>(
         &mut self,
         alloc: A,
@@ -198,7 +199,7 @@ impl<A: Allocator> Invariant<A> {
         true
     }
 
-    /// Joins the registers and the offsets, and tells whether one grew.
+    /// Joins the registers and the offsets, and returns whether one grew.
     fn join_registers<F: KnownFact>(
         &mut self,
         known: &IncomingFact<'_, F>,

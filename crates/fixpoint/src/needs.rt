@@ -35,7 +35,7 @@ fn set_at<A: Allocator>(sets: &Sets<A>, at: Word) -> WordSet {
     }
 }
 
-/// Adds cells to the set of an address, and tells whether it grew.
+/// Adds cells to the set of an address, and returns whether it grew.
 fn add_at<A: Allocator + Copy>(
     sets: &mut Sets<A>,
     at: Word,
@@ -169,7 +169,7 @@ impl<A: Allocator + Copy> Needs<A> {
         Ok(())
     }
 
-    /// Adds what each routine writes, and tells whether something was added.
+    /// Adds what each routine writes, and returns whether something was added.
     fn add_writes<D: Allocator>(
         &mut self,
         program: &AnalysedProgram<'_, D>,
@@ -209,7 +209,8 @@ impl<A: Allocator + Copy> Needs<A> {
         Ok(())
     }
 
-    /// Adds what is needed at each address, from the last on, and tells whether something was added.
+    /// Adds what is needed at each address, from the last on, and returns whether something was
+    /// added.
     fn add_cells<D: Allocator>(
         &mut self,
         program: &AnalysedProgram<'_, D>,

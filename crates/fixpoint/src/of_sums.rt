@@ -1,5 +1,5 @@
 //! The search by the rules of sums: for facts that certificates of version 3 can say, several of them at an address where they
-//! are told apart.
+//! are distinguished.
 
 mod candidates;
 mod certificates;

@@ -75,7 +75,7 @@ pub(crate) fn is_reference(word: Word) -> bool {
     word.index() < 0o6000
 }
 
-/// Whether a memory reference, which names a cell, counts a pointer in it up first.
+/// Whether a memory reference, which names a cell, increments a pointer in it first.
 fn steps_pointer(word: Word, named: Word) -> bool {
     refers_indirectly(word) && named.index() / 8 == 1
 }
@@ -404,7 +404,7 @@ impl<D: Allocator> AnalysedProgram<'_, D> {
         }
     }
 
-    /// The cells that a word may write, save the one that a JMS itself writes.
+    /// The cells that a word may write, except the one that a JMS itself writes.
     pub(crate) fn written(&self, visit: &AbstractState, word: Word) -> WordSet {
         let mut cells = WordSet::empty();
         self.place(&visit.body)

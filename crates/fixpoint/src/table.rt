@@ -82,8 +82,8 @@ impl<A: Allocator + Copy> Candidate<A> {
 }
 
 impl<A: Allocator + Copy> Candidate<A> {
-    /// Joins what is known to the fact at an address, if there is one, and tells whether less is said
-    /// than before.
+    /// Joins what is known to the fact at an address, if there is one, and returns whether less is
+    /// said than before.
     pub(crate) fn join<F: KnownFact>(
         &mut self,
         alloc: A,
@@ -98,8 +98,8 @@ impl<A: Allocator + Copy> Candidate<A> {
         Ok(false)
     }
 
-    /// Joins what is known to what holds at a return, if something is kept of it, and tells whether
-    /// less is said than before.
+    /// Joins what is known to what holds at a return, if something is kept of it, and returns
+    /// whether less is said than before.
     pub(crate) fn join_exit<F: KnownFact>(
         &mut self,
         alloc: A,

@@ -5,11 +5,11 @@ use Rattle.std.specs.Prelude.{ℕ, ◌+◌, ◌*◌, ◌/◌, ◌%◌, ◌^◌, 
 abbrev pub has_bit : ℕ → ℕ → Bool
 has_bit k word = (word / 2 ^ k % 2) == 1
 
--- The cell that a memory reference names: its low seven bits, on the page of its own address where 0200 is set, else on
--- page zero.
+-- The cell that a memory reference names: its low seven bits are the place in the page, which is that of the
+-- instruction itself if 0200 is set, and otherwise page zero.
 abbrev pub named_cell : ℕ → ℕ → ℕ
 named_cell word at = if has_bit 7 word then at / 128 * 128 + word % 128 else word % 128
 
--- A memory reference is indirect where 0400 is set.
+-- A memory reference is indirect if 0400 is set.
 abbrev pub is_indirect : ℕ → Bool
 is_indirect word = has_bit 8 word

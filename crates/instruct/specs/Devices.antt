@@ -37,12 +37,12 @@ operations =
     ClearKeyboardFlagAndAccumulator ∷ ReadKeyboardBuffer ∷ TakeKeyboardByte ∷
     SkipOnPrinterFlag ∷ ClearPrinterFlag ∷ Print ∷ ClearPrinterFlagAndPrint ∷ []
 
--- The operations that a PDP-8/E has beside those of a PDP-8/I: KCF and TFL.
+-- The operations that a PDP-8/E has in addition to those of a PDP-8/I: KCF and TFL.
 abbrev pub more_operations : Profile → List DeviceOperation
 more_operations Pdp8I = []
 more_operations Pdp8E = ClearKeyboardFlag ∷ SetPrinterFlag ∷ []
 
--- The operation of a word on a machine of a profile, or none.
+-- The device operation that a word is on a machine of this profile, or none.
 unfoldable pub device_operation : Profile → ℕ → Option DeviceOperation
 device_operation profile word =
     find (λ o. word == word_of o) (operations ++ more_operations profile)

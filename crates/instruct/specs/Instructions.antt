@@ -1,4 +1,4 @@
--- The instruction table: what each word of twelve bits means, where it stands, on a machine of each profile.
+-- The instruction table: what each word of twelve bits means at its address, on a machine of each profile.
 use Rattle.std.specs.Prelude.{ℕ, ◌/◌, Bool, true, false, not, ◌||◌, ◌==◌, if◌then◌else◌, Option, Some, None}
 use Rattle.std.specs.Option.{option_map}
 use Rattle.instruct.specs.declared.Profile.{Profile}
@@ -13,8 +13,8 @@ use Rattle.instruct.specs.Bits.{has_bit, named_cell, is_indirect}
 use Rattle.instruct.specs.Devices.{device_operation}
 use Rattle.instruct.specs.Operates.{MqOperate, mq_operate_of}
 
--- What a device word does to the processor: it skips if a flag is set, ors a device's byte into the accumulator, clears
--- the accumulator, clears it and takes a byte, or leaves it.
+-- What a device word does to the processor: it skips if a flag is set, ors the byte of a device into the accumulator,
+-- clears the accumulator, replaces it by a byte, or does not change it.
 pub data DeviceAction : Type 0 where
   Skips : DeviceAction
   Ors : DeviceAction
@@ -37,14 +37,14 @@ pub data Meaning : Type 0 where
   Device : DeviceAction → Meaning
   Undefined : Meaning
 
--- The profile is that of the PDP-8/E, and not that of the PDP-8/I.
+-- The profile is that of the PDP-8/E.
 abbrev pub is_8e : Profile → Bool
 is_8e Pdp8I = false
 is_8e Pdp8E = true
 
--- What each device operation does to the processor: RSF, PSF, KSF and TSF may skip; by RRB, alone or with RFC, and by
--- KRS a byte is ored into the accumulator; KCC clears the accumulator; KRB clears it and takes a byte; all others, IOF
--- among them, leave the processor.
+-- What each device operation does to the processor: RSF, PSF, KSF and TSF may skip; RRB, alone or with RFC, and KRS or
+-- a byte into the accumulator; KCC clears the accumulator; KRB replaces it by a byte; all others, including IOF, do
+-- not change the processor.
 abbrev pub processor_action : DeviceOperation → DeviceAction
 processor_action DisableInterrupts = Leaves
 processor_action SkipOnReaderFlag = Skips
@@ -66,23 +66,24 @@ processor_action ClearPrinterFlagAndPrint = Leaves
 processor_action ClearKeyboardFlag = Leaves
 processor_action SetPrinterFlag = Leaves
 
--- What a word does as a device word to the processor, or none.
+-- What a word does to the processor as a device word, or none if it is not one.
 abbrev pub device_action : Profile → ℕ → Option DeviceAction
 device_action profile word = option_map processor_action (device_operation profile word)
 
--- The meaning of a word by what it does to the processor as a device word; where it is no device word, it has no
--- meaning.
+-- The meaning of a word as a device word, given what it does to the processor; if it is not a device word, it
+-- has no meaning.
 abbrev pub device_meaning : Option DeviceAction → Meaning
 device_meaning (Some action) = Device action
 device_meaning None = Undefined
 
--- A word of group 1 may have one rotate; 0002 without a rotate is BSW of the 8/E.
+-- A word of group 1 has at most one rotate, and 0002 without a rotate only on the 8/E, where it is
+-- BSW.
 abbrev pub is_group1 : Profile → ℕ → Bool
 is_group1 profile word =
     if has_bit 3 word then not (has_bit 2 word)
     else (has_bit 2 word || (not (has_bit 1 word) || is_8e profile))
 
--- The meaning of a word by the operate of group 3 that it is; where it is none of the six, it has no meaning.
+-- The meaning of a word as an operation of group 3; if it is none of the six, it has no meaning.
 abbrev pub mq_meaning : Option MqOperate → Meaning
 mq_meaning (Some operate) = Group3 operate
 mq_meaning None = Undefined
@@ -92,14 +93,15 @@ abbrev pub group3_meaning : Profile → ℕ → Meaning
 group3_meaning Pdp8I word = Undefined
 group3_meaning Pdp8E word = mq_meaning (mq_operate_of word)
 
--- Without 0400 an operate word is of group 1, with it of group 2, and with 0001 beside it of group 3.
+-- An operate word without 0400 belongs to group 1, one with 0400 to group 2, and one with 0400 and
+-- 0001 to group 3.
 abbrev pub operate_meaning : Profile → ℕ → Meaning
 operate_meaning profile word =
     if has_bit 8 word
     then (if has_bit 0 word then group3_meaning profile word else Group2 word)
     else (if is_group1 profile word then Group1 word else Undefined)
 
--- The meaning of a word that stands at an address: bits 0 to 2 are the operation.
+-- The meaning of a word at an address: bits 0 to 2 are the operation.
 unfoldable pub meaning_of : Profile → ℕ → ℕ → Meaning
 meaning_of profile at word =
     if word / 512 == 0 then And (is_indirect word) (named_cell word at)
@@ -111,7 +113,8 @@ meaning_of profile at word =
     else (if word / 512 == 6 then device_meaning (device_action profile word)
     else operate_meaning profile word))))))
 
--- The operation of a memory reference: its bits 0 to 2. Words from 6000 on, which refer to no memory, count as JMP.
+-- The operation of a memory reference: its bits 0 to 2. Words from 6000 on, which are not memory references, count
+-- as JMP.
 abbrev pub operation_of : ℕ → Operation
 operation_of word =
     if word / 512 == 0 then operation.And
@@ -130,7 +133,7 @@ reference operation.Dca indirect named = Dca indirect named
 reference operation.Jms indirect named = Jms indirect named
 reference operation.Jmp indirect named = Jmp indirect named
 
--- The meaning of the memory reference by this operation that a word at an address is.
+-- The meaning of a word at an address, as a memory reference with this operation.
 abbrev pub reference_at : Operation → ℕ → ℕ → Meaning
 reference_at operation word at = reference operation (is_indirect word) (named_cell word at)
 
@@ -148,6 +151,6 @@ kind_of (Group3 _) = Operate3
 kind_of (Device _) = Iot
 kind_of Undefined = Unsupported
 
--- The kind of a word, which is the same wherever it stands.
+-- The kind of a word, which is the same at every address.
 unfoldable pub instruction_of : Profile → ℕ → Instruction
 instruction_of profile word = kind_of (meaning_of profile 0 word)

@@ -140,6 +140,6 @@ pub record IsSpaced (names : List (List ℕ)) (text : List ℕ) : Type 0 where
   pub joined : text ≡ join_with_byte 32 names
   pub empty : (length text == 0) ≡ (length names == 0)
 
--- Whatever names a text is, these stand behind them in the text after it.
+-- Whatever names a text is, these stand after them in the text after it.
 abbrev pub Adds : List (List ℕ) → List ℕ → List ℕ → Type 0
 Adds more before after = (names : List (List ℕ)) → IsSpaced names before → IsSpaced (names ++ more) after

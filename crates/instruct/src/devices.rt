@@ -51,7 +51,7 @@ pub enum DeviceOperation {
 }
 
 impl DeviceOperation {
-    /// What a word does as a device word on a machine of a profile, or none where it is not one.
+    /// What a word does as a device word on a machine of a profile, or none if it is not one.
     #[tactic(auto, unfolding(crate::specs::Devices::device_operation))]
     pub fn of(word: Word, profile: Profile) -> Option<DeviceOperation>
         ensures exact { result ≡ device_operation profile word }

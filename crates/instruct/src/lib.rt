@@ -62,7 +62,7 @@ pub enum Operation {
     Isz,
     /// The accumulator is stored and cleared.
     Dca,
-    /// The return address is stored, and the routine behind it goes on.
+    /// The return address is stored, and the routine after it goes on.
     Jms,
     /// The program goes on at the effective address.
     Jmp,

@@ -162,7 +162,7 @@ pub(crate) enum MqOperation {
 }
 
 impl MqOperation {
-    /// The operation of a word of group 3, or none where it has none.
+    /// The operation of a word of group 3, or none if it has none.
     pub(crate) fn of(word: Word) -> Option<MqOperation>
         ensures { option_map mq_operate_as result ≡ mq_operate_of word }
     {

@@ -25,7 +25,7 @@ HasFew j r a f = how_many 4096 (possible (place_in j r) f a) ≤ 64
 abbrev pub HoldsOfFact : Case → Condition → Routine → ℕ → Fact → Type 0
 HoldsOfFact j v r a f = (asks_few v ≡ true → HasFew j r a f) × HoldsForWords j v r a f
 
--- The facts of the list of which conditions are asked.
+-- The facts of the list for which conditions are checked.
 abbrev pub asked_of : Case → Routine → List Fact → List Fact
 asked_of j r fs = asked j.certificate.rules j.image (sited j.certificate.rules (sites_of j.certificate r) fs)
 
@@ -56,7 +56,8 @@ IsLeastOfSome j r a fs place =
 abbrev pub IsLeastOfAll : Case → Routine → ℕ → ℕ → Type 0
 IsLeastOfAll j r a place = IsLeastOfSome j r a (j.certificate.facts a) place
 
--- By an exit all is so that is to hold when the routine returns so, if conditions are asked of it; and by each exit for one offset.
+-- By an exit all is so that is to hold when the routine returns so, if conditions are checked for it; and by each exit for one
+-- offset.
 abbrev pub ExitIsHeld : Case → ℕ → ℕ → Fact → Type 0
 ExitIsHeld j e o x =
     EachFact (λ y. EachIsHeldBy (place_in j (Some e)) y e o j.declaration.returns) (asked j.certificate.rules j.image (x ∷ []))

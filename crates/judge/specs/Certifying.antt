@@ -31,7 +31,7 @@ words_of p = image_of p.image
 abbrev pub declaration_of : Parts → Declaration
 declaration_of p = declared.meaning p.declaration
 
--- What the conditions are asked of.
+-- What the conditions are checked for.
 abbrev pub case_of : Parts → Case
 case_of p = record { image = words_of p; declaration = declaration_of p; certificate = certified.claims p.certificate }
 

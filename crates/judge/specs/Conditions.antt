@@ -77,7 +77,7 @@ pub record Covers (c : Certificate) (r e : ℕ) : Type 0 where
   pub entry : c.writes r e ≡ true
   pub own : c.writes e r ≡ false
 
--- Where the caller is a routine, what its callee may write, and the callee's entry, are in its written set, and its own
+-- If the caller is a routine, what its callee may write, and the callee's entry, are in its written set, and its own
 -- entry is not in the callee's. Of main none of this is asked.
 abbrev pub CoversCallee : Certificate → Routine → ℕ → Type 0
 CoversCallee c None e = Unit {0}
@@ -123,7 +123,8 @@ HoldsForWords j v r a f =
     (w : ℕ) → w < 4096 → possible (place_in j r) f a w ≡ true →
     HoldsFor j v r a f (meaning_of j.declaration.profile a w)
 
--- A property of each fact of which conditions are asked at the address, in the routine whose body has it.
+-- A property of each fact for which conditions are checked at the address, in the routine whose body has
+-- it.
 abbrev pub OfEachFact : Case → ℕ → (Routine → Fact → Type 0) → Type 0
 OfEachFact j a p = (r : Routine) → j.declaration.body r a ≡ true → EachFact (p r) (asked_at j r a)
 
@@ -135,7 +136,8 @@ HasFewWords j a = OfEachFact j a (λ r f. how_many 4096 (possible (place_in j r)
 abbrev pub HoldsForEach : Case → Condition → ℕ → Type 0
 HoldsForEach j v a = OfEachFact j a (λ r f. HoldsForWords j v r a f)
 
--- By each exit of the routine of an entry, of which conditions are asked, all is so that is to hold when it returns so.
+-- By each exit of the routine of an entry, for which conditions are checked, all is so that is to hold when it returns
+-- so.
 abbrev pub ExitsAreHeld : Case → ℕ → Type 0
 ExitsAreHeld j e =
     (o : ℕ) → o < 64 →

@@ -9,7 +9,7 @@ use Rattle.facts.specs.declared.Condition.TheVariants.{V15, V16}
 use Rattle.judge.specs.Landing.{Case}
 use Rattle.judge.specs.Conditions.{IsValid, HoldsAt}
 
--- Where every condition holds, the program keeps its declaration in every declared run, of the instruction table and of
+-- If every condition holds, the program keeps its declaration in every declared run, of the instruction table and of
 -- event lists.
 abbrev pub ProgramsAreSafe : Type 0
 ProgramsAreSafe = (j : Case) → IsDeclared j.declaration → IsValid j → IsSafe j.image j.declaration

@@ -45,20 +45,20 @@ facts_in j r a = sited j.certificate.rules (sites_of j.certificate r) (j.certifi
 abbrev pub exits_of : Case → ℕ → ℕ → List Fact
 exits_of j e o = sited j.certificate.rules (j.certificate.sites e) (j.certificate.exits e o)
 
--- The facts of which conditions are asked: by the rules of sums the narrowed facts, without those that no state satisfies; by those
--- of equations all facts, as they stand.
+-- The facts for which conditions are checked: by the rules of sums the narrowed facts, without those that no state satisfies; by
+-- those of equations all facts, as they stand.
 abbrev pub asked : Rules → Image → List Fact → List Fact
 asked OfSums image [] = []
 asked OfSums image (f ∷ fs) =
     if is_void (narrowed image f) then asked OfSums image fs else narrowed image f ∷ asked OfSums image fs
 asked OfEquations image facts = facts
 
--- The facts at an address of a routine's body of which conditions are asked.
+-- The facts at an address of a routine's body for which conditions are checked.
 abbrev pub asked_at : Case → Routine → ℕ → List Fact
 asked_at j r a = asked j.certificate.rules j.image (facts_in j r a)
 
 -- The fact lands at an address of a routine's body: it lands among the facts there, and the address is in the body; or nothing
--- is asked of it, since no state satisfies it.
+-- is required of it, since no state satisfies it.
 abbrev pub LandsAt : Case → Routine → ℕ → Fact → Type 0
 LandsAt j r a f =
     IsIdle j.certificate.rules (place_in j r) f ⊎
@@ -83,7 +83,7 @@ abbrev pub LandsBeyond : Bool → Case → Routine → ℕ → Fact → Type 0
 LandsBeyond true j r a f = LandsAt j None a (as_main f)
 LandsBeyond false j r a f = LandsAt j r a f
 
--- Where the run goes on after an outcome of an instruction, its fact lands.
+-- If the run goes on after an outcome of an instruction, its fact lands.
 abbrev pub SuccessorLands : Case → Routine → Meaning → Successor → Type 0
 SuccessorLands j r m (Goes next f) =
     (a : ℕ) → a < 4096 → next a ≡ true → LandsBeyond (abandons j.declaration r m a) j r a f
@@ -99,7 +99,7 @@ EachSuccessor p (o ∷ os) = p o × EachSuccessor p os
 abbrev pub called_from : ℕ → Fact → Fact
 called_from a f = record f { sites = one a; offsets = one 0 }
 
--- Where one of these facts has the site, what is joined of it and of the fact at the JMS lands.
+-- If one of these facts has the site, what is joined of it and of the fact at the JMS lands.
 abbrev pub EachLandsAfter : Case → Routine → ℕ → ℕ → ℕ → Fact → List Fact → Type 0
 EachLandsAfter j r a e o f [] = Unit {0}
 EachLandsAfter j r a e o f (x ∷ xs) =

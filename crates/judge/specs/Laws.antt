@@ -15,20 +15,20 @@ use Rattle.judge.specs.Certifying.{Parts, AreRead, case_of}
 use Rattle.judge.specs.Landing.{Case, place_in, facts_in}
 use Rattle.judge.specs.Conditions.{IsFirst, IsValid}
 
--- One of the facts at the program counter holds of the memory at the start, this state and this call list, in the running
--- routine. So there is one.
+-- One of the facts at the program counter holds of the memory at the start, this state and this call stack, in the
+-- running routine. So there is one.
 abbrev pub IsTrueAt : Case → Cells → State → Calls → Type 0
 IsTrueAt j start t ls = SomeMeans (place_in j (current ls)) start (facts_in j (current ls) t.pc) t ls
 
--- Where every condition holds, one of the facts is true wherever a declared run of the instruction table leads from a start.
+-- If every condition holds, one of the facts is true wherever a declared run of the instruction table leads from a start.
 abbrev pub FactsHoldInRuns : Type 0
 FactsHoldInRuns =
     (j : Case) → IsDeclared j.declaration → IsValid j →
     (s t : State) (ls : Calls) (answers : List Answer) →
     IsStart j.image j.declaration.start s → DeclaredRun j.declaration answers s [] t ls → IsTrueAt j s.memory t ls
 
--- Where every condition holds, one of the facts is true wherever declared events lead from a machine that is just loaded, while
--- it runs.
+-- If every condition holds, one of the facts is true wherever declared events lead from a machine that is just loaded, while it
+-- runs.
 abbrev pub FactsHoldInEvents : Type 0
 FactsHoldInEvents =
     (j : Case) → IsDeclared j.declaration → IsValid j →

@@ -1,4 +1,4 @@
--- A fact of which conditions are asked at an address of a body, as the code keeps it.
+-- A fact for which conditions are checked at an address of a body, as the code keeps it.
 use Rattle.std.specs.Prelude.{◌≡◌, ℕ, true, IfSome, ◌≤◌}
 use Rattle.wordset.specs.Words.{Words}
 use Rattle.wordset.specs.Lanes.{words}

@@ -14,7 +14,7 @@ pub record HasShape (f : Fact) : Type 0 where
   pub short : AreShort f.chains
   pub few : length f.chains ≤ 4
 
--- So it is of a fact of which conditions are asked; and it leaves room for what comes of a word.
+-- So it is of a fact for which conditions are checked; and it leaves room for what comes of a word.
 pub record IsRoomy {C R : ℕ} (f : SumFact C R) : Type 0 where
   pub terms : HaveFewTerms (fact_in_code f).relations
   pub short : AreShort (fact_in_code f).chains

@@ -45,7 +45,7 @@ impl FactCache {
         &self.fact
     }
 
-    /// The line behind the fact's own, which is a good one to look at first for what comes next.
+    /// The line after the fact's own, which is a good one to look at first for what comes next.
     pub fn end(&self) -> usize
         ensures { result ≡ self.now.end }
     {

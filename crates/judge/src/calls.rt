@@ -181,7 +181,7 @@ impl<A: Allocator, C: Claims, const K: usize, const S: usize> Point<'_, A, C, K,
         }
     }
 
-    /// What is claimed of the routine of an entry, and nothing where it is not listed.
+    /// What is claimed of the routine of an entry, and nothing if it is not listed.
     pub fn claimed(&self, entry: Word) -> RoutineClaim
         ensures rank { result.rank ≡ (case_of C.claims self.now).certificate.rank entry }
         ensures sites { words result.sites ≡ (case_of C.claims self.now).certificate.sites entry }

@@ -58,8 +58,8 @@ pub(crate) struct CheckWorkspace<M: Allocator> {
     others: ComparisonWorkspace<M>,
 }
 
-/// Room for all that is judged: for a fact of which conditions are asked and what it is compared with, and for the only facts at
-/// even and at odd addresses.
+/// Room for all that is judged: for a fact for which conditions are checked and what it is compared with, and for the only facts
+/// at even and at odd addresses.
 #[derive(Drop)]
 pub struct JudgeWorkspace<M: Allocator> {
     pub(crate) checks: CheckWorkspace<M>,
@@ -107,9 +107,9 @@ impl<M: Allocator + Copy> JudgeWorkspace<M> {
     }
 }
 
-/// Lets a fact be the one of which conditions are asked: by the rules of sums narrowed, and by those of
-/// equations as it stands. Tells whether they are asked of it: by the rules of sums they are not where no
-/// state satisfies it.
+/// Lets a fact be the one for which conditions are checked: by the rules of sums narrowed, and by those
+/// of equations as it stands. Tells whether they are asked of it: by the rules of sums they are not where
+/// no state satisfies it.
 pub fn put_asked(rules: &Rules, image: &Image, claimed: &Fact, fact: &mut NarrowedFact) -> bool
     requires { HasShape (fact_in_code claimed.now) }
     ensures asked { asked (rules_of rules.now) (image_of image.now) (fact_in_code claimed.now ∷ []) ≡
@@ -381,7 +381,7 @@ impl<A: Allocator, C: Claims> Case<'_, A, C> {
         put_sites(&self.claims.rules(), sites, claimed);
     }
 
-    /// The sites of the routine of an entry, none where it is not listed.
+    /// The sites of the routine of an entry, none if it is not listed.
     fn sites_of(&self, entry: Word) -> WordSet
         ensures { words result ≡ (C.claims self.now.claims.now).sites entry }
     {
@@ -391,7 +391,7 @@ impl<A: Allocator, C: Claims> Case<'_, A, C> {
         }
     }
 
-    /// The same of one exit, if conditions are asked of it.
+    /// The same of one exit, if conditions are checked for it.
     fn exit_is_held(
         &self,
         entry: Word,

@@ -60,7 +60,7 @@ pub trait Claims {
     fn count_facts(&self, at: Word, near: usize) -> usize
         ensures { result ≡ length ((claims self.now).facts at) };
 
-    /// Lets the lent fact say what one of those at an address says, and tells the line behind it, which
+    /// Lets the lent fact say what one of those at an address says, and tells the line after it, which
     /// is a good one to look at first for what comes next.
     fn put_fact(&self, at: Word, near: usize, index: usize, fact: &mut Fact) -> usize
         requires { index < length ((claims self.now).facts at) }

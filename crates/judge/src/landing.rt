@@ -189,8 +189,8 @@ impl<A: Allocator, C: Claims, const K: usize, const S: usize> Point<'_, A, C, K,
         !self.place.declaration.abandons().is_empty()
     }
 
-    /// Whether an outcome of a JMP in a routine that is no return lands wherever it goes, if it is there and goes on: in main's
-    /// body as one of main's facts, where calls may be abandoned for the address; else in the routine's.
+    /// Whether an outcome of a JMP in a routine that is not a return lands wherever it goes, if it is there and goes on: in
+    /// main's body as one of main's facts, where calls may be abandoned for the address; else in the routine's.
     #[inline(never)]
     fn jump_lands(&self, outcome: &mut FactOutcome, rooms: &mut LandingWorkspace) -> bool
         requires { IsPoint C.claims self.now }
@@ -266,7 +266,8 @@ impl<A: Allocator, C: Claims, const K: usize, const S: usize> Point<'_, A, C, K,
         self.outcome_lands(&mut outcomes.fourth, rooms)
     }
 
-    /// Whether each of some outcomes of a JMP in a routine that is no return lands wherever it goes.
+    /// Whether each of some outcomes of a JMP in a routine that is not a return lands wherever it
+    /// goes.
     fn each_jumps(&self, outcomes: &mut Outcomes, rooms: &mut LandingWorkspace) -> bool
         requires { IsPoint C.claims self.now }
         ensures { IsTrue result ↔ EachSuccessor

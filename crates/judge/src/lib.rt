@@ -36,17 +36,17 @@ pub use verdict::{Certified, CertifyFault, certify};
 /// declared place after its own call, or all calls are abandoned for a declared place, halts are
 /// declared, listed reads are kept, and what is declared to hold, holds.
 ///
-/// `certify` answers yes only where every condition holds; that this is enough is said here, over the
-/// definitions alone. The accumulator, the link and MQ are free too. Its premises are that the
-/// machine follows the instruction table of the declared profile in one field with interrupts off,
-/// that memory holds the tape's words at the start, and that the operator starts at the declared
-/// start, presses CONTINUE at pauses alone, sets the switches freely and deposits nothing. It does not
-/// say that a run ends, that a program computes what its author meant, or that a declaration is
-/// wise; and it says nothing of reads where none are listed.
+/// `certify` answers yes only if every condition holds; that this is enough is said here, over the
+/// definitions alone. The accumulator, the link and MQ are free too. Its premises are that the machine
+/// follows the instruction table of the declared profile in one field with interrupts off, that memory
+/// holds the tape's words at the start, and that the operator starts at the declared start, presses
+/// CONTINUE at pauses alone, sets the switches freely and deposits nothing. It does not say that a run
+/// ends, that a program computes what its author meant, or that a declaration is wise; and it says
+/// nothing of reads where none are listed.
 pub fn headline()
     ensures safe { ProgramsAreSafe }
     // Without a list of reads, the rule on reads and its condition ask nothing.
     ensures reads { UnlistedReadsAreFree }
-    // Where nothing is asserted, the rule on assertions and its condition ask nothing.
+    // If nothing is asserted, the rule on assertions and its condition ask nothing.
     ensures assertions { UnassertedIsFree }
 {}

@@ -1,4 +1,5 @@
-//! A fact of which conditions are asked at an address of a body, and room for what it is compared with.
+//! A fact for which conditions are checked at an address of a body, and room for what it is compared
+//! with.
 
 ghost use Rattle.std.specs.Prelude.{◌≡◌, ◌≤◌, true, IfSome};
 ghost use Rattle.wordset.specs.Lanes.{words};
@@ -51,8 +52,8 @@ pub(crate) fn boxed_landing<M: Allocator>(
     Ok(Box::new(memory, LandingWorkspace::new())?)
 }
 
-/// A fact of which conditions are asked at an address of a body: by the rules of equations as it is claimed, and by those of
-/// sums narrowed, which has more room.
+/// A fact for which conditions are checked at an address of a body: by the rules of equations as it is claimed, and by those
+/// of sums narrowed, which has more room.
 #[derive(Drop)]
 pub struct Point<'a, A: Allocator, C: Claims, const K: usize, const S: usize> {
     pub claims: &'a C,

@@ -34,10 +34,10 @@ pub enum CertifyFault {
     /// The bytes are no tape.
     #[error("tape: {0}")]
     Tape(TapeFault),
-    /// The text is no declaration.
+    /// The text is not a declaration.
     #[error("declaration: {0}")]
     Declaration(DeclarationFault),
-    /// The text is no certificate.
+    /// The text is not a certificate.
     #[error("certificate: {0}")]
     Certificate(CertificateFault),
     /// A condition fails.
@@ -143,8 +143,8 @@ impl<A: Allocator> Certified<A> {
 /// routine's body, writes hit only declared cells, fixed code words never change, each return
 /// reaches a declared place after its own call, halts are declared, and listed reads are kept.
 ///
-/// The bytes alone decide: a yes comes exactly where every condition holds of what they say, and
-/// each fault exactly where it is the first that there is, unless memory is refused.
+/// The bytes alone decide: a yes comes if and only if every condition holds of what they say, and each
+/// fault if and only if it is the first that there is, unless memory is refused.
 ///
 /// # Errors
 ///

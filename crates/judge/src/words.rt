@@ -243,7 +243,7 @@ impl<A: Allocator, C: Claims, const K: usize, const S: usize> Point<'_, A, C, K,
         self.place.writes_are_declared(self.fact, self.at, word)
     }
 
-    /// Whether a word writes no entry, save where ISZ counts the routine's own or DCA moves it.
+    /// Whether a word writes no entry, except where ISZ counts the routine's own or DCA moves it.
     fn entries_are_kept(&self, word: Word) -> bool
         requires { IsPoint C.claims self.now }
         ensures { IsTrue result ↔ HoldsHere C.claims self.now V14 word }

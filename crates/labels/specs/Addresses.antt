@@ -27,11 +27,11 @@ ends_name c = not (is_capital c) && not (is_digit c)
 abbrev pub name_of : List ℕ → List ℕ
 name_of text = before_first ends_name text
 
--- What stands behind them.
+-- What comes after them.
 abbrev pub after_name : List ℕ → List ℕ
 after_name text = drop (position_or_len ends_name text) text
 
--- An address and what stands behind it, or what is wrong with it.
+-- An address and what comes after it, or what is wrong with it.
 abbrev pub Reading : Type 0
 Reading = Result (ℕ × List ℕ) AddressFault
 
@@ -54,7 +54,7 @@ abbrev pub moved : ℕ → Bool → ℕ → Result ℕ AddressFault
 moved at true count = if nat_lt at count then Err Memory else Ok (at - count)
 moved at false count = if nat_lt (at + count) 4096 then Ok (at + count) else Err Memory
 
--- An address, where there is one, with what stands behind it.
+-- An address, where there is one, with what comes after it.
 abbrev pub behind : Result ℕ AddressFault → List ℕ → Reading
 behind (Ok at) rest = Ok (at, rest)
 behind (Err flaw) rest = Err flaw
@@ -95,7 +95,7 @@ address_by own (first ∷ more) rest =
     if is_capital first then symbol_then (value_of own (first ∷ more)) rest
     else behind (number_value (octal_word (first ∷ more))) rest
 
--- The address at the front of a text, and what stands behind it. It is read as far as it goes: a `-` before a digit belongs
+-- The address at the front of a text, and what comes after it. It is read as far as it goes: a `-` before a digit belongs
 -- to the symbol before it.
 abbrev pub address_of : List (Name × ℕ) → List ℕ → Reading
 address_of own text = address_by own (name_of text) (after_name text)

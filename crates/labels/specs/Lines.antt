@@ -38,7 +38,7 @@ joined c (Ok first) (Ok rest) = Ok (c ∷ first ++ rest)
 joined c (Ok first) (Err fault) = Err fault
 joined c (Err fault) rest = Err fault
 
--- Words of a line, each behind a space.
+-- Words of a line, each after a space.
 abbrev pub placed_words : List (Name × ℕ) → ℕ → List (List ℕ) → Placed
 placed_words own n [] = Ok []
 placed_words own n (word ∷ words) = joined 32 (placed_word own n word) (placed_words own n words)
@@ -48,12 +48,12 @@ abbrev pub prefixed : List ℕ → Placed → Placed
 prefixed front (Ok text) = Ok (front ++ text)
 prefixed front (Err fault) = Err fault
 
--- A text with another behind it, or its fault.
+-- A text with another after it, or its fault.
 abbrev pub followed : Placed → List ℕ → Placed
 followed (Ok text) after = Ok (text ++ after)
 followed (Err fault) after = Err fault
 
--- A comment behind a space, if there is one.
+-- A comment after a space, if there is one.
 abbrev pub spaced : List ℕ → List ℕ
 spaced [] = []
 spaced (c ∷ comment) = 32 ∷ c ∷ comment
@@ -75,7 +75,7 @@ comment line = drop (position_or_len is_slash line) line
 abbrev pub return_of : List ℕ → List ℕ
 return_of line = if slice_index line (length line - 1) == 13 then 13 ∷ [] else []
 
--- A line by what stands before the carriage return at its end, which stays.
+-- A line by what comes before the carriage return at its end, which stays.
 abbrev pub placed_body : List (Name × ℕ) → ℕ → List ℕ → List ℕ → Placed
 placed_body own n body after = followed (placed_by own n (words_of (said body)) (comment body)) after
 
@@ -91,7 +91,7 @@ placed_line own n line =
 abbrev pub is_feed : ℕ → Bool
 is_feed c = c == 10
 
--- The lines of the text behind a line feed, if there is one.
+-- The lines of the text after a line feed, if there is one.
 abbrev pub lines_behind : Option (Bor (List ℕ)) → List (List ℕ)
 lines_behind None = []
 lines_behind (Some text) = slice_split is_feed text.now
@@ -101,12 +101,12 @@ abbrev pub length_behind : Option (Bor (List ℕ)) → ℕ
 length_behind None = 0
 length_behind (Some text) = 1 + length text.now
 
--- Lines from the one of this number on, each behind a line feed.
+-- Lines from the one of this number on, each after a line feed.
 abbrev pub placed_lines : List (Name × ℕ) → ℕ → List (List ℕ) → Placed
 placed_lines own n [] = Ok []
 placed_lines own n (line ∷ lines) = joined 10 (placed_line own n line) (placed_lines own (n + 1) lines)
 
--- A first line and those behind it.
+-- A first line and those after it.
 abbrev pub first_then : Placed → Placed → Placed
 first_then (Ok first) rest = prefixed first rest
 first_then (Err fault) rest = Err fault

@@ -43,7 +43,7 @@ abbrev pub lacks_address : List (List ℕ) → Bool
 lacks_address [] = false
 lacks_address (name ∷ words) = lacks_by name (first_of words)
 
--- Words, each behind a space.
+-- Words, each after a space.
 abbrev pub spaced_words : List (List ℕ) → List ℕ
 spaced_words [] = []
 spaced_words (word ∷ words) = 32 ∷ word ++ spaced_words words

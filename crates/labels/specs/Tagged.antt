@@ -9,7 +9,7 @@ use Rattle.labels.specs.Addresses.{cells_of}
 abbrev pub IsNameOf : List (Name × ℕ) → ℕ → List ℕ → Type 0
 IsNameOf own at piece = (piece ≡ octal_text at) ⊎ (cells_of own piece ≡ Ok (One at))
 
--- A name of the address was put behind a text.
+-- A name of the address was put after a text.
 pub record AddsName (own : List (Name × ℕ)) (at : ℕ) (old new : List ℕ) : Type 0 where
   pub piece : List ℕ
   pub names : IsNameOf own at piece

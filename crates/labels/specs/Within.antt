@@ -41,13 +41,13 @@ machine text = if names_8e text then Pdp8E else Pdp8I
 abbrev pub is_slash_code : ℕ → Bool
 is_slash_code c = c % 128 == 47
 
--- What follows a colon at the front of some characters; nothing where none stands there.
+-- What follows a colon at the front of some characters; nothing if none stands there.
 abbrev pub after_colon : List ℕ → List ℕ
 after_colon [] = []
 after_colon (first ∷ more) = if first == 58 then more else []
 
 -- The line of a declaration that the line of a source at a place holds, and a line feed: the characters behind the `/:` with which
--- its comment begins, and none where it does not begin so. What is no character is passed over, also between `/` and `:`. An address
+-- its comment begins, and none if it does not begin so. What is no character is passed over, also between `/` and `:`. An address
 -- that is left out is that of the first of these words that stands there.
 abbrev pub declared_line : List PlacedWord → SourcePlace → List ℕ → List ℕ
 declared_line words place line = located (address_on words place) (after_colon (characters (after_first is_slash_code line))) ++ 10 ∷ []
@@ -70,7 +70,7 @@ reads_on_after (Illegal n) = Ok false
 reads_on_after TooLong = Ok false
 reads_on_after NoMemory = Err alloc_error
 
--- What a part with this number declares, and whether the next one is read behind it. A part that is too long or has a statement without
+-- What a part with this number declares, and whether the next one is read after it. A part that is too long or has a statement without
 -- a form declares nothing, and ends the source. Another declares by its lines, up to where it ends.
 pub data PartDeclares (words : List PlacedWord) (part : ℕ) (source : List ℕ) : Bool → List ℕ → Type 0 where
   unread : ((65536 < length source) ⊎ ((line : ℕ) × IsIllegal source line)) → PartDeclares words part source false []
@@ -83,7 +83,7 @@ pub data Declared (words : List PlacedWord) : ℕ → List (List ℕ) → List �
   last_part : (n : ℕ) (part : List ℕ) (parts : List (List ℕ)) (text : List ℕ) → PartDeclares words n part false text → Declared words n (part ∷ parts) text
   next_part : (n : ℕ) (part : List ℕ) (parts : List (List ℕ)) (text more : List ℕ) → PartDeclares words n part true text → Declared words (n + 1) parts more → Declared words n (part ∷ parts) (text ++ more)
 
--- What a part with this number declares was put behind a text.
+-- What a part with this number declares was put after a text.
 pub record Adds (words : List PlacedWord) (part : ℕ) (source : List ℕ) (on : Bool) (old new : List ℕ) : Type 0 where
   pub text : List ℕ
   pub says : PartDeclares words part source on text

@@ -20,7 +20,7 @@ pub enum Cells {
     Range(Word, Word),
 }
 
-/// An address at the front of a text, and what stands behind it.
+/// An address at the front of a text, and what comes after it.
 #[derive(Clone, Copy)]
 struct AddressPrefix<'a> {
     at: Word,
@@ -71,7 +71,7 @@ fn name_of(text: &[u8]) -> &[u8]
     &text[..name_len(text)]
 }
 
-/// What stands behind the letters and digits at the front of a text.
+/// What comes after the letters and digits at the front of a text.
 #[tactic(auto, using(crate::proofs::Places::position_or_len_le))]
 fn after_name(text: &[u8]) -> &[u8]
     ensures { result.now ≡ after_name text.now }

@@ -29,7 +29,7 @@ pub enum PlaceFault {
     NoMemory,
 }
 
-/// Why a word is no address and no range.
+/// Why a word is neither an address nor a range.
 #[derive(Clone, Copy, PartialEq, Eq, Debug)]
 pub enum AddressFault {
     /// It is neither an address nor a range.

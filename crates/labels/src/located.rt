@@ -120,7 +120,7 @@ pub(crate) fn lacks_some(text: &[u8]) -> bool
     false
 }
 
-/// Adds words, each behind a space.
+/// Adds words, each after a space.
 fn push_words<A: Allocator>(words: Words<'_>, text: &mut Vec<u8, A>) -> Result<(), AllocError>
     ensures { OnOk result (text.new.items ≡
         text.old.items ++ spaced_words (words_left words.entry)) }
@@ -133,7 +133,7 @@ fn push_words<A: Allocator>(words: Words<'_>, text: &mut Vec<u8, A>) -> Result<(
     Ok(())
 }
 
-/// Adds the name of a line, an address, words and a comment, each behind a space but the first.
+/// Adds the name of a line, an address, words and a comment, each after a space but the first.
 fn push_addressed<A: Allocator>(
     name: &[u8],
     at: Word,

@@ -37,7 +37,7 @@ pub(crate) struct Spelling {
     behind: usize,
 }
 
-/// The bytes between two places; none where they are not within.
+/// The bytes between two places; none if they are not within.
 fn bytes_between(bytes: &[u8], start: usize, end: usize) -> &[u8] {
     match bytes.get(start..end) {
         Some(found) => found,
@@ -59,7 +59,7 @@ fn push_tag<A: Allocator, S: Allocator + Copy>(
     Ok(())
 }
 
-/// Adds the tags among the tokens of a part: what stands before a comma.
+/// Adds the tags among the tokens of a part: what comes before a comma.
 fn push_tags<A: Allocator, S: Allocator + Copy>(
     own: &SymbolTable<S>,
     source: &[u8],
@@ -76,7 +76,7 @@ fn push_tags<A: Allocator, S: Allocator + Copy>(
     Ok(())
 }
 
-/// Adds the tags of a part, and says whether the part behind it is read.
+/// Adds the tags of a part, and says whether the part after it is read.
 fn push_part_tags<A: Allocator + Copy, S: Allocator + Copy>(
     alloc: A,
     own: &SymbolTable<S>,
@@ -164,7 +164,7 @@ fn push_behind<A: Allocator>(behind: usize, text: &mut Vec<u8, A>) -> Result<(),
     Ok(())
 }
 
-/// Adds a symbol and how far behind it an address is, also where it is the symbol's own if that is asked.
+/// Adds a symbol and how far after it an address is, even if it is the symbol's own if that is asked.
 pub(crate) fn push_spelling<A: Allocator>(
     spelling: &Spelling,
     with_zero: bool,
@@ -363,7 +363,7 @@ fn push_line<A: Allocator + Copy, S: Allocator + Copy>(
     }
 }
 
-/// The first line of what is left of a text, and what is left behind it; no line is an empty one.
+/// The first line of what is left of a text, and what is left after it; no line is an empty one.
 fn split_if_any<'t>(left: Option<&'t [u8]>) -> FirstLine<'t> {
     match left {
         Some(text) => split_first_line(text),
@@ -374,7 +374,7 @@ fn split_if_any<'t>(left: Option<&'t [u8]>) -> FirstLine<'t> {
     }
 }
 
-/// Adds the lines behind the first one, each behind a line feed.
+/// Adds the lines after the first one, each after a line feed.
 fn push_lines<A: Allocator + Copy, S: Allocator + Copy>(
     alloc: A,
     own: &SymbolTable<S>,

@@ -49,7 +49,7 @@ fn place_word<A: Allocator, S: Allocator + Copy>(
     }
 }
 
-/// Adds words of the line of this number, each behind a space.
+/// Adds words of the line of this number, each after a space.
 fn place_words<A: Allocator, S: Allocator + Copy>(
     own: &SymbolTable<S>,
     number: usize,
@@ -69,7 +69,7 @@ fn place_words<A: Allocator, S: Allocator + Copy>(
     Ok(())
 }
 
-/// Adds a comment behind a space, if there is one.
+/// Adds a comment after a space, if there is one.
 pub(crate) fn push_comment<A: Allocator>(
     comment: &[u8],
     out: &mut Vec<u8, A>,
@@ -157,7 +157,7 @@ pub(crate) fn return_of(line: &[u8]) -> &[u8]
     }
 }
 
-/// Adds the line of this number, in numbers, by what stands before its end and by its end.
+/// Adds the line of this number, in numbers, by what comes before its end and by its end.
 fn place_body<A: Allocator, S: Allocator + Copy>(
     own: &SymbolTable<S>,
     number: usize,
@@ -208,7 +208,7 @@ pub(crate) struct FirstLine<'a> {
     pub(crate) rest: Option<&'a [u8]>,
 }
 
-/// The first line of a text, and the text behind it.
+/// The first line of a text, and the text after it.
 pub(crate) fn split_first_line(text: &[u8]) -> FirstLine<'_>
     ensures lines { slice_split is_feed text.now ≡
         result.line.now ∷ lines_behind result.rest }
@@ -226,7 +226,7 @@ pub(crate) fn split_first_line(text: &[u8]) -> FirstLine<'_>
     }
 }
 
-/// Adds the lines behind the one of this number, each behind a line feed.
+/// Adds the lines behind the one of this number, each after a line feed.
 fn place_lines<A: Allocator, S: Allocator + Copy>(
     own: &SymbolTable<S>,
     before: usize,
@@ -278,9 +278,9 @@ fn place_all<A: Allocator, S: Allocator + Copy>(
 /// # Errors
 ///
 /// `TooMany` first for a text of more than 16,384 bytes. Then that of the first line that has one: of its
-/// first word that is no address and no range `BadLine`, that has a symbol without a value `NoSymbol`,
-/// whose address is outside memory `PastMemory`, and whose range runs backwards `Backwards`. `NoMemory`
-/// where memory was refused.
+/// first word that is neither an address nor a range `BadLine`, that has a symbol without a value
+/// `NoSymbol`, whose address is outside memory `PastMemory`, and whose range runs backwards `Backwards`.
+/// `NoMemory` where memory was refused.
 pub fn place<A: Allocator, S: Allocator + Copy>(
     alloc: A,
     text: &[u8],
@@ -288,7 +288,7 @@ pub fn place<A: Allocator, S: Allocator + Copy>(
 ) -> Result<Vec<u8, A>, PlaceFault>
     ensures placed { IfOk result (λ out. placed_text own.now.entries text.now ≡ Ok out.items) }
     ensures refused { IfErr result (IsPlaceFault (placed_text own.now.entries text.now)) }
-    // A text that is too long is told before memory is asked for.
+    // A text that is too long is told before memory is requested.
     ensures sized { 16384 < length text.now → result ≡ Err PlaceFault.TooMany }
 {
     if text.len() > MOST_BYTES {

@@ -54,7 +54,7 @@ impl<A: Allocator + Copy> Tags<A> {
     }
 
     /// Adds an address as the last tag at it or at most 77 cells before it, of several there the first, with `+` and
-    /// a number behind it; without such a tag in digits.
+    /// a number after it; without such a tag in digits.
     ///
     /// # Errors
     ///

@@ -162,7 +162,7 @@ pub(crate) fn reads_on_after(fault: TextFault) -> Result<bool, AllocError>
     }
 }
 
-/// Adds what a part declares with the addresses of these words, and says whether the part behind it is read.
+/// Adds what a part declares with the addresses of these words, and says whether the part after it is read.
 fn push_part<A: Allocator + Copy>(
     alloc: A,
     text: &mut Vec<u8, A>,
@@ -204,9 +204,9 @@ fn lines_with<A: Allocator + Copy>(
 }
 
 /// The lines of a declaration that stand within a source: for each line of the source a line, which has what
-/// follows the `/:` with which a comment begins, and is empty where there is no such comment. So a line
-/// has the number that it has in the source, counted on from part to part. What stands behind `$` or
-/// PAUSE is not looked at, nor is a part that has no form, nor any part behind it.
+/// follows the `/:` with which a comment begins, and is empty where there is no such comment. So a line has
+/// the number that it has in the source, counted on from part to part. What comes after `$` or PAUSE is not
+/// looked at, nor is a part that has no form, nor any part after it.
 ///
 /// # Errors
 ///

@@ -97,7 +97,7 @@ fn guessed_within(
     Some((found.err(), turns.spent()))
 }
 
-/// CLA and HLT: a word each whose outcomes are asked for.
+/// CLA and HLT: a word each whose outcomes are requested.
 const TWO_WORDS: &[u8] = b"start 200\nmain 200-201\nstop 201\n";
 
 /// TAD 0300 and HLT: the first word reads what is not on the list, so its outcomes are not asked for.

@@ -44,8 +44,8 @@ pub const HELLO_CERTIFICATE: &[u8] = b"PDP8-CERTIFICATE 1\n\
     fact 0217 ac 0305,0310,0314,0317 link 0 offsets 0\nfact 0220 ac 0305,0310,0314,0317 link 0 offsets 0\n\
     fact 0221 ac 0000 link 0 offsets 0\nexit 0214 0 ac 0000 link 0\nend\n";
 
-/// A certificate of version 3 with each kind of line: two facts stand at one address, told apart by their sites, and there are
-/// two exits for one offset.
+/// A certificate of version 3 with each kind of line: two facts stand at one address, distinguished by their sites, and there
+/// are two exits for one offset.
 pub const SEVERAL: &[u8] = b"PDP8-CERTIFICATE 3\n\
     routine 0214 rank 11 sites 0202,0206 writes 0010\n\
     fact 0215 sites 0202 ac 0000 mq 0000-7777 link 1 offsets 00,12\n\

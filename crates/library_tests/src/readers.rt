@@ -116,7 +116,7 @@ fn failures_are_told(heap: Global, text: &[u8]) -> bool {
 fn a_read_of_a_certificate_that_fails_is_told(rt: HostRuntime) {
     assert!(rt; failures_are_told(rt.alloc(), HELLO_CERTIFICATE));
     assert!(rt; failures_are_told(rt.alloc(), SEVERAL));
-    // A fault is told before a failure.
+    // A fault is reported before a failure.
     let told = told_of(rt.alloc(), b"PDP8-CERTIFICATE 4\nmore", 1, 19);
     assert_eq!(rt; told, (Some(CertificateFault::Version), false));
 }

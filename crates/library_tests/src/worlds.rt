@@ -7,7 +7,8 @@ use peripherals::{Event, Seen, Start, World};
 use std::alloc::Allocator;
 use testing::Refusing;
 
-/// The words of a program that counts the accumulator up, prints it and punches it, again and again.
+/// The words of a program that increments the accumulator, prints it and punches it, again and
+/// again.
 static COUNTING: [u16; 4] = [0o7001, 0o6046, 0o6026, 0o5200];
 
 /// Whether a step that was refused left the machine and what it put out as they were, and goes

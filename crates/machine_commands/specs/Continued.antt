@@ -77,12 +77,13 @@ pub record SaysHowFar (most : ℕ) (image : List (Option ℕ)) (d : Declaration)
   pub leads : LeadsTo d events (fresh image d.start) final
   pub line_is : line ≡ went_text (presses events) most final
 
--- The line of a run that goes on at declared pauses: of a clean run how far it went, of another the rule that is broken.
+-- The line of a run that goes on at declared pauses: of a clean run how far it went, of another the rule that is
+-- violated.
 abbrev pub IsLine : ℕ → List (Option ℕ) → Declaration → List Event → Watched → List ℕ → Type 0
 IsLine most image d events Clean line = SaysHowFar most image d events line
 IsLine most image d events (Broken n r) line = line ≡ watched_text (Broken n r)
 
--- What is told of such a run: its line, behind it, only where it is to be explained, some lines more, of which nothing is said
+-- What is told of such a run: its line, after it, only if it is to be explained, some lines more, of which nothing is said
 -- here, and then the cells that are named.
 pub record IsToldHowFar (most : ℕ) (image : List (Option ℕ)) (d : Declaration) (events : List Event) (watched : Watched) (explained : Bool) (named : ℕ → Bool) (told : List ℕ) : Type 0 where
   pub line : List ℕ

@@ -27,13 +27,13 @@ ends_at_halt (Listed events) = false
 abbrev pub event_of_round : ℕ → Event
 event_of_round index = if index == 0 then Step else (if index == 1 then PrinterDone else PunchDone)
 
--- From w these events led to x, so far and to this end; the trace, if one was asked for, was appended.
+-- From w these events led to x, so far and to this end; the trace, if one was requested, was appended.
 pub record Ran (profile : Profile) (ends_at_halt trace : Bool) (events : List Event) (w : WorldState) (outcome : RunOutcome) (x : WorldState) (old new : Option (List ℕ)) : Type 0 where
   pub lines : List ℕ
   pub follows : Follows profile ends_at_halt events w lines outcome.steps outcome.end x
   pub wrote : Appends old new (traced trace lines)
 
--- From w the events before one that prints or punches led to x; their trace, if one was asked for, was appended.
+-- From w the events before one that prints or punches led to x; their trace, if one was requested, was appended.
 pub record RanToOutput (profile : Profile) (ends_at_halt trace : Bool) (events : List Event) (w x : WorldState) (old new : Option (List ℕ)) : Type 0 where
   pub count : ℕ
   pub within : count < length events
@@ -44,8 +44,8 @@ pub record RanToOutput (profile : Profile) (ends_at_halt trace : Bool) (events :
   pub puts : puts_out x (get_or events count Step) ≡ true
   pub wrote : Appends old new (traced trace lines)
 
--- From w the events before one led to a world, and with that one they led to x. Their trace was appended, and a front of the
--- line of that one: a part of it or nothing, but not all.
+-- From w the events before one led to a world, and with that one they led to x. Their trace was appended, and a prefix of
+-- the line of that one: a part of it or nothing, but not all.
 pub record RanIntoLine (profile : Profile) (ends_at_halt : Bool) (events : List Event) (w x : WorldState) (old new : Option (List ℕ)) : Type 0 where
   pub count : ℕ
   pub within : count < length events

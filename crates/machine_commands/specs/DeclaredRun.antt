@@ -64,26 +64,26 @@ up_to None events = events
 up_to (Some count) events = take count events
 
 -- The declared run of these events from an image is stopped behind the first ones, or it is not stopped and these are all. The stop is
--- looked for in all the events, also behind a step that breaks a rule: what is told then is that rule, as `stopped_line` says.
+-- looked for in all the events, also behind a step that violates a rule: what is told then is that rule, as `stopped_line` says.
 pub record IsDeclaredCut (stops : Stops) (d : Declaration) (image : List (Option ℕ)) (events cut : List Event) (stopped : Bool) : Type 0 where
   pub stop : Option ℕ
   pub is_stop : IsDeclaredStop stops d events (fresh image d.start) stop
   pub cut_is : cut ≡ up_to stop events
   pub stopped_is : stopped ≡ is_some stop
 
--- The last lines of a trace, so many if they are asked for.
+-- The last lines of a trace, so many if they are requested.
 abbrev pub last_of : Option ℕ → List ℕ → List ℕ
 last_of None lines = []
 last_of (Some most) lines = last_lines most lines
 
--- The line that says where a run was stopped, if it was and broke no rule before.
+-- The line that says where a run was stopped, if it was and violated no rule before.
 abbrev pub stopped_line : Bool → Watched → WorldState → ℕ → List ℕ
 stopped_line false watched w steps = []
 stopped_line true (Broken n r) w steps = []
 stopped_line true Clean w steps = state_line (end.Stopped w.state.pc) w steps
 
--- What stands before what is told of the declared run of these events: the lines of the last instructions that were carried out, before a
--- step that breaks a rule, and the line that says where it was stopped.
+-- What comes before what is told of the declared run of these events: the lines of the last instructions that were carried out, before a
+-- step that violates a rule, and the line that says where it was stopped.
 pub record IsLinesBefore (image : List (Option ℕ)) (d : Declaration) (events : List Event) (stopped : Bool) (last : Option ℕ) (text : List ℕ) : Type 0 where
   pub watched : Watched
   pub sees : IsSeen image d events watched

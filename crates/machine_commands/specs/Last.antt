@@ -61,7 +61,7 @@ IsLastText options stops most ends_at_halt events image text =
     (status : Status) × IsLastOfRun options stops most ends_at_halt events image text status
 
 -- The frames are a tape, and the text is that of the last instructions of the run of its image by so many rounds, which ends at a
--- halt and is stopped where that is asked for.
+-- halt and is stopped where that is requested.
 pub record IsLastOfRounds (options : RunOptions) (stops : Stops) (most : ℕ) (frames : Option (List ℕ)) (text : List ℕ) (status : Status) : Type 0 where
   pub image : List (Option ℕ)
   pub tape : HasImage frames image
@@ -72,7 +72,7 @@ abbrev pub IsLastTextOfRounds : RunOptions → Stops → ℕ → Option (List �
 IsLastTextOfRounds options stops most frames text = (status : Status) × IsLastOfRounds options stops most frames text status
 
 -- The frames are a tape, and the text is that of the last instructions of the run of its image by the events that a list spells; such
--- a run goes on after a halt, and is stopped where that is asked for.
+-- a run goes on after a halt, and is stopped where that is requested.
 pub record IsLastOfEvents (options : RunOptions) (stops : Stops) (most : ℕ) (frames list : Option (List ℕ)) (text : List ℕ) (status : Status) : Type 0 where
   pub image : List (Option ℕ)
   pub tape : HasImage frames image

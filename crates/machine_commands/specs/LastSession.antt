@@ -20,7 +20,7 @@ use Rattle.machine_commands.specs.Teletype.{AreAll, run_of, types_by}
 abbrev pub joined : SummaryForm → SummaryForm
 joined form = record form { apart = false }
 
--- The text is some lines, and behind them that of the run of what comes without a trace, up to where it is stopped.
+-- The text is some lines, and after them that of the run of what comes without a trace, up to where it is stopped.
 pub record IsHeldBehind (comes : Profile → WorldState → Extent → List Event → Type 0) (options : RunOptions) (stops : Stops) (form : SummaryForm) (left : Bool) (image : List (Option ℕ)) (text printed punched : List ℕ) (status : Status) : Type 0 where
   pub lines : List ℕ
   pub rest : List ℕ

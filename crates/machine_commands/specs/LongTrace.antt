@@ -18,7 +18,7 @@ pub record Appended (old new : Option (List ℕ)) : Type 0 where
 abbrev pub quiet : RunOptions → RunOptions
 quiet options = record options { trace = false }
 
--- The text is some lines, and behind them that of the run of these events without a trace, up to where it is stopped.
+-- The text is some lines, and after them that of the run of these events without a trace, up to where it is stopped.
 pub record IsRunBehind (options : RunOptions) (stops : Stops) (ends_at_halt : Bool) (events : List Event) (image : List (Option ℕ)) (text : List ℕ) (status : Status) : Type 0 where
   pub lines : List ℕ
   pub rest : List ℕ
@@ -26,14 +26,14 @@ pub record IsRunBehind (options : RunOptions) (stops : Stops) (ends_at_halt : Bo
   pub text_is : text ≡ lines ++ rest
 
 -- The frames are a tape, and the text is that of the run of its image by so many rounds, which ends at a halt and is stopped where that is
--- asked for, behind some lines.
+-- requested, behind some lines.
 pub record IsRoundRunBehind (options : RunOptions) (stops : Stops) (frames : Option (List ℕ)) (text : List ℕ) (status : Status) : Type 0 where
   pub image : List (Option ℕ)
   pub tape : HasImage frames image
   pub run : IsRunBehind options stops true (rounds options.rounds) image text status
 
 -- The frames are a tape, and the text is that of the run of its image by the events that a list spells, which goes on after a halt and is
--- stopped where that is asked for, behind some lines.
+-- stopped where that is requested, behind some lines.
 pub record IsEventRunBehind (options : RunOptions) (stops : Stops) (frames list : Option (List ℕ)) (text : List ℕ) (status : Status) : Type 0 where
   pub image : List (Option ℕ)
   pub tape : HasImage frames image

@@ -17,9 +17,9 @@ use Rattle.machine_commands.specs.WatchText.{IsTold}
 abbrev pub unbroken_text : ℕ → List ℕ
 unbroken_text steps = codes "not broken in " ++ decimal steps ++ codes " steps\n"
 
--- The list spells a run that breaks the declaration: of these events, from the declared start with all registers and all cells
--- that are not on the tape 0, the last one is the first step that is not legal. What is told is what `watch` says of them: its
--- place, and the least rule that it breaks.
+-- The list spells a run that violates the declaration: of these events, from the declared start with all registers and all
+-- cells that are not on the tape 0, the last one is the first step that is not legal. What is told is what `watch` says of
+-- them: its place, and the lowest-numbered rule that it violates.
 pub record IsWitnessOf (explained : Bool) (image : List (Option ℕ)) (declaration : Declaration) (list told : List ℕ) : Type 0 where
   pub events : List Event
   pub spells : Spells list events
@@ -29,8 +29,8 @@ pub record IsWitnessOf (explained : Bool) (image : List (Option ℕ)) (declarati
   pub last : event + 1 ≡ length events
   pub is : IsTold (Broken event rule) explained told
 
--- What is found in search of a run that breaks the declaration: the command is refused, and the list spells such a run of which
--- this is told; or it is done, there is no list, and what is told says in how many steps none was found.
+-- What is found in search of a run that violates the declaration: the command is refused, and the list spells such a run of
+-- which this is told; or it is done, there is no list, and what is told says in how many steps none was found.
 abbrev pub IsRefutationOf : RefuteOptions → List (Option ℕ) → Declaration → Status → List ℕ → List ℕ → Type 0
 IsRefutationOf options image declaration Refused list told = IsWitnessOf options.explained image declaration list told
 IsRefutationOf options image declaration Done list told = (list ≡ []) × (told ≡ unbroken_text options.steps)

@@ -27,7 +27,7 @@ abbrev pub status_of : End → Status
 status_of (Unsupported at) = Refused
 status_of _ = Done
 
--- From an image these events lead to an end: the text is the trace, if one is asked for, the summary, and the cells to be
+-- From an image these events lead to an end: the text is the trace, if one is requested, the summary, and the cells to be
 -- shown, each with its word in the world in which the run ended.
 pub record IsRunOf (options : RunOptions) (ends_at_halt : Bool) (events : List Event) (image : List (Option ℕ)) (text : List ℕ) (status : Status) : Type 0 where
   pub lines : List ℕ
@@ -38,12 +38,12 @@ pub record IsRunOf (options : RunOptions) (ends_at_halt : Bool) (events : List E
   pub text_is : text ≡ traced options.trace lines ++ closing (words options.show) end final steps
   pub status_is : status ≡ status_of end
 
--- A trace is asked for, and the text is that of the run of some first events.
+-- A trace is requested, and the text is that of the run of some first events.
 pub record IsTraceOf (options : RunOptions) (ends_at_halt : Bool) (events : List Event) (image : List (Option ℕ)) (text : List ℕ) : Type 0 where
   pub asked : options.trace ≡ true
   pub is : IsTraceOfSome options.profile ends_at_halt events (fresh image options.start) text
 
--- A trace is asked for, and the text is that of the run of all these events, or of those before one that prints or punches.
+-- A trace is requested, and the text is that of the run of all these events, or of those before one that prints or punches.
 pub record IsTraceToOutput (options : RunOptions) (ends_at_halt : Bool) (events : List Event) (image : List (Option ℕ)) (text : List ℕ) : Type 0 where
   pub asked : options.trace ≡ true
   pub is : IsTraceUpToOutput options.profile ends_at_halt events (fresh image options.start) text
@@ -61,7 +61,7 @@ pub record IsRoundRun (options : RunOptions) (frames : Option (List ℕ)) (text 
   pub run : IsRunOf options true (rounds options.rounds) image text status
 
 -- The frames are a tape, and the text is what the run of its image by so many rounds, which ends at a halt, may be
--- about to write: its whole text, or where a trace is asked for, that of some first events.
+-- about to write: its whole text, or where a trace is requested, that of some first events.
 pub record IsPartOfRoundRun (options : RunOptions) (frames : Option (List ℕ)) (text : List ℕ) : Type 0 where
   pub image : List (Option ℕ)
   pub tape : HasImage frames image
@@ -77,7 +77,7 @@ pub record IsEventRun (options : RunOptions) (frames list : Option (List ℕ)) (
   pub run : IsRunOf options false events image text status
 
 -- The frames are a tape, and the text is what the run of its image by the events that a list spells, which goes on
--- after a halt, may be about to write: its whole text, or where a trace is asked for, that of some first events.
+-- after a halt, may be about to write: its whole text, or where a trace is requested, that of some first events.
 pub record IsPartOfEventRun (options : RunOptions) (frames list : Option (List ℕ)) (text : List ℕ) : Type 0 where
   pub image : List (Option ℕ)
   pub tape : HasImage frames image
@@ -85,14 +85,14 @@ pub record IsPartOfEventRun (options : RunOptions) (frames list : Option (List �
   pub spelled : HasEvents list events
   pub part : IsPartOf options false events image text
 
--- The frames are a tape, a trace is asked for, and the text is that of the run of its image by so many rounds, or by their
+-- The frames are a tape, a trace is requested, and the text is that of the run of its image by so many rounds, or by their
 -- events before one that prints or punches.
 pub record IsTraceOfRounds (options : RunOptions) (frames : Option (List ℕ)) (text : List ℕ) : Type 0 where
   pub image : List (Option ℕ)
   pub tape : HasImage frames image
   pub is : IsTraceToOutput options true (rounds options.rounds) image text
 
--- The frames are a tape, a trace is asked for, and the text is that of the run of its image by the events that a list
+-- The frames are a tape, a trace is requested, and the text is that of the run of its image by the events that a list
 -- spells, or by those before one that prints or punches.
 pub record IsTraceOfEvents (options : RunOptions) (frames list : Option (List ℕ)) (text : List ℕ) : Type 0 where
   pub image : List (Option ℕ)

@@ -9,8 +9,8 @@ use Rattle.peripherals.specs.Operator.{Plan, due, left_after}
 use Rattle.peripherals.specs.EventOutcomes.{puts_out, seen_of}
 use Rattle.machine_commands.specs.Follows.{goes_on}
 
--- A schedule has states. In each it says which event is due in a world, or none where the run is over; which state comes after
--- an event in a world; and whether a frame or a key is read there.
+-- A schedule has states. In each it says which event is due in a world, or none if the run is over; which state comes after an
+-- event in a world; and whether a frame or a key is read there.
 pub record Schedule (S : Type 0) : Type 0 where
   pub due : S → WorldState → Option Event
   pub after : S → WorldState → Event → S

@@ -33,14 +33,15 @@ character byte = byte % 128
 abbrev pub printed_in : WorldState → List ℕ
 printed_in w = map character w.devices.printer.output
 
--- A run came to its end in x, which is told to any extent: the trace, if one was asked for, and the characters that were printed were appended.
+-- A run came to its end in x, which is told to any extent: the trace, if one was requested, and the characters that were printed were
+-- appended.
 pub record Operated (comes : Extent → List Event → Type 0) (profile : Profile) (trace : Bool) (w : WorldState) (outcome : RunOutcome) (x : WorldState) (old new told tells : Option (List ℕ)) : Type 0 where
   pub events : List Event
   pub come : (extent : Extent) → comes extent events
   pub ran : Ran profile true trace events w outcome x old new
   pub printed : Appends told tells (printed_in x)
 
--- A front of a piece was appended to what a sink tells: all of it, a part or nothing.
+-- A prefix of a piece was appended to what a sink tells: all of it, a part or nothing.
 pub record AppendsSome (old new : Option (List ℕ)) (piece : List ℕ) : Type 0 where
   pub count : ℕ
   pub within : count ≤ length piece
@@ -74,7 +75,7 @@ pub record BrokeOff (comes : Extent → List Event → Type 0) (profile : Profil
   pub printed_front : typed ≡ true → AppendsFront told tells (printed_in x)
   pub printed_nearly : length (printed_in x) ≤ printed.count + 1
 
--- Whether what was printed leaves a line open: its last character is no line feed.
+-- Whether what was printed leaves a line open: its last character is not a line feed.
 abbrev pub leaves_open : List ℕ → Bool
 leaves_open [] = false
 leaves_open (c ∷ []) = not (c == 10)
@@ -85,7 +86,7 @@ abbrev pub IsHeldFault : Fault → Type 0
 IsHeldFault (Device Read) = Unit {0}
 IsHeldFault fault = IsRunFault fault
 
--- What stands before a summary: a line feed, where it begins on a line of its own and what was printed leaves one open.
+-- What comes before a summary: a line feed, where it begins on a line of its own and what was printed leaves one open.
 abbrev pub parting : Bool → List ℕ → List ℕ
 parting apart printed = if apart && leaves_open printed then 10 ∷ [] else []
 
@@ -97,8 +98,9 @@ summary_where named form UpToRead end w steps = []
 summary_where named form ToStep end w steps = []
 summary_where named form UpToAny end w steps = []
 
--- From an image the events that come lead to an end. The text is the trace, if one is asked for, the summary, and the cells to be
--- shown, each with its word in the world in which the run ended; and these are the characters printed and the bytes punched. Where the run is not whole, this is what its first events leave.
+-- From an image the events that come lead to an end. The text is the trace, if one is requested, the summary, and the cells to be shown,
+-- each with its word in the world in which the run ended; and these are the characters printed and the bytes punched. If the run is not
+-- whole, this is what its first events leave.
 pub record IsHeld (comes : Profile → WorldState → Extent → List Event → Type 0) (options : RunOptions) (form : SummaryForm) (extent : Extent) (image : List (Option ℕ)) (text printed punched : List ℕ) (status : Status) : Type 0 where
   pub events : List Event
   pub come : comes options.profile (fresh image options.start) extent events
@@ -142,8 +144,8 @@ pub record IsSession (options : SessionOptions) (form : SummaryForm) (extent : E
   pub session : IsSessionOf options.run form extent (plan_for options frames bytes) image text printed punched status
 
 -- What a run with an operator that has a fault may be about to write, to print and to punch. The summary, which a whole run
--- alone has, is written last: after it only that write itself can fail, so it is about to be written only where the report
--- failed. Where neither the report nor the teletype failed, the run came to its end or to an event that prints or punches.
+-- alone has, is written last: after it only that write itself can fail, so it is about to be written only if the report
+-- failed. If neither the report nor the teletype failed, the run came to its end or to an event that prints or punches.
 pub record IsPartOfSession (options : SessionOptions) (form : SummaryForm) (reported typed : Bool) (tape reader keys : Option (List ℕ)) (extent : Extent) (text printed punched : List ℕ) : Type 0 where
   pub summed : extent ≡ Whole → reported ≡ true
   pub to_output : (reported || typed) ≡ false → extent ≡ UpToOutput
@@ -180,7 +182,7 @@ pub record Failures : Type 0 where
 abbrev pub failures : Bool → Bool → Bool → Failures
 failures report teletype punch = record { report = report; teletype = teletype; punch = punch }
 
--- A front of each of three such texts, which are told to some extent, was appended: all of the report and of what was punched
+-- A prefix of each of three such texts, which are told to some extent, was appended: all of the report and of what was punched
 -- unless the write of it failed, and all that was printed unless the teletype failed or the report did, which comes before it.
 -- Where a write failed its front is not all. Whatever failed, at most the last character was not typed; and before the summary,
 -- which is written last, all was typed and punched.

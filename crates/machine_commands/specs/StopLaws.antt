@@ -18,7 +18,7 @@ pub record GoesOnTo (profile : Profile) (ends_at_halt : Bool) (rest : List Event
   pub steps_are : all ≡ steps + steps_more
 
 -- A run that is stopped is the run without stops up to there: the run of all events goes on from the world in which it is stopped,
--- behind the trace and the instructions that it had there.
+-- after the trace and the instructions that it had there.
 abbrev pub StoppedRunsAreFronts : Type 0
 StoppedRunsAreFronts =
     (stops : Stops) (profile : Profile) (ends_at_halt : Bool) (events : List Event) (w x final : WorldState) (count steps all : ℕ) (lines whole : List ℕ) (end last : End) →

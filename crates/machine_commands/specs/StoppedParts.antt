@@ -23,7 +23,7 @@ abbrev pub Passes : Stops → Profile → ℕ → WorldState → Event → Optio
 Passes stops profile visits w e None = stops_before stops profile visits w e ≡ true
 Passes stops profile visits w e (Some more) = (stops_before stops profile visits w e ≡ false) × (more ≡ visits_with stops visits w e)
 
--- A run came to its end in x, or it was stopped there, or a key interrupted it: the trace, if one was asked for, and the characters that
+-- A run came to its end in x, or it was stopped there, or a key interrupted it: the trace, if one was requested, and the characters that
 -- were printed were appended.
 pub record OperatedToStop (comes : Extent → List Event → Type 0) (left : Bool) (stops : Stops) (profile : Profile) (trace : Bool) (w : WorldState) (outcome : RunOutcome) (x : WorldState) (old new told_old told_new : Option (List ℕ)) : Type 0 where
   pub events : List Event
@@ -42,7 +42,7 @@ abbrev pub unstopped : Stops → (Profile → WorldState → Extent → List Eve
 unstopped stops comes profile w extent events = comes profile w extent events × NeverStops stops profile true 0 events w
 
 -- What the events that come up to where the run is stopped, or the first of them, leave; all of them with the summary, where the report
--- failed. It may be told as interrupted only where the key was struck.
+-- failed. It may be told as interrupted only if the key was struck.
 pub record IsPartToStop (comes : Profile → WorldState → Extent → List Event → Type 0) (options : RunOptions) (stops : Stops) (form : SummaryForm) (left reported typed unread : Bool) (image : List (Option ℕ)) (extent : Extent) (text printed punched : List ℕ) : Type 0 where
   pub summed : extent ≡ Whole → reported ≡ true
   pub to_there : (reported || typed) ≡ false → extent ≡ extent_unread unread

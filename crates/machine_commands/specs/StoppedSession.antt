@@ -39,14 +39,14 @@ to_stop true events = events ++ Step ∷ []
 to_stop false events = events
 
 -- How a run is said to have ended: where the program counter is, if a key interrupted it, and else as it ended. A run that a key interrupts
--- ends because a key is asked for and none is left, so it does not halt and is not stopped; this is tested, not proved.
+-- ends because a key is requested and none is left, so it does not halt and is not stopped; this is tested, not proved.
 abbrev pub leaving : Bool → End → WorldState → End
 leaving true last x = end.Interrupted x.state.pc
 leaving false last x = last
 
--- From an image the events that come, up to the step before which the run is stopped if it is, and which is due then, lead to an end.
--- The text is the trace, if one is asked for, the summary, and the cells to be shown, each with its word in the world in which the run
--- ended; and these are the characters printed and the bytes punched. Where the run is not told whole, this is what its first events leave.
+-- From an image the events that come, up to the step before which the run is stopped if it is, and which is due then, lead to an end. The
+-- text is the trace, if one is requested, the summary, and the cells to be shown, each with its word in the world in which the run ended;
+-- and these are the characters printed and the bytes punched. If the run is not told whole, this is what its first events leave.
 pub record IsHeldToStop (comes : Profile → WorldState → Extent → List Event → Type 0) (options : RunOptions) (stops : Stops) (form : SummaryForm) (extent : Extent) (left : Bool) (image : List (Option ℕ)) (text printed punched : List ℕ) (status : Status) : Type 0 where
   pub events : List Event
   pub stopped : Bool
@@ -74,7 +74,7 @@ pub record IsSessionToStop (options : SessionOptions) (stops : Stops) (form : Su
   pub session : IsHeldToStop (comes_by (plan_for options frames bytes)) options.run stops form extent false image text printed punched status
 
 -- What a run with an operator that has a fault may be about to write, to print and to punch. The summary, which a whole run alone has,
--- is written last. Where neither the report nor the teletype failed, the run came to its end or to an event that prints or punches.
+-- is written last. If neither the report nor the teletype failed, the run came to its end or to an event that prints or punches.
 pub record IsPartOfSessionToStop (options : SessionOptions) (stops : Stops) (form : SummaryForm) (reported typed : Bool) (tape reader keys : Option (List ℕ)) (extent : Extent) (text printed punched : List ℕ) : Type 0 where
   pub summed : extent ≡ Whole → reported ≡ true
   pub to_output : (reported || typed) ≡ false → extent ≡ UpToOutput
@@ -98,8 +98,8 @@ pub record IsTypedToStop (options : TeletypeOptions) (stops : Stops) (form : Sum
   pub session : IsHeldToStop (types_by options frames bytes) (run_of options) stops form extent left image text printed punched status
 
 -- What a session that has a fault may be about to write, to print and to punch. The summary, which a whole session alone has, is written
--- last. Where neither the report nor the teletype failed, the session came to where a frame or a key was read, if that read failed, or
--- else to its end or to an event that prints or punches. It may be told as interrupted only where the key was struck.
+-- last. If neither the report nor the teletype failed, the session came to where a frame or a key was read, if that read failed, or else
+-- to its end or to an event that prints or punches. It may be told as interrupted only if the key was struck.
 pub record IsPartOfTypedToStop (options : TeletypeOptions) (stops : Stops) (form : SummaryForm) (left reported typed unread : Bool) (tape reader keys : Option (List ℕ)) (extent : Extent) (text printed punched : List ℕ) : Type 0 where
   pub summed : extent ≡ Whole → reported ≡ true
   pub to_there : (reported || typed) ≡ false → extent ≡ extent_unread unread

@@ -16,7 +16,7 @@ IsWatch None explained named image d events status told = IsWatchOf explained na
 IsWatch (Some n) explained named image d events status told = IsContinuedWatch n explained named image d events status told
 
 -- This is told of the declared run of these events up to where it is stopped, if it is: the lines of its last instructions, if so many are
--- asked for, the line that says where it was stopped, and what `watch` tells of the events up to there.
+-- requested, the line that says where it was stopped, and what `watch` tells of the events up to there.
 pub record IsWatchToStop (continues : Option ℕ) (stops : Stops) (last : Option ℕ) (explained : Bool) (named : ℕ → Bool) (image : List (Option ℕ)) (d : Declaration) (events : List Event) (status : Status) (told : List ℕ) : Type 0 where
   pub cut : List Event
   pub stopped : Bool

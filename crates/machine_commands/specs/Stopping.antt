@@ -17,7 +17,7 @@ use Rattle.machine_commands.specs.Summary.{closing}
 use Rattle.machine_commands.specs.Trace.{traced}
 
 -- From an image the run of these events is stopped after so many of them, which lead to a world. The text is their trace, if one is
--- asked for, the summary, which says where the program counter was, and the cells to be shown, each with its word in that world.
+-- requested, the summary, which says where the program counter was, and the cells to be shown, each with its word in that world.
 pub record IsStoppedRun (options : RunOptions) (stops : Stops) (ends_at_halt : Bool) (events : List Event) (image : List (Option ℕ)) (text : List ℕ) : Type 0 where
   pub count : ℕ
   pub stop : StopsAfter stops options.profile ends_at_halt 0 events (fresh image options.start) count
@@ -40,14 +40,14 @@ IsRunWithStops options stops ends_at_halt events image text status =
     (IsStoppedRun options stops ends_at_halt events image text × (status ≡ Done))
     ⊎ IsUnstoppedRun options stops ends_at_halt events image text status
 
--- What a run with stops may be about to write: its whole text, or where a trace is asked for, that of some first events.
+-- What a run with stops may be about to write: its whole text, or where a trace is requested, that of some first events.
 abbrev pub IsPartWithStops : RunOptions → Stops → Bool → List Event → List (Option ℕ) → List ℕ → Type 0
 IsPartWithStops options stops ends_at_halt events image text =
     ((status : Status) × IsRunWithStops options stops ends_at_halt events image text status)
     ⊎ IsTraceOf options ends_at_halt events image text
 
 -- The frames are a tape, and the text is that of the run of its image by so many rounds, which ends at a halt and is stopped where
--- that is asked for.
+-- that is requested.
 pub record IsRoundRunWithStops (options : RunOptions) (stops : Stops) (frames : Option (List ℕ)) (text : List ℕ) (status : Status) : Type 0 where
   pub image : List (Option ℕ)
   pub tape : HasImage frames image
@@ -60,7 +60,7 @@ pub record IsPartOfRoundRunWithStops (options : RunOptions) (stops : Stops) (fra
   pub part : IsPartWithStops options stops true (rounds options.rounds) image text
 
 -- The frames are a tape, and the text is that of the run of its image by the events that a list spells; such a run goes on after a
--- halt, and is stopped where that is asked for.
+-- halt, and is stopped where that is requested.
 pub record IsEventRunWithStops (options : RunOptions) (stops : Stops) (frames list : Option (List ℕ)) (text : List ℕ) (status : Status) : Type 0 where
   pub image : List (Option ℕ)
   pub tape : HasImage frames image

@@ -48,15 +48,15 @@ abbrev pub is_at : Option ℕ → ℕ → Bool
 is_at None pc = false
 is_at (Some place) pc = pc == place
 
--- The next step is one that is asked for, where so many steps before it came to the address: it comes there the last time that is
--- asked for, or it writes or reads a named cell.
+-- The next step is one that is requested, where so many steps before it came to the address: it comes there the last time that is
+-- requested, or it writes or reads a named cell.
 abbrev pub is_asked_for : Stops → Profile → ℕ → State → Bool
 is_asked_for stops profile visits s =
     (is_at stops.place s.pc && (visits + 1 == stops.times)) ||
     (writes_one (words stops.written) (fetched profile s) || reads_one (words stops.read) (fetched profile s))
 
 -- An event stops the run where so many steps before it came to the address: it is a step of a machine that is not halted, and it is
--- asked for.
+-- requested.
 abbrev pub stops_before : Stops → Profile → ℕ → WorldState → Event → Bool
 stops_before stops profile visits w Step = is_none w.halted_at && is_asked_for stops profile visits w.state
 stops_before stops profile visits w _ = false

@@ -39,7 +39,7 @@ abbrev pub bytes_text : List ℕ → List ℕ
 bytes_text [] = []
 bytes_text (b ∷ bs) = byte_text b ++ bytes_text bs
 
--- What a device put out, under its name; nothing where it put out nothing.
+-- What a device put out, under its name; nothing if it put out nothing.
 abbrev pub output_line : List ℕ → List ℕ → List ℕ
 output_line name [] = []
 output_line name (b ∷ bs) = name ++ bytes_text (b ∷ bs) ++ codes "\n"
@@ -65,7 +65,7 @@ cells_below named memory (suc at) = cells_below named memory at ++ cell_line (na
 abbrev pub cells_text : (ℕ → Bool) → WorldState → List ℕ
 cells_text named w = cells_below named w.state.memory 4096
 
--- What stands at the end of a run that ended so in this world: the summary, and behind it the named cells with their words.
+-- What stands at the end of a run that ended so in this world: the summary, and after it the named cells with their words.
 abbrev pub closing : (ℕ → Bool) → End → WorldState → ℕ → List ℕ
 closing named end w steps = summary end w steps ++ cells_text named w
 
@@ -73,7 +73,7 @@ closing named end w steps = summary end w steps ++ cells_text named w
 abbrev pub frames_word : ℕ → List ℕ
 frames_word n = if n == 1 then codes " frame to " else codes " frames to "
 
--- What was punched into the file with this name: the number of frames; nothing where nothing was punched.
+-- What was punched into the file with this name: the number of frames; nothing if nothing was punched.
 abbrev pub saved_line : List ℕ → List ℕ → List ℕ
 saved_line name [] = []
 saved_line name (b ∷ bs) = codes "PUNCHED " ++ decimal (length (b ∷ bs)) ++ frames_word (length (b ∷ bs)) ++ name ++ codes "\n"
@@ -83,7 +83,7 @@ abbrev pub punched_line : Option (Bor (List ℕ)) → List ℕ → List ℕ
 punched_line None bytes = output_line (codes "PUNCHED") bytes
 punched_line (Some name) bytes = saved_line name.now bytes
 
--- The line of what was printed; nothing where that was seen.
+-- The line of what was printed; nothing if that was seen.
 abbrev pub printed_line : Bool → List ℕ → List ℕ
 printed_line true bytes = []
 printed_line false bytes = output_line (codes "PRINTED") bytes
@@ -93,6 +93,6 @@ abbrev pub summary_as : SummaryForm → End → WorldState → ℕ → List ℕ
 summary_as form end w steps =
     state_line end w steps ++ printed_line form.seen w.devices.printer.output ++ punched_line form.saved_in w.devices.punch.output
 
--- That summary, and behind it the named cells with their words.
+-- That summary, and after it the named cells with their words.
 abbrev pub closing_as : SummaryForm → (ℕ → Bool) → End → WorldState → ℕ → List ℕ
 closing_as form named end w steps = summary_as form end w steps ++ cells_text named w

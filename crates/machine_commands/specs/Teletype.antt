@@ -38,7 +38,7 @@ pub record IsTyped (options : TeletypeOptions) (form : SummaryForm) (extent : Ex
   pub session : IsHeld (types_by options frames bytes) (run_of options) form extent image text printed punched status
 
 -- What a session that has a fault may be about to write, to print and to punch. The summary, which a whole session alone has, is
--- written last. Where neither the report nor the teletype failed, the session came to where a frame or a key was read, if that read
+-- written last. If neither the report nor the teletype failed, the session came to where a frame or a key was read, if that read
 -- failed, or else to its end or to an event that prints or punches.
 pub record IsPartOfTyped (options : TeletypeOptions) (form : SummaryForm) (reported typed unread : Bool) (tape reader keys : Option (List ℕ)) (extent : Extent) (text printed punched : List ℕ) : Type 0 where
   pub summed : extent ≡ Whole → reported ≡ true

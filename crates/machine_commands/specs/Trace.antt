@@ -35,7 +35,7 @@ is_traced Ran = true
 is_traced Halted = true
 is_traced _ = false
 
--- The line for what was seen: none where no instruction was carried out.
+-- The line for what was seen: none if no instruction was carried out.
 abbrev pub line_of : Profile → Seen → ℕ → ℕ → State → List ℕ
 line_of profile what at word s = if is_traced what then trace_line profile at word s else []
 
@@ -43,6 +43,6 @@ line_of profile what at word s = if is_traced what then trace_line profile at wo
 abbrev pub trace_of : Profile → WorldState → Event → WorldState → List ℕ
 trace_of profile w e x = line_of profile (seen_of profile w e) w.state.pc (word_at_pc w) x.state
 
--- These lines, where a trace is asked for.
+-- These lines, where a trace is requested.
 abbrev pub traced : Bool → List ℕ → List ℕ
 traced trace lines = if trace then lines else []

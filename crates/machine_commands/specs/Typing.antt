@@ -13,20 +13,20 @@ use Rattle.machine_commands.specs.Schedule.{Schedule}
 abbrev pub asks : WorldState → Bool
 asks w = word_at_pc w == word_of SkipOnKeyboardFlag && not w.devices.keyboard.flag
 
--- Where a session is: what is still to come, the last event if there was one, and whether a key is asked for.
+-- Where a session is: what is still to come, the last event if there was one, and whether a key is requested.
 pub record Sitting : Type 0 where
   pub plan : Plan
   pub last : Option Event
   pub asked : Bool
 
--- Whether a key is asked for after an event in a world: an instruction asks for one or does not, a key is the answer, and anything
+-- Whether a key is requested after an event in a world: an instruction asks for one or does not, a key is the answer, and anything
 -- else leaves it as it was.
 abbrev pub asked_after : Bool → WorldState → Event → Bool
 asked_after asked w Step = asks w
 asked_after asked w (Key key) = false
 asked_after asked w _ = asked
 
--- At the keyboard's turn in a round: where a key is asked for the next one is due, and nothing where none is left; else the next
+-- At the keyboard's turn in a round: where a key is requested the next one is due, and nothing if none is left; else the next
 -- round is.
 abbrev pub answer_due : Bool → List ℕ → ℕ → Option Event
 answer_due false keys rounds = round_due rounds
@@ -54,7 +54,7 @@ abbrev pub typed_due : Plan → WorldState → Bool → Option Event → Option 
 typed_due plan w asked None = first_due plan plan.switches
 typed_due plan w asked (Some last) = typed_after plan w asked last
 
--- A frame is read where the reader waits for one at its turn, and a key where one is asked for at the keyboard's turn.
+-- A frame is read where the reader waits for one at its turn, and a key where one is requested at the keyboard's turn.
 abbrev pub is_read : WorldState → Bool → Option Event → Bool
 is_read w asked (Some PunchDone) = w.devices.reader.fetching || asked
 is_read w asked (Some (ReaderDone frame)) = asked
@@ -69,7 +69,7 @@ typing = record {
 }
 
 -- The byte of a key. As people type at a terminal a carriage return is struck for a line feed, and channel 8 is set; as the bytes
--- come they stay as they are, but for channel 8 where that is asked for.
+-- come they stay as they are, except for channel 8 where that is requested.
 abbrev pub typed_as : KeyOptions → ℕ → ℕ
 typed_as manner byte =
     if manner.raw then struck_as manner.mark byte else struck_as true (if byte == 10 then 13 else byte)

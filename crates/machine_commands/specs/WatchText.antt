@@ -15,7 +15,7 @@ use Rattle.command_parts.specs.Answers.{OfRun}
 use Rattle.machine_commands.specs.Running.{fresh}
 use Rattle.machine_commands.specs.Summary.{cells_text}
 
--- The line for event n, which breaks rule r.
+-- The line for event n, which violates rule r.
 abbrev pub broken_text : ℕ → Rule → List ℕ
 broken_text n r = codes "broken: event " ++ decimal n ++ codes " rule " ++ decimal (number_of r) ++ codes "\n"
 
@@ -24,18 +24,19 @@ abbrev pub watched_text : Watched → List ℕ
 watched_text Clean = codes "clean\n"
 watched_text (Broken n r) = broken_text n r
 
--- A run that breaks a rule is refused.
+-- A run that violates a rule is refused.
 abbrev pub watched_status : Watched → Status
 watched_status Clean = Done
 watched_status (Broken n r) = Refused
 
 -- What is seen of the declared run of these events, which begins with all registers and all cells that are not on the
--- tape 0: each step is legal, or this is the first that is not, with the least rule that it breaks.
+-- tape 0: each step is legal, or this is the first that is not, with the lowest-numbered rule that it violates.
 abbrev pub IsSeen : List (Option ℕ) → Declaration → List Event → Watched → Type 0
 IsSeen image d events Clean = IsClean (image_of image) d events (fresh image d.start)
 IsSeen image d events (Broken n r) = BreaksAt (image_of image) d events (fresh image d.start) n r
 
--- The events of a watched run that happen: all of them, or those before the one that breaks a rule.
+-- The events of a watched run that happen: all of them, or those before the one that violates a
+-- rule.
 abbrev pub happening : Watched → List Event → List Event
 happening Clean events = events
 happening (Broken n r) events = take n events
@@ -48,19 +49,19 @@ pub record CellsAfter (named : ℕ → Bool) (image : List (Option ℕ)) (d : De
   pub shown_is : shown ≡ cells_text named final
 
 -- What is shown of the cells when a watched run is over: each that is named, with its word after the events that happen; and
--- nothing where none is named.
+-- nothing if none is named.
 pub record IsShown (named : ℕ → Bool) (image : List (Option ℕ)) (d : Declaration) (events : List Event) (watched : Watched) (shown : List ℕ) : Type 0 where
   pub none : has_some named ≡ false → shown ≡ []
   pub some : has_some named ≡ true → CellsAfter named image d (happening watched events) shown
 
--- What is told of a watched run: the line of what is seen, and behind it, only where it is to be explained, some lines more,
--- of which nothing is said here.
+-- What is told of a watched run: the line of what is seen, and after it, only if it is to be explained, some lines more, of
+-- which nothing is said here.
 pub record IsTold (watched : Watched) (explained : Bool) (told : List ℕ) : Type 0 where
   pub why : List ℕ
   pub plain : explained ≡ false → why ≡ []
   pub told_is : told ≡ watched_text watched ++ why
 
--- What is told of a watched run, and behind it the cells that are named.
+-- What is told of a watched run, and after it the cells that are named.
 pub record IsToldWithCells (image : List (Option ℕ)) (d : Declaration) (events : List Event) (watched : Watched) (explained : Bool) (named : ℕ → Bool) (told : List ℕ) : Type 0 where
   pub seen : List ℕ
   pub is : IsTold watched explained seen

@@ -127,7 +127,8 @@ fn went_line<A: Allocator, B: Allocator>(
     Ok(text)
 }
 
-/// The line of a run that goes on at declared pauses: how far it went, or the rule that is broken.
+/// The line of a run that goes on at declared pauses: how far it went, or the rule that is
+/// violated.
 pub(crate) fn how_far_line<A: Allocator + Copy, D: Allocator>(
     alloc: A,
     image: &Image,

@@ -133,7 +133,7 @@ fn happen<B: Allocator, D: Allocator>(
     }
 }
 
-/// After how many events a declared run is stopped; none where it is not.
+/// After how many events a declared run is stopped; none if it is not.
 fn declared_stop_of<A: Allocator + Copy, D: Allocator>(
     alloc: A,
     image: &Image,
@@ -199,7 +199,7 @@ pub(crate) fn declared_cut<'e, A: Allocator + Copy, D: Allocator>(
     })
 }
 
-/// Adds the last lines of a trace, so many, if any are asked for.
+/// Adds the last lines of a trace, so many, if any are requested.
 fn push_last<A: Allocator>(
     text: &mut Vec<u8, A>,
     last: Option<u32>,
@@ -213,7 +213,7 @@ fn push_last<A: Allocator>(
     }
 }
 
-/// Adds the line that says where a run was stopped, if it was and broke no rule before.
+/// Adds the line that says where a run was stopped, if it was and violated no rule before.
 fn push_stopped<A: Allocator, B: Allocator>(
     text: &mut Vec<u8, A>,
     stopped: bool,
@@ -239,7 +239,7 @@ fn push_stopped<A: Allocator, B: Allocator>(
     }
 }
 
-/// What stands before what is told of a watched run: the lines of its last instructions, and where it was stopped.
+/// What comes before what is told of a watched run: the lines of its last instructions, and where it was stopped.
 pub(crate) fn lines_before<A: Allocator + Copy, D: Allocator>(
     alloc: A,
     image: &Image,

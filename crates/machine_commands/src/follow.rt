@@ -173,12 +173,12 @@ pub fn follow<A: Allocator, W: ByteSink>(
     // After a fault the world is the one after some first events.
     ensures reached { OnErr result (IsReached (profile_of world.old) (ends_at_halt course.now)
         (events_in course.now) (view world.old) (view world.new)) }
-    // Where memory was refused, that was before an event that prints or punches: those before it led
-    // to the world, and their whole lines went out.
+    // If memory was refused, that was before an event that prints or punches: those before it led to
+    // the world, and their whole lines went out.
     ensures refused { OnErr result (W.mark out.new ≡ false → RanToOutput
         (profile_of world.old) (ends_at_halt course.now) trace (events_in course.now)
         (view world.old) (view world.new) (W.taken out.old) (W.taken out.new)) }
-    // Where a line was not written whole, the world is the one after its event, and the whole lines of
+    // If a line was not written whole, the world is the one after its event, and the whole lines of
     // the events before it went out.
     ensures broke { W.mark out.new ≡ true → RanIntoLine
         (profile_of world.old) (ends_at_halt course.now) (events_in course.now)

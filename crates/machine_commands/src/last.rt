@@ -270,8 +270,8 @@ fn run_last<A: Allocator + Copy, W: ByteSink>(
 ///
 /// # Errors
 ///
-/// The tape's fault; `Device` where a read or a write failed, after which a prefix of the text went
-/// out; `NoMemory`, also where the trace of the whole run has no room.
+/// The tape's fault; `Device` where a read or a write failed, after which a prefix of the text went out;
+/// `NoMemory`, even if the trace of the whole run has no room.
 pub fn run_with_last<A: Allocator + Copy, R: ByteSource, W: ByteSink>(
     alloc: A,
     tape: &mut R,
@@ -289,13 +289,13 @@ pub fn run_with_last<A: Allocator + Copy, R: ByteSource, W: ByteSink>(
     // A fault of the tape is the first fault of its bytes; any other comes after a good tape.
     ensures faults { IfErr result (IsTapeFault
         (input (R.mark tape.new) (R.remaining tape.old) (R.remaining tape.new))) }
-    // Where a write failed, a front of that went out,
+    // If a write failed, a prefix of that went out,
     ensures front { W.mark out.new ≡ true →
         FrontOf (IsLastTextOfRounds options stops.now most (R.remaining tape.old))
         (W.taken out.old) (W.taken out.new) }
     // and any other fault leaves the output as it was.
     ensures nothing { OnErr result (W.mark out.new ≡ false → W.taken out.new ≡ W.taken out.old) }
-    // A write failed exactly where the answer says so, and so did a read.
+    // A write failed if and only if the answer says so, and so did a read.
     ensures marks { W.mark out.new ≡ fails_to_write result }
     ensures reads { R.mark tape.new ≡ fails_to_read result }
     // The tape is not read past its limit.
@@ -332,14 +332,14 @@ pub fn run_events_with_last<A: Allocator + Copy, R: ByteSource, E: ByteSource, W
     ensures faults { IfErr result (IsEventRunFault
         (input (R.mark tape.new) (R.remaining tape.old) (R.remaining tape.new))
         (input (E.mark text.new) (E.remaining text.old) (E.remaining text.new))) }
-    // Where a write failed, a front of that went out,
+    // If a write failed, a prefix of that went out,
     ensures front { W.mark out.new ≡ true →
         FrontOf (IsLastTextOfEvents options stops.now most (R.remaining tape.old)
         (E.remaining text.old))
         (W.taken out.old) (W.taken out.new) }
     // and any other fault leaves the output as it was.
     ensures nothing { OnErr result (W.mark out.new ≡ false → W.taken out.new ≡ W.taken out.old) }
-    // A write failed exactly where the answer says so, and so did a read.
+    // A write failed if and only if the answer says so, and so did a read.
     ensures marks { W.mark out.new ≡ fails_to_write result }
     ensures reads { R.mark tape.new || E.mark text.new ≡ fails_to_read result }
     // The text is not read after a tape that is refused, or whose read failed.

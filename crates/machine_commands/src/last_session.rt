@@ -121,7 +121,7 @@ fn behind<'n>(form: &SummaryForm<'n>) -> SummaryForm<'n>
     }
 }
 
-/// Runs an image by a schedule up to where it is stopped, and writes what was punched in the end, also where the run
+/// Runs an image by a schedule up to where it is stopped, and writes what was punched in the end, even if the run
 /// broke off, the lines of the last instructions, and the summary.
 fn run_scheduled_with_last<
     A: Allocator + Copy,
@@ -213,7 +213,7 @@ pub fn run_session_with_last<
     requires writable { W.mark out.old.report ≡ false }
     requires typable { T.mark out.old.teletype ≡ false }
     requires punchable { P.mark out.old.punch ≡ false }
-    // What is written behind the lines, typed and punched is that of the run up to the first step that stops it.
+    // What is written after the lines, typed and punched is that of the run up to the first step that stops it.
     ensures run { IfOk result (λ status.
         WritesAll (IsSessionBehind options stops.now form.entry (R.remaining tape.old)
         (F.remaining reader.old) (K.remaining keys.old) status)
@@ -226,7 +226,7 @@ pub fn run_session_with_last<
     // Nothing is written where the tape is refused or a read failed.
     ensures nothing { IfErr result (λ fault. is_fault_of_tape fault ≡ true → out.new ≡ out.old) }
     ensures nothing_after_failure { fails_to_read result ≡ true → out.new ≡ out.old }
-    // A write failed exactly where the answer says so, and so did a read.
+    // A write failed if and only if the answer says so, and so did a read.
     ensures marks { (W.mark out.new.report || T.mark out.new.teletype) || P.mark out.new.punch
         ≡ fails_to_write result }
     ensures reads { (R.mark tape.new || F.mark reader.new) || K.mark keys.new
@@ -291,7 +291,7 @@ pub fn teletype_with_last<
     requires writable { W.mark out.old.report ≡ false }
     requires typable { T.mark out.old.teletype ≡ false }
     requires punchable { P.mark out.old.punch ≡ false }
-    // What is written behind the lines, typed and punched is that of the run up to the first step that stops it.
+    // What is written after the lines, typed and punched is that of the run up to the first step that stops it.
     ensures run { IfOk result (λ status.
         WritesAll (IsTypedBehind typist.old.options stops.now form.entry (K.left typist.new.keys)
         (R.remaining tape.old) (F.remaining typist.old.reader) (K.remaining typist.old.keys) status)
@@ -305,8 +305,8 @@ pub fn teletype_with_last<
     ensures unread { IfErr result (λ fault. is_fault_of_tape fault ≡ true →
         typist.new ≡ typist.old) }
     ensures unread_after_failure { R.mark tape.new ≡ true → typist.new ≡ typist.old }
-    // A write failed exactly where the answer says so; where it says that a read failed one did, and a read
-    // that failed is told unless what was punched could not be written after it.
+    // A write failed if and only if the answer says so; where it says that a read failed one did, and a
+    // read that failed is told unless what was punched could not be written after it.
     ensures marks { (W.mark out.new.report || T.mark out.new.teletype) || P.mark out.new.punch
         ≡ fails_to_write result }
     ensures reads { fails_to_read result ≡ true →

@@ -1,5 +1,5 @@
 //! The commands that run a tape: with an operator, by a list of events, watched, and in search of a
-//! run that breaks its declaration.
+//! run that violates its declaration.
 #![tactic(auto)]
 
 mod continuing;

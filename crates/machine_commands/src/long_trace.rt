@@ -250,7 +250,7 @@ fn put_lines<A: Allocator + Copy, N: Statements, W: ByteSink>(
     Ok(())
 }
 
-/// Writes the long trace of the run of an image up to where it is stopped, and behind it what the run writes without a
+/// Writes the long trace of the run of an image up to where it is stopped, and after it what the run writes without a
 /// trace.
 fn run_behind<A: Allocator + Copy, N: Statements, W: ByteSink>(
     alloc: A,
@@ -303,7 +303,7 @@ pub fn run_with_long_trace<A: Allocator + Copy, R: ByteSource, N: Statements, W:
     // A fault of the tape is the first fault of its bytes; any other comes after a good tape.
     ensures faults { IfErr result (IsTapeFault
         (input (R.mark tape.new) (R.remaining tape.old) (R.remaining tape.new))) }
-    // A write failed exactly where the answer says so, and so did a read.
+    // A write failed if and only if the answer says so, and so did a read.
     ensures marks { W.mark out.new ≡ fails_to_write result }
     ensures reads { R.mark tape.new ≡ fails_to_read result }
     // The tape is not read past its limit.
@@ -346,7 +346,7 @@ pub fn run_events_with_long_trace<
     ensures faults { IfErr result (IsEventRunFault
         (input (R.mark tape.new) (R.remaining tape.old) (R.remaining tape.new))
         (input (E.mark text.new) (E.remaining text.old) (E.remaining text.new))) }
-    // A write failed exactly where the answer says so, and so did a read.
+    // A write failed if and only if the answer says so, and so did a read.
     ensures marks { W.mark out.new ≡ fails_to_write result }
     ensures reads { R.mark tape.new || E.mark text.new ≡ fails_to_read result }
     // The text is not read after a tape that is refused, or whose read failed.

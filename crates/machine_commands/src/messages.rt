@@ -45,7 +45,7 @@ pub struct RunMessage<A: Allocator> {
     pub status: Status,
 }
 
-/// What is found in search of a run that breaks a declaration.
+/// What is found in search of a run that violates a declaration.
 #[derive(Drop)]
 pub struct RefutationMessage<A: Allocator> {
     /// The text of the run's events; empty where none is found.
@@ -56,7 +56,7 @@ pub struct RefutationMessage<A: Allocator> {
     pub status: Status,
 }
 
-/// A run that breaks a declaration, and what is told of it.
+/// A run that violates a declaration, and what is told of it.
 #[derive(Drop)]
 pub(crate) struct WitnessMessage<A: Allocator> {
     /// The text of its events.
@@ -124,7 +124,7 @@ pub(crate) fn unbroken_line<A: Allocator>(alloc: A, turns: &Turns) -> Result<Vec
     Ok(text)
 }
 
-/// A run that breaks a rule is refused.
+/// A run that violates a rule is refused.
 fn watched_status(watched: Watched) -> Status
     ensures { result ≡ watched_status watched }
 {
@@ -134,7 +134,7 @@ fn watched_status(watched: Watched) -> Status
     }
 }
 
-/// The lines behind the verdict of a watched run, if it is to be explained: how far a run came that keeps
+/// The lines after the verdict of a watched run, if it is to be explained: how far a run came that keeps
 /// the rules, and what the step is about to do that breaks one.
 fn why_of<A: Allocator + Copy, D: Allocator>(
     alloc: A,
@@ -153,8 +153,8 @@ fn why_of<A: Allocator + Copy, D: Allocator>(
     }
 }
 
-/// What is told of a watched run: the line that says what was seen, and behind it, if it is to be explained, how far
-/// the run came, or what the step is about to do that breaks a rule.
+/// What is told of a watched run: the line that says what was seen, and after it, if it is to be explained, how far
+/// the run came, or what the step is about to do that violates a rule.
 fn seen_message<A: Allocator + Copy, D: Allocator>(
     alloc: A,
     image: &Image,
@@ -180,7 +180,7 @@ fn seen_message<A: Allocator + Copy, D: Allocator>(
     Ok(text)
 }
 
-/// What is told of a watched run, and behind it the cells that are to be shown.
+/// What is told of a watched run, and after it the cells that are to be shown.
 fn seen_with_cells<A: Allocator + Copy, D: Allocator>(
     alloc: A,
     image: &Image,
@@ -259,8 +259,8 @@ pub fn watch_message<A: Allocator + Copy, D: Allocator>(
     watch_offered(alloc, image, declaration, events, offered, explained, show)
 }
 
-/// What is told of a run that goes on at declared pauses: how far it went or the rule that is broken, and behind it, if it
-/// is to be explained, more about that, and the cells that are to be shown.
+/// What is told of a run that goes on at declared pauses: how far it went or the rule that is violated, and after it, if
+/// it is to be explained, more about that, and the cells that are to be shown.
 fn continued_lines<A: Allocator + Copy, D: Allocator>(
     alloc: A,
     image: &Image,
@@ -439,7 +439,7 @@ pub fn watch_session_message<A: Allocator + Copy, D: Allocator>(
     }
 }
 
-/// The text of the events of a run that breaks the declaration, and what is told of it.
+/// The text of the events of a run that violates the declaration, and what is told of it.
 fn witness_message<A: Allocator + Copy, D: Allocator>(
     alloc: A,
     image: &Image,
@@ -474,8 +474,8 @@ fn witness_message<A: Allocator + Copy, D: Allocator>(
     Ok(WitnessMessage { events: text, told })
 }
 
-/// Looks for a run that breaks the declaration, and says what is told of it if one is found. Where none is found all
-/// turns are spent.
+/// Looks for a run that violates the declaration, and says what is told of it if one is found. Where none is found
+/// all turns are spent.
 pub(crate) fn told_witness<A: Allocator + Copy, D: Allocator>(
     alloc: A,
     image: &Image,
@@ -501,7 +501,8 @@ pub(crate) fn told_witness<A: Allocator + Copy, D: Allocator>(
     }
 }
 
-/// What `refute` finds and tells: a run that breaks the declaration, or that none is found in so many steps.
+/// What `refute` finds and tells: a run that violates the declaration, or that none is found in so many
+/// steps.
 ///
 /// # Errors
 ///

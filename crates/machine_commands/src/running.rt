@@ -32,7 +32,7 @@ pub(crate) fn status_of(end: End) -> Status
     }
 }
 
-/// Lets an image's machine go through a course, and writes the trace, if it is asked for, the summary,
+/// Lets an image's machine go through a course, and writes the trace, if it is requested, the summary,
 /// and the cells that are to be shown.
 pub(crate) fn run_course<A: Allocator + Copy, W: ByteSink>(
     alloc: A,
@@ -65,7 +65,7 @@ pub(crate) fn run_course<A: Allocator + Copy, W: ByteSink>(
 }
 
 /// Runs a tape in rounds of an instruction, a completion of the printer and one of the punch, and
-/// writes the summary, before it the trace if it is asked for, and behind it the cells that are to be
+/// writes the summary, before it the trace if it is requested, and after it the cells that are to be
 /// shown. The run ends early at a halt and at an unsupported word; the latter's status is `Refused`.
 ///
 /// # Errors
@@ -87,7 +87,7 @@ pub fn run<A: Allocator + Copy, R: ByteSource, W: ByteSink>(
     // A fault of the tape is the first fault of its bytes; any other comes after a good tape.
     ensures faults { IfErr result (IsTapeFault
         (input (R.mark tape.new) (R.remaining tape.old) (R.remaining tape.new))) }
-    // Where a write failed, a front of that went out, under a trace at least of its first lines,
+    // If a write failed, a prefix of that went out, under a trace at least of its first lines,
     ensures front { W.mark out.new ≡ true →
         FrontOf (IsPartOfRoundRun options (R.remaining tape.old))
         (W.taken out.old) (W.taken out.new) }
@@ -102,7 +102,7 @@ pub fn run<A: Allocator + Copy, R: ByteSource, W: ByteSink>(
     ensures traced_whole { result ≡ Err NoMemory → options.trace ≡ true →
         Writes (IsTraceOfRounds options (R.remaining tape.old))
         (W.taken out.old) (W.taken out.new) }
-    // A write failed exactly where the answer says so, and so did a read.
+    // A write failed if and only if the answer says so, and so did a read.
     ensures marks { W.mark out.new ≡ fails_to_write result }
     ensures reads { R.mark tape.new ≡ fails_to_read result }
     // The tape is not read past its limit.

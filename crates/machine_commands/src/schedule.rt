@@ -36,7 +36,7 @@ pub(crate) trait Scheduler {
     /// Whether the last event was an instruction.
     ghost stepped: { Self → Bool };
 
-    /// The event that is due in a world, which counts as having come; none where the run is over.
+    /// The event that is due in a world, which counts as having come; none if the run is over.
     ///
     /// # Errors
     ///

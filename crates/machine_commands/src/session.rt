@@ -91,7 +91,7 @@ fn character_at(bytes: &[u8], index: usize) -> [u8; 1]
     }
 }
 
-/// Applies one event, adds its line to the trace if one is asked for, and types what it printed.
+/// Applies one event, adds its line to the trace if one is requested, and types what it printed.
 #[inline(always)]
 pub(crate) fn apply_event<A: Allocator, W: ByteSink, T: ByteSink>(
     world: &mut World<A>,
@@ -178,8 +178,8 @@ pub(crate) fn operate<A: Allocator, S: Scheduler, W: ByteSink, T: ByteSink>(
     })
 }
 
-/// Runs an image by a schedule, and writes what was punched in the end, also where the run broke
-/// off, and the summary in this form.
+/// Runs an image by a schedule, and writes what was punched in the end, even if the run broke off,
+/// and the summary in this form.
 pub(crate) fn run_scheduled<
     A: Allocator + Copy,
     S: Scheduler,
@@ -236,11 +236,10 @@ fn are_few(rounds: u32)
     ensures { rounds < 18446744073709551616 }
 {}
 
-/// Runs a tape with an operator: the frames of one source are in the reader, the bytes of another
-/// are the keys, and both are read before the run, as many bytes as there are rounds. What is
-/// printed is typed as characters, what is punched is written as it is, and the trace, if it is asked
-/// for, and the summary, in the form that is asked for, are the report. The run ends early as that of
-/// `run`.
+/// Runs a tape with an operator: the frames of one source are in the reader, the bytes of another are
+/// the keys, and both are read before the run, as many bytes as there are rounds. What is printed is
+/// typed as characters, what is punched is written as it is, and the trace, if it is requested, and
+/// the summary, in the form that is requested, are the report. The run ends early as that of `run`.
 ///
 /// # Errors
 ///
@@ -305,7 +304,7 @@ pub fn run_session<
     // and nothing is written where the tape is refused or a read failed.
     ensures nothing { IfErr result (λ fault. is_fault_of_tape fault ≡ true → out.new ≡ out.old) }
     ensures nothing_after_failure { fails_to_read result ≡ true → out.new ≡ out.old }
-    // A write failed exactly where the answer says so, and so did a read.
+    // A write failed if and only if the answer says so, and so did a read.
     ensures marks { (W.mark out.new.report || T.mark out.new.teletype) || P.mark out.new.punch
         ≡ fails_to_write result }
     ensures reads { (R.mark tape.new || F.mark reader.new) || K.mark keys.new

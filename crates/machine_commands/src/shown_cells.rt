@@ -24,7 +24,8 @@ pub(crate) fn first(events: &[Event], count: usize) -> &[Event]
     }
 }
 
-/// The events of a watched run that happen: all of them, or those before the one that breaks a rule.
+/// The events of a watched run that happen: all of them, or those before the one that violates a
+/// rule.
 pub(crate) fn happening<'a>(watched: Watched, events: &'a [Event]) -> &'a [Event]
     ensures { result.now ≡ happening watched events.now }
 {

@@ -52,7 +52,7 @@ fn is_step(event: &Event) -> bool
     matches!(event, Event::Step)
 }
 
-/// How many steps came to the address, with an event, where so many came to it before; none where the event stops
+/// How many steps came to the address, with an event, where so many came to it before; none if the event stops
 /// the run.
 pub(crate) fn visits_past<A: Allocator>(
     stops: &Stops,
@@ -154,7 +154,7 @@ pub(crate) fn leaving<A: Allocator>(left: bool, ran: RunOutcome, world: &World<A
     }
 }
 
-/// Runs an image by a schedule up to where it is stopped, and writes what was punched in the end, also where the run
+/// Runs an image by a schedule up to where it is stopped, and writes what was punched in the end, even if the run
 /// broke off, and the summary in this form.
 pub(crate) fn run_scheduled_to_stop<
     A: Allocator + Copy,
@@ -216,8 +216,8 @@ fn are_few(rounds: u32)
 {}
 
 /// Runs a tape with an operator, as [`crate::session::run_session`] does, up to the step before which it is stopped.
-/// The summary then says where that is, and shows the machine as it was there. Where the run ends before, it writes
-/// as `run_session` does.
+/// The summary then says where that is, and shows the machine as it was there. If the run ends before, it writes as
+/// `run_session` does.
 ///
 /// # Errors
 ///
@@ -267,7 +267,7 @@ pub fn run_session_with_stops<
     // and nothing is written where the tape is refused or a read failed.
     ensures nothing { IfErr result (λ fault. is_fault_of_tape fault ≡ true → out.new ≡ out.old) }
     ensures nothing_after_failure { fails_to_read result ≡ true → out.new ≡ out.old }
-    // A write failed exactly where the answer says so, and so did a read.
+    // A write failed if and only if the answer says so, and so did a read.
     ensures marks { (W.mark out.new.report || T.mark out.new.teletype) || P.mark out.new.punch
         ≡ fails_to_write result }
     ensures reads { (R.mark tape.new || F.mark reader.new) || K.mark keys.new
@@ -302,7 +302,7 @@ pub fn run_session_with_stops<
 
 /// Runs a tape with somebody at the teletype, as [`crate::teletype::teletype`] does, up to the step before which the
 /// session is stopped. The summary then says where that is, and shows the machine as it was there; where the key was
-/// struck that interrupts the session, it says where that was. Where the session ends before, it writes as `teletype`
+/// struck that interrupts the session, it says where that was. If the session ends before, it writes as `teletype`
 /// does.
 ///
 /// # Errors
@@ -353,8 +353,8 @@ pub fn teletype_with_stops<
     ensures unread { IfErr result (λ fault. is_fault_of_tape fault ≡ true →
         typist.new ≡ typist.old) }
     ensures unread_after_failure { R.mark tape.new ≡ true → typist.new ≡ typist.old }
-    // A write failed exactly where the answer says so; where it says that a read failed one did, and a read
-    // that failed is told unless what was punched could not be written after it.
+    // A write failed if and only if the answer says so; where it says that a read failed one did, and a
+    // read that failed is told unless what was punched could not be written after it.
     ensures marks { (W.mark out.new.report || T.mark out.new.teletype) || P.mark out.new.punch
         ≡ fails_to_write result }
     ensures reads { fails_to_read result ≡ true →

@@ -31,7 +31,7 @@ use wordset::WordSet;
 pub struct WatchOptions<'s> {
     /// Where the run is stopped.
     pub stops: &'s Stops,
-    /// How many of its last instructions are shown, if that is asked for.
+    /// How many of its last instructions are shown, if that is requested.
     pub last: Option<u32>,
     /// Whether it is said what violates a rule, or how far the run got.
     pub explained: bool,
@@ -116,7 +116,7 @@ fn told_to_stop<A: Allocator + Copy, D: Allocator>(
 }
 
 /// What `watch` tells of a list of events, up to where their run is stopped: the lines of the last instructions, if
-/// so many are asked for, the line that says where it was stopped, and what it tells of the events up to there.
+/// so many are requested, the line that says where it was stopped, and what it tells of the events up to there.
 ///
 /// # Errors
 ///

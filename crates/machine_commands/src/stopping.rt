@@ -47,7 +47,7 @@ pub(crate) fn first<'e>(course: &Course<'e>, count: usize) -> Course<'e>
     }
 }
 
-/// After how many events of a course the run of an image is stopped; none where it is not.
+/// After how many events of a course the run of an image is stopped; none if it is not.
 pub(crate) fn stop_of<A: Allocator + Copy>(
     alloc: A,
     image: &Image,
@@ -141,7 +141,7 @@ pub(crate) fn run_stoppable<A: Allocator + Copy, W: ByteSink>(
 }
 
 /// Runs a tape in rounds, as [`crate::running::run`] does, up to the step before which it is stopped. The
-/// summary then says where that is, and shows the machine as it was there. Where the run ends before, it
+/// summary then says where that is, and shows the machine as it was there. If the run ends before, it
 /// writes as `run` does.
 ///
 /// # Errors
@@ -164,14 +164,14 @@ pub fn run_with_stops<A: Allocator + Copy, R: ByteSource, W: ByteSink>(
     // A fault of the tape is the first fault of its bytes; any other comes after a good tape.
     ensures faults { IfErr result (IsTapeFault
         (input (R.mark tape.new) (R.remaining tape.old) (R.remaining tape.new))) }
-    // Where a write failed, a front of that went out,
+    // If a write failed, a prefix of that went out,
     ensures front { W.mark out.new ≡ true →
         FrontOf (IsPartOfRoundRunWithStops options stops.now (R.remaining tape.old))
         (W.taken out.old) (W.taken out.new) }
     // and any other fault leaves the output as it was, unless there is a trace.
     ensures nothing { OnErr result (W.mark out.new ≡ false → options.trace ≡ false →
         W.taken out.new ≡ W.taken out.old) }
-    // A write failed exactly where the answer says so, and so did a read.
+    // A write failed if and only if the answer says so, and so did a read.
     ensures marks { W.mark out.new ≡ fails_to_write result }
     ensures reads { R.mark tape.new ≡ fails_to_read result }
     // The tape is not read past its limit.
@@ -207,7 +207,7 @@ pub fn run_events_with_stops<A: Allocator + Copy, R: ByteSource, E: ByteSource, 
     ensures faults { IfErr result (IsEventRunFault
         (input (R.mark tape.new) (R.remaining tape.old) (R.remaining tape.new))
         (input (E.mark text.new) (E.remaining text.old) (E.remaining text.new))) }
-    // Where a write failed, a front of that went out,
+    // If a write failed, a prefix of that went out,
     ensures front { W.mark out.new ≡ true →
         FrontOf (IsPartOfEventRunWithStops options stops.now (R.remaining tape.old)
         (E.remaining text.old))
@@ -215,7 +215,7 @@ pub fn run_events_with_stops<A: Allocator + Copy, R: ByteSource, E: ByteSource, 
     // and any other fault leaves the output as it was, unless there is a trace.
     ensures nothing { OnErr result (W.mark out.new ≡ false → options.trace ≡ false →
         W.taken out.new ≡ W.taken out.old) }
-    // A write failed exactly where the answer says so, and so did a read.
+    // A write failed if and only if the answer says so, and so did a read.
     ensures marks { W.mark out.new ≡ fails_to_write result }
     ensures reads { R.mark tape.new || E.mark text.new ≡ fails_to_read result }
     // The text is not read after a tape that is refused, or whose read failed.

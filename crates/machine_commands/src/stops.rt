@@ -45,7 +45,7 @@ fn reference_reads(cells: &WordSet, reference: &Reference) -> bool
     }
 }
 
-/// Whether an instruction writes or reads one of the cells that are asked for.
+/// Whether an instruction writes or reads one of the cells that are requested.
 fn touches(stops: &Stops, instruction: &DecodedInstruction) -> bool
     ensures { result ≡ (writes_one (words stops.now.written) instruction.now
         || reads_one (words stops.now.read) instruction.now) }
@@ -68,7 +68,7 @@ fn is_at(place: Option<Word>, pc: Word) -> bool
     }
 }
 
-/// Whether the next step is asked for, where so many steps before it came to the address.
+/// Whether the next step is requested, where so many steps before it came to the address.
 fn is_asked_for(stops: &Stops, visits: usize, cpu: &Cpu) -> bool
     requires { visits < 18446744073709551615 }
     ensures { result ≡ is_asked_for stops.now cpu.now.profile visits (state_of cpu.now) }
@@ -126,7 +126,7 @@ pub(crate) fn goes_on(ends_at_halt: bool, seen: &Seen) -> bool
     }
 }
 
-/// After how many events the run of a course is stopped; none where it is not. It takes the world through
+/// After how many events the run of a course is stopped; none if it is not. It takes the world through
 /// the course up to there.
 pub(crate) fn stop_in<A: Allocator>(
     world: &mut World<A>,

@@ -184,7 +184,7 @@ pub(crate) fn push_shown<A: Allocator, B: Allocator>(
     push_cells(text, show, memory_of(world))
 }
 
-/// Adds the summary of a run, and behind it the cells that are to be shown.
+/// Adds the summary of a run, and after it the cells that are to be shown.
 pub(crate) fn push_closing<A: Allocator, B: Allocator>(
     text: &mut Vec<u8, A>,
     outcome: &RunOutcome,
@@ -198,7 +198,7 @@ pub(crate) fn push_closing<A: Allocator, B: Allocator>(
     push_shown(text, show, world)
 }
 
-/// The summary of a run, and behind it the cells that are to be shown.
+/// The summary of a run, and after it the cells that are to be shown.
 pub fn summary_of<A: Allocator, B: Allocator>(
     alloc: A,
     outcome: &RunOutcome,
@@ -213,7 +213,7 @@ pub fn summary_of<A: Allocator, B: Allocator>(
     Ok(text)
 }
 
-/// Whether bytes that were printed leave a line open: the last one is no line feed.
+/// Whether bytes that were printed leave a line open: the last one is not a line feed.
 #[tactic(auto, using(crate::proofs::SummaryLemmas::open_last))]
 fn leaves_open(printed: &[u8]) -> bool
     ensures { result ≡ leaves_open (map character printed.now) }
@@ -224,7 +224,7 @@ fn leaves_open(printed: &[u8]) -> bool
     printed[printed.len() - 1] % 128 != b'\n'
 }
 
-/// What stands before a summary that is to stand apart: the end of an open line.
+/// What comes before a summary that is to stand apart: the end of an open line.
 pub(crate) fn parting(apart: bool, printed: &[u8]) -> &'static [u8]
     ensures { result.now ≡ parting apart (map character printed.now) }
 {
@@ -315,7 +315,7 @@ fn push_summary_as<A: Allocator, B: Allocator>(
     push_punched(text, form.saved_in, world.punched())
 }
 
-/// Adds the summary of a run with an operator, and behind it the cells that are to be shown.
+/// Adds the summary of a run with an operator, and after it the cells that are to be shown.
 fn push_closing_as<A: Allocator, B: Allocator>(
     text: &mut Vec<u8, A>,
     form: &SummaryForm<'_>,

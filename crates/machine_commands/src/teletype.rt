@@ -29,11 +29,11 @@ pub(crate) fn run_of(options: TeletypeOptions) -> RunOptions
     }
 }
 
-/// Runs a tape with somebody at the teletype. A key is struck in a round whose instruction asked for one:
-/// a KSF that found the keyboard's flag clear. Each frame and each key is read when it is due, and what
-/// was printed until then is typed before it. What is punched is written when the session is over, also
-/// where it broke off, and then the summary in the form that is asked for. The session ends early at a halt, at an
-/// unsupported word, and where a key is asked for and none is left.
+/// Runs a tape with somebody at the teletype. A key is struck in a round whose instruction asked for one: a KSF
+/// that found the keyboard's flag clear. Each frame and each key is read when it is due, and what was printed
+/// until then is typed before it. What is punched is written when the session is over, even if it broke off, and
+/// then the summary in the form that is requested. The session ends early at a halt, at an unsupported word, and
+/// where a key is requested and none is left.
 ///
 /// # Errors
 ///
@@ -68,9 +68,9 @@ pub fn teletype<
         (taken (W.taken out.new.report) (T.taken out.new.teletype) (P.taken out.new.punch))) }
     ensures faults { IfErr result (IsTypedFault
         (input (R.mark tape.new) (R.remaining tape.old) (R.remaining tape.new))) }
-    // After a fault of a good tape fronts of what the first events leave went out, and all of it where
-    // no write failed: also where a read of a frame or a key failed, what was printed before is typed, and
-    // what was punched before is written.
+    // After a fault of a good tape fronts of what the first events leave went out, and all of it where no
+    // write failed: even if a read of a frame or a key failed, what was printed before is typed, and what
+    // was punched before is written.
     ensures front { IfErr result (λ fault. (is_fault_of_tape fault ≡ true) ⊎ ((R.mark tape.new ≡ true)
         ⊎ TypedFronts typist.old.options form.entry
         (failures (W.mark out.new.report) (T.mark out.new.teletype) (P.mark out.new.punch))
@@ -84,8 +84,8 @@ pub fn teletype<
     ensures unread { IfErr result (λ fault. is_fault_of_tape fault ≡ true →
         typist.new ≡ typist.old) }
     ensures unread_after_failure { R.mark tape.new ≡ true → typist.new ≡ typist.old }
-    // A write failed exactly where the answer says so; where it says that a read failed one did, and a read
-    // that failed is told unless what was punched could not be written after it.
+    // A write failed if and only if the answer says so; where it says that a read failed one did, and a
+    // read that failed is told unless what was punched could not be written after it.
     ensures marks { (W.mark out.new.report || T.mark out.new.teletype) || P.mark out.new.punch
         ≡ fails_to_write result }
     ensures reads { fails_to_read result ≡ true →

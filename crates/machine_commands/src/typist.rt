@@ -36,7 +36,7 @@ pub struct Typist<F, K> {
     asked: bool,
 }
 
-/// The next byte of a source, which is asked for one byte alone.
+/// The next byte of a source, which is requested one byte alone.
 fn next_byte<S: ByteSource>(source: &mut S) -> Result<Option<u8>, Fault>
     requires { S.mark source.old ≡ false }
     ensures some { IfOk result (λ next. IfSome next (λ byte. (rest : List ℕ) →
@@ -164,7 +164,7 @@ impl<F: ByteSource, K: ByteSource> Typist<F, K> {
         }
     }
 
-    /// A key is asked for: the next one is due, or nothing where none is left.
+    /// A key is requested: the next one is due, or nothing if none is left.
     fn key_due(&mut self) -> Result<Option<Event>, Fault>
         requires { K.mark self.old.keys ≡ false }
         ensures due { IfOk result (λ due. (after : List ℕ) →
@@ -181,8 +181,8 @@ impl<F: ByteSource, K: ByteSource> Typist<F, K> {
         }
     }
 
-    /// At the keyboard's turn: the next key where one is asked for, or nothing where none is left; else
-    /// a round.
+    /// At the keyboard's turn: the next key where one is requested, or nothing if none is left; else a
+    /// round.
     fn answer_due(&mut self) -> Result<Option<Event>, Fault>
         requires { K.mark self.old.keys ≡ false }
         ensures due { IfOk result (λ due. (after : List ℕ) →

@@ -35,12 +35,12 @@ pub fn watch_of<A: Allocator + Copy>(
     }
 }
 
-/// Runs a tape by a list of events, from the declared start with all registers and all cells that
-/// are not on the tape 0, and writes whether each of its steps is legal, or which event is the first
-/// that is not and the least rule that it breaks; then the status is `Refused`. Where it is to be
+/// Runs a tape by a list of events, from the declared start with all registers and all cells that are not
+/// on the tape 0, and writes whether each of its steps is legal, or which event is the first that is not
+/// and the lowest-numbered rule that it violates; then the status is `Refused`. Where it is to be
 /// explained, lines follow that say how far the run came, or what that step is about to do; they are
 /// tested and not proved. Behind them stand the cells that are to be shown, with their words when the run
-/// was over: before a step that breaks a rule.
+/// was over: before a step that violates a rule.
 ///
 /// # Errors
 ///

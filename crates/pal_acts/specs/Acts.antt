@@ -6,13 +6,13 @@ use Rattle.pal_acts.specs.declared.act.SourcePlace.{SourcePlace}
 use Rattle.pal_acts.specs.declared.acts.SourceAct.{SourceAct}
 use Rattle.pal_acts.specs.declared.acts.StoredAct.{StoredAct}
 
--- An act, where it stands, and the terms of its expression; none where it has no expression.
+-- An act, where it stands, and the terms of its expression; none if it has no expression.
 pub record PlacedAct : Type 0 where
   pub place : SourcePlace
   pub terms : List SignedTerm
   pub act : Act
 
--- An act with its place and the terms of its expression, which are none where it has no expression.
+-- An act with its place and the terms of its expression, which are none if it has no expression.
 abbrev pub placed : SourcePlace → List SignedTerm → Act → PlacedAct
 placed p e a = record { place = p; terms = e; act = a }
 

@@ -4,7 +4,7 @@ use crate::fault_code::FaultCode;
 pub use pal_text::Name;
 use word12::Word;
 
-/// How a term joins what stands before it.
+/// How a term joins what comes before it.
 #[derive(Clone, Copy)]
 pub enum Sign {
     /// The sum, modulo 4096.
@@ -26,7 +26,7 @@ pub enum ExpressionTerm {
     Here,
 }
 
-/// A term, and how it joins what stands before it; an expression is a list of these.
+/// A term, and how it joins what comes before it; an expression is a list of these.
 #[derive(Clone, Copy)]
 pub struct SignedTerm {
     pub sign: Sign,

@@ -8,7 +8,7 @@ use crate::act::{Act, SignedTerm, SourcePlace};
 use std::alloc::{AllocError, Allocator};
 use std::marker::Model;
 
-/// An act, where it stands, and the terms of its expression; none where it has no expression.
+/// An act, where it stands, and the terms of its expression; none if it has no expression.
 #[derive(Clone, Copy)]
 pub struct SourceAct<'t> {
     pub place: SourcePlace,
@@ -55,7 +55,7 @@ impl<A: Allocator> Model for Acts<A> {
         acts.list.items };
 }
 
-/// Adds the terms of an expression, and tells where they lie.
+/// Adds the terms of an expression, and returns where they lie.
 fn lay<A: Allocator>(
     terms: &mut Vec<SignedTerm, A>,
     expression: &[SignedTerm],

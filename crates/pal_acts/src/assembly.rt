@@ -315,7 +315,7 @@ pub fn assemble<'p, A: Allocator + Copy>(
 /// # Errors
 ///
 /// `Fault` as of [`assemble`]. `NoMemory` where `assemble` has it, and where memory was refused for a
-/// word, which is asked for once all symbols have their values, before later words are looked at.
+/// word, which is requested once all symbols have their values, before later words are looked at.
 pub fn assemble_with_words<'p, A: Allocator + Copy>(
     alloc: A,
     permanent: &'p SymbolTable<A>,

@@ -77,7 +77,7 @@ impl<'p, A: Allocator + Copy> Symbols<'p, A> {
         }
     }
 
-    /// The value of an expression at a location; none where a symbol has none.
+    /// The value of an expression at a location; none if a symbol has none.
     #[inline(always)]
     pub fn value(&self, here: Word, joins: &[SignedTerm]) -> Option<Word>
         ensures { result ≡ value (known self.now.permanent.now.entries self.now.own.entries) here
@@ -90,7 +90,7 @@ impl<'p, A: Allocator + Copy> Symbols<'p, A> {
         Some(sum)
     }
 
-    /// Gives a name a value. Where it has another, that is the fault `other`.
+    /// Gives a name a value. If it has another, that is the fault `other`.
     #[inline(always)]
     fn give(&mut self, name: Name, value: Word, other: FaultCode) -> Result<(), Refusal>
         ensures given { OnOk result (given other 1024 self.old.own.entries name

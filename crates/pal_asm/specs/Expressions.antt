@@ -16,7 +16,7 @@ use Rattle.pal_acts.specs.declared.act.SignedTerm.{SignedTerm}
 use Rattle.pal_acts.specs.declared.fault_code.FaultCode.{FaultCode}
 use Rattle.pal_asm.specs.Numbers.{number}
 
--- How what follows joins what stands before it: a plus and a minus say it, and a space is an or.
+-- How what follows joins what comes before it: a plus and a minus say it, and a space is an or.
 abbrev pub sign_of : TokenKind → Sign
 sign_of kind.Plus = Plus
 sign_of kind.Minus = Minus
@@ -36,12 +36,12 @@ term_by b source t _ = Ok (Symbol (name_of source t))
 abbrev pub term : ℕ → List ℕ → Token → Result ExpressionTerm FaultCode
 term b source t = term_by b source t t.kind
 
--- A term, which joins what stands before it by this sign, before others. Of what is wrong, the leftmost is told.
+-- A term, which joins what comes before it by this sign, before others. Of what is wrong, the leftmost is told.
 abbrev pub in_front : Sign → Result ExpressionTerm FaultCode → Result (List SignedTerm) FaultCode → Result (List SignedTerm) FaultCode
 in_front s (Err c) others = Err c
 in_front s (Ok t) others = result_map_both (λ js. record { sign = s; term = t } ∷ js) (λ c. c) others
 
--- The terms of an expression, the first of which joins what stands before it by this sign.
+-- The terms of an expression, the first of which joins what comes before it by this sign.
 abbrev pub joins : ℕ → List ℕ → Sign → List Token → Result (List SignedTerm) FaultCode
 joins b source s [] = Ok []
 joins b source s (t ∷ ts) = if is_joiner t.kind then joins b source (sign_of t.kind) ts else in_front s (term b source t) (joins b source Or ts)

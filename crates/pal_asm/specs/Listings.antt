@@ -13,12 +13,13 @@ use Rattle.pal_asm.specs.Sources.{TextLine, IsReadSo}
 abbrev pub is_at : SourcePlace → PlacedWord → Bool
 is_at p w = nat_eq w.place.part p.part && nat_eq w.place.line p.line
 
--- Characters from the first one on that is no space and no tab: those at the front of a line are not listed.
+-- Characters from the first one on that is not a space and no tab: those at the front of a line are not
+-- listed.
 abbrev pub without_front : List ℕ → List ℕ
 without_front [] = []
 without_front (c ∷ cs) = if nat_eq c (char " ") || nat_eq c (char "\t") then without_front cs else c ∷ cs
 
--- A byte at the front of a line is no text: an ignored one, a space or a tab.
+-- A byte at the front of a line is not a text: an ignored one, a space or a tab.
 abbrev pub is_no_text : ℕ → Bool
 is_no_text b = not (is_character (code b)) || (nat_eq (code b) (char " ") || nat_eq (code b) (char "\t"))
 
@@ -31,7 +32,7 @@ abbrev pub words_text : List PlacedWord → List ℕ
 words_text [] = []
 words_text (w ∷ ws) = word_text w ++ codes "\n" ++ words_text ws
 
--- A line with these words and this text: beside the text its first word or as many spaces, and then its further words. Where
+-- A line with these words and this text: beside the text its first word or as many spaces, and then its further words. If
 -- there is neither word nor text, an empty line.
 abbrev pub line_text : List PlacedWord → List ℕ → List ℕ
 line_text [] [] = codes "\n"

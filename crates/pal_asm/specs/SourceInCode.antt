@@ -55,7 +55,7 @@ names_in n [] = []
 names_in n (t ∷ []) = []
 names_in n (t ∷ c ∷ ts) = if nat_eq n 0 then [] else t ∷ names_in (n - 1) ts
 
--- What stands after them.
+-- What comes after them.
 abbrev pub after_tags : ℕ → List Token → List Token
 after_tags n [] = []
 after_tags n (t ∷ []) = t ∷ []

@@ -165,7 +165,7 @@ fn push_characters<A: Allocator>(text: &mut Vec<u8, A>, bytes: &[u8]) -> Result<
     Ok(())
 }
 
-/// Adds a line without a word: nothing where it has no text.
+/// Adds a line without a word: nothing if it has no text.
 fn push_text<A: Allocator>(text: &mut Vec<u8, A>, shown: &[u8]) -> Result<(), AllocError>
     requires { 0 < length shown.now → 0 < length (characters shown.now) }
     ensures { OnOk result (text.new.items ≡ text.old.items ++ line_text [] (characters shown.now)) }

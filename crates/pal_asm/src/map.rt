@@ -198,7 +198,7 @@ fn map_parts<A: Allocator + Copy>(
     map_reading(alloc, &reading, profile)
 }
 
-/// Assembles a source as [`assemble`](crate::assemble) does, and tells what it says of each word.
+/// Assembles a source as [`assemble`](crate::assemble) does, and returns what it says of each word.
 ///
 /// # Errors
 ///

@@ -55,7 +55,7 @@ fn with_digit(base: u16, value: u16, digit: u16) -> u16
     if next < 4096 { next } else { 4096 }
 }
 
-/// What a character is worth as a digit of this base; nothing where it is none.
+/// What a character is worth as a digit of this base; nothing if it is none.
 fn digit_of(base: u16, code: u8) -> Option<u16>
     ensures digit { result ≡ (if is_digit_of base code then Some (code - char "0") else None) }
     ensures small { IfSome result (λ digit. digit < base) }
@@ -71,8 +71,8 @@ fn digit_of(base: u16, code: u8) -> Option<u16>
 ///
 /// # Errors
 ///
-/// `IllegalCharacter` where a character is no digit in this radix, and else `NumberTooLarge` where
-/// the number is above 4095.
+/// `IllegalCharacter` where a character is not a digit in this radix, and else `NumberTooLarge`
+/// where the number is above 4095.
 pub(crate) fn number_of(radix: Radix, bytes: &[u8]) -> Result<Word, FaultCode>
     ensures { result ≡ number (base radix) (characters bytes.now) }
 {

@@ -54,8 +54,8 @@ impl<A: Allocator + Copy> ListedProgram<A> {
     ///
     /// # Errors
     ///
-    /// `ListingWriteFault` where a write failed or took nothing, which the mark shows; a front of the
-    /// listing went out before it.
+    /// `ListingWriteFault` where a write failed or took nothing, which the mark shows; a prefix of
+    /// the listing went out before it.
     pub fn write_listing<W: ByteSink>(&self, sink: &mut W) -> Result<(), ListingWriteFault>
         requires unmarked { W.mark sink.old ≡ false }
         ensures whole { OnOk result (Appends (W.taken sink.old) (W.taken sink.new)

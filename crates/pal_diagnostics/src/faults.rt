@@ -14,7 +14,7 @@ use pal_asm::PalFault;
 use pal_text::TokenKind;
 use std::alloc::{AllocError, Allocator};
 
-/// How many faults are told at most.
+/// How many faults are reported at most.
 const MOST_FAULTS: usize = 20;
 
 /// How many statements are left out at most.
@@ -217,7 +217,7 @@ fn push_findings<A: Allocator + Copy>(
     Ok(())
 }
 
-/// Adds what is said about a fault, and tells which byte of its part is marked.
+/// Adds what is said about a fault, and returns which byte of its part is marked.
 fn push_fault<A: Allocator + Copy>(
     alloc: A,
     text: &mut String<A>,

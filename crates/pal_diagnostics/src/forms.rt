@@ -46,7 +46,7 @@ fn misplaced_in_expression(bytes: &[u8], tokens: &[Token]) -> Option<usize> {
 }
 
 /// The place among the tokens of a statement of the first that has none in it; their number, where the
-/// statement goes on past them, and nothing where it has a form.
+/// statement goes on past them, and nothing if it has a form.
 pub(crate) fn misplaced(bytes: &[u8], tokens: &[Token]) -> Option<usize> {
     let tags = count_tag_tokens(tokens);
     let body = tokens_from(tokens, tags);

@@ -14,7 +14,7 @@ pub(crate) struct NumberedLine {
     pub(crate) line: Line,
 }
 
-/// The bytes from `start` up to the one before `end`; none where there are not so many.
+/// The bytes from `start` up to the one before `end`; none if there are not so many.
 pub(crate) fn bytes_between(bytes: &[u8], start: usize, end: usize) -> &[u8] {
     match bytes.get(start..end) {
         Some(found) => found,

@@ -10,7 +10,7 @@ use pal_text::{Token, TokenKind};
 use std::alloc::{AllocError, Allocator};
 use word12::Word;
 
-/// What is said about a symbol that has no value if it is asked for; `known` has the values of the whole source.
+/// What is said about a symbol that has no value if it is requested; `known` has the values of the whole source.
 fn about_undefined<A: Allocator + Copy>(
     alloc: A,
     source: &Source<'_>,
@@ -39,7 +39,7 @@ fn about_undefined<A: Allocator + Copy>(
     })
 }
 
-/// Puts what is said about each symbol of a statement that has no value if it is asked for.
+/// Puts what is said about each symbol of a statement that has no value if it is requested.
 pub(crate) fn put_undefined<A: Allocator + Copy>(
     alloc: A,
     source: &Source<'_>,
@@ -65,7 +65,7 @@ pub(crate) fn put_undefined<A: Allocator + Copy>(
     Ok(())
 }
 
-/// What stands after an operation: the address, and whether I and Z stand before it.
+/// What comes after an operation: the address, and whether I and Z stand before it.
 #[derive(Clone, Copy)]
 struct Reference<'t> {
     is_indirect: bool,
@@ -78,7 +78,7 @@ fn is_symbol(bytes: &[u8], token: Token, letters: [u8; 6]) -> bool {
     token.kind == TokenKind::Symbol && name_of(bytes, token).letters == letters
 }
 
-/// What stands after an operation with these tokens.
+/// What comes after an operation with these tokens.
 fn reference_of<'t>(bytes: &[u8], tokens: &'t [Token]) -> Reference<'t> {
     let mut found = Reference {
         is_indirect: false,

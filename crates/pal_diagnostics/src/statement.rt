@@ -43,12 +43,12 @@ impl<A: Allocator> FaultyStatement<A> {
         }
     }
 
-    /// What stands after the tags.
+    /// What comes after the tags.
     pub(crate) fn body(&self) -> &[Token] {
         tokens_from(&self.tokens, count_tag_tokens(&self.tokens))
     }
 
-    /// The expression after the tags, with what stands after it.
+    /// The expression after the tags, with what comes after it.
     pub(crate) fn operand(&self) -> &[Token] {
         let body = self.body();
         tokens_from(body, count_front_tokens(body))

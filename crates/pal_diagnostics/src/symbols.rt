@@ -7,8 +7,8 @@ use pal_acts::{Name, SymbolTable, permanent_table};
 use std::alloc::{AllocError, Allocator};
 use strsim::osa_distance;
 
-/// A source whose faults are told: the names of the files of its parts, their bytes, and the machine whose
-/// symbols it has.
+/// A source whose faults are reported: the names of the files of its parts, their bytes, and the machine
+/// whose symbols it has.
 #[derive(Clone, Copy)]
 pub(crate) struct Source<'s> {
     pub(crate) names: &'s [&'s str],

@@ -1,5 +1,5 @@
 -- How tokens are read, one character after another, for private contracts. That these are the tokens is proved of it. Lists
--- of bytes and of tokens have the newest first here, but for `all_read`.
+-- of bytes and of tokens have the newest first here, except for `all_read`.
 use Rattle.std.specs.Prelude.{ℕ, Bool, ◌||◌, ◌&&◌, if◌then◌else◌, List, [], ◌∷◌, length, reverse, Option, Some, None, nat_eq}
 use Rattle.pal_text.specs.declared.characters.Meaning.{Meaning}
 use Rattle.pal_text.specs.declared.characters.Meaning.TheVariants.{Ignored, LineEnd, Character}
@@ -19,7 +19,7 @@ abbrev pub with_kind : Token → Token → Option TokenKind → Option Token
 with_kind last next (Some k) = Some (record { kind = k; line = last.line; start = last.start; end = next.end })
 with_kind last next None = without_space last next
 
--- The one token that two neighbours make; none where both stand.
+-- The one token that two neighbours make; none if both stand.
 abbrev pub joined : Token → Token → Option Token
 joined last next = with_kind last next (longer last.kind next.kind)
 

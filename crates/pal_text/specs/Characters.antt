@@ -1,4 +1,4 @@
--- The characters and lines of a part. A list of bytes has the newest first here: each byte is judged by what stands before it.
+-- The characters and lines of a part. A list of bytes has the newest first here: each byte is judged by what comes before it.
 use Prim.Native.String.{String}
 use Rattle.std.specs.Prelude.{ℕ, ◌+◌, ◌%◌, Bool, true, false, ◌||◌, not, if◌then◌else◌, List, [], ◌∷◌, nat_eq, filter, map, codes, get_or}
 use Rattle.pal_text.specs.declared.characters.Meaning.{Meaning}

@@ -18,8 +18,8 @@ use Rattle.pal_text.specs.Parts.{IsPart, IsIllegal}
 abbrev pub alone : TokenKind → ℕ → List Token
 alone k size = record { kind = k; line = 1; start = 0; end = size } ∷ record { kind = End; line = 1; start = size; end = size } ∷ []
 
--- The bytes of a token, read as a part of their own, are that token again, save for a space, whose place counts, and for the
--- end of a line or of the part, which has no character.
+-- The bytes of a token, read as a part of their own, are that token again, except for a space, whose place counts, and for
+-- the end of a line or of the part, which has no character.
 abbrev pub SpellsAgain : List ℕ → Token → Type 0
 SpellsAgain source t = is_space t.kind ≡ false → characters (bytes_of source t) ≢ [] → part_tokens (bytes_of source t) ≡ alone t.kind (t.end - t.start)
 

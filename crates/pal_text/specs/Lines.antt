@@ -1,4 +1,5 @@
--- The lines of a part. Lists of bytes and of lines have the newest first here, but for `all_lines`.
+-- The lines of a part. Lists of bytes and of lines have the newest first here, except for
+-- `all_lines`.
 use Rattle.std.specs.Prelude.{ℕ, ◌+◌, Bool, true, false, if◌then◌else◌, List, [], ◌∷◌, length, reverse}
 use Rattle.pal_text.specs.declared.lines.Line.{Line}
 use Rattle.pal_text.specs.Characters.{meaning_after, after}

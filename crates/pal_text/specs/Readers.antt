@@ -43,6 +43,6 @@ abbrev pub StopsAt : List ℕ → ℕ → StatementFault → Type 0
 StopsAt source n (Illegal line) = IsBroken source n line
 StopsAt source n NoMemory = HasToken source n
 
--- A reader tells a fault only where the part has not ended.
+-- A reader tells a fault only if the part has not ended.
 abbrev pub BreaksNext : Progress → StatementFault → Type 0
 BreaksNext at fault = (at.close ≡ None) × StopsAt at.source at.count fault

@@ -1,5 +1,5 @@
--- How the tokens of a statement are read from its bytes. Lists of bytes and of tokens have the newest first here, but for
--- what stands in a source or among a statement's own tokens.
+-- How the tokens of a statement are read from its bytes. Lists of bytes and of tokens have the newest first here, except
+-- for what stands in a source or among a statement's own tokens.
 use Rattle.std.specs.Prelude.{◌≡◌, ℕ, ◌+◌, ◌≤◌, ◌<◌, Bool, true, false, ◌||◌, if◌then◌else◌, List, [], ◌∷◌, ◌++◌, Option, Some, None, length, reverse, take, get_or, nat_eq}
 use Rattle.std.specs.List.{AllByRecursion}
 use Rattle.pal_text.specs.declared.tokens.TokenKind.{TokenKind}
@@ -108,7 +108,7 @@ abbrev pub stands_by : Option PartEnd → Place → ReaderState
 stands_by (Some c) next = Ended c
 stands_by None next = Begins next
 
--- Where the part has not ended, so many tokens stand before the next statement.
+-- If the part has not ended, so many tokens stand before the next statement.
 abbrev pub StandsAt : List ℕ → ℕ → ReaderState → Type 0
 StandsAt source count (Begins place) = IsPlaceIn source place × (count ≡ length (tokens (front source place.at)))
 StandsAt source count (Ended c) = Unit {0}

@@ -57,7 +57,7 @@ abbrev pub closed : Ending → ℕ → PartEnd
 closed e n = record { ending = e; stop = n }
 
 -- Where a part of so many bytes ends by a statement with these tokens: after the word PAUSE, after a dollar sign, or at its
--- last byte. None where it goes on.
+-- last byte. None if it goes on.
 abbrev pub closing : ℕ → List Token → Token → Form → Option PartEnd
 closing size own mark form.Pause = Some (closed ending.Pause (last_end mark.start own))
 closing size own mark _ =

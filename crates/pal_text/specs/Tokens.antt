@@ -1,5 +1,5 @@
 -- The tokens of a part: its runs of characters, and then these without the spaces that do not count. Lists of bytes and of
--- tokens have the newest first here, but for `all_tokens`.
+-- tokens have the newest first here, except for `all_tokens`.
 use Rattle.std.specs.Prelude.{ℕ, ◌+◌, Bool, true, false, ◌||◌, ◌&&◌, if◌then◌else◌, List, [], ◌∷◌, length, reverse, Option, Some, None, nat_eq, nat_le}
 use Rattle.std.specs.Option.{option_map_or}
 use Rattle.pal_text.specs.declared.tokens.TokenKind.{TokenKind}

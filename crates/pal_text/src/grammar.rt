@@ -142,7 +142,7 @@ fn body_of(tokens: &[Token]) -> Option<Form>
     }
 }
 
-/// What the tokens of a statement are; none where they are no statement.
+/// What the tokens of a statement are; none if they are no statement.
 pub(crate) fn shape_of(tokens: &[Token]) -> Option<Shape>
     ensures { result ≡ shape 0 tokens.now }
 {

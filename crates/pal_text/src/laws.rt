@@ -2,8 +2,8 @@
 
 ghost use Rattle.pal_text.specs.Laws.{TokensSpellAgain, IgnoredAddNothing, CommentsAddNothing, StatementsStay, ReadingIsOne, IllegalIsOne, ReadingIsNotIllegal, EachPartIsAnswered};
 
-/// The slice of a token that is no space and has a character, so that it ends neither a line nor the
-/// part, read as a part of its own, is that token again.
+/// The slice of a token that is not a space and has a character, so that it ends neither a line nor
+/// the part, read as a part of its own, is that token again.
 pub fn tokens_spell_again()
     ensures { TokensSpellAgain }
 {}

@@ -44,12 +44,12 @@ fn put_lines<A: Allocator>(out: &mut Vec<Line, A>, bytes: &[u8]) -> Result<(), A
     Ok(())
 }
 
-/// The lines of these bytes in order. What stands after the last line's end is one only where a
-/// byte of it is not ignored.
+/// The lines of these bytes in order. What comes after the last line's end is one only if a byte of
+/// it is not ignored.
 ///
 /// # Errors
 ///
-/// Where memory was refused, which is wanted only where there is a line.
+/// Where memory was refused, which is wanted only if there is a line.
 pub fn lines_of<A: Allocator>(alloc: A, bytes: &[u8]) -> Result<Vec<Line, A>, AllocError>
     ensures lines { IfOk result (λ out. out.items ≡ all_lines bytes.now) }
     ensures refused { OnErr result (all_lines bytes.now ≢ []) }

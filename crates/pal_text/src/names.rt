@@ -81,7 +81,7 @@ fn begins_no_direction(code: u8) -> bool
     matches!(code, b'A'..=b'C' | b'E'..=b'N' | b'Q'..=b'Z')
 }
 
-/// What a symbol with these bytes is. Its name is made only where it may be a direction's.
+/// What a symbol with these bytes is. Its name is made only if it may be a direction's.
 fn symbol_kind(bytes: &[u8]) -> TokenKind
     ensures { result ≡ named_kind (name bytes.now) }
 {

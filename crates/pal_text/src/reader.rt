@@ -173,7 +173,7 @@ impl<'s, A: Allocator + Copy> StatementReader<'s, A> {
     /// # Errors
     ///
     /// `Illegal` with the line of the next statement where that has no form, and `NoMemory` where
-    /// memory was refused, which is wanted only where the statement has a token. The next read then
+    /// memory was refused, which is wanted only if the statement has a token. The next read then
     /// begins at the same statement.
     pub fn read_next(&mut self) -> Result<PartItem, StatementFault>
         ensures source { self.new.source ≡ self.old.source }

@@ -53,7 +53,7 @@ fn is_letter(code: u8) -> bool
     matches!(code, b'A'..=b'Z')
 }
 
-/// What this code brings. Most codes are letters, so they are asked for first.
+/// What this code brings. Most codes are letters, so they are tested first.
 #[inline(always)]
 fn effect_of_code(code: u8) -> CodeEffect
     ensures { result ≡ brings code }

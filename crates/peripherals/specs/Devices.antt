@@ -1,4 +1,5 @@
--- The keyboard, the printer, the tape reader, the punch and the switches; and one instruction in front of them.
+-- The keyboard, the printer, the tape reader, the punch and the switches; and one instruction on a machine with
+-- these devices.
 use Rattle.std.specs.Prelude.{ℕ, ◌≡◌, ◌%◌, ◌==◌, Bool, true, false, ◌||◌, ◌⊎◌, if◌then◌else◌, Option, Some, None, List, [], ◌∷◌, ◌++◌}
 use Rattle.instruct.specs.declared.Profile.{Profile}
 use Rattle.instruct.specs.declared.devices.DeviceOperation.TheVariants.{ClearKeyboardFlag, ClearKeyboardFlagAndAccumulator, ClearPrinterFlag, ClearPrinterFlagAndPrint, ClearPunchFlag, ClearPunchFlagAndPunch, FetchReaderFrame, Print, Punch, ReadKeyboardBuffer, ReadReaderBuffer, ReadReaderBufferAndFetchFrame, SetPrinterFlag, SkipOnKeyboardFlag, SkipOnPrinterFlag, SkipOnPunchFlag, SkipOnReaderFlag, TakeKeyboardByte}
@@ -12,13 +13,14 @@ pub record Keyboard : Type 0 where
   pub flag : Bool
   pub buffer : ℕ
 
--- The tape reader: its flag, the byte of the last frame, and whether a frame was asked for and has not come yet.
+-- The tape reader: its flag, the byte of the last frame, and whether it waits for a frame.
 pub record Reader : Type 0 where
   pub flag : Bool
   pub buffer : ℕ
   pub fetching : Bool
 
--- The printer or the punch: its flag, whether it is busy with a byte, and all bytes that it was given.
+-- The printer or the punch: its flag, whether it is busy with a byte, and all bytes that it has
+-- received.
 pub record Writer : Type 0 where
   pub flag : Bool
   pub busy : Bool
@@ -32,12 +34,13 @@ pub record Devices : Type 0 where
   pub punch : Writer
   pub switches : ℕ
 
--- The printer or the punch when a program is loaded: its flag is clear, it is not busy, and it was given no byte.
+-- The printer or the punch when a program is loaded: its flag is clear, it is not busy, and it has received no
+-- byte.
 abbrev pub idle_writer : Writer
 idle_writer = record { flag = false; busy = false; output = [] }
 
--- The devices when a program is loaded: all flags are clear, both buffers and the switches are 0, nothing is under way,
--- and nothing was printed or punched.
+-- The devices when a program is loaded: all flags are clear, both buffers and the switches are 0, no device is busy or
+-- waiting, and nothing has been printed or punched.
 abbrev pub idle : Devices
 idle = record {
   keyboard = record { flag = false; buffer = 0 };
@@ -47,7 +50,7 @@ idle = record {
   switches = 0;
 }
 
--- A writer is given the low eight bits of the accumulator, also while it is busy.
+-- A writer receives the low eight bits of the accumulator, even while it is busy.
 abbrev pub given : ℕ → Writer → Writer
 given ac d = record d { busy = true; output = d.output ++ (ac % 256) ∷ [] }
 
@@ -67,7 +70,7 @@ with_keyboard_flag flag d = record d { flag = flag }
 abbrev pub fetched : Reader → Reader
 fetched d = record { flag = false; buffer = 0; fetching = true }
 
--- The answer of the devices to a device word: a test is told a flag, and a word that takes a byte the byte.
+-- The answer of the devices to a device word: a flag for a test, and the byte for a word that takes one.
 abbrev pub answer_to : Devices → ℕ → Answer
 answer_to v word =
     if word == word_of SkipOnReaderFlag then Truth v.reader.flag
@@ -90,7 +93,8 @@ clears_keyboard word =
     word == word_of ClearKeyboardFlag ||
     (word == word_of ClearKeyboardFlagAndAccumulator || word == word_of TakeKeyboardByte)
 
--- The devices after a word that is carried out, by the accumulator before it. All other words leave them.
+-- The devices after a word, given the accumulator before it. Words that are not listed here leave the
+-- devices as they are.
 unfoldable pub devices_after : Devices → ℕ → ℕ → Devices
 devices_after v word ac =
     if word == word_of ReadReaderBuffer then record v { reader = with_reader_flag false v.reader }
@@ -107,7 +111,8 @@ devices_after v word ac =
     then record v { printer = given ac (with_writer_flag false v.printer) }
     else v)))))))))
 
--- The machine and its devices, and the address of the HLT at which it stands; none while it runs.
+-- The machine and its devices, and the address of the HLT at which the machine is halted; none
+-- while it runs.
 pub record WorldState : Type 0 where
   pub state : State
   pub devices : Devices
@@ -117,17 +122,18 @@ pub record WorldState : Type 0 where
 abbrev pub word_at_pc : WorldState → ℕ
 word_at_pc w = w.state.memory w.state.pc
 
--- What the devices and the switches tell the next instruction.
+-- The answer of the devices and the switches to the next instruction.
 abbrev pub answer_of : Profile → WorldState → Answer
 answer_of profile w = answer_taken (instruction profile w.state) (answer_to w.devices (word_at_pc w)) w.devices.switches
 
--- One instruction is carried out: the table leads from state to state by the devices' answer, and a HLT halts there.
+-- One instruction is executed: the table leads from one state to the other with the answer of the devices, and a HLT
+-- halts the machine at its address.
 pub record CarriesOut (profile : Profile) (w x : WorldState) : Type 0 where
   pub step : Step profile w.state (answer_of profile w) x.state
   pub devices : x.devices ≡ devices_after w.devices (word_at_pc w) w.state.ac
   pub halted_at : x.halted_at ≡ (if halts_after (instruction profile w.state) then Some w.state.pc else None)
 
--- One instruction is tried: it is carried out, or at a word without a meaning nothing changes.
+-- One instruction is attempted: it is executed or, if the word has no meaning, nothing changes.
 abbrev pub Instructs : Profile → WorldState → WorldState → Type 0
 Instructs profile w x =
     CarriesOut profile w x ⊎ ((instruction profile w.state ≡ Undefined) × (x ≡ w))

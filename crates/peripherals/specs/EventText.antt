@@ -35,7 +35,7 @@ events_numbered name number =
     else (if bytes_eq name (codes "switches") then option_map (λ w. Switches w ∷ []) (octal_word number)
     else None)))
 
--- The events of a line by its words: none where it is empty. Any other line is bad.
+-- The events of a line by its words: none if it is empty. Any other line is bad.
 abbrev pub events_of_words : List (List ℕ) → Option (List Event)
 events_of_words [] = Some []
 events_of_words (name ∷ []) = option_map (λ e. e ∷ []) (event_named name)

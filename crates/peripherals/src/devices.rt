@@ -29,7 +29,7 @@ pub struct Reader {
     pub flag: bool,
     /// The byte of the last frame.
     pub buffer: u8,
-    /// A frame was asked for and has not come.
+    /// A frame was requested and has not come.
     pub fetching: bool,
 }
 
@@ -162,7 +162,7 @@ impl OutputDevice {
 }
 
 impl Reader {
-    /// The byte is dropped and the next frame is asked for.
+    /// The byte is dropped and the next frame is requested.
     fn fetch(&mut self)
         ensures { self.new ≡ record { flag = false; buffer = 0; fetching = true } }
     {

@@ -109,8 +109,8 @@ impl<'t> Operator<'t> {
         }
     }
 
-    /// The event that is due in a world; none where a round would begin and none is left. What it uses
-    /// up is gone then.
+    /// The event that is due in a world; none if a round would begin and none is left. What it uses up
+    /// is gone then.
     pub fn next<A: Allocator>(&mut self, world: &World<A>) -> Option<Event>
         ensures due { result ≡ due (plan_of self.old) (view world.now) self.old.last }
         ensures left { IfSome result (λ e. plan_of self.new ≡ left_after e (plan_of self.old)) }
@@ -151,7 +151,7 @@ impl<'t> Operator<'t> {
     }
 }
 
-/// What stands after the first byte.
+/// What comes after the first byte.
 fn rest_of(bytes: &[u8]) -> &[u8]
     ensures { result.now ≡ drop 1 bytes.now }
 {

@@ -1,4 +1,5 @@
--- The call list of a run. The machine has none: it is kept beside a run, to say which routine is running.
+-- The call stack of a run. The machine has none: it is kept beside a run, and says which routine is
+-- running.
 use Rattle.std.specs.Prelude.{ℕ, ◌&&◌, if◌then◌else◌, Some, None, List, [], ◌∷◌}
 use Rattle.instruct.specs.Instructions.{Meaning, Jms, Jmp}
 use Rattle.processor.specs.Machine.{State, after, instruction, place}
@@ -18,13 +19,13 @@ abbrev pub current : Calls → Routine
 current [] = None
 current (k ∷ ks) = Some k.entry
 
--- The list without the last call.
+-- The stack without the last call.
 abbrev pub returned : Calls → Calls
 returned [] = []
 returned (k ∷ ks) = ks
 
--- The call list after an instruction: a JMS into an entry adds a call, a JMP I through an entry takes the last one away,
--- and any other JMP to a place for which calls may be abandoned takes all away.
+-- The call stack after an instruction: a JMS into an entry pushes a call, a JMP I through an entry pops the last one,
+-- and any other JMP to an address for which calls may be abandoned empties the stack.
 abbrev pub calls_of : Declaration → Meaning → State → Calls → Calls
 calls_of d (Jms i c) s ks =
     if d.entry (place i c s.memory) then record { entry = place i c s.memory; after = after s.pc 1 } ∷ ks else ks
@@ -32,6 +33,6 @@ calls_of d (Jmp i c) s ks =
     if i && d.entry c then returned ks else (if d.abandon (place i c s.memory) then [] else ks)
 calls_of d _ s ks = ks
 
--- The call list after the instruction at the program counter.
+-- The call stack after the instruction at the program counter.
 abbrev pub calls_after : Declaration → State → Calls → Calls
 calls_after d s ks = calls_of d (instruction d.profile s) s ks

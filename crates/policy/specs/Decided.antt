@@ -51,7 +51,7 @@ abbrev pub is_jmp : Operation → Bool
 is_jmp Jmp = true
 is_jmp _ = false
 
--- Where the first holds, so does the second.
+-- If the first holds, so does the second.
 abbrev pub implies : Bool → Bool → Bool
 implies a b = if a then b else true
 
@@ -101,7 +101,7 @@ abbrev pub reads : Declaration → Reference → Routine → Bool
 reads d r running =
     implies r.indirect (may_load d running r.named) && implies (loads r.operation) (may_load d running r.place)
 
--- The least rule on memory references that one breaks.
+-- The least rule on memory references that one violates.
 abbrev pub broken_by_reference : Declaration → Reference → Routine → Cells → Calls → Option Rule
 broken_by_reference d r running memory ks =
     if not (writes d r running) then Some rule.WritesDeclared
@@ -110,7 +110,8 @@ broken_by_reference d r running memory ks =
     else (if not (reads d r running) then Some rule.ReadsListed
     else None)))
 
--- The least rule that an instruction in the running routine's body breaks, where fixed code is as it was.
+-- The least rule that an instruction in the running routine's body violates, where fixed code is as it
+-- was.
 abbrev pub broken_by : Declaration → DecodedInstruction → ℕ → Routine → Cells → Calls → Option Rule
 broken_by d (Refers r) pc running memory ks = broken_by_reference d r running memory ks
 broken_by d (Operate2 w) pc running memory ks =
@@ -152,7 +153,7 @@ is_call d r = is_jms r.operation && d.entry r.place
 abbrev pub is_abandon : Declaration → Reference → Bool
 is_abandon d r = is_jmp r.operation && d.abandon r.place
 
--- The call list after an instruction, where the address after it is this one.
+-- The call stack after an instruction, where the address after it is this one.
 abbrev pub followed : Declaration → DecodedInstruction → ℕ → Calls → Calls
 followed d (Refers r) after ks =
     if is_call d r then record { entry = r.place; after = after } ∷ ks

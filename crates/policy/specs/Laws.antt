@@ -29,15 +29,15 @@ StepsKeepCode =
     IsDeclared d → StaysInBody d s ks → WritesDeclared d (instruction d.profile s) s ks → CallsEntries d (instruction d.profile s) s →
     Step d.profile s q t → KeepsCode image d s.memory → KeepsCode image d t.memory
 
--- Where a run begins with the tape's words in its code, no step breaks the rule on code first: whatever changes code breaks
--- another rule before.
+-- If a run begins with the tape's words in its code, no step violates the rule on code first: whatever changes code
+-- violates another rule before.
 abbrev pub CodeIsKept : Type 0
 CodeIsKept =
     (image : Image) (d : Declaration) (events : List Event) (w : WorldState) (n : ℕ) →
     IsDeclared d → KeepsCode image d w.state.memory → BreaksAt image d events w n rule.KeepsCode → ⊥
 
 -- The events of a declared run that leave the machine running are a declared run of the instruction table, with the same
--- call list.
+-- call stack.
 abbrev pub DeclaredEventsAreRuns : Type 0
 DeclaredEventsAreRuns =
     (d : Declaration) (events : List Event) (w x : WorldState) (ks ls : Calls) →

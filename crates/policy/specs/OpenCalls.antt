@@ -1,4 +1,4 @@
--- What a watcher shows: its machine and its call list.
+-- What a watcher shows: its machine and its call stack.
 use Rattle.std.specs.Prelude.{List, [], ◌∷◌}
 use Rattle.peripherals.specs.Devices.{WorldState}
 use Rattle.peripherals.specs.World.{view}
@@ -15,7 +15,7 @@ abbrev pub put_on : List KeptCall → Calls → Calls
 put_on [] ks = ks
 put_on (c ∷ cs) ks = put_on cs (call_of c ∷ ks)
 
--- The call list, the last call first; the code keeps the last call last.
+-- The call stack, the last call first; the code keeps the last call last.
 abbrev pub open_calls : List KeptCall → Calls
 open_calls cs = put_on cs []
 

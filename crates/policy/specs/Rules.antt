@@ -1,4 +1,5 @@
--- The eight rules that a declaration lays down for each step, and the steps that keep all of them.
+-- The eight rules that a declaration imposes on each step, and the steps that comply with all of
+-- them.
 use Rattle.std.specs.Prelude.{◌≡◌, ℕ, ◌<◌, ◌==◌, true, false, ◌&&◌, ◌||◌, ◌⊎◌, Some, None, List, [], ◌∷◌}
 use Rattle.instruct.specs.Operates.{is_halt}
 use Rattle.instruct.specs.Instructions.{Meaning, And, Tad, Isz, Dca, Jms, Jmp, Group2, Undefined}
@@ -11,12 +12,12 @@ use Rattle.declaration.specs.declared.Subject.{Subject}
 use Rattle.declaration.specs.declared.Subject.TheVariants.{Accumulator, Link, Mq, Cell}
 use Rattle.policy.specs.Calls.{Calls, current}
 
--- The word means something on the declared machine.
+-- The declared machine implements the word.
 abbrev pub IsSupported : Meaning → Type 0
 IsSupported Undefined = ⊥
 IsSupported _ = Unit {0}
 
--- The auto-index cell that an instruction steps first.
+-- The auto-index cell that an instruction increments before it uses it.
 abbrev pub pointer_of : Meaning → Words
 pointer_of (And i c) a = steps_pointer i c && (a == c)
 pointer_of (Tad i c) a = steps_pointer i c && (a == c)
@@ -32,7 +33,7 @@ stored_at (Isz i c) memory a = a == place i c memory
 stored_at (Dca i c) memory a = a == place i c memory
 stored_at _ memory a = false
 
--- All cells that an instruction writes, save the one that a JMS itself writes.
+-- All cells that an instruction writes, except the cell in which a JMS stores the return address.
 abbrev pub written_by : Meaning → Cells → Words
 written_by m memory a = pointer_of m a || stored_at m memory a
 
@@ -52,15 +53,15 @@ pub record StaysInBody (d : Declaration) (s : State) (ks : Calls) : Type 0 where
   pub in_body : d.body (current ks) s.pc ≡ true
   pub supported : IsSupported (instruction d.profile s)
 
--- ISZ may count the running routine's own entry up. A DCA whose address is the entry itself may store in it, where a `moves` line
--- names the entry; a DCA through a pointer may not.
+-- An ISZ may increment the running routine's own entry. A DCA that names the entry itself may store in it if a `moves` line names
+-- the entry; a DCA through a pointer may not.
 abbrev pub WritesOwnEntry : Declaration → Meaning → Calls → ℕ → Type 0
 WritesOwnEntry d (Isz i c) ks a = current ks ≡ Some a
 WritesOwnEntry d (Dca i c) ks a = (i ≡ false) × (d.moves a ≡ true) × (current ks ≡ Some a)
 WritesOwnEntry d _ ks a = ⊥
 
--- Rule 2: each cell that is written is a variable, or the running routine's own entry under ISZ, or under a DCA that names it
--- directly, if the declaration lets the routine store there.
+-- Rule 2: each cell that is written is a variable or the running routine's own entry. The entry may be written by an ISZ, or
+-- by a DCA that names it directly if the declaration lets the routine store there.
 abbrev pub WritesDeclared : Declaration → Meaning → State → Calls → Type 0
 WritesDeclared d m s ks =
     (a : ℕ) → written_by m s.memory a ≡ true → (d.variable a ≡ true) ⊎ WritesOwnEntry d m ks a
@@ -70,23 +71,25 @@ abbrev pub CallsEntries : Declaration → Meaning → State → Type 0
 CallsEntries d (Jms i c) s = d.entry (place i c s.memory) ≡ true
 CallsEntries d _ s = Unit {0}
 
--- The last call is one of e, and the word in e is that call's return address plus an offset declared for e.
+-- The last call is a call of e, and the word in e is the return address of that call plus an offset that is
+-- declared for e.
 abbrev pub FindsItsCall : Declaration → ℕ → State → Calls → Type 0
 FindsItsCall d e s [] = ⊥
 FindsItsCall d e s (k ∷ ks) =
     (k.entry ≡ e) × (o : ℕ) × (o < 64) × (d.offset e o ≡ true) × (s.memory e ≡ after k.after o)
 
--- Rule 4: a JMP I through an entry returns from its own routine's last call, to a declared place after it.
+-- Rule 4: a JMP I through an entry returns from the last call, which is a call of this entry, to a
+-- declared offset after its return address.
 abbrev pub ReturnsToItsCall : Declaration → Meaning → State → Calls → Type 0
 ReturnsToItsCall d (Jmp i c) s ks = i ≡ true → d.entry c ≡ true → FindsItsCall d c s ks
 ReturnsToItsCall d _ s ks = Unit {0}
 
--- Rule 5: a HLT stands at a declared halt.
+-- Rule 5: a HLT is at a declared halt.
 abbrev pub HaltsDeclared : Declaration → Meaning → ℕ → Type 0
 HaltsDeclared d (Group2 w) pc = is_halt w ≡ true → (d.stop pc || d.pause pc) ≡ true
 HaltsDeclared d _ pc = Unit {0}
 
--- Rule 6: each cell of a body that is on the tape and is no variable holds the tape's word.
+-- Rule 6: each cell of a body that is on the tape and is not a variable holds the word of the tape.
 abbrev pub KeepsCode : Image → Declaration → Cells → Type 0
 KeepsCode image d memory =
     (r : Routine) (a w : ℕ) → d.body r a ≡ true → d.variable a ≡ false → image a ≡ Some w → memory a ≡ w
@@ -96,45 +99,45 @@ abbrev pub ReadsListed : Declaration → Meaning → State → Calls → Type 0
 ReadsListed d m s ks =
     (a : ℕ) → read_by m s.memory a ≡ true → IsListed d.reads a ⊎ (current ks ≡ Some a)
 
--- The word of which an assertion speaks.
+-- The word that an assertion is about.
 abbrev pub word_of : Subject → State → ℕ
 word_of Accumulator s = s.ac
 word_of Link s = s.link
 word_of Mq s = s.mq
 word_of (Cell a) s = s.memory a
 
--- What is asserted is so.
+-- The assertion is true.
 abbrev pub IsSo : Assertion → State → Type 0
 IsSo a s = a.words (word_of a.subject s) ≡ true
 
--- What is to hold at the program counter is so.
+-- The assertions about the program counter are true.
 abbrev pub EachHolds : List PlaceAssertion → State → Type 0
 EachHolds [] s = Unit {0}
 EachHolds (h ∷ hs) s = (h.places s.pc ≡ true → IsSo h.assertion s) × EachHolds hs s
 
--- What is to hold when the routine of an entry returns by an offset is so.
+-- The assertions about a return of this routine by this offset are true.
 abbrev pub EachHoldsBy : List ReturnAssertion → ℕ → ℕ → State → Type 0
 EachHoldsBy [] e o s = Unit {0}
 EachHoldsBy (r ∷ rs) e o s = (r.entry ≡ e → r.offsets o ≡ true → IsSo r.assertion s) × EachHoldsBy rs e o s
 
--- What is to hold at a return through this entry is so: where the last call is one of the entry, the return is by the offset
--- from that call's return address to the word in the entry.
+-- The assertions about a return through this entry are true if the last call is a call of this entry. The offset of the
+-- return is the distance from the return address of this call to the word in the entry.
 abbrev pub HoldsAtReturn : Declaration → ℕ → State → Calls → Type 0
 HoldsAtReturn d e s [] = Unit {0}
 HoldsAtReturn d e s (k ∷ ks) = k.entry ≡ e → EachHoldsBy d.returns e (minus (s.memory e) k.after) s
 
--- The same of an instruction, if it is a return.
+-- The same for an instruction, if it is a return.
 abbrev pub ReturnsHold : Declaration → Meaning → State → Calls → Type 0
 ReturnsHold d (Jmp i c) s ks = i ≡ true → d.entry c ≡ true → HoldsAtReturn d c s ks
 ReturnsHold d _ s ks = Unit {0}
 
--- Rule 8: what is declared to hold at the program counter holds before the step, and so does what is declared of the return
--- that it is.
+-- Rule 8: the assertions about the program counter are true before the step and, if the step is a return, so are the
+-- assertions about this return.
 pub record AssertionsHold (d : Declaration) (m : Meaning) (s : State) (ks : Calls) : Type 0 where
   pub places : EachHolds d.holds s
   pub returns : ReturnsHold d m s ks
 
--- A step keeps the rules.
+-- A step complies with all rules.
 pub record IsLegal (image : Image) (d : Declaration) (s : State) (ks : Calls) : Type 0 where
   pub stays : StaysInBody d s ks
   pub writes : WritesDeclared d (instruction d.profile s) s ks
@@ -145,11 +148,11 @@ pub record IsLegal (image : Image) (d : Declaration) (s : State) (ks : Calls) : 
   pub reads : ReadsListed d (instruction d.profile s) s ks
   pub assertions : AssertionsHold d (instruction d.profile s) s ks
 
--- Without a list of reads, the rule on reads asks nothing.
+-- Without a list of reads, the rule on reads requires nothing.
 abbrev pub UnlistedReadsAreKept : Type 0
 UnlistedReadsAreKept = (d : Declaration) (m : Meaning) (s : State) (ks : Calls) → d.reads ≡ None → ReadsListed d m s ks
 
--- Where nothing is asserted, the rule on assertions asks nothing.
+-- Without assertions, the rule on assertions requires nothing.
 abbrev pub UnassertedHolds : Type 0
 UnassertedHolds =
     (d : Declaration) (m : Meaning) (s : State) (ks : Calls) → d.holds ≡ [] → d.returns ≡ [] → AssertionsHold d m s ks

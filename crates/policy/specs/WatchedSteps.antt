@@ -14,21 +14,22 @@ use Rattle.policy.specs.Rules.{KeepsCode, IsLegal}
 use Rattle.policy.specs.Runs.{HappensDeclared, calls_by, resumed}
 use Rattle.policy.specs.Watching.{IsLeastBroken, TriesAt, IsCleanBefore}
 
--- The event happened and the call list followed. An enabled step was legal, and fixed code stayed, if it was as the tape
--- has it.
+-- The event happened and the call stack followed. An enabled step was legal, and fixed code stayed, if it was as the
+-- tape has it.
 pub record Goes (d : Declaration) (w : WorldState) (ks : Calls) (e : Event) (x : WorldState) (ls : Calls) : Type 0 where
   pub happens : HappensDeclared d w e x
   pub calls : ls ≡ calls_by d w e ks
   pub legal : (image : Image) → KeepsCode image d w.state.memory → e ≡ Instruct → w.halted_at ≡ None → IsLegal image d w.state ks
   pub code : IsDeclared d → (image : Image) → KeepsCode image d w.state.memory → KeepsCode image d x.state.memory
 
--- The event is an enabled step that breaks this rule and none of lesser numbers, if fixed code is as the tape has it.
+-- The event is an enabled step that violates this rule and none of lesser numbers, if fixed code is as the tape has
+-- it.
 pub record Stops (d : Declaration) (w : WorldState) (ks : Calls) (e : Event) (r : Rule) : Type 0 where
   pub step : e ≡ Instruct
   pub runs : w.halted_at ≡ None
   pub broken : (image : Image) → KeepsCode image d w.state.memory → IsLeastBroken image d w.state ks r
 
--- What watching an event tells: no rule is broken, or this one is.
+-- What watching an event tells: no rule is violated, or this one is.
 abbrev pub Watches : Declaration → WorldState → Calls → Event → WorldState → Calls → Option Rule → Type 0
 Watches d w ks e x ls None = Goes d w ks e x ls
 Watches d w ks e x ls (Some r) = Stops d w ks e r
@@ -38,7 +39,7 @@ abbrev pub CallsRoutine : Declaration → Meaning → State → Type 0
 CallsRoutine d (Jms i c) s = d.entry (place i c s.memory) ≡ true
 CallsRoutine d _ s = ⊥
 
--- The next step takes memory: it prints or punches, or it adds to the call list.
+-- The next step takes memory: it prints or punches, or it adds to the call stack.
 abbrev pub TakesMemory : Declaration → WorldState → Type 0
 TakesMemory d w = IsTrue (puts_out w Instruct) ⊎ CallsRoutine d (instruction d.profile w.state) w.state
 

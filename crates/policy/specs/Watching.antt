@@ -1,4 +1,4 @@
--- What a watched run says of a program: each step is legal, or a first one breaks a rule.
+-- What a watched run says of a program: each step is legal, or a first one violates a rule.
 use Rattle.std.specs.Prelude.{◌≡◌, ℕ, ◌<◌, true, Some, None, List, [], take, slice_get}
 use Rattle.processor.specs.Machine.{State, instruction}
 use Rattle.processor.specs.Runs.{Image}
@@ -39,13 +39,13 @@ Keeps rule.KeepsCode image d s ks = KeepsCode image d s.memory
 Keeps rule.ReadsListed image d s ks = ReadsListed d (instruction d.profile s) s ks
 Keeps rule.AssertionsHold image d s ks = AssertionsHold d (instruction d.profile s) s ks
 
--- The next step breaks this rule, and keeps all rules of lesser numbers.
+-- The next step violates this rule, and keeps all rules of lesser numbers.
 pub record IsLeastBroken (image : Image) (d : Declaration) (s : State) (ks : Calls) (r : Rule) : Type 0 where
   pub broken : Keeps r image d s ks → ⊥
   pub least : (other : Rule) → number_of other < number_of r → Keeps other image d s ks
 
 -- Event n of a declared run from w is a step, and it is enabled: the events before it lead to a world x, which runs,
--- with the call list ks.
+-- with the call stack ks.
 pub record TriesAt (d : Declaration) (events : List Event) (w : WorldState) (n : ℕ) (x : WorldState) (ks : Calls) : Type 0 where
   pub step : slice_get events n ≡ Some Instruct
   pub before : DeclaredEvents d (take n events) w [] x ks
@@ -61,7 +61,8 @@ abbrev pub IsClean : Image → Declaration → List Event → WorldState → Typ
 IsClean image d events w =
     (m : ℕ) (x : WorldState) (ks : Calls) → TriesAt d events w m x ks → IsLegal image d x.state ks
 
--- The first enabled step of the declared run from w that is not legal is event n, and the least rule that it breaks is r.
+-- The first enabled step of the declared run from w that is not legal is event n, and the lowest-numbered rule that it
+-- violates is r.
 pub record BreaksAt (image : Image) (d : Declaration) (events : List Event) (w : WorldState) (n : ℕ) (r : Rule) : Type 0 where
   pub world : WorldState
   pub calls : Calls

@@ -3,12 +3,12 @@
 ghost use Rattle.policy.specs.Laws.{CodeIsKept, DeclaredEventsAreRuns, RunIsOne, SafeInRunsIsSafe, StepsKeepCode, VerdictIsOne};
 ghost use Rattle.policy.specs.Rules.{UnassertedHolds, UnlistedReadsAreKept};
 
-/// Where a declaration lists no reads, each step keeps the rule on reads.
+/// If a declaration lists no reads, each step keeps the rule on reads.
 pub fn unlisted_reads_are_kept()
     ensures { UnlistedReadsAreKept }
 {}
 
-/// Where a declaration asserts nothing, each step keeps the rule on assertions.
+/// If a declaration asserts nothing, each step keeps the rule on assertions.
 pub fn unasserted_holds()
     ensures { UnassertedHolds }
 {}

@@ -211,7 +211,7 @@ fn reads<A: Allocator>(declaration: &Declaration<A>, reference: &Reference, call
     }
 }
 
-/// The least rule on memory references that one breaks.
+/// The least rule on memory references that one violates.
 #[inline(always)]
 fn broken_by_reference<A: Allocator>(
     declaration: &Declaration<A>,
@@ -246,8 +246,8 @@ fn is_halt<A: Allocator>(declaration: &Declaration<A>, pc: Word) -> bool
     declaration.is_stop(pc) || declaration.is_pause(pc)
 }
 
-/// The least rule that an instruction in the running routine's body breaks, where fixed code is as it
-/// was.
+/// The least rule that an instruction in the running routine's body violates, where fixed code is as
+/// it was.
 #[inline(always)]
 fn broken_by<A: Allocator>(
     declaration: &Declaration<A>,
@@ -409,8 +409,8 @@ fn assertions_hold<A: Allocator>(
     each_holds(declaration.holds(), cpu) && returns_hold(declaration, instruction, cpu, calls)
 }
 
-/// The instruction at the program counter, where a step keeps all rules; else the least rule that it
-/// breaks.
+/// The instruction at the program counter, where a step keeps all rules; else the lowest-numbered
+/// rule that it violates.
 ///
 /// It does not look whether fixed code is as the tape had it: its caller knows that it is.
 #[inline(always)]

@@ -3,7 +3,7 @@
 ghost use Rattle.std.specs.Prelude.{◌≡◌};
 ghost use Rattle.policy.specs.Watching.{number_of};
 
-/// A rule for the steps of a program. Where a step breaks several, the one with the least number is
+/// A rule for the steps of a program. If a step breaks several, the one with the least number is
 /// told.
 #[derive(Clone, Copy, PartialEq, Eq, Debug)]
 pub enum Rule {
@@ -18,7 +18,7 @@ pub enum Rule {
     ReturnsToItsCall,
     /// A HLT stands at a declared halt.
     HaltsDeclared,
-    /// Each cell of a body that is on the tape and is no variable holds the tape's word.
+    /// Each cell of a body that is on the tape and is not a variable holds the tape's word.
     KeepsCode,
     /// Each cell that is read is on the list of reads, if there is one, or is the running routine's
     /// own entry.

@@ -34,7 +34,7 @@ use word12::Word;
 pub enum Watched {
     /// Each step that was enabled kept the rules.
     Clean,
-    /// A step broke a rule.
+    /// A step violated a rule.
     Broken {
         /// The place of the first such step in the list of events, from 0.
         event: usize,
@@ -62,7 +62,7 @@ fn is_call<D: Allocator>(declaration: &Declaration<D>, reference: &Reference) ->
     matches!(reference.operation, Operation::Jms) && declaration.is_entry(reference.place)
 }
 
-/// Puts a call on the call list, or takes the last one or all away, by what an instruction does.
+/// Puts a call on the call stack, or takes the last one or all away, by what an instruction does.
 #[inline(always)]
 fn follow_calls<A: Allocator, D: Allocator>(
     calls: &mut Vec<Call, A>,
@@ -151,7 +151,7 @@ impl<A: Allocator> Watcher<A> {
         &self.calls
     }
 
-    /// Carries out the next instruction, which was fetched, and follows it with the call list.
+    /// Carries out the next instruction, which was fetched, and follows it with the call stack.
     #[inline(always)]
     fn carry_out<D: Allocator>(
         &mut self,
@@ -184,7 +184,8 @@ impl<A: Allocator> Watcher<A> {
         }
     }
 
-    /// Tries the next instruction of a machine that runs. It is carried out where it breaks no rule.
+    /// Tries the next instruction of a machine that runs. It is carried out where it violates no
+    /// rule.
     #[inline(always)]
     fn try_instruction<D: Allocator>(
         &mut self,
@@ -216,7 +217,7 @@ impl<A: Allocator> Watcher<A> {
     }
 
     /// Tries the next instruction, as `next` does at a step: while the machine runs it is carried out where
-    /// it breaks no rule.
+    /// it violates no rule.
     ///
     /// # Errors
     ///
@@ -269,13 +270,13 @@ impl<A: Allocator> Watcher<A> {
         }
     }
 
-    /// Takes one event: it happens as in a declared run, or it is a step that breaks a rule, which is
+    /// Takes one event: it happens as in a declared run, or it is a step that violates a rule, which is
     /// told and not carried out. The declaration is the same for all events.
     ///
     /// # Errors
     ///
-    /// `NoMemory` where room for a call on the call list, or for a byte that is printed or punched, was
-    /// refused. The machine is as before; the call list may have the call.
+    /// `NoMemory` where room for a call on the call stack, or for a byte that is printed or punched,
+    /// was refused. The machine is as before; the call stack may have the call.
     #[inline(always)]
     pub fn next<D: Allocator>(
         &mut self,
@@ -286,7 +287,7 @@ impl<A: Allocator> Watcher<A> {
         ensures watches { IfOk result (Watches (meaning declaration.now)
             (machine_of self.old) (calls_of self.old) event
             (machine_of self.new) (calls_of self.new)) }
-        // A step that breaks a rule is not carried out, nor is one whose memory was refused.
+        // A step that violates a rule is not carried out, nor is one whose memory was refused.
         ensures machine_kept { IfOk result (λ told. (rule : Rule) → told ≡ Some rule
             → machine_of self.new ≡ machine_of self.old) }
         ensures calls_kept { IfOk result (λ told. (rule : Rule) → told ≡ Some rule
@@ -314,7 +315,7 @@ impl<A: Allocator> Watcher<A> {
     }
 }
 
-/// Takes the events one after the other, up to the first step that breaks a rule.
+/// Takes the events one after the other, up to the first step that violates a rule.
 fn watch_events<A: Allocator, D: Allocator>(
     watcher: &mut Watcher<A>,
     declaration: &Declaration<D>,
@@ -345,12 +346,12 @@ fn watch_events<A: Allocator, D: Allocator>(
 ///
 /// The run begins at the declared start, on the declared machine, with the tape's words over the
 /// given start. A CONTINUE is enabled at a pause alone. A step at a word that is not supported
-/// breaks the first rule. After the step that is told no event is looked at.
+/// violates the first rule. After the step that is told no event is looked at.
 ///
 /// # Errors
 ///
-/// `NoMemory` where room for a call on the call list, or for a byte that is printed or punched, was
-/// refused.
+/// `NoMemory` where room for a call on the call stack, or for a byte that is printed or punched,
+/// was refused.
 pub fn watch<A: Allocator + Copy, D: Allocator>(
     alloc: A,
     image: &Image,

@@ -1,4 +1,4 @@
--- What a memory holds, as a map from addresses to words.
+-- The contents of a memory, as a map from addresses to words.
 use Rattle.std.specs.Prelude.{ℕ, ◌<◌, ◌==◌, if◌then◌else◌, List, slice_index}
 
 -- A memory is a map from words to words.

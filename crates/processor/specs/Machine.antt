@@ -1,5 +1,5 @@
--- The machine: one instruction is one step from a state to a state, by an answer of the devices or the switches. The
--- relation is the handbook's instruction table, a clause for each instruction.
+-- The machine: one instruction is one step from a state to another, with an answer of the devices or the switches.
+-- The relation is the instruction table of the handbook, with a clause for each instruction.
 use Rattle.std.specs.Prelude.{ℕ, ◌≡◌, ◌+◌, ◌/◌, ◌%◌, ◌<◌, ◌==◌, Bool, false, ◌&&◌, if◌then◌else◌, nat_le, bit_and, bit_or}
 use Rattle.instruct.specs.declared.Profile.{Profile}
 use Rattle.instruct.specs.Operates.{operate1_of, operate2_of, skips_of, mq_operate, reads_switches_of}
@@ -14,14 +14,15 @@ pub record State : Type 0 where
   pub pc : ℕ
   pub memory : Cells
 
--- What a step is told from outside: nothing, the truth of a flag, a byte of a buffer, or the word in the switches.
+-- What a step learns from outside: nothing, whether a flag is set, the byte of a buffer, or the word of the
+-- switches.
 pub data Answer : Type 0 where
   Silent : Answer
   Truth : Bool → Answer
   Byte : ℕ → Answer
   Switches : ℕ → Answer
 
--- The address so many places further on, modulo 4096: 0000 comes after 7777.
+-- The address a number of places further on, modulo 4096: 0000 comes after 7777.
 abbrev pub after : ℕ → ℕ → ℕ
 after pc more = (pc + more) % 4096
 
@@ -29,15 +30,16 @@ after pc more = (pc + more) % 4096
 abbrev pub is_auto_index : ℕ → Bool
 is_auto_index c = nat_le 8 c && nat_le c 15
 
--- An indirect reference through an auto-index cell steps the pointer in it first.
+-- An indirect reference through an auto-index cell first increments the pointer in it.
 abbrev pub steps_pointer : Bool → ℕ → Bool
 steps_pointer indirect c = indirect && is_auto_index c
 
--- The memory that the access sees: a stepped pointer counts up before it is used.
+-- The memory that the access sees: a pointer in an auto-index cell is incremented before it is
+-- used.
 abbrev pub seen : Bool → ℕ → Cells → Cells
 seen indirect c memory = if steps_pointer indirect c then updated memory c (after (memory c) 1) else memory
 
--- The effective address: the named cell, or for an indirect reference the word that is in it then.
+-- The effective address: the named cell or, for an indirect reference, the word that is then in it.
 abbrev pub place : Bool → ℕ → Cells → ℕ
 place indirect c memory = if indirect then seen indirect c memory c else c
 
@@ -45,7 +47,7 @@ place indirect c memory = if indirect then seen indirect c memory c else c
 abbrev pub operand : Bool → ℕ → Cells → ℕ
 operand indirect c memory = seen indirect c memory (place indirect c memory)
 
--- What a device word makes of the accumulator and whether it skips, as the table allows it for some flag or some byte.
+-- The accumulator after a device word, and whether the word skips, as the table allows for some flag or some byte.
 abbrev pub Answers : DeviceAction → ℕ → Answer → ℕ → Bool → Type 0
 Answers Skips ac q ac' skip = (q ≡ Truth skip) × (ac' ≡ ac)
 Answers Ors ac q ac' skip = (b : ℕ) × (b < 256) × (q ≡ Byte b) × (ac' ≡ bit_or ac b) × (skip ≡ false)
@@ -57,7 +59,7 @@ Answers Leaves ac q ac' skip = (q ≡ Silent) × (ac' ≡ ac) × (skip ≡ false
 abbrev pub next_pc : ℕ → Bool → ℕ
 next_pc pc skip = if skip then after pc 2 else after pc 1
 
--- From s an instruction of this meaning may lead to t by the answer q.
+-- From the state s, an instruction of this meaning may lead to the state t with the answer q.
 abbrev pub Does : Meaning → State → Answer → State → Type 0
 Does (And i c) s q t =
     (q ≡ Silent) ×
@@ -103,7 +105,7 @@ Does (Group1 w) s q t =
       link = (operate1_of w (s.ac, s.link)).1;
       pc = after s.pc 1;
     })
--- the test is made first, on the old accumulator and link; OSR is told the switches
+-- the test comes first, on the old accumulator and link; the answer to OSR is the switches
 Does (Group2 w) s q t =
     (v : ℕ) × (v < 4096) × (q ≡ (if reads_switches_of w then Switches v else Silent)) ×
     (t ≡ record s { ac = operate2_of w s.ac v; pc = next_pc s.pc (skips_of w s.ac s.link) })
@@ -123,6 +125,6 @@ Does Undefined s q t = ⊥
 abbrev pub instruction : Profile → State → Meaning
 instruction profile s = meaning_of profile s.pc (s.memory s.pc)
 
--- One step of a machine of a profile.
+-- One step of a machine of this profile.
 abbrev pub Step : Profile → State → Answer → State → Type 0
 Step profile s q t = Does (instruction profile s) s q t

@@ -1,15 +1,16 @@
--- Runs of the instruction table: any number of steps, each by some answer. A run goes on after a HLT.
+-- Runs of the instruction table: any number of steps, each with some answer. A run continues after a
+-- HLT.
 use Rattle.std.specs.Prelude.{ℕ, ◌≡◌, ◌<◌, Option, Some, List, [], ◌∷◌}
 use Rattle.instruct.specs.declared.Profile.{Profile}
 use Rattle.processor.specs.Cells.{AreWords}
 use Rattle.processor.specs.Machine.{State, Answer, Step}
 
--- For each address the word that a tape puts there, or none.
+-- For each address, the word that a tape puts there, or none.
 abbrev pub Image : Type 0
 Image = ℕ → Option ℕ
 
 -- A start of the machine at an address: memory holds the tape's words; the accumulator, the link, MQ and every cell
--- that is not on the tape are free.
+-- that is not on the tape may hold anything.
 pub record IsStart (image : Image) (at : ℕ) (s : State) : Type 0 where
   pub pc : s.pc ≡ at
   pub ac : s.ac < 4096

@@ -19,7 +19,7 @@ use word12::Word;
 pub struct Reference {
     /// The cell that it names.
     pub named: Word,
-    /// The effective address. A pointer in an auto-index cell is counted up first.
+    /// The effective address. A pointer in an auto-index cell is incremented first.
     pub place: Word,
     /// What is done there.
     pub operation: Operation,
@@ -45,7 +45,7 @@ pub enum DecodedInstruction {
 }
 
 impl Reference {
-    /// Whether it counts up its pointer, which is in an auto-index cell.
+    /// Whether it increments its pointer, which is in an auto-index cell.
     #[inline(always)]
     pub fn steps_pointer(&self) -> bool
         ensures { result ≡ steps_pointer self.now.indirect self.now.named }

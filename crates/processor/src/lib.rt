@@ -184,7 +184,7 @@ impl Cpu {
         self.pc = self.pc.increment();
     }
 
-    /// ISZ: counts the operand up, and skips where it becomes 0000.
+    /// ISZ: increments the operand, and skips where it becomes 0000.
     #[inline(always)]
     fn count(&mut self, reference: &Reference)
         requires { IsPlaced (cell_of self.old.memory) reference.now }
@@ -210,7 +210,7 @@ impl Cpu {
         self.pc = self.pc.increment();
     }
 
-    /// JMS: stores the return address and goes on behind it.
+    /// JMS: stores the return address and goes on after it.
     #[inline(always)]
     fn call(&mut self, reference: &Reference)
         requires { IsPlaced (cell_of self.old.memory) reference.now }

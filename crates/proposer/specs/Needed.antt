@@ -16,8 +16,8 @@ pub record IsReadBy (pl : Place) (at cell : ℕ) (f : Fact) : Type 0 where
   pub is_possible : possible pl f at word ≡ true
   pub reads : may_read pl f (meaning_in pl at word) cell ≡ true
 
--- At an address of some body there is a fact, of those of which conditions are asked, by which a word is possible that may read
--- the cell.
+-- At an address of some body there is a fact, of those for which conditions are checked, by which a word is possible that may
+-- read the cell.
 pub record IsReadSomewhere (j : Case) (cell : ℕ) : Type 0 where
   pub at : ℕ
   pub routine : Routine

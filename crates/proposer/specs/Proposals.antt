@@ -49,7 +49,7 @@ abbrev pub IsTold : ProposeFault → Type 0
 IsTold (Undeclarable declaration_fault.NoMemory) = ⊥
 IsTold _ = ⊤
 
--- Where the verdict is that the turns are spent, all of them are.
+-- If the verdict is that the turns are spent, all of them are.
 abbrev pub IsSpentUp : {A : Type 0} → Count → Verdict A → Type 0
 IsSpentUp turns v = v ≡ TurnsSpent → turns.spent ≡ turns.limit
 

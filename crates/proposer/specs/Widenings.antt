@@ -22,7 +22,7 @@ pub record Supersedes {A : Type 0} (image : List (Option ℕ)) (given : Kept) (p
   pub wide : IsAsWide (meaning given) (meaning p.declaration)
   pub shown : IsShown image p.declaration p.verdict
 
--- What is wider is such a proposal. Where no declaration allows what runs do, that is so of the run of these events. Of what is
+-- What is wider is such a proposal. If no declaration allows what runs do, that is so of the run of these events. Of what is
 -- unclear nothing is said.
 abbrev pub IsWidened : {A : Type 0} → List (Option ℕ) → Kept → List Event → Widening A → Type 0
 IsWidened image given events (Wider p) = Supersedes image given p

@@ -111,7 +111,7 @@ impl<A: Allocator + Copy> Evidence<A> {
         }
     }
 
-    /// An event is about to happen, which breaks no rule.
+    /// An event is about to happen, which violates no rule.
     pub(crate) fn meets<D: Allocator>(
         &mut self,
         watcher: &Watcher<A>,

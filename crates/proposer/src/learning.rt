@@ -1,4 +1,4 @@
-//! What a step teaches that breaks a declaration.
+//! What a step teaches that violates a declaration.
 
 use crate::evidence::Evidence;
 use crate::sketch::Sketch;
@@ -27,11 +27,12 @@ pub enum Obstacle {
     Shared(Word),
     /// A JMS goes to a cell that is executed: an entry is in no body.
     CallsBody(Word),
-    /// A JMS goes to a cell that the program stores in: an entry is no variable.
+    /// A JMS goes to a cell that the program stores in: an entry is not a variable.
     CallsVariable(Word),
     /// A JMS goes to an auto-index cell.
     CallsPointer(Word),
-    /// The program stores in a cell in which a JMS keeps a return address: an entry is no variable.
+    /// The program stores in a cell in which a JMS keeps a return address: an entry is not a
+    /// variable.
     StoresInEntry(Word),
     /// A return goes by the return address of another call than the last one.
     ReturnsForAnother(Word),
@@ -39,7 +40,7 @@ pub enum Obstacle {
     ReturnsFar(Word),
 }
 
-/// What a step teaches that breaks a declaration.
+/// What a step teaches that violates a declaration.
 #[derive(Clone, Copy, PartialEq, Eq)]
 pub(crate) enum Refinement {
     /// Nothing.
@@ -65,7 +66,7 @@ impl Refinement {
     }
 }
 
-/// What a program may do that starts at an address, by the words of its tape; none where that cannot be declared.
+/// What a program may do that starts at an address, by the words of its tape; none if that cannot be declared.
 fn by_words<A: Allocator + Copy>(
     alloc: A,
     image: &Image,
@@ -471,7 +472,7 @@ fn learn_reference<A: Allocator + Copy, D: Allocator>(
     Ok(lesson.and(further))
 }
 
-/// Learns of a HLT: it is a pause where the word behind it is in the same body, and else a stop.
+/// Learns of a HLT: it is a pause where the word after it is in the same body, and else a stop.
 fn learn_halt<A: Allocator + Copy, D: Allocator>(
     declaration: &Declaration<D>,
     evidence: &Evidence<A>,
@@ -492,8 +493,8 @@ fn learn_halt<A: Allocator + Copy, D: Allocator>(
     Refinement::New
 }
 
-/// Learns of the next step of a machine that is watched, which breaks the declaration; what a wider one has to allow goes
-/// into the sketch of this one.
+/// Learns of the next step of a machine that is watched, which violates the declaration; what a wider one has to allow
+/// goes into the sketch of this one.
 pub(crate) fn learn<A: Allocator + Copy, D: Allocator>(
     alloc: A,
     image: &Image,

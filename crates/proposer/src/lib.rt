@@ -71,18 +71,18 @@ pub struct Proposal<A: Allocator> {
 
 /// Proposes what a program may do, from a tape's words, the start and the machine alone.
 ///
-/// Control is followed from the start: a JMS names a routine, whose body is what is reached from
-/// behind its entry; a JMP I through its own entry returns, by as much as ISZ counted the entry up on
-/// the way. A HLT is a pause where what stands behind it is code, else a stop. A pointer that no
-/// instruction stores in is taken to keep its word; another may hold each word of a table behind which
-/// there is code. The variables are first the cells that instructions store in by name, or all that may
-/// be data; and then, where a certificate is found, fewer as far as one is found for these too. No clause says how few.
+/// Control is followed from the start: a JMS names a routine, whose body is what is reached from behind its entry; a
+/// JMP I through its own entry returns, by as much as ISZ counted the entry up on the way. A HLT is a pause where what
+/// comes after it is code, else a stop. A pointer that no instruction stores in is taken to keep its word; another may
+/// hold each word of a table behind which there is code. The variables are first the cells that instructions store in
+/// by name, or all that may be data; and then, where a certificate is found, fewer as far as one is found for these
+/// too. No clause says how few.
 ///
 /// # Errors
 ///
-/// `Undeclarable` where what was found breaks a limit or a rule of declarations, as one of more than
-/// 64 routines; `Mismatch` where it is not what was asked; and `NoMemory`. That no certificate is found
-/// is no error: the verdict tells it.
+/// `Undeclarable` where what was found violates a limit or a rule of declarations, as one of more than 64 routines;
+/// `Mismatch` where it is not what was asked; and `NoMemory`. That no certificate is found is no error: the verdict
+/// tells it.
 pub fn propose<A: Allocator + Copy>(
     alloc: A,
     image: &Image,

@@ -73,7 +73,7 @@ fn draft_of<A: Allocator + Copy>(
     }
 }
 
-/// What the next step of a machine that is watched teaches, which breaks a declaration.
+/// What the next step of a machine that is watched teaches, which violates a declaration.
 fn teach<A: Allocator + Copy>(
     alloc: A,
     image: &Image,
@@ -228,7 +228,7 @@ fn taught_by_run<A: Allocator + Copy>(
     }
 }
 
-/// The declaration in which the pauses after which runs went on are stops; none where there is none.
+/// The declaration in which the pauses after which runs went on are stops; none if there is none.
 fn stopped<A: Allocator + Copy>(
     alloc: A,
     image: &Image,

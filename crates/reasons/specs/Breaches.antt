@@ -32,7 +32,7 @@ use Rattle.reasons.specs.declared.violation.Violation.TheVariants as breach
 abbrev pub InRoutine : Routine → (ℕ → Type 0) → Type 0
 InRoutine r p = (e : ℕ) × (r ≡ Some e) × p e
 
--- The condition that a call which breaks this fails.
+-- The condition that a call which violates this fails.
 abbrev pub condition_of_call : CallViolation → Condition
 condition_of_call call.NoEntry = V7
 condition_of_call call.NotListed = V7
@@ -92,7 +92,7 @@ abbrev pub SomeOutcome : (Successor → Type 0) → List Successor → Type 0
 SomeOutcome p [] = ⊥
 SomeOutcome p (o ∷ os) = p o ⊎ SomeOutcome p os
 
--- The condition that a word which breaks this fails.
+-- The condition that a word which violates this fails.
 abbrev pub condition_of : Violation → Condition
 condition_of breach.NotSupported = V3
 condition_of (breach.WritesUndeclared c) = V5
@@ -123,15 +123,15 @@ pub record NamesOwn (j : Case) (r : Routine) (o : Operation) (m : Meaning) (e : 
   pub own : r ≡ Some e
   pub means : m ≡ reference o false e
 
--- The word is one of these, and does not lie 0 to 77 behind the return address of a call from this address, which is one of the
+-- The word is one of these, and does not lie 0 to 77 past the return address of a call from this address, which is one of the
 -- fact's sites.
 pub record IsOutOfReach (f : Fact) (known : Words) (w s : ℕ) : Type 0 where
   pub site : (s < 4096) × (f.sites s ≡ true)
   pub word : (w < 4096) × (known w ≡ true)
   pub beyond : reach s w ≡ false
 
--- A JMP that is no return may go to an address of main's body, and does not land there since the address is not in the running
--- routine's body: no calls are abandoned for it.
+-- A JMP that is not a return may go to an address of main's body, and does not land there since the address is not in the
+-- running routine's body: no calls are abandoned for it.
 pub record LeavesForMain (j : Case) (r : Routine) (a : ℕ) (f : Fact) (m : Meaning) (b : ℕ) : Type 0 where
   pub jumps : is_jump m ≡ true
   pub no_return : returned_through j.declaration m ≡ None

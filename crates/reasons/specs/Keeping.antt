@@ -24,8 +24,8 @@ use Rattle.judge.specs.Points.{case_of, fact_asked}
 use Rattle.judge.specs.declared.body.Body.{Body}
 use Rattle.judge.specs.declared.point.Point.{Point}
 
--- The fact lands at the address of the routine's body. Where lines do not count the address is in the body, or nothing is asked of
--- the fact.
+-- The fact lands at the address of the routine's body. Where lines do not count the address is in the body, or nothing is required
+-- of the fact.
 abbrev pub Arrives : Bool → Case → Routine → ℕ → Fact → Type 0
 Arrives true j r a f = LandsAt j r a f
 Arrives false j r a f = IsIdle j.certificate.rules (place_in j r) f ⊎ (j.declaration.body r a ≡ true)
@@ -35,14 +35,14 @@ abbrev pub ArrivesBeyond : Bool → Bool → Case → Routine → ℕ → Fact �
 ArrivesBeyond true lines j r a f = Arrives lines j None a (as_main f)
 ArrivesBeyond false lines j r a f = Arrives lines j r a f
 
--- Where the run goes on after an outcome, it arrives; these are the addresses for which all calls are abandoned.
+-- If the run goes on after an outcome, it arrives; these are the addresses for which all calls are abandoned.
 abbrev pub OutcomeArrives : Bool → Case → Routine → Words → Successor → Type 0
 OutcomeArrives lines j r beyond (Goes next f) =
     (a : ℕ) → a < 4096 → next a ≡ true → ArrivesBeyond (beyond a) lines j r a f
 OutcomeArrives lines j r beyond (CallsTo next f) = Unit {0}
 OutcomeArrives lines j r beyond (Returns f) = Unit {0}
 
--- Where both are listed, the callee's rank is lower than that of the routine that calls it; main may call any.
+-- If both are listed, the callee's rank is lower than that of the routine that calls it; main may call any.
 abbrev pub IsLowerIfListed : Certificate → Routine → ℕ → Type 0
 IsLowerIfListed c None e = Unit {0}
 IsLowerIfListed c (Some r) e = c.listed e ≡ true → c.listed r ≡ true → c.rank e < c.rank r
@@ -127,7 +127,7 @@ pub record WordsKeep (lines : Bool) (j : Case) (v : Condition) (r : Routine) (a 
   pub few : v ≡ V3 → how_many 4096 (possible (place_in j r) f a) ≤ 64
   pub each : EachKeeps lines j v r a f
 
--- It is so of each of these facts of which conditions are asked.
+-- It is so of each of these facts for which conditions are checked.
 abbrev pub FactsKeep : Bool → Case → Condition → Routine → ℕ → List Fact → Type 0
 FactsKeep lines j v r a fs = EachFact (WordsKeep lines j v r a) (asked_of j r fs)
 

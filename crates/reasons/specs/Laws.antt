@@ -7,7 +7,7 @@ use Rattle.judge.specs.Conditions.{HoldsAt}
 use Rattle.reasons.specs.Reasons.{Explains}
 use Rattle.reasons.specs.declared.reason.Reason.{Reason}
 
--- Where it is explained that a condition fails at an address, it does not hold there.
+-- If it is explained that a condition fails at an address, it does not hold there.
 abbrev pub ExplainedFails : Type 0
 ExplainedFails =
     (j : Case) (v : Condition) (a : ℕ) (reason : Reason) → IsDeclared j.declaration → Explains j v a reason → HoldsAt j v a → ⊥

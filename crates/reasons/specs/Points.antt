@@ -1,4 +1,5 @@
--- What breaks a condition at a fact of which it is asked, as the code keeps the fact; it serves private contracts.
+-- What violates a condition at a fact of which it is asked, as the code keeps the fact; it serves private
+-- contracts.
 use Rattle.std.specs.Prelude.{◌≡◌, ℕ, ◌<◌, Bool, true, false, None, List}
 use Rattle.instruct.specs.Instructions.{Meaning, meaning_of}
 use Rattle.facts.specs.declared.Condition.{Condition}
@@ -79,7 +80,7 @@ CallBreaksHere claims s v e b =
 abbrev pub CallBreaksAs : {A C : Type 0} → ReasonFilter → (C → Certificate) → Point A C 132 68 → Condition → ℕ → CallViolation → Type 0
 CallBreaksAs sought claims s v e b = CallBreaksHere claims s v e b × IsSought sought (is_call_of_lines b)
 
--- A return through the entry breaks this there, which is one of the reasons that are looked for.
+-- A return through the entry violates this there, which is one of the reasons that are looked for.
 abbrev pub ReturnBreaksAs : {A C : Type 0} → ReasonFilter → (C → Certificate) → Point A C 132 68 → ℕ → ReturnViolation → Type 0
 ReturnBreaksAs sought claims s e b =
     ReturnBreaks (case_of claims s) s.place.routine (fact_asked s) e b × IsSought sought (is_return_of_lines b)

@@ -37,7 +37,7 @@ is_return_of_lines return.OtherRoutine = false
 is_return_of_lines (return.NotDeclared o) = false
 is_return_of_lines _ = true
 
--- The word breaks the condition since a line is missing or too narrow.
+-- The word violates the condition since a line is missing or too narrow.
 abbrev pub is_word_of_lines : Violation → Bool
 is_word_of_lines (breach.WritesUnlisted c) = true
 is_word_of_lines (breach.Calls e b) = is_call_of_lines b
@@ -61,8 +61,8 @@ IsToldOf at refusal reason = (refusal.address ≡ at) × (is_of_lines reason ≡
 abbrev pub FailsByLinesAlone : Case → ℕ → Condition → Type 0
 FailsByLinesAlone j a v = (reason : Reason) → Explains j v a reason → is_of_lines reason ≡ true
 
--- The place of a condition in the order in which they are asked at the address where a search is stuck: first those that a
--- word breaks by itself, then those on calls and returns, then those on where a run goes on, and then what is declared to hold. V1,
+-- The place of a condition in the order in which they are asked at the address where a search is stuck: first those that a word
+-- violates by itself, then those on calls and returns, then those on where a run goes on, and then what is declared to hold. V1,
 -- V2, V6 and V8, which stand last, are not asked: they fail by lines alone.
 abbrev pub place_asked : Condition → ℕ
 place_asked V3 = 0

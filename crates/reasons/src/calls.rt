@@ -1,4 +1,4 @@
-//! What a call breaks.
+//! What a call violates.
 
 ghost use Rattle.std.specs.Prelude.{◌≡◌, ◌<◌, ◌+◌, false, true, IfNone, IfSome};
 ghost use Rattle.wordset.specs.Lanes.{words};
@@ -49,7 +49,7 @@ pub(crate) fn calls_wrongly<A: Allocator, C: Claims, M: Allocator>(
     first_call(point, sought, Condition::V7, word, rooms)
 }
 
-/// The first call of a word that breaks a condition on calls.
+/// The first call of a word that violates a condition on calls.
 pub(crate) fn first_call<A: Allocator, C: Claims, M: Allocator>(
     point: &NarrowedPoint<'_, A, C>,
     sought: ReasonFilter,

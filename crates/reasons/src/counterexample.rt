@@ -37,7 +37,7 @@ pub enum Counterexample {
     Link(Link),
     /// The running routine may have been called from this address.
     Site(Word),
-    /// The return word may have been counted up by this offset.
+    /// The return word may have been incremented by this offset.
     Offset(usize),
     /// The cell may hold this word.
     Cell(Word, Word),

@@ -22,7 +22,8 @@ use std::alloc::Allocator;
 use word12::Word;
 use wordset::WordSet;
 
-/// How a word changes an entry, save where it counts or moves the running routine's own return word as it may.
+/// How a word changes an entry, except where it counts or moves the running routine's own return word as it
+/// may.
 pub(crate) fn writes_entry<A: Allocator, C: Claims>(
     point: &NarrowedPoint<'_, A, C>,
     word: Word,
@@ -141,7 +142,7 @@ fn moves_wrongly<A: Allocator, C: Claims>(
     }
 }
 
-/// A word of some and a site of the fact, where the word is not 0 to 77 behind the return address of a call from there.
+/// A word of some and a site of the fact, where the word is not 0 to 77 past the return address of a call from there.
 fn first_out_of_reach<A: Allocator, C: Claims>(
     point: &NarrowedPoint<'_, A, C>,
     known: &WordSet,
@@ -154,7 +155,7 @@ fn first_out_of_reach<A: Allocator, C: Claims>(
     first_beyond_some(known, &sites)
 }
 
-/// The first of some words and of some sites where the word is not 0 to 77 behind the return address of a call from there.
+/// The first of some words and of some sites where the word is not 0 to 77 past the return address of a call from there.
 fn first_beyond_some(known: &WordSet, sites: &WordSet) -> Option<(Word, Word)>
     ensures { IfSome result (λ found. ((found.1 < 4096) × (words sites.now found.1 ≡ true)) ×
         ((found.0 < 4096) × (words known.now found.0 ≡ true)) × (reach found.1 found.0 ≡ false)) }
@@ -167,7 +168,7 @@ fn first_beyond_some(known: &WordSet, sites: &WordSet) -> Option<(Word, Word)>
     None
 }
 
-/// The first of some words that is not 0 to 77 behind the return address of a call from an address.
+/// The first of some words that is not 0 to 77 past the return address of a call from an address.
 fn first_beyond(known: &WordSet, site: Word) -> Option<Word>
     ensures { IfSome result (λ word. (word < 4096) × (words known.now word ≡ true) × (reach site word ≡ false)) }
 {
@@ -179,7 +180,7 @@ fn first_beyond(known: &WordSet, site: Word) -> Option<Word>
     None
 }
 
-/// Whether a word is 0 to 77 behind the return address of a call from an address.
+/// Whether a word is 0 to 77 past the return address of a call from an address.
 fn is_in_reach(site: Word, word: Word) -> bool
     ensures { result ≡ reach site word }
 {

@@ -60,7 +60,7 @@ fn words_taken<A: Allocator, P: FactPart, F: FactSource>(
     taken
 }
 
-/// The least word of a name that a part may have and that none of some facts takes. Where it is told to be looked for of a name of
+/// The least word of a name that a part may have and that none of some facts takes. If it is told to be looked for of a name of
 /// which they take some words alone, there is none if they take none.
 fn word_left<A: Allocator, P: FactPart, F: FactSource>(
     place: &Place<'_, A>,

@@ -2,7 +2,7 @@
 
 ghost use Rattle.reasons.specs.Laws.{ExplainedFails};
 
-/// Where a reason explains that a condition fails, the condition does not hold: what is told of a
+/// If a reason explains that a condition fails, the condition does not hold: what is told of a
 /// refusal by itself refutes the certificate.
 pub fn explained_conditions_fail()
     ensures { ExplainedFails }

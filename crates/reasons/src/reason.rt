@@ -64,7 +64,7 @@ pub enum Reason {
     ExitDeniesAssertion(usize, usize, Subject, Word),
 }
 
-/// What is claimed of the routine of an entry, and nothing where it is not listed.
+/// What is claimed of the routine of an entry, and nothing if it is not listed.
 fn claimed_routine<C: Claims>(claims: &C, entry: Word) -> RoutineClaim
     ensures sites { words result.sites ≡ (C.claims claims.now).sites entry }
     ensures writes { words result.writes ≡ (C.claims claims.now).writes entry }
@@ -97,7 +97,7 @@ fn body_of<A: Allocator, C: Claims>(case: &Case<'_, A, C>, at: Word) -> Option<B
     }
 }
 
-/// A fact of which conditions are asked at an address of a body.
+/// A fact for which conditions are checked at an address of a body.
 fn point_of<'a, A: Allocator, C: Claims>(
     image: &'a Image,
     declaration: &'a Declaration<A>,
@@ -357,9 +357,9 @@ fn why_at_start<A: Allocator, C: Claims>(
     None
 }
 
-/// Why a condition fails at an address: what is possible there by a tape's words, a declaration and
-/// what is claimed, and breaks it. Where there are several, no clause says which of them is told. The room
-/// is lent, so no memory is taken, and none can be refused.
+/// Why a condition fails at an address: what is possible there by a tape's words, a declaration and what
+/// is claimed, and breaks it. If there are several, no clause says which of them is told. The room is
+/// lent, so no memory is taken, and none can be refused.
 pub fn why<A: Allocator, C: Claims, M: Allocator>(
     image: &Image,
     declaration: &Declaration<A>,
@@ -370,7 +370,7 @@ pub fn why<A: Allocator, C: Claims, M: Allocator>(
     ensures explained { IfSome result (Explains
         (judged image.now declaration.now (C.claims claims.now))
         refusal.now.condition refusal.now.address) }
-    // Where the judge refuses by this condition at this address, a reason is found.
+    // If the judge refuses by this condition at this address, a reason is found.
     ensures found { IsFirst (judged image.now declaration.now (C.claims claims.now))
         refusal.now.condition refusal.now.address → is_some result ≡ true }
 {

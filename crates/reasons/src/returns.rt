@@ -1,4 +1,4 @@
-//! What a return breaks.
+//! What a return violates.
 
 ghost use Rattle.std.specs.Prelude.{◌≡◌, ◌<◌, IfNone, IfSome, Some};
 ghost use Rattle.facts.specs.declared.Condition.TheVariants.{V12};
@@ -16,7 +16,7 @@ use judge::{Claims, NarrowedPoint, OffsetExits};
 use std::alloc::Allocator;
 use word12::Word;
 
-/// A return that breaks the rules on returns.
+/// A return that violates the rules on returns.
 pub(crate) fn returns_wrongly<A: Allocator, C: Claims, M: Allocator>(
     point: &NarrowedPoint<'_, A, C>,
     sought: ReasonFilter,
@@ -34,7 +34,7 @@ pub(crate) fn returns_wrongly<A: Allocator, C: Claims, M: Allocator>(
     }
 }
 
-/// What a return through an entry breaks.
+/// What a return through an entry violates.
 fn return_breaks<A: Allocator, C: Claims, M: Allocator>(
     point: &NarrowedPoint<'_, A, C>,
     sought: ReasonFilter,

@@ -15,8 +15,8 @@ use judge::{Case, Claims, Refusal};
 use std::alloc::Allocator;
 use word12::Word;
 
-/// The conditions in the order in which they are asked: first those that a word breaks by itself, then
-/// those on calls and returns, then those on where a run goes on, and last what is declared to hold. The four others fail by lines alone.
+/// The conditions in the order in which they are asked: first those that a word violates by itself, then those on calls and returns, then
+/// those on where a run goes on, and last what is declared to hold. The four others fail by lines alone.
 const ORDER: [Condition; 12] = [
     Condition::V3,
     Condition::V5,

@@ -1,4 +1,4 @@
-//! What a possible word breaks.
+//! What a possible word violates.
 
 use crate::counterexample::Counterexample;
 use declaration::Subject;
@@ -22,7 +22,7 @@ pub enum LandingFailure {
     NotEntailed,
 }
 
-/// What a call of an entry breaks.
+/// What a call of an entry violates.
 #[derive(Clone, Copy, Debug)]
 pub enum CallViolation {
     /// V7: the address called is not an entry.
@@ -48,7 +48,7 @@ pub enum CallViolation {
     Returns(usize, usize, LandingFailure),
 }
 
-/// What a return through an entry breaks.
+/// What a return through an entry violates.
 #[derive(Clone, Copy, Debug)]
 pub enum ReturnViolation {
     /// The entry is not that of the running routine.
@@ -59,7 +59,7 @@ pub enum ReturnViolation {
     NotAllowed(usize, LandingFailure),
 }
 
-/// What a possible word breaks.
+/// What a possible word violates.
 #[derive(Clone, Copy, Debug)]
 pub enum Violation {
     /// V3: it is not supported.
@@ -68,12 +68,13 @@ pub enum Violation {
     WritesUndeclared(Word),
     /// V14: it may write this entry.
     WritesEntry(Word),
-    /// V14: it is an ISZ of this entry, the running routine's own, whose word may not be counted up once more.
+    /// V14: it is an ISZ of this entry, the running routine's own, whose word may not be incremented once
+    /// more.
     CountsTooFar(Word),
     /// V14: it is a DCA into this entry, the running routine's own, in which the routine is not declared to store.
     StoresInOwn(Word),
     /// V14: it is a DCA into this entry, the running routine's own, in which the routine may store. It may store this word, the
-    /// second, which is not 0 to 77 behind the return address of the call from this address, the third.
+    /// second, which is not 0 to 77 past the return address of the call from this address, the third.
     MovesTooFar(Word, Word, Word),
     /// V6: it may write this cell, which is not in the written set of the running routine, nor its
     /// entry.

@@ -1,4 +1,4 @@
-//! What a possible word breaks by a fact.
+//! What a possible word violates by a fact.
 
 ghost use Rattle.std.specs.Prelude.{ℕ, ◌≡◌, ◌<◌, ◌∷◌, [], true, false, map, IfNone, IfSome};
 ghost use Rattle.wordset.specs.Lanes.{words};
@@ -29,8 +29,8 @@ use wordset::WordSet;
 /// The most words that may be possible by one fact.
 const MOST_WORDS: usize = 64;
 
-/// The first possible word that breaks a condition by a fact, which is the one at this place of those at the address, and what it
-/// breaks; or how many words are possible, where they are too many.
+/// The first possible word that violates a condition by a fact, which is the one at this place of those at the address, and what
+/// it violates; or how many words are possible, where they are too many.
 pub(crate) fn first_violation<A: Allocator, C: Claims, M: Allocator>(
     point: &NarrowedPoint<'_, A, C>,
     sought: ReasonFilter,
@@ -69,7 +69,7 @@ fn too_many<A: Allocator, C: Claims, M: Allocator>(
     first_word(point, sought, index, Condition::V3, possible, rooms)
 }
 
-/// The first possible word that breaks a condition, and what it breaks.
+/// The first possible word that violates a condition, and what it violates.
 fn first_word<A: Allocator, C: Claims, M: Allocator>(
     point: &NarrowedPoint<'_, A, C>,
     sought: ReasonFilter,

@@ -1,4 +1,4 @@
--- What a run that breaks a declaration says of the program.
+-- What a run that violates a declaration says of the program.
 use Rattle.std.specs.Prelude.{ℕ, ◌≡◌, ◌<◌, List, Some}
 use Rattle.declaration.specs.Declaration.{Declaration}
 use Rattle.peripherals.specs.declared.Event.{Event}
@@ -12,8 +12,8 @@ use Rattle.refuter.specs.Witnesses.{begun_from_zero}
 abbrev pub PutsWords : Image → Type 0
 PutsWords image = (a w : ℕ) → image a ≡ Some w → w < 4096
 
--- Where a run from the declared start, with all else 0, breaks a rule by some event, the program is not safe: what one run
--- does no certificate can rule out.
+-- Where a run from the declared start, with all else 0, violates a rule by some event, the program is not safe: what one
+-- run does no certificate can rule out.
 abbrev pub BrokenIsUnsafe : Type 0
 BrokenIsUnsafe =
     (image : Image) (d : Declaration) (events : List Event) (event : ℕ) (rule : Rule) → PutsWords image →

@@ -16,8 +16,8 @@ begun_from_zero image d = record {
   halted_at = None;
 }
 
--- Of a run that begins so, the first step that is not legal is the event that a witness tells, and the least rule that it
--- breaks is the rule that it tells.
+-- Of a run that begins so, the first step that is not legal is the event that a witness tells, and the lowest-numbered
+-- rule that it violates is the rule that it tells.
 abbrev pub Breaks : {A : Type 0} → Image → Declaration → Witness A → Type 0
 Breaks image d w = BreaksAt image d w.events.items (begun_from_zero image d) w.event w.rule
 
@@ -25,6 +25,6 @@ Breaks image d w = BreaksAt image d w.events.items (begun_from_zero image d) w.e
 abbrev pub IsSpelled : {A : Type 0} → Witness A → Type 0
 IsSpelled w = Spells w.text.items w.events.items
 
--- No event stands behind the one that breaks the rule.
+-- No event stands behind the one that violates the rule.
 abbrev pub IsLast : {A : Type 0} → Witness A → Type 0
 IsLast w = w.event + 1 ≡ length w.events.items

@@ -2,8 +2,8 @@
 
 ghost use Rattle.refuter.specs.Laws.{BrokenIsUnsafe};
 
-/// A program of which a run breaks the declaration is not safe. So where a search gives a run, no certificate is
-/// accepted, and where one is accepted, no search gives a run.
+/// A program of which a run violates the declaration is not safe. So where a search gives a run, no certificate
+/// is accepted, and where one is accepted, no search gives a run.
 pub fn broken_programs_are_unsafe()
     ensures { BrokenIsUnsafe }
 {}

@@ -1,4 +1,4 @@
-//! Looks for a run that breaks a declaration.
+//! Looks for a run that violates a declaration.
 //!
 //! The text of what a search finds is read again and watched once more: so what is given does not rest on
 //! how it was found.
@@ -19,21 +19,21 @@ use run_search::{ActiveRun, DeclaredProgram, RunSearch};
 use std::alloc::Allocator;
 use turns::{GuessFault, Turns};
 
-/// A run that breaks a declaration: its events, their text, and which event breaks which rule.
+/// A run that violates a declaration: its events, their text, and which event violates which rule.
 #[derive(Drop)]
 pub struct Witness<A: Allocator> {
-    /// The events, of which the last one breaks the rule.
+    /// The events, of which the last one violates the rule.
     pub events: Vec<Event, A>,
     /// Their text.
     pub text: Vec<u8, A>,
-    /// The place of the step that breaks the rule, from 0.
+    /// The place of the step that violates the rule, from 0.
     pub event: usize,
-    /// The least rule that it breaks.
+    /// The least rule that it violates.
     pub rule: Rule,
 }
 
-/// The witness of a text, if it is read as a list of events of which the last one is the first to break
-/// a rule.
+/// The witness of a text, if it is read as a list of events of which the last one is the first to
+/// violate a rule.
 fn read_again<A: Allocator + Copy, D: Allocator>(
     alloc: A,
     image: &Image,
@@ -68,7 +68,7 @@ fn read_again<A: Allocator + Copy, D: Allocator>(
     }
 }
 
-/// Takes a turn, if none was taken since so many were. False where none is left.
+/// Takes a turn, if none was taken since so many were. False if none is left.
 fn takes_one(before: u32, turns: &mut Turns) -> Result<bool, NoMemory>
     requires rises { before ≤ turns.old.spent }
     ensures taken { IfOk result (λ taken. taken ≡ true → before < turns.new.spent) }
@@ -89,7 +89,7 @@ fn takes_one(before: u32, turns: &mut Turns) -> Result<bool, NoMemory>
     }
 }
 
-/// One run of a search, and the witness of it if it breaks a rule.
+/// One run of a search, and the witness of it if it violates a rule.
 fn try_once<A: Allocator + Copy, D: Allocator>(
     alloc: A,
     search: &mut RunSearch<A>,
@@ -113,12 +113,13 @@ fn try_once<A: Allocator + Copy, D: Allocator>(
     }
 }
 
-/// Looks for a run that breaks a declaration, from the declared start with all registers, and all cells
-/// that are not on the tape, 0. The same seed gives the same run. That one is found is not promised.
+/// Looks for a run that violates a declaration, from the declared start with all registers, and all
+/// cells that are not on the tape, 0. The same seed gives the same run. That one is found is not
+/// promised.
 ///
 /// A turn is a step of a machine that is watched, while it is looked for one and while what was found is
-/// made shorter; the last look at it takes none. What is found ends with the step that breaks the rule,
-/// and has a text that is short enough to be read again.
+/// made shorter; the last look at it takes none. What is found ends with the step that violates the
+/// rule, and has a text that is short enough to be read again.
 ///
 /// # Errors
 ///
@@ -130,7 +131,8 @@ pub fn refute_within<A: Allocator + Copy, D: Allocator>(
     seed: u64,
     turns: &mut Turns,
 ) -> Result<Option<Witness<A>>, NoMemory>
-    // What is given is a run that breaks the declaration, by the event and the rule that are told;
+    // What is given is a run that violates the declaration, by the event and the rule that are
+    // told;
     ensures broken { IfOk result (λ found.
         IfSome found (Breaks (image_of image.now) (meaning declaration.now))) }
     // its text is read as its events,

@@ -9,7 +9,7 @@ use Rattle.reports.specs.Head.{head_of, stuck_opening}
 abbrev pub stuck_line : ℕ → List ℕ
 stuck_line at = (codes "not known: stuck at " ++ octal_text at) ++ codes "\n"
 
--- The page is what stands before the line in its form, then the line of a search that is stuck at this address, then that
+-- The page is what comes before the line in its form, then the line of a search that is stuck at this address, then that
 -- nothing is shown, and then more.
 pub record IsDraftPage (form : ReportForm) (at : ℕ) (page : List ℕ) : Type 0 where
   pub rest : List ℕ

@@ -21,7 +21,7 @@ class_is kind.Variable class = class ≡ codes "v"
 class_is kind.Other class = class ≡ codes "o"
 class_is kind.Unset class = class ≡ codes "u"
 
--- What is said of a cell by what stands there; of a routine's its entry stands behind it.
+-- What is said of a cell by what stands there; of a routine's its entry stands after it.
 abbrev pub kind_text : CellKind → List ℕ
 kind_text kind.Entry = codes " entry"
 kind_text kind.Main = codes " main"

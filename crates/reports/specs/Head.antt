@@ -1,4 +1,4 @@
--- What stands before the verdict in a report, and right behind it.
+-- What comes before the verdict in a report, and right after it.
 use Rattle.std.specs.Prelude.{ℕ, codes, List, [], Result, Ok, Err}
 use Rattle.judge.specs.declared.judging.Refusal.{Refusal}
 use Rattle.reports.specs.declared.writer.ReportForm.{ReportForm}
@@ -10,8 +10,8 @@ unfoldable pub head_of : ReportForm → List ℕ
 head_of Text = []
 head_of Page = HEAD.now
 
--- Behind the verdict a page says, in a whole sentence, that no run breaks the declaration after a yes, and that nothing is
--- shown after a no.
+-- Behind the verdict a page says, in a whole sentence, that no run violates the declaration after a yes, and that nothing
+-- is shown after a no.
 unfoldable pub opening : ReportForm → Result (Unit {0}) Refusal → List ℕ
 opening Text _ = []
 opening Page (Ok _) = codes "</h1>\n<p class=yes>Proved: no run violates the declaration."

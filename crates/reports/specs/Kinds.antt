@@ -6,7 +6,7 @@ use Rattle.declaration.specs.Declaration.{Declaration, Routine}
 use Rattle.reports.specs.declared.report.CellKind.{CellKind}
 use Rattle.reports.specs.declared.report.CellKind.TheVariants as kind
 
--- The cell is no entry, and no body has it.
+-- The cell is not an entry, and no body has it.
 abbrev pub IsOutside : Declaration → ℕ → Type 0
 IsOutside d a = (d.entry a ≡ false) × ((r : Routine) → d.body r a ≡ false)
 

@@ -11,7 +11,7 @@ use Rattle.policy.specs.Runs.{DeclaredRun, DeclaredEvents}
 use Rattle.judge.specs.Conditions.{IsValid}
 use Rattle.judge.specs.Landing.{Case}
 
--- Where every condition holds and an address has no fact, no declared run of the instruction table comes there from a start.
+-- If every condition holds and an address has no fact, no declared run of the instruction table comes there from a start.
 abbrev pub IsNeverReachedInRuns : Type 0
 IsNeverReachedInRuns =
     (j : Case) → IsDeclared j.declaration → IsValid j →
@@ -19,7 +19,7 @@ IsNeverReachedInRuns =
     IsStart j.image j.declaration.start s → DeclaredRun j.declaration answers s [] t ls →
     j.certificate.facts t.pc ≡ [] → ⊥
 
--- Where every condition holds and an address has no fact, no declared events lead there from a machine that is just loaded, while it
+-- If every condition holds and an address has no fact, no declared events lead there from a machine that is just loaded, while it
 -- runs.
 abbrev pub IsNeverReachedInEvents : Type 0
 IsNeverReachedInEvents =

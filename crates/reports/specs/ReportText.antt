@@ -7,9 +7,9 @@ use Rattle.reports.specs.declared.writer.ReportForm.{ReportForm}
 use Rattle.reports.specs.Head.{head_of, opening}
 use Rattle.diagnostics.specs.CheckText.{IsVerdictOf}
 
--- The page is what stands before the verdict in its form, then the line of the verdict on the image, the
--- declaration and the certificate's lines, as `check` writes it, then what stands right behind that verdict, and then more; and
--- the status is that of the verdict.
+-- The page is what comes before the verdict in its form, then the line of the verdict on the image, the declaration and the
+-- certificate's lines, as `check` writes it, then what stands right behind that verdict, and then more; and the status is that
+-- of the verdict.
 pub record IsReportOf (form : ReportForm) (image : List (Option ℕ)) (declaration : Declaration) (lines : Text) (status : Status) (page : List ℕ) : Type 0 where
   pub line : List ℕ
   pub checked : IsVerdictOf image declaration lines status line

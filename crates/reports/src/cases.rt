@@ -16,7 +16,7 @@ use wordset::WordSet;
 pub(crate) struct FactDifferences {
     /// By the sites from which the routine was called.
     pub(crate) sites: bool,
-    /// By how far the return word was counted up.
+    /// By how far the return word was incremented.
     pub(crate) offsets: bool,
     /// By the link.
     pub(crate) link: bool,
@@ -88,7 +88,7 @@ impl Names {
 }
 
 impl FactDifferences {
-    /// Nothing is to be told apart.
+    /// Nothing is to be distinguished.
     pub(crate) fn by_nothing() -> FactDifferences {
         FactDifferences {
             sites: false,
@@ -133,7 +133,7 @@ impl FactDifferences {
         apart
     }
 
-    /// Whether facts are told apart by the words of this name.
+    /// Whether facts are distinguished by the words of this name.
     pub(crate) fn is_by(&self, name: &Location) -> bool {
         match &self.name {
             Some(found) => found == name,
@@ -141,7 +141,7 @@ impl FactDifferences {
         }
     }
 
-    /// Whether facts are told apart by something.
+    /// Whether facts are distinguished by something.
     pub(crate) fn is_told(&self) -> bool {
         self.sites || self.offsets || self.link || self.name.is_some()
     }

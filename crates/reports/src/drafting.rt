@@ -83,7 +83,7 @@ fn below_stuck<A: Allocator + Copy, D: Allocator, C: Allocator>(
     below_lines(alloc, &report, &lines, form)
 }
 
-/// The line of a search that is stuck, with what stands before and right behind it in a form, and the rest.
+/// The line of a search that is stuck, with what comes before and right after it in a form, and the rest.
 fn joined<A: Allocator>(
     alloc: A,
     form: ReportForm,
@@ -102,7 +102,7 @@ fn joined<A: Allocator>(
     Ok(page)
 }
 
-/// The report of a draft for a program that has these names. Where the lines that say why the search is stuck are given, it has these.
+/// The report of a draft for a program that has these names. If the lines that say why the search is stuck are given, it has these.
 ///
 /// # Errors
 ///

@@ -99,7 +99,7 @@ fn write_link<A: Allocator>(
     }
 }
 
-/// Writes the items on AC, MQ and the link, but for those by which facts are told apart.
+/// Writes the items on AC, MQ and the link, except for those by which facts are distinguished.
 fn write_registers<A: Allocator>(
     writer: &mut ReportWriter<A>,
     known: &KnownFact,
@@ -333,7 +333,7 @@ fn write_lost_chains<A: Allocator>(
     }
 }
 
-/// Writes by how much a return word may have been counted up.
+/// Writes by how much a return word may have been incremented.
 pub(crate) fn write_offsets<A: Allocator>(writer: &mut ReportWriter<A>, offsets: ReturnOffsets) {
     let mut some = false;
     for offset in 0..64usize {
@@ -357,7 +357,7 @@ fn is_uncounted(offsets: ReturnOffsets) -> bool {
     true
 }
 
-/// Writes the item on how far the return word was counted up, where it may have been or was above.
+/// Writes the item on how far the return word was incremented, where it may have been or was above.
 fn write_counted<A: Allocator>(
     writer: &mut ReportWriter<A>,
     known: &KnownFact,
@@ -409,8 +409,8 @@ fn write_all_lost<A: Allocator>(
     }
 }
 
-/// Writes what a fact says as items, but for that by which it is told apart from others: where one above is near, what
-/// differs from it, and in a page also what does not.
+/// Writes what a fact says as items, except for that by which it is distinguished from others: where one above is
+/// near, what differs from it, and in a page also what does not.
 pub(crate) fn write_fact<A: Allocator>(
     writer: &mut ReportWriter<A>,
     setting: &FactContext<'_>,
@@ -448,7 +448,7 @@ pub(crate) fn write_exit<A: Allocator>(
     write_chains(writer, setting, exit, None);
 }
 
-/// Begins a part of what tells a fact apart from others.
+/// Begins a part of what distinguishes a fact from others.
 fn begin_part<A: Allocator>(writer: &mut ReportWriter<A>, is_first: &mut bool) {
     if !*is_first {
         writer.put(b", ");
@@ -456,7 +456,7 @@ fn begin_part<A: Allocator>(writer: &mut ReportWriter<A>, is_first: &mut bool) {
     *is_first = false;
 }
 
-/// Writes the words of the name by which facts are told apart.
+/// Writes the words of the name by which facts are distinguished.
 fn write_name_apart<A: Allocator>(
     writer: &mut ReportWriter<A>,
     known: &KnownFact,
@@ -468,7 +468,7 @@ fn write_name_apart<A: Allocator>(
     }
 }
 
-/// Writes what tells a fact apart from others.
+/// Writes what distinguishes a fact from others.
 pub(crate) fn write_apart<A: Allocator>(
     writer: &mut ReportWriter<A>,
     known: &KnownFact,

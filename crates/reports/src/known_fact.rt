@@ -20,7 +20,7 @@ use std::alloc::Allocator;
 use word12::Word;
 use wordset::WordSet;
 
-/// A fact as it is claimed, and as conditions are asked of it.
+/// A fact as it is claimed, and as conditions are checked for it.
 #[derive(Drop)]
 pub(crate) struct KnownFact {
     /// What is claimed, with the sites of its routine where the claim has none of its own.
@@ -123,7 +123,7 @@ impl KnownFact {
         self.claimed.chains()
     }
 
-    /// The words that a name may hold by what conditions are asked of.
+    /// The words that a name may hold by what conditions are checked for.
     pub(crate) fn set_of(&self, name: &Location) -> WordSet
         ensures { words result ≡ (fact_in_code self.now.fact).set (location_of name.now) }
     {

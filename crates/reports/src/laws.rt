@@ -4,7 +4,7 @@ ghost use Rattle.reports.specs.Laws.{IsNeverReachedInEvents, IsNeverReachedInRun
 
 use judge::laws::facts_hold;
 
-/// Where a certificate is valid and has no fact at an address, no run of the declared program comes there. So a report of
+/// If a certificate is valid and has no fact at an address, no run of the declared program comes there. So a report of
 /// such a certificate may say that the address is never reached.
 pub fn addresses_without_facts_are_never_reached()
     ensures runs { IsNeverReachedInRuns }

@@ -132,7 +132,7 @@ pub(crate) fn write_variable<A: Allocator, B: Allocator, D: Allocator, C: Alloca
 pub(crate) enum FactAbsence {
     /// No run comes there.
     NeverReached,
-    /// There is no fact.
+    /// There is not a fact.
     NoFact,
     /// The words that a variable may hold.
     Held,

@@ -29,7 +29,7 @@ const PAGE_WORDS: usize = 128;
 /// What the map begins with, up to its height.
 const MAP: &[u8] = b"<h2 id=memory>Memory, addresses in octal</h2>\n<svg viewBox=\"0 0 680 ";
 
-/// What stands after its height.
+/// What comes after its height.
 const GROUND: &[u8] = b"\" width=680 role=img aria-label=\"map of memory\">\n\
 <rect class=u x=34 y=14 width=640 height=";
 

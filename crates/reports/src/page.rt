@@ -43,7 +43,7 @@ declaration can be checked.</p>\n\
 <p>On this page: <a href=#memory>memory</a>, <a href=#routines>routines</a>, \
 <a href=#variables>variables</a>, <a href=#listing>listing</a>.</p>\n";
 
-/// What stands after the declared variables, above the table of those of which something is known.
+/// What comes after the declared variables, above the table of those of which something is known.
 const VARIABLES: &[u8] =
     b". According to the certificate, each of the variables below holds one of the words beside it at every address \
 where something is said about it; all others may hold any word:</p>\n<table>\n\

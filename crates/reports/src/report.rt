@@ -54,7 +54,7 @@ pub struct Report<'a, A: Allocator, D: Allocator, C: Allocator> {
     /// The rules by which its facts are read.
     pub(crate) rules: Rules,
     pub(crate) finding: Finding,
-    /// The name of the condition that fails, or nothing where none is told.
+    /// The name of the condition that fails, or nothing if none is told.
     pub(crate) failing: &'a str,
     /// What is said about the files of the program, or nothing.
     pub(crate) files: &'a [u8],
@@ -66,7 +66,7 @@ pub struct Report<'a, A: Allocator, D: Allocator, C: Allocator> {
     pub(crate) held: VariableSummaries<A>,
 }
 
-/// What stands at an address outside all bodies, which is no entry.
+/// What stands at an address outside all bodies, which is not an entry.
 fn kind_outside<D: Allocator>(image: &Image, declaration: &Declaration<D>, at: Word) -> CellKind
     requires { IsOutside (meaning declaration.now) at }
     ensures { IsKind image.now (meaning declaration.now) at result }
@@ -156,7 +156,7 @@ impl<A: Allocator, D: Allocator, C: Allocator> Report<'_, A, D, C> {
         kind_at(self.image, self.declaration, at)
     }
 
-    /// What the source says about an address; nothing where it is not known.
+    /// What the source says about an address; nothing if it is not known.
     pub(crate) fn note_at(&self, at: Word) -> Option<SourceNote<'_>> {
         match self.notes {
             Some(notes) => notes.at(at),

@@ -112,7 +112,7 @@ fn below<A: Allocator + Copy, D: Allocator, C: Allocator>(
     below_lines(alloc, &report, &lines, form)
 }
 
-/// The line of a verdict, with what stands before and right behind it in a form, and the rest.
+/// The line of a verdict, with what comes before and right after it in a form, and the rest.
 fn joined<A: Allocator>(
     alloc: A,
     form: ReportForm,

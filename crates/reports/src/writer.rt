@@ -110,7 +110,7 @@ impl<A: Allocator> ReportWriter<A> {
         self.put(digits.format(number).as_bytes());
     }
 
-    /// Writes by how much a return word is counted up, in octal digits.
+    /// Writes by how much a return word is incremented, in octal digits.
     pub(crate) fn offset(&mut self, offset: usize) {
         if offset >= 8 {
             self.number(offset / 8);
@@ -266,7 +266,7 @@ impl<A: Allocator> ReportWriter<A> {
         }
     }
 
-    /// Writes in plain text what stands before a note after the items.
+    /// Writes in plain text what comes before a note after the items.
     pub(crate) fn note(&mut self) {
         if !self.is_page {
             self.put(b"  / ");

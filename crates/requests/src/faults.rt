@@ -189,7 +189,7 @@ fn device_line<R: Files + Input>(
     }
 }
 
-/// What is said below the line of a fault: which file has it, and if the fault is to be explained also where it is, and
+/// What is said below the line of a fault: which file has it, and if the fault is to be explained even if it is, and
 /// what may stand there; or what the fault means and what to do.
 pub fn fault_lines<R: Files + Input>(
     rt: &R,

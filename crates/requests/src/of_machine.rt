@@ -87,7 +87,7 @@ fn teletype_of<'a>(session: &TeletypeSession<'a>, named: &ResolvedPlaces) -> Tel
     }
 }
 
-/// Does what is asked for with the program of a source that was assembled.
+/// Does what is requested with the program of a source that was assembled.
 #[inline(never)]
 fn carry_out<R: Files + Input + Print + Eprint>(
     rt: &R,
@@ -124,7 +124,7 @@ fn carry_out<R: Files + Input + Print + Eprint>(
     }
 }
 
-/// Tells that a source is refused, and below it why, if that is asked for, and if another file was given in its place.
+/// Tells that a source is refused, and below it why, if that is requested, and if another file was given in its place.
 fn tell_refused<R: Eprint>(
     rt: &R,
     alloc: Global,
@@ -141,7 +141,7 @@ fn tell_refused<R: Eprint>(
     status
 }
 
-/// Does what is asked for with the program of a source that was read, or tells why it is refused, and says which of its
+/// Does what is requested with the program of a source that was read, or tells why it is refused, and says which of its
 /// parts are ignored.
 fn answer_given<R: Files + Input + Print + Eprint>(
     rt: &R,

@@ -95,7 +95,7 @@ fn link_target<R: Files>(rt: &R, alloc: Global, link: &str) -> io::Result<String
     Ok(path)
 }
 
-/// Where the file with this name lies, after all symbolic links; nothing where no file beside it may take its place.
+/// Where the file with this name lies, after all symbolic links; nothing if no file beside it may take its place.
 fn place_of<R: Files>(rt: &R, alloc: Global, name: &str) -> Result<Option<String>, AllocError> {
     let mut path = String::from_str(alloc, name)?;
     for _ in 0..MOST_LINKS {
@@ -228,7 +228,7 @@ impl<'r, R: Files> ResultFile<'r, R> {
         Ok(())
     }
 
-    /// Opens a file beside the one at a path, to which all is written from now on. Where there is one that cannot be
+    /// Opens a file beside the one at a path, to which all is written from now on. If there is one that cannot be
     /// replaced, that one is opened.
     fn open_beside(&mut self, path: &str) -> io::Result<()> {
         let (file, beside) = match fs::metadata(self.rt, path) {

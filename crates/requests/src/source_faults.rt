@@ -105,8 +105,8 @@ fn push_source_faults(
     push_faults(alloc, told, &name_slices(alloc, &shown)?, parts, profile)
 }
 
-/// Writes the line of a source's fault to standard error, and below it what is wrong, if that is asked
-/// for.
+/// Writes the line of a source's fault to standard error, and below it what is wrong, if that is
+/// requested.
 pub fn tell_source<R: Eprint>(
     rt: &R,
     alloc: Global,

@@ -1,5 +1,5 @@
 //! What is said about a search for a certificate that is stuck. It is proved that the line of an answer comes first; the
-//! lines behind it are tested.
+//! lines after it are tested.
 
 ghost use Rattle.std.specs.Prelude.{IfOk};
 ghost use Rattle.command_parts.specs.Messages.{BeginsWith, plain};
@@ -79,7 +79,7 @@ pub fn stuck_why(alloc: Global, stuck: &StuckSearch<'_>) -> Result<Message<Globa
     Ok(told)
 }
 
-/// What is said about a search that is stuck: its line, and behind it why it is stuck, and what to do.
+/// What is said about a search that is stuck: its line, and after it why it is stuck, and what to do.
 #[inline(never)]
 pub fn stuck_message(
     alloc: Global,
@@ -114,7 +114,7 @@ fn answer_reasons(
     Ok(told)
 }
 
-/// What is said about an answer: its line, first and as it is, and behind it why.
+/// What is said about an answer: its line, first and as it is, and after it why.
 ///
 /// # Errors
 ///

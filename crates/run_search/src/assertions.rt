@@ -110,7 +110,7 @@ pub(crate) fn asserted_word(assertion: &Assertion, cpu: &Cpu) -> Word {
     }
 }
 
-/// How much more a word is than the nearest one that is not asserted, modulo 4096; none where all are asserted, and of the link, which
+/// How much more a word is than the nearest one that is not asserted, modulo 4096; none if all are asserted, and of the link, which
 /// is no sum of inputs.
 pub(crate) fn beyond_assertion(assertion: &Assertion, word: Word) -> Option<u16> {
     if *assertion.subject() == Subject::Link {

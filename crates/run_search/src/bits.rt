@@ -17,7 +17,7 @@ impl<A: Allocator + Copy> Bits<A> {
         })
     }
 
-    /// Puts a number in. True where it is new.
+    /// Puts a number in. True if it is new.
     pub(crate) fn insert(&mut self, number: usize) -> bool {
         let Some(word) = self.words.get_mut(number >> 6) else {
             return false;

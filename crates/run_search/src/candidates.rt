@@ -119,7 +119,7 @@ struct WordCandidate {
 }
 
 impl WordCandidate {
-    /// One more, by an input. True where it is the fourth other input.
+    /// One more, by an input. True if it is the fourth other input.
     fn add(&mut self, input: u16) -> bool {
         if self.input == input {
             return false;
@@ -235,7 +235,7 @@ impl<A: Allocator + Copy> InputCandidates<A> {
         }
     }
 
-    /// Counts a hint at a word for the switches. True where several inputs hinted at it.
+    /// Counts a hint at a word for the switches. True if several inputs hinted at it.
     pub(crate) fn add_word_candidate(
         &mut self,
         at: Word,

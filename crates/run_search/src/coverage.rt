@@ -37,13 +37,13 @@ impl<A: Allocator + Copy> Coverage<A> {
         })
     }
 
-    /// A step is made. True where it is new.
+    /// A step is made. True if it is new.
     #[inline]
     pub(crate) fn sees_step(&mut self, from: Word, to: Word) -> bool {
         self.steps.insert(pair(from, to))
     }
 
-    /// A word is stored, or an address used. True where it is new.
+    /// A word is stored, or an address used. True if it is new.
     #[inline]
     pub(crate) fn sees_value(&mut self, at: Word, value: Word) -> bool {
         let is_new = self.values.insert(pair(at, value));
@@ -55,7 +55,7 @@ impl<A: Allocator + Copy> Coverage<A> {
         is_new
     }
 
-    /// A test sees a distance from 0. True where it is the least one so far.
+    /// A test sees a distance from 0. True if it is the least one so far.
     pub(crate) fn sees_distance(&mut self, at: Word, distance: u16) -> bool {
         let Some(nearest) = self.nearest.get_mut(at.index()) else {
             return false;

@@ -67,7 +67,7 @@ impl<A: Allocator + Copy> Hints<A> {
         })
     }
 
-    /// Notes that a hint is made, by what it is known by. True where it is new.
+    /// Notes that a hint is made, by what it is known by. True if it is new.
     pub(crate) fn is_new(&mut self, mark: u64) -> bool {
         self.made.insert((mark >> 40) as usize)
     }

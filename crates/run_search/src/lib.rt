@@ -1,7 +1,7 @@
-//! A search for a run that breaks a declaration.
+//! A search for a run that violates a declaration.
 //!
-//! An operator by chance gives what a program asks for, and the machine is watched, until a step breaks a
-//! rule. Nothing is promised of what is found: who uses it watches it once more.
+//! An operator by chance gives what a program asks for, and the machine is watched, until a step violates
+//! a rule. Nothing is promised of what is found: who uses it watches it once more.
 #![tactic(auto)]
 
 mod assertions;

@@ -21,7 +21,7 @@ pub(crate) enum Purpose {
     Explore,
     /// To find something new, from a kept state on.
     Extend,
-    /// To break a rule once more with other inputs; nothing is kept and nothing learned.
+    /// To violate a rule once more with other inputs; nothing is kept and nothing learned.
     Repeat,
 }
 

@@ -41,7 +41,7 @@ impl<A: Allocator + Copy> RunSearch<A> {
     }
 
     /// What the next run without a key gives as every frame and as the switches, if there is to be another one:
-    /// a second one makes sense only where the program asked for one of these.
+    /// a second one makes sense only if the program asked for one of these.
     fn next_plain_value(&self) -> Option<Option<u16>> {
         if self.plain > 0 && !self.asks_without_keys {
             return None;

@@ -35,7 +35,7 @@ impl Random {
         self.below(times) == 0
     }
 
-    /// One of some values; none where there are none.
+    /// One of some values; none if there are none.
     pub(crate) fn pick(&mut self, values: &[u16]) -> Option<u16> {
         values.get(self.below(values.len())).copied()
     }

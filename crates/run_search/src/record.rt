@@ -15,7 +15,7 @@ pub struct Record<A: Allocator> {
     /// By address the routine that ran when a step was first made from there.
     pub owners: Vec<Option<Owner>, A>,
     /// The addresses from which steps were made, by how far the running routine's return word had been
-    /// counted up then: 0 in main, and where it was further up than 7.
+    /// incremented then: 0 in main, and where it was further up than 7.
     pub places: [WordSet; 8],
     /// The cells that a DCA, an ISZ or an indirect reference through an auto-index cell wrote, but not
     /// the running routine's own entry under an ISZ.
@@ -35,7 +35,7 @@ pub struct StepRecord {
     pub at: Word,
     /// The routine that runs.
     pub owner: Owner,
-    /// How far its return word was counted up, modulo 4096: 0 in main.
+    /// How far its return word was incremented, modulo 4096: 0 in main.
     pub offset: Word,
     /// The cell in which a DCA or an ISZ stores, but not the running routine's own entry under an ISZ.
     pub stored: Option<Word>,

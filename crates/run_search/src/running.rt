@@ -1,5 +1,5 @@
 //! One run: the operator gives what the program asks for, the devices get done, and the machine makes
-//! step after step until one breaks a rule.
+//! step after step until one violates a rule.
 
 ghost use Rattle.std.specs.Prelude.{◌≡◌, ◌≤◌};
 ghost use Rattle.declaration.specs.DeclarationInCode.{meaning};
@@ -36,9 +36,9 @@ pub(crate) struct Input {
 pub(crate) enum Progress {
     /// It goes on.
     GoesOn,
-    /// It is over, and broke no rule.
+    /// It is over, and violated no rule.
     Over,
-    /// The next step breaks a rule, and is not made.
+    /// The next step violates a rule, and is not made.
     Broken,
 }
 
@@ -87,7 +87,7 @@ pub(crate) struct Run<A: Allocator> {
     last_new: u32,
     /// Up to so many events it is certain that the run goes on.
     certain: u32,
-    /// After so many events without anything new the run is over when an input is asked for.
+    /// After so many events without anything new the run is over when an input is requested.
     most_stale: u32,
 }
 
@@ -175,7 +175,7 @@ impl<A: Allocator + Copy> Run<A> {
         self.last_asked = self.extent.events;
     }
 
-    /// The program asks for an input. False where the run is over, since nothing was new for long.
+    /// The program asks for an input. False if the run is over, since nothing was new for long.
     pub(crate) fn is_asked(&mut self) -> bool {
         self.has_asked = true;
         if self.novelty.is_any {

@@ -91,7 +91,7 @@ impl<A: Allocator> Script<A> {
         }
     }
 
-    /// All parts, without the steps behind them.
+    /// All parts, without the steps after them.
     pub(crate) fn parts(&self) -> &[ScriptPart] {
         &self.parts
     }

@@ -1,4 +1,4 @@
-//! The search: run after run, until one breaks a rule.
+//! The search: run after run, until one violates a rule.
 
 ghost use Rattle.std.specs.Prelude.{◌≡◌, ◌≤◌, IfOk, OnOk};
 ghost use Rattle.declaration.specs.DeclarationInCode.{meaning};
@@ -55,7 +55,7 @@ pub struct DeclaredProgram<'a, D: Allocator> {
     pub declaration: &'a Declaration<D>,
 }
 
-/// A search for a run that breaks a rule, with what it learned so far.
+/// A search for a run that violates a rule, with what it learned so far.
 #[derive(Drop)]
 pub struct RunSearch<A: Allocator> {
     pub(crate) alloc: A,
@@ -85,7 +85,7 @@ pub struct RunSearch<A: Allocator> {
     pub(crate) lesson: u32,
 }
 
-/// A run that broke a rule: its events, and its inputs.
+/// A run that violated a rule: its events, and its inputs.
 #[derive(Drop)]
 pub(crate) struct ViolatingRun<A: Allocator> {
     pub(crate) script: Script<A>,
@@ -99,7 +99,7 @@ pub struct ActiveRun<A: Allocator> {
     pub watcher: Watcher<A>,
     pub(crate) run: Run<A>,
     pub(crate) plan: Plan<A>,
-    /// Whether the next step was tried before, and broke a rule: what it asks for is given.
+    /// Whether the next step was tried before, and violated a rule: what it asks for is given.
     is_tried: bool,
     /// How many more steps it makes at most.
     left: u32,
@@ -168,9 +168,9 @@ impl<A: Allocator + Copy> RunSearch<A> {
         Ok(search)
     }
 
-    /// One run, for which a trial is lent: it is begun anew. If the run breaks a rule, what is told are its
-    /// events as a text, without those that are not needed, as far as that was found out. A turn is taken
-    /// for each step.
+    /// One run, for which a trial is lent: it is begun anew. If the run violates a rule, what is told are
+    /// its events as a text, without those that are not needed, as far as that was found out. A turn is
+    /// taken for each step.
     ///
     /// # Errors
     ///
@@ -192,7 +192,7 @@ impl<A: Allocator + Copy> RunSearch<A> {
         Ok(Some(script.text(self.alloc)?))
     }
 
-    /// One run, up to a step that breaks a rule.
+    /// One run, up to a step that violates a rule.
     fn round<D: Allocator>(
         &mut self,
         program: &DeclaredProgram<'_, D>,
@@ -246,7 +246,7 @@ impl<A: Allocator + Copy> RunSearch<A> {
         Ok(())
     }
 
-    /// Runs by a plan, until a rule is broken or the run is over.
+    /// Runs by a plan, until a rule is violated or the run is over.
     pub(crate) fn follow<D: Allocator>(
         &mut self,
         program: &DeclaredProgram<'_, D>,
@@ -269,9 +269,9 @@ impl<A: Allocator + Copy> RunSearch<A> {
         Ok(Some(self.found(&mut trial.run)?))
     }
 
-    /// Makes the steps of a run. True where the next one breaks a rule: it is not made, and where the run
-    /// goes on later, by a declaration that allows more, it is tried again. False where the run is over, or
-    /// all turns are spent. A turn is taken for each step, and for one that breaks a rule.
+    /// Makes the steps of a run. True if the next one violates a rule: it is not made, and where the run
+    /// goes on later, by a declaration that allows more, it is tried again. False if the run is over, or
+    /// all turns are spent. A turn is taken for each step, and for one that violates a rule.
     ///
     /// # Errors
     ///
@@ -311,7 +311,7 @@ impl<A: Allocator + Copy> RunSearch<A> {
         }
     }
 
-    /// Makes the steps of a run. True where the next one breaks a rule.
+    /// Makes the steps of a run. True if the next one violates a rule.
     fn make_steps<D: Allocator>(
         &mut self,
         program: &DeclaredProgram<'_, D>,
@@ -339,8 +339,8 @@ impl<A: Allocator + Copy> RunSearch<A> {
         Ok(false)
     }
 
-    /// What steps were seen to do in all runs so far, apart from those that only break a rule once more;
-    /// nothing but how many runs there were, where that is not recorded.
+    /// What steps were seen to do in all runs so far, apart from those that only violate a rule once
+    /// more; nothing but how many runs there were, where that is not recorded.
     pub fn record(&self) -> &Record<A> {
         &self.record
     }
@@ -350,7 +350,7 @@ impl<A: Allocator + Copy> RunSearch<A> {
         self.record.sees(step_record);
     }
 
-    /// The whole of a run that broke a rule, from the start.
+    /// The whole of a run that violated a rule, from the start.
     fn found(&self, run: &mut Run<A>) -> Result<ViolatingRun<A>, NoMemory> {
         run.write_steps();
         let mut script = self.corpus.script(run.base)?;

@@ -1,5 +1,5 @@
-//! Makes a run that breaks a rule shorter: what is not needed is taken out, first half of it, then a
-//! quarter, and so on down to each input and each event by itself.
+//! Makes a run that violates a rule shorter: what is not needed is taken out, first half of it, then
+//! a quarter, and so on down to each input and each event by itself.
 
 ghost use Rattle.std.specs.Prelude.{◌≡◌, ◌≤◌};
 ghost use Rattle.declaration.specs.DeclarationInCode.{meaning};
@@ -22,7 +22,7 @@ const MOST_STEPS: u32 = 2_000_000;
 /// How often a length is halved at most.
 const HALVINGS: usize = 20;
 
-/// A run that breaks a rule, with as few inputs and events as were found in so many steps.
+/// A run that violates a rule, with as few inputs and events as were found in so many steps.
 pub(crate) fn shortened<A: Allocator + Copy, D: Allocator>(
     alloc: A,
     search: &mut RunSearch<A>,
@@ -69,7 +69,7 @@ fn without<A: Allocator>(
     Ok(values)
 }
 
-/// Takes inputs out, fewer and fewer at a time. All come as soon as they are asked for.
+/// Takes inputs out, fewer and fewer at a time. All come as soon as they are requested.
 fn halve_inputs<A: Allocator + Copy, D: Allocator>(
     alloc: A,
     search: &mut RunSearch<A>,
@@ -95,7 +95,7 @@ fn halve_inputs<A: Allocator + Copy, D: Allocator>(
     Ok(())
 }
 
-/// Takes inputs out, so many at a time, wherever a rule is broken without them.
+/// Takes inputs out, so many at a time, wherever a rule is violated without them.
 fn take_out_inputs<A: Allocator + Copy, D: Allocator>(
     alloc: A,
     search: &mut RunSearch<A>,
@@ -150,7 +150,7 @@ fn halve_events<A: Allocator + Copy, D: Allocator>(
     Ok(())
 }
 
-/// Takes events that are no steps out, so many at a time, wherever a rule is broken without them.
+/// Takes events that are no steps out, so many at a time, wherever a rule is violated without them.
 fn take_out_events<A: Allocator + Copy, D: Allocator>(
     alloc: A,
     program: &DeclaredProgram<'_, D>,
@@ -177,7 +177,8 @@ fn take_out_events<A: Allocator + Copy, D: Allocator>(
     Ok(())
 }
 
-/// A script without so many events from a place on, up to the step that breaks a rule, if one does.
+/// A script without so many events from a place on, up to the step that violates a rule, if one
+/// does.
 fn replayed<A: Allocator + Copy, D: Allocator>(
     alloc: A,
     program: &DeclaredProgram<'_, D>,
@@ -217,7 +218,7 @@ fn replayed<A: Allocator + Copy, D: Allocator>(
     Ok(None)
 }
 
-/// Makes so many steps, up to one that breaks a rule. True where one does.
+/// Makes so many steps, up to one that violates a rule. True if one does.
 fn breaks<A: Allocator + Copy, D: Allocator>(
     watcher: &mut Watcher<A>,
     declaration: &Declaration<D>,

@@ -61,7 +61,7 @@ impl<A: Allocator + Copy> RunSearch<A> {
         self.step(program, trial, &observation, turns)
     }
 
-    /// Gives what the next step asks for, and lets devices get done. False where the run is over.
+    /// Gives what the next step asks for, and lets devices get done. False if the run is over.
     #[inline(always)]
     fn prepare<D: Allocator>(
         &mut self,
@@ -84,7 +84,7 @@ impl<A: Allocator + Copy> RunSearch<A> {
         Ok(true)
     }
 
-    /// Gives what the next step asks for, if it comes now. False where the run is over.
+    /// Gives what the next step asks for, if it comes now. False if the run is over.
     #[inline(never)]
     fn answer<D: Allocator>(
         &mut self,
@@ -147,7 +147,7 @@ impl<A: Allocator + Copy> RunSearch<A> {
         comes
     }
 
-    /// Keeps the state in which an input is asked for, if something new was seen.
+    /// Keeps the state in which an input is requested, if something new was seen.
     fn keep(
         &mut self,
         watcher: &Watcher<A>,

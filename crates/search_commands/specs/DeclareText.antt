@@ -15,14 +15,14 @@ use Rattle.command_parts.specs.declared.status.Status.{Status}
 use Rattle.command_parts.specs.declared.status.Status.TheVariants.{Done, Refused}
 use Rattle.command_parts.specs.Inputs.{HasImage}
 
--- The text declares a program that starts where it was asked to, on the machine that was asked for.
+-- The text declares a program that starts where it was asked to, on the machine that was requested.
 pub record IsDeclarationFor (options : DeclareOptions) (text : List ℕ) : Type 0 where
   pub declaration : Declaration
   pub declares : Declares text declaration
   pub start_is : declaration.start ≡ options.start
   pub profile_is : declaration.profile ≡ options.profile
 
--- The text declares a program that starts where it was asked to, on the machine that was asked for, and it lists no
+-- The text declares a program that starts where it was asked to, on the machine that was requested, and it lists no
 -- reads.
 abbrev pub IsBare : DeclareOptions → List ℕ → Type 0
 IsBare options text = (is : IsDeclarationFor options text) × (is.declaration.reads ≡ None)
@@ -37,7 +37,7 @@ pub record ListsNeeded (image : List (Option ℕ)) (d : Declaration) : Type 0 wh
   pub needed : ReadsAreNeeded (checked_case image d lines)
 
 -- The text is such a declaration; where the command is done, no run of the program with these words breaks it, and if a list of
--- reads was asked for it has one, whose cells are needed. Else it has none, and the command is refused.
+-- reads was requested it has one, whose cells are needed. Else it has none, and the command is refused.
 pub record IsProposalOf (options : DeclareOptions) (image : List (Option ℕ)) (status : Status) (text : List ℕ) : Type 0 where
   pub is : IsDeclarationFor options text
   pub ends : (status ≡ Done) ⊎ (status ≡ Refused)

@@ -11,7 +11,7 @@ use Rattle.command_parts.specs.declared.status.Status.{Status}
 use Rattle.command_parts.specs.declared.status.Status.TheVariants.{Done}
 
 -- This is the text of some certificate, in the version of the declared machine or in version 3, of which every condition
--- holds: no run of the program with these words breaks the declaration. And the command is done.
+-- holds: no run of the program with these words violates the declaration. And the command is done.
 pub record IsGuessOf (image : List (Option ℕ)) (declaration : Declaration) (status : Status) (guess : List ℕ) : Type 0 where
   pub lines : Text
   pub lines_are : AreLines lines

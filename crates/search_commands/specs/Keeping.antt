@@ -45,7 +45,7 @@ pub data IsMark : List ℕ → Type 0 where
   ranges : (named : List ℕ) → list_all is_spaced named ≡ true → IsMark (mark ++ named)
   offsets : (named behind : List ℕ) → list_all is_spaced named ≡ true → list_all is_spaced behind ≡ true → IsMark (mark ++ (named ++ (codes "returns" ++ behind)))
 
--- The second line is the first one with ranges and offsets put in before its comment, each behind a space and where a word has ended,
+-- The second line is the first one with ranges and offsets put in before its comment, each after a space and where a word has ended,
 -- and behind all of it the comment that marks and names them. So each word of the first line stands in the second one too, as it was
 -- and in the same order, and its comment stays as it is.
 pub data Grows : List ℕ → List ℕ → Type 0 where

@@ -1,4 +1,4 @@
--- What `guess --why` reports of a search that is stuck: the line of the fault, and behind it the lines of `check --why`.
+-- What `guess --why` reports of a search that is stuck: the line of the fault, and after it the lines of `check --why`.
 use Rattle.std.specs.Prelude.{ℕ, ◌≡◌, List, [], Option, Some, None, IfNone, IfSome, Err}
 use Rattle.instruct.specs.declared.Profile.{Profile}
 use Rattle.certificate_lines.specs.Reading.{Text}
@@ -19,8 +19,8 @@ told_text profile image None = []
 told_text profile image (Some found) = why_text profile image (Err found.0) (Some found.1) found.2
 
 -- This is told of an address at which a search is stuck, by a draft of a certificate. The condition fails by the draft at that
--- address, since what is told is so, and not because a line is missing or too narrow; none that is asked before it fails there but
--- for that. Where none is told, each that fails there does so for that alone.
+-- address, since what is told is so, and not because a line is missing or too narrow; none that is asked before it fails there
+-- except for that. If none is told, each that fails there does so for that alone.
 pub record IsTold (j : Case) (at : ℕ) (told : Option (Refusal × Reason × ReasonContext)) : Type 0 where
   pub why : IfSome told (λ found. Explains j found.0.condition found.0.address found.1)
   pub place : IfSome told (λ found. IsToldOf at found.0 found.1)

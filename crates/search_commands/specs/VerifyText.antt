@@ -22,14 +22,14 @@ use Rattle.search_commands.specs.declared.verifying.ProposalAnswer.{ProposalAnsw
 use Rattle.search_commands.specs.WidenedText.{HasReason, reason_text}
 
 -- The answer is true of a tape's words and a declaration. After a yes every condition holds of the certificate, and so no
--- run of the program breaks the declaration. After a no the run breaks it: its last event is the first step that is not
+-- run of the program violates the declaration. After a no the run breaks it: its last event is the first step that is not
 -- legal, and its text is read as these events. Where it is not known nothing is said.
 abbrev pub IsAnswer : {A : Type 0} → List (Option ℕ) → Declaration → Answer A → Type 0
 IsAnswer image d (Yes c) = IsYes (checked_case image d (meaning c)) × AreLines (meaning c)
 IsAnswer image d (No w) = Breaks (image_of image) d w × IsSpelled w × IsLast w
 IsAnswer image d (NotKnown lack) = ⊤
 
--- The line of a run whose event n breaks rule r.
+-- The line of a run whose event n violates rule r.
 abbrev pub no_text : ℕ → Rule → List ℕ
 no_text n r = codes "no: event " ++ decimal n ++ codes " rule " ++ decimal (number_of r) ++ codes "\n"
 
@@ -56,8 +56,8 @@ abbrev pub answer_status : {A : Type 0} → Answer A → Status
 answer_status (Yes c) = Done
 answer_status _ = Refused
 
--- What is told of an answer with this line: the line comes first and as it is, and behind it stand, only where the answer is
--- to be explained, some lines more, of which nothing is said here.
+-- What is told of an answer with this line: the line comes first and as it is, and after it stand, only if the answer is to
+-- be explained, some lines more, of which nothing is said here.
 pub record IsTold (line : List ℕ) (explained : Bool) (told : List ℕ) : Type 0 where
   pub why : List ℕ
   pub plain : explained ≡ false → why ≡ []
@@ -72,9 +72,9 @@ pub record IsVerifiedOf {A : Type 0} (explained : Bool) (image : List (Option �
 abbrev pub IsVerified : {A : Type 0} → Option (List ℕ) → Option (List ℕ) → Bool → Answer A → List ℕ → Type 0
 IsVerified frames text explained answer told = OfProgram frames text (IsVerifiedOf explained) answer told
 
--- The text that is proposed declares a program that starts where it was asked to, on the machine that was asked for; the answer
+-- The text that is proposed declares a program that starts where it was asked to, on the machine that was requested; the answer
 -- is true of the words and of what is declared. Its line is told, behind a no why no declaration allows what the run does, and
--- behind that, only where it is to be explained, some lines more, of which nothing is said here.
+-- after that, only if it is to be explained, some lines more, of which nothing is said here.
 pub record IsProposedAnswerOf {A : Type 0} (options : VerifyOptions) (image : List (Option ℕ)) (p : ProposalAnswer A) (told : List ℕ) : Type 0 where
   pub declaration : Declaration
   pub declares : Declares p.text.items declaration

@@ -15,12 +15,12 @@ use Rattle.search_commands.specs.declared.widening.WideningStep.{WideningStep}
 use Rattle.search_commands.specs.declared.widening.WideningStep.TheVariants.{Wider, Ended}
 use Rattle.search_commands.specs.declared.widening.FinalProposal.{FinalProposal}
 
--- The run that is told breaks the declaration, and what is told of it is so.
+-- The run that is told violates the declaration, and what is told of it is so.
 pub record IsBroken {A : Type 0} (image : List (Option ℕ)) (given : Kept) (w : Witness A) (o : Obstacle) : Type 0 where
   pub answers : IsAnswer image (meaning given) (No w)
   pub obstacle : IsObstacle image (meaning given) w.events.items o
 
--- Where a search ended with a run, that is one.
+-- If a search ended with a run, that is one.
 abbrev pub IsEnded : {A : Type 0} → List (Option ℕ) → Kept → Ending A → Type 0
 IsEnded image given Open = ⊤
 IsEnded image given (Broken w o) = IsBroken image given w o

@@ -109,7 +109,7 @@ fn roles_are_known<A: Allocator, B: Allocator, C: Allocator>(
     )
 }
 
-/// Whether a routine may store in its entry, and calls may be abandoned for a cell, only where they may in one of two other
+/// Whether a routine may store in its entry, and calls may be abandoned for a cell, only if they may in one of two other
 /// declarations.
 fn leave_is_known<A: Allocator, B: Allocator, C: Allocator>(
     given: &Declaration<A>,

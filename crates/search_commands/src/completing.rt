@@ -244,7 +244,7 @@ fn remarked<A: Allocator + Copy, D: Allocator>(
 }
 
 /// What is proposed for a tape with the start and the machine of a declaration, with a list of reads
-/// where the declaration has one and that is asked for.
+/// where the declaration has one and that is requested.
 fn proposal_by<A: Allocator + Copy>(
     alloc: A,
     image: &Image,

@@ -85,7 +85,7 @@ pub(crate) fn push_seen<A: Allocator>(
     text.extend_from_slice(b" steps in all, but not proved.\n")
 }
 
-/// What is proposed for a tape's words, with a list of reads if one was asked for.
+/// What is proposed for a tape's words, with a list of reads if one was requested.
 pub(crate) fn proposal_for<A: Allocator + Copy>(
     alloc: A,
     image: &Image,
@@ -225,7 +225,7 @@ pub fn declare<A: Allocator + Copy, R: ByteSource, W: ByteSink>(
     requires readable { R.mark tape.old ≡ false }
     requires writable { W.mark out.old ≡ false }
     // What is written declares a program from that start, on that machine; and where the command is
-    // done the tape's program is safe, and there is a list of reads if one was asked for, of cells that
+    // done the tape's program is safe, and there is a list of reads if one was requested, of cells that
     // by the facts of a certificate some possible word may read. Else there is no list.
     ensures declared { WritesAnswer (IsProposal options (R.remaining tape.old))
         (output (W.mark out.new) (W.taken out.old) (W.taken out.new)) result }

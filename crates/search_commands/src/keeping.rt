@@ -95,7 +95,7 @@ fn ends_word(text: &[u8]) -> bool
     }
 }
 
-/// A front of a text, and what follows it.
+/// A prefix of a text, and what follows it.
 #[derive(Clone, Copy)]
 struct Parted<'a> {
     front: &'a [u8],
@@ -209,7 +209,7 @@ struct Growth<'a> {
     new: &'a [u8],
 }
 
-/// Whether the next word of a line, behind a space, is this one.
+/// Whether the next word of a line, after a space, is this one.
 fn has_next(line: &[u8], word: &[u8]) -> bool {
     match line {
         [b' ', others @ ..] => first_word(others).front == word,
@@ -217,7 +217,7 @@ fn has_next(line: &[u8], word: &[u8]) -> bool {
     }
 }
 
-/// What is left where a range or an offset is put in behind a space, and is not the next word of the line anyhow.
+/// What is left where a range or an offset is put in after a space, and is not the next word of the line anyhow.
 fn behind_put<'a>(old: &'a [u8], new: &'a [u8]) -> Option<Growth<'a>>
     ensures grows { IfSome result (λ left.
         Grows left.old.now left.new.now → Grows old.now new.now) }
@@ -278,7 +278,7 @@ fn behind_piece<'a>(old: &'a [u8], new: &'a [u8]) -> Option<Growth<'a>>
     }
 }
 
-/// Whether the second line is the first one with ranges and offsets put in and a mark behind them.
+/// Whether the second line is the first one with ranges and offsets put in and a mark after them.
 fn grows(old: &[u8], new: &[u8]) -> bool
     ensures { result ≡ true → Grows old.now new.now }
 {
@@ -348,7 +348,7 @@ fn are_added(text: &[u8]) -> bool
     true
 }
 
-/// Whether the last line of a text is kept, and the lines behind it are added.
+/// Whether the last line of a text is kept, and the lines after it are added.
 fn keeps_last(old: &[u8], new: &[u8], rest: &[u8]) -> bool
     ensures kept { result ≡ true → KeepsLine old.now new.now }
     ensures added { result ≡ true → AreAdded rest.now }
@@ -359,7 +359,7 @@ fn keeps_last(old: &[u8], new: &[u8], rest: &[u8]) -> bool
     are_added(rest)
 }
 
-/// Whether a text has the lines of another one, each as it was or grown, and behind them only lines that are added.
+/// Whether a text has the lines of another one, each as it was or grown, and after them only lines that are added.
 pub(crate) fn keeps_lines(given: &[u8], text: &[u8]) -> bool
     ensures { result ≡ true → KeepsLines given.now text.now }
 {

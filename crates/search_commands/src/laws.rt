@@ -3,7 +3,7 @@
 ghost use Rattle.search_commands.specs.Laws.{CertifiedIsChecked, CheckedIsCertified, NoIsNeverYes};
 
 /// Where `verify` says no, `check` never says yes to the same tape and declaration, whatever the certificate is; and
-/// `check` says yes exactly where `certify` does, unless memory is refused.
+/// `check` says yes if and only if `certify` does, unless memory is refused.
 pub fn answers_agree<A>()
     ensures verified { NoIsNeverYes A }
     ensures certified { CertifiedIsChecked }

@@ -107,7 +107,7 @@ impl DeclaredCells {
         !self.variables.contains(entry) && !self.free(routine.body()).is_empty()
     }
 
-    /// The variables that may be added. A cell of a body becomes one only where it is in a body of the
+    /// The variables that may be added. A cell of a body becomes one only if it is in a body of the
     /// other declaration too.
     fn added_variables<A: Allocator>(&self, proposed: &Declaration<A>) -> WordSet {
         let code = bodies(proposed.main(), proposed.routines());
@@ -254,7 +254,7 @@ fn push_routines<A: Allocator>(
     Ok(())
 }
 
-/// The words of a part of a line, up to its comment, and what stands after them.
+/// The words of a part of a line, up to its comment, and what comes after them.
 pub(crate) fn parted(part: &[u8]) -> (&[u8], &[u8]) {
     let front = match part.iter().position(|byte| *byte == b'/') {
         None => part,
@@ -355,7 +355,7 @@ fn push_given<A: Allocator, B: Allocator>(
     take_byte(text, line, b'\n', given, proposed, held)
 }
 
-/// Adds the lines of the halts that may be added: each is in some body, and is no halt yet.
+/// Adds the lines of the halts that may be added: each is in some body, and is not a halt yet.
 fn push_all_halts<A: Allocator, B: Allocator>(
     text: &mut Vec<u8, A>,
     given: &Declaration<B>,

@@ -50,7 +50,7 @@ pub struct AnswerMessage<A: Allocator> {
     pub answer: Answer<A>,
     /// The line of the answer.
     pub line: Vec<u8, A>,
-    /// The lines that say why, if that is asked for.
+    /// The lines that say why, if that is requested.
     pub why: Message<A>,
     /// What the search had found where it was stuck, if that is the answer and it is to be explained.
     pub draft: Option<Certificate<A>>,
@@ -63,7 +63,7 @@ pub struct ProposalMessage<A: Allocator> {
     pub proposed: ProposalAnswer<A>,
     /// The line of the answer.
     pub line: Vec<u8, A>,
-    /// The lines that say why, if that is asked for.
+    /// The lines that say why, if that is requested.
     pub why: Message<A>,
 }
 
@@ -353,7 +353,7 @@ fn message_of<A: Allocator + Copy, D: Allocator>(
     })
 }
 
-/// Says whether a program complies with its declaration, and why, if that is asked for.
+/// Says whether a program complies with its declaration, and why, if that is requested.
 ///
 /// # Errors
 ///
@@ -365,7 +365,7 @@ pub fn verify_message<A: Allocator + Copy, D: Allocator>(
     declaration: &Declaration<D>,
     options: &RefuteOptions,
 ) -> Result<AnswerMessage<A>, Fault>
-    // The answer is true of the image and the declaration, and the line and the text behind it tell it.
+    // The answer is true of the image and the declaration, and the line and the text after it tell it.
     ensures told { IfOk result (λ told. IsVerifiedOf options.now.explained image.now
         (meaning declaration.now) told.answer (told.line.items ++ plain told.why)) }
     ensures line { IfOk result (λ told.
@@ -380,7 +380,7 @@ pub fn verify_message<A: Allocator + Copy, D: Allocator>(
     message_of(alloc, image, declaration, found, options.explained)
 }
 
-/// Says whether a program complies with the declaration that is proposed for it, and why, if that is asked for.
+/// Says whether a program complies with the declaration that is proposed for it, and why, if that is requested.
 ///
 /// # Errors
 ///
@@ -392,7 +392,7 @@ pub fn verify_proposed_message<A: Allocator + Copy>(
     options: &VerifyOptions,
 ) -> Result<ProposalMessage<A>, Fault>
     // The text declares a program from that start, on that machine, the answer is true of it, and the
-    // line and the text behind it tell it.
+    // line and the text after it tell it.
     ensures told { IfOk result (λ told. IsProposedAnswerOf options.now image.now told.proposed
         (told.line.items ++ plain told.why)) }
     ensures faults { IfErr result IsProposeFault }

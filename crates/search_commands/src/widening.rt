@@ -239,7 +239,7 @@ fn obstacle_line<A: Allocator>(alloc: A, obstacle: &Obstacle) -> Result<Vec<u8, 
     Ok(text)
 }
 
-/// The line of an answer, and behind it why no declaration allows what the run does, if none does.
+/// The line of an answer, and after it why no declaration allows what the run does, if none does.
 pub(crate) fn with_reason<A: Allocator + Copy>(
     alloc: A,
     line: Vec<u8, A>,

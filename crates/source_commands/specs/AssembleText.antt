@@ -59,7 +59,7 @@ IsAssemblyFault profile parts fault.NoMemory = Unit {0}
 IsAssemblyFault profile parts _ = ⊥
 
 -- Why a source has no listing. The sources have these marks, had these bytes, and have those left. The fault of a read, and
--- that memory was refused, are told only where there is a good number of sources.
+-- that memory was refused, are told only if there is a good number of sources.
 abbrev pub IsListFault : Profile → List Bool → List (Option (List ℕ)) → List (Option (List ℕ)) → Fault → Type 0
 IsListFault profile marks sources left (Source fault) = HasFault profile sources fault
 IsListFault profile marks sources left (Device Read) = FailsToReadPart marks sources left

@@ -24,7 +24,7 @@ pub data AreLines : List Entry → List ℕ → Type 0 where
   no_line : AreLines [] []
   next_line : (entry : Entry) (entries : List Entry) (told more : List ℕ) → AreLines entries more → AreLines (entry ∷ entries) (head_text entry ++ told ++ codes "\n" ++ more)
 
--- Lines for these entries were put behind a text.
+-- Lines for these entries were put after a text.
 pub record AddsLines (entries : List Entry) (old new : List ℕ) : Type 0 where
   pub text : List ℕ
   pub lines : AreLines entries text
@@ -36,13 +36,13 @@ pub record IsTable (own : List (Name × ℕ)) (text : List ℕ) : Type 0 where
   pub same : IsPermutation (entries_of own) entries
   pub lines : AreLines entries text
 
--- The text is this listing, and behind it, after an empty line, a table of these symbols.
+-- The text is this listing, and after it, after an empty line, a table of these symbols.
 pub record HasTable (own : List (Name × ℕ)) (listing text : List ℕ) : Type 0 where
   pub table : List ℕ
   pub is_table : IsTable own table
   pub text_is : text ≡ listing ++ codes "\n" ++ table
 
--- The sources mean an image and have this listing, and behind it, after an empty line, a table of their symbols.
+-- The sources mean an image and have this listing, and after it, after an empty line, a table of their symbols.
 pub record IsCrossListing (profile : Profile) (sources : List (Option (List ℕ))) (text : List ℕ) : Type 0 where
   pub symbols : List (Name × ℕ)
   pub image : List (Option ℕ)

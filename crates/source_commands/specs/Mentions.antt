@@ -43,8 +43,8 @@ is_indirect source rest =
     begins_with (named (codes "I     ")) source rest
     || (begins_with (named (codes "Z     ")) source rest && begins_with (named (codes "I     ")) source (drop 2 rest))
 
--- What a reference does with the cell that it names: where it is indirect it uses it as a pointer. A word that is no reference
--- holds what it names.
+-- What a reference does with the cell that it names: where it is indirect it uses it as a pointer. A word that is not a
+-- reference holds what it names.
 abbrev pub reference_role : Option Role → Bool → Role
 reference_role None indirect = Holds
 reference_role (Some role) true = Points
@@ -80,7 +80,7 @@ abbrev pub assignment_uses : List (Name × ℕ) → List ℕ → Site → List T
 assignment_uses own source line body =
     uses own source line Defines Computes (take 1 body) ++ uses own source line Computes Computes (drop 1 body)
 
--- What a word does: it holds its symbols, but for the cell that a reference names.
+-- What a word does: it holds its symbols, except for the cell that a reference names.
 abbrev pub word_uses : List (Name × ℕ) → List ℕ → Site → List Token → List Mention
 word_uses own source word body = uses own source word (word_role source body) Holds body
 

@@ -114,17 +114,17 @@ pub fn assemble<A: Allocator + Copy, R: ByteSource, W: ByteSink>(
     ensures done { IfOk result (λ status. status ≡ Done) }
     ensures tape { OnOk result (Writes (IsAssembled profile (map R.remaining sources.old))
         (W.taken out.old) (W.taken out.new)) }
-    // A fault of the source is its one fault; that of a read comes only where the number of sources
-    // is good and those before it are not too long.
+    // A fault of the source is its one fault; that of a read comes only if the number of sources is
+    // good and those before it are not too long.
     ensures faults { IfErr result (IsSourceFault profile (map R.mark sources.new)
         (map R.remaining sources.old) (map R.remaining sources.new)) }
-    // Where a write failed, a front of that tape went out,
+    // If a write failed, a prefix of that tape went out,
     ensures front { W.mark out.new ≡ true →
         FrontOf (IsAssembled profile (map R.remaining sources.old))
         (W.taken out.old) (W.taken out.new) }
     // and any other fault leaves the output as it was.
     ensures nothing { OnErr result (W.mark out.new ≡ false → W.taken out.new ≡ W.taken out.old) }
-    // A write failed exactly where the answer says so, and so did a read.
+    // A write failed if and only if the answer says so, and so did a read.
     ensures marks { W.mark out.new ≡ fails_to_write result }
     ensures reads { list_any R.mark sources.new ≡ fails_to_read result }
     // A bad number of sources is told, and nothing is read.
@@ -142,7 +142,7 @@ pub fn assemble<A: Allocator + Copy, R: ByteSource, W: ByteSink>(
     // Of a source no more is taken than a part may have and a byte.
     ensures takes { EachTakesAtMost 65537 (map R.remaining sources.old)
         (map R.remaining sources.new) }
-    // No lines are told but of faults, and none where no names are given.
+    // No lines are told but of faults, and none if no names are given.
     ensures untold { OnOk result (told.new ≡ told.old) }
     ensures unasked { names.entry ≡ None → told.new ≡ told.old }
 {

@@ -20,7 +20,7 @@ pub struct Entry {
     pub value: Word,
 }
 
-/// What is done with a symbol, in the order of a line, and what stands before the first place where it is done.
+/// What is done with a symbol, in the order of a line, and what comes before the first place where it is done.
 const ROLES: [(Role, &str); 9] = [
     (Role::Defines, "  line "),
     (Role::Calls, "; called "),
@@ -71,7 +71,7 @@ fn push_site<A: Allocator + Copy>(
     }
 }
 
-/// Adds where one thing is done with a symbol, each place once; nothing where it is done nowhere.
+/// Adds where one thing is done with a symbol, each place once; nothing if it is done nowhere.
 fn push_role<A: Allocator + Copy>(
     alloc: A,
     places: &PlaceNames<'_, A>,

@@ -206,7 +206,8 @@ fn is_own<S: Allocator + Copy>(own: &SymbolTable<S>, source: &[u8], token: Token
     is_symbol(token.kind) && own.get(&name_of(source, token)).is_some()
 }
 
-/// Adds what a token does with a symbol, if it is one of the source's own, and tells whether it is.
+/// Adds what a token does with a symbol, if it is one of the source's own, and returns whether it
+/// is.
 fn push_use<A: Allocator, S: Allocator + Copy>(
     own: &SymbolTable<S>,
     source: &[u8],
@@ -271,7 +272,7 @@ fn front_of(tokens: &[Token]) -> &[Token]
     }
 }
 
-/// The tokens behind the first one.
+/// The tokens after the first one.
 fn behind_one(tokens: &[Token]) -> &[Token]
     ensures { result.now ≡ drop 1 tokens.now }
 {
@@ -445,7 +446,7 @@ fn push_placed<A: Allocator + Copy, S: Allocator + Copy>(
     )
 }
 
-/// Adds what the statements of the part of this number do, of whose words these come next, and tells the words behind
+/// Adds what the statements of the part of this number do, of whose words these come next, and tells the words after
 /// them.
 fn push_statements<'w, A: Allocator + Copy, S: Allocator + Copy>(
     own: &SymbolTable<S>,

@@ -38,13 +38,13 @@ pub fn source<A: Allocator + Copy, R: ByteSource, W: ByteSink>(
     // After a tape without a fault only a write that failed or a want of memory is one.
     ensures faults { IfErr result (IsTapeFault
         (input (R.mark tape.new) (R.remaining tape.old) (R.remaining tape.new))) }
-    // Where a write failed, a front of such a source went out,
+    // If a write failed, a prefix of such a source went out,
     ensures front { W.mark out.new ≡ true →
         FrontOf (IsTapeSource profile (R.remaining tape.old))
         (W.taken out.old) (W.taken out.new) }
     // and any other fault leaves the output as it was.
     ensures nothing { OnErr result (W.mark out.new ≡ false → W.taken out.new ≡ W.taken out.old) }
-    // A write failed exactly where the answer says so, and so did a read.
+    // A write failed if and only if the answer says so, and so did a read.
     ensures marks { W.mark out.new ≡ fails_to_write result }
     ensures reads { R.mark tape.new ≡ fails_to_read result }
     // The tape is not read past its limit.
@@ -83,13 +83,13 @@ pub fn declared_source<A: Allocator + Copy, R: ByteSource, D: ByteSource, W: Byt
         (input (R.mark tape.new) (R.remaining tape.old) (R.remaining tape.new))
         (input (D.mark declaration.new) (D.remaining declaration.old)
         (D.remaining declaration.new))) }
-    // Where a write failed, a front of such a source went out,
+    // If a write failed, a prefix of such a source went out,
     ensures front { W.mark out.new ≡ true → FrontOf
         (IsDeclaredSource (R.remaining tape.old) (D.remaining declaration.old))
         (W.taken out.old) (W.taken out.new) }
     // and any other fault leaves the output as it was.
     ensures nothing { OnErr result (W.mark out.new ≡ false → W.taken out.new ≡ W.taken out.old) }
-    // A write failed exactly where the answer says so, and so did a read.
+    // A write failed if and only if the answer says so, and so did a read.
     ensures marks { W.mark out.new ≡ fails_to_write result }
     ensures reads { R.mark tape.new || D.mark declaration.new ≡ fails_to_read result }
     // The declaration is not read after a tape that is refused, or whose read failed,

@@ -97,7 +97,7 @@ impl Outline {
         }
     }
 
-    /// Adds what stands before the line of a cell: an empty line where something new begins, a heading,
+    /// Adds what comes before the line of a cell: an empty line where something new begins, a heading,
     /// and an origin where a run of words begins.
     fn push_before<A: Allocator>(
         &self,

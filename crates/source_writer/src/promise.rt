@@ -20,13 +20,13 @@ fn end_line<A: Allocator>(text: &mut Vec<u8, A>) -> Result<(), AllocError> {
     text.extend_from_slice(b"\n")
 }
 
-/// Adds an address behind a space.
+/// Adds an address after a space.
 fn push_address<A: Allocator>(text: &mut Vec<u8, A>, at: Word) -> Result<(), AllocError> {
     text.extend_from_slice(b" ")?;
     text.extend_from_slice(&at.to_octal())
 }
 
-/// Adds an offset behind a space, in one digit or two.
+/// Adds an offset after a space, in one digit or two.
 fn push_offset<A: Allocator>(text: &mut Vec<u8, A>, offset: Word) -> Result<(), AllocError> {
     let [_, _, tens, ones] = offset.to_octal();
     text.extend_from_slice(b" ")?;
@@ -36,7 +36,7 @@ fn push_offset<A: Allocator>(text: &mut Vec<u8, A>, offset: Word) -> Result<(), 
     text.extend_from_slice(&[ones])
 }
 
-/// Adds the words of a set, each behind a space.
+/// Adds the words of a set, each after a space.
 fn push_addresses<A: Allocator>(text: &mut Vec<u8, A>, set: &WordSet) -> Result<(), AllocError> {
     for at in set.iter() {
         push_address(text, at)?;
@@ -44,7 +44,7 @@ fn push_addresses<A: Allocator>(text: &mut Vec<u8, A>, set: &WordSet) -> Result<
     Ok(())
 }
 
-/// Adds offsets, each behind a space.
+/// Adds offsets, each after a space.
 fn push_offsets<A: Allocator>(text: &mut Vec<u8, A>, set: &WordSet) -> Result<(), AllocError> {
     for offset in set.iter() {
         push_offset(text, offset)?;
@@ -52,7 +52,7 @@ fn push_offsets<A: Allocator>(text: &mut Vec<u8, A>, set: &WordSet) -> Result<()
     Ok(())
 }
 
-/// Adds the ranges of a set, each behind a space.
+/// Adds the ranges of a set, each after a space.
 fn push_ranges<A: Allocator>(text: &mut Vec<u8, A>, set: &WordSet) -> Result<(), AllocError> {
     for (first, last) in set.ranges() {
         push_address(text, first)?;

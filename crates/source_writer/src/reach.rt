@@ -13,14 +13,15 @@ const MOST_VISITS: usize = 16_384;
 /// Behind how many halts control is followed at most.
 const MOST_HALTS: usize = 256;
 
-/// The least word behind a HLT that is taken for an instruction. Below are those of AND, as which most
+/// The least word after a HLT that is taken for an instruction. Below are those of AND, as which most
 /// characters, small numbers and empty cells read.
 const LEAST_INSTRUCTION: usize = 0o1000;
 
 /// How many characters a text behind a call has at most.
 const MOST_TEXT: usize = 256;
 
-/// A cell that control reaches, and by how far the return address of its routine was counted up before.
+/// A cell that control reaches, and by how far the return address of its routine was incremented
+/// before.
 #[derive(Clone, Copy)]
 struct ReachedCell {
     at: Word,
@@ -62,7 +63,7 @@ impl Reach {
 
     /// Follows control from a start. A routine of which no return is found is taken to return behind its
     /// call. Behind a HLT control goes on where what stands there looks like an instruction. A routine that
-    /// counts its return address up again and again is taken to read a text behind its call.
+    /// increments its return address again and again is taken to read a text behind its call.
     pub(crate) fn of(image: &Image, start: Word, profile: Profile) -> Reach {
         let reach = Reach::with_texts(image, start, profile, WordSet::empty());
         let texts = reach.returns[7];

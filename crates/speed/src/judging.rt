@@ -25,7 +25,7 @@ pub fn accepted<A: Allocator>(
 }
 
 /// The same of a tape, a declaration and a certificate that stand one after another, the first two
-/// with so many bytes; none where they have more than there are.
+/// with so many bytes; none if they have more than there are.
 pub fn accepted_of<A: Allocator + Copy>(
     alloc: A,
     bytes: &[u8],

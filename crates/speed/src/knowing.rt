@@ -83,7 +83,7 @@ fn hits<A: Allocator>(
     hits
 }
 
-/// How many of so many outcomes of TAD of the cell 0010 at 0200 entail what a certificate says at 0201; none where it says
+/// How many of so many outcomes of TAD of the cell 0010 at 0200 entail what a certificate says at 0201; none if it says
 /// nothing at one of the two.
 #[inline(never)]
 pub fn entailed<A: Allocator, B: Allocator>(

@@ -31,7 +31,7 @@ use word12::Word;
 /// Where the loop begins.
 const START: u16 = 0o200;
 
-/// The loop: three cells are counted up to 0, each of them once for 4096 times of the one before,
+/// The loop: three cells are incremented to 0, each of them once for 4096 times of the one before,
 /// the last one from minus the rounds.
 const LOOP: [(u16, u16); 8] = [
     (0o200, 0o7300), // CLA CLL

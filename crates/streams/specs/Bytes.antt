@@ -12,7 +12,8 @@ abbrev pub write_fails : {E : Type 0} → Result ℕ E → List ℕ → Bool
 write_fails (Ok n) piece = n == 0 && not (length piece == 0)
 write_fails (Err e) piece = true
 
--- A front of the piece was appended to the bytes that a sink tells: a part of it or nothing, but not all.
+-- A prefix of the piece was appended to the bytes that a sink tells: a part of it or nothing, but not
+-- all.
 pub record AppendsFront (old new : Option (List ℕ)) (piece : List ℕ) : Type 0 where
   pub count : ℕ
   pub within : count < length piece

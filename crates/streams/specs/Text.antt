@@ -19,12 +19,13 @@ is_blank c = c == 32 || c == 9
 abbrev pub is_other : ℕ → Bool
 is_other c = not (is_blank c)
 
--- The lines of a text. Each ends before a line feed, or before a carriage return and a line feed; the last may lack its
--- line feed, and then keeps a carriage return. What stands from a `/` on is a comment and no part of its line.
+-- The lines of a text. Each ends before a line feed, or before a carriage return and a line feed. The last line may
+-- lack its line feed; a carriage return at its end is then part of it. Whatever follows a `/` is a comment, and neither
+-- belongs to the line.
 abbrev pub text_lines : List ℕ → List (List ℕ)
 text_lines text = map (before_first is_slash) (lines text)
 
--- The words of a line: the pieces between spaces and tabs, without those that are empty.
+-- The words of a line: the pieces between spaces and tabs, without empty ones.
 abbrev pub words_of : List ℕ → List (List ℕ)
 words_of line = filter (λ piece. nat_lt 0 (length piece)) (slice_split is_blank line)
 
@@ -38,7 +39,7 @@ octal_byte digits =
     if nat_le (length digits) 3 && (nat_lt 0 (length digits) && (list_all is_octal_digit digits && nat_lt (octal_value digits) 256))
     then Some (octal_value digits) else None
 
--- The number from a least to a most one that decimal digits spell, without a sign; leading zeros are taken.
+-- The number between two limits that decimal digits spell, without a sign; leading zeros are accepted.
 abbrev pub decimal_between : ℕ → ℕ → List ℕ → Option ℕ
 decimal_between least most digits =
     if nat_lt 0 (length digits) && (list_all is_ascii_digit digits && (nat_le least (digits_value 10 digits) && nat_le (digits_value 10 digits) most))

@@ -72,7 +72,7 @@ pub trait ByteSink {
 ///
 /// # Errors
 ///
-/// `Failed` where a write failed or took nothing, which the mark shows; a front of the piece went
+/// `Failed` where a write failed or took nothing, which the mark shows; a prefix of the piece went
 /// out before it, and never the whole.
 pub fn put<W: ByteSink>(sink: &mut W, piece: &[u8]) -> Result<(), Failed>
     requires unmarked { W.mark sink.old ≡ false }

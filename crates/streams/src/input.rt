@@ -52,7 +52,8 @@ pub fn read_at_most<A: Allocator, R: ByteSource>(
     // The source gave those bytes and no more.
     ensures taken { IfOk result (λ text.
         Consumes (R.remaining source.old) (R.remaining source.new) text.items) }
-    // A read failed exactly where the answer says so, and then fewer bytes had come than the limit.
+    // A read failed if and only if the answer says so, and then fewer bytes had come than the
+    // limit.
     ensures marks { R.mark source.new ≡ read_fails result }
     ensures short { R.mark source.new ≡ true →
         Gave (R.remaining source.old) (R.remaining source.new) (λ given. length given < limit) }

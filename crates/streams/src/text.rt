@@ -157,7 +157,7 @@ fn without_return(line: &[u8]) -> &[u8]
     }
 }
 
-/// What stands before the first `/` of a line.
+/// What comes before the first `/` of a line.
 fn without_comment(line: &[u8]) -> &[u8]
     ensures { result.now ≡ before_first is_slash line.now }
 {

@@ -16,7 +16,7 @@ enum Plan {
     Refused,
 }
 
-/// Passes each request on to another allocator, save one, which it refuses.
+/// Passes each request on to another allocator, except one, which it refuses.
 pub struct Refusing<B: Allocator> {
     inner: B,
     plan: Cell<Plan>,

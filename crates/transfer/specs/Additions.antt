@@ -59,7 +59,7 @@ all_after_tad operand t f =
 abbrev pub without_sums : Fact → Fact
 without_sums f = record f { set = with_set Ac all_words f.set; relations = []; chains = [] }
 
--- By the rules of sums the fact after TAD, but for the link and chains.
+-- By the rules of sums the fact after TAD, except for the link and chains.
 abbrev pub summed : Words → Option Term → Fact → Fact
 summed operand t f = adding_all OfSums (all_after_tad operand t f) (without_sums f)
 
@@ -84,8 +84,8 @@ equations_after_tad (Some t) (Some a) w relations = ac_is t a ∷ free_of (λ n.
 equations_after_tad t a (Some w) relations = equations_moved w relations
 equations_after_tad t a None relations = free_of (λ n. same n Ac) relations
 
--- By the rules of equations the fact after TAD, but for the link. `known` are the accumulator's narrowed words. No chain stays, as
--- none begins.
+-- By the rules of equations the fact after TAD, except for the link. `known` are the accumulator's narrowed words. No chain stays,
+-- as none begins.
 abbrev pub equated : Words → Words → Option Term → Fact → Fact
 equated known operand t f = record f {
   set = with_set Ac (sums known operand) f.set;

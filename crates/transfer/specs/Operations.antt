@@ -39,7 +39,7 @@ abbrev pub chains_operated : Rules → ℕ → Fact → List Chain
 chains_operated rules w f =
     if has_bit 7 w then [] else all_longer (Operates w) (if moves_bits w then with_begun rules f else f.chains)
 
--- The fact after it, but for the words of AC and the link.
+-- The fact after it, except for the words of AC and the link.
 abbrev pub operated : Rules → ℕ → Fact → Fact
 operated rules w f =
     record f { relations = relations_operated rules w f.relations; chains = chains_operated rules w f }

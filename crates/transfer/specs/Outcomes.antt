@@ -29,7 +29,7 @@ ac_of pl f = words_known pl f Ac
 
 -- An outcome may come about: there are targets, and by the rules of equations the old and the new words of AC, those of MQ,
 -- the links and the words of the changed cell are not none. By the rules of sums an outcome with an empty set lands anywhere,
--- so that nothing is asked of it either.
+-- so that nothing is required of it either.
 abbrev pub is_alive : Rules → Words → Words → Words → Fact → Bool
 is_alive OfSums p ac changed g = has_some p
 is_alive OfEquations p ac changed g =
@@ -90,8 +90,8 @@ abbrev pub tad : Place → Bool → ℕ → ℕ → Fact → Words → List Succ
 tad pl i c at f p = tad_by pl.rules pl at f p (operand_term pl.declaration i c p)
 
 -- ISZ of one variable: it skips where the variable was 7777, and otherwise leaves it not zero. ISZ of any other one cell
--- counts the offsets up: the only such cell that the conditions let it write is the running routine's own entry. ISZ of
--- several cells counts an unknown one of them up.
+-- increments the offsets: the only such cell that the conditions let it write is the running routine's own entry. ISZ of
+-- several cells increments an unknown one of them.
 abbrev pub isz_case : Place → ℕ → Fact → Words → Option ℕ → List Successor
 isz_case pl at f p (Some y) =
     if pl.declaration.variable y

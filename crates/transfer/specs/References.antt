@@ -26,7 +26,7 @@ words_in pl f a =
 unfoldable pub possible : Place → Fact → ℕ → Words
 possible pl f a = if pl.declaration.variable a then words_known pl f (Cell a) else tape_word (pl.image a)
 
--- The fact that the access sees: a stepped pointer counts up first.
+-- The fact that the access sees: a stepped pointer is incremented first.
 abbrev pub stepped : Place → Bool → ℕ → Fact → Fact
 stepped pl indirect c f = if steps_pointer indirect c then counted pl c f else f
 

@@ -230,8 +230,8 @@ fn add_each_after_tad<const C: usize, const R: usize>(
     }
 }
 
-/// Lets a fact be what another one is after TAD by the rules of sums, but for the link and chains. `operand` are the words that
-/// may be added, and `term` is what has the added word, if there is one.
+/// Lets a fact be what another one is after TAD by the rules of sums, except for the link and chains. `operand` are the words
+/// that may be added, and `term` is what has the added word, if there is one.
 fn put_summed<const C: usize, const R: usize, const D: usize, const S: usize>(
     operand: &WordSet,
     term: &Option<Term>,

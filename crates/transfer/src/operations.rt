@@ -234,7 +234,8 @@ fn put_chains_operated<const C: usize, const R: usize, const D: usize, const S: 
     after.lengthen_chains(fact, &step);
 }
 
-/// Lets a fact be what another one is after a word of group 1, but for the words of the accumulator and the link.
+/// Lets a fact be what another one is after a word of group 1, except for the words of the accumulator and the
+/// link.
 fn put_operated<const C: usize, const R: usize, const D: usize, const S: usize>(
     rules: &Rules,
     word: Word,

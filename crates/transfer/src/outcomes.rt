@@ -54,7 +54,7 @@ pub struct Outcomes {
     pub third: FactOutcome,
     /// The fourth.
     pub fourth: FactOutcome,
-    /// Room for the fact after the pointer of a reference was counted up.
+    /// Room for the fact after the pointer of a reference was incremented.
     pub stepped: SteppedFact,
     /// Room for the fact that is narrowed after a test of a skip.
     pub tested: TestedFact,

@@ -8,6 +8,6 @@ pub record Count : Type 0 where
   pub spent : ℕ
   pub limit : ℕ
 
--- Where the fault is that the turns are spent, all of them are.
+-- If the fault is that the turns are spent, all of them are.
 abbrev pub IsSpentUp : Count → GuessFault → Type 0
 IsSpentUp c fault = fault ≡ TurnsSpent → c.spent ≡ c.limit

@@ -19,7 +19,7 @@ use std::alloc::Allocator;
 pub enum StepVerdict {
     /// It was made, and kept the rules.
     Kept,
-    /// It was tried, and breaks a rule.
+    /// It was tried, and violates a rule.
     Broke,
     /// All turns are spent: it was not tried.
     NoTurn,
@@ -35,7 +35,7 @@ pub fn take_step<A: Allocator, D: Allocator>(
 ) -> Result<StepVerdict, NoMemory>
     requires profile { profile_of watcher.old.world ≡ (meaning declaration.now).profile }
     ensures profile { profile_of watcher.new.world ≡ (meaning declaration.now).profile }
-    // Where it is told that the step was made, it was.
+    // If it is told that the step was made, it was.
     ensures made { IfOk result (λ stepped. stepped ≡ Kept → Goes (meaning declaration.now)
         (machine_of watcher.old) (calls_of watcher.old) Event.Step
         (machine_of watcher.new) (calls_of watcher.new)) }

@@ -28,7 +28,8 @@ abbrev pub HaltsAt : Meaning → State → ℕ → Type 0
 HaltsAt (Group2 w) s a = (is_halt w ≡ true) × (a ≡ s.pc)
 HaltsAt _ s a = ⊥
 
--- A JMP that is no return goes to the cell, for which calls may be abandoned, while calls are open.
+-- A JMP that is not a return goes to the cell, for which calls may be abandoned, while calls are
+-- open.
 abbrev pub AbandonsFor : Declaration → Meaning → State → Calls → ℕ → Type 0
 AbandonsFor d (Jmp i c) s [] a = ⊥
 AbandonsFor d (Jmp i c) s (k ∷ ks) a = ((i && d.entry c) ≡ false) × (a ≡ place i c s.memory) × (d.abandon a ≡ true)
@@ -39,7 +40,7 @@ abbrev pub MovesEntry : Meaning → Calls → ℕ → Type 0
 MovesEntry (Dca i c) ks a = (i ≡ false) × (current ks ≡ Some c) × (a ≡ c)
 MovesEntry _ ks a = ⊥
 
--- An instruction uses the cell so in a state of a call list.
+-- An instruction uses the cell so in a state of a call stack.
 abbrev pub Uses : Use → Declaration → Meaning → State → Calls → ℕ → Type 0
 Uses way.Execute d m s ks a = a ≡ s.pc
 Uses way.Write d m s ks a = written_by m s.memory a ≡ true
@@ -49,7 +50,7 @@ Uses way.Halt d m s ks a = HaltsAt m s a
 Uses way.Abandon d m s ks a = AbandonsFor d m s ks a
 Uses way.Move d m s ks a = MovesEntry m ks a
 
--- Where every condition holds, a cell that the next instruction of a declared run uses so is used so by the facts.
+-- If every condition holds, a cell that the next instruction of a declared run uses so is used so by the facts.
 abbrev pub UsesAreForeseen : Type 0
 UsesAreForeseen =
     (j : Case) → IsDeclared j.declaration → IsValid j →
@@ -65,7 +66,7 @@ UnusedIsNeverUsed =
     IsStart j.image j.declaration.start s → DeclaredRun j.declaration answers s [] t ls →
     IsUnused kind j a → Uses kind j.declaration (instruction j.declaration.profile t) t ls a → ⊥
 
--- Where every condition holds, what AC and the link are when a routine returns in a declared run is among what its exits for the offset
+-- If every condition holds, what AC and the link are when a routine returns in a declared run is among what its exits for the offset
 -- say.
 abbrev pub ReturnsAreForeseen : Type 0
 ReturnsAreForeseen =

@@ -15,14 +15,16 @@ abbrev pub held : Register → Place → Fact → Words
 held Accumulator pl f = ac_of pl f
 held Link pl f = link_words f.link
 
--- By one of these exits of the routine of an entry, of which conditions are asked, the register may hold the word.
+-- By one of these exits of the routine of an entry, for which conditions are checked, the register may hold the
+-- word.
 abbrev pub IsReturnedBySome : Register → Case → ℕ → ℕ → List Fact → Type 0
 IsReturnedBySome register j e w exits = SomeAsked (λ x. held register (place_in j (Some e)) x w ≡ true) j (Some e) exits
 
--- By the exit at a place of the list, if conditions are asked of it.
+-- By the exit at a place of the list, if conditions are checked for it.
 abbrev pub IsReturnedByOne : Register → Case → ℕ → ℕ → ℕ → ℕ → Type 0
 IsReturnedByOne register j e o index w = IsReturnedBySome register j e w (fact_at (j.certificate.exits e o) index ∷ [])
 
--- By some exit of the routine of an entry for an offset, of which conditions are asked, the register may hold the word.
+-- By some exit of the routine of an entry for an offset, for which conditions are checked, the register may hold the
+-- word.
 abbrev pub IsReturned : Register → Case → ℕ → ℕ → ℕ → Type 0
 IsReturned register j e o w = IsReturnedBySome register j e w (j.certificate.exits e o)

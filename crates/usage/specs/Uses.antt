@@ -32,7 +32,8 @@ halted at _ a = false
 abbrev pub is_return : Place → Bool → ℕ → Bool
 is_return pl i c = i && (pl.declaration.entry c || is_routine pl.routine c)
 
--- The cells to which a JMP in a routine may go that is no return, and for which calls may be abandoned.
+-- The cells to which a JMP in a routine may go that is not a return, and for which calls may be
+-- abandoned.
 abbrev pub abandoned : Place → Fact → Meaning → Words
 abandoned pl f (Jmp i c) a =
     (is_some pl.routine && not (is_return pl i c)) && (targets pl i c f a && pl.declaration.abandon a)
@@ -64,7 +65,7 @@ abbrev pub SomeFact : (Fact → Type 0) → List Fact → Type 0
 SomeFact p [] = ⊥
 SomeFact p (f ∷ fs) = p f ⊎ SomeFact p fs
 
--- Some fact of the list of which conditions are asked has the property.
+-- Some fact of the list for which conditions are checked has the property.
 abbrev pub SomeAsked : (Fact → Type 0) → Case → Routine → List Fact → Type 0
 SomeAsked p j r fs = SomeFact p (asked_of j r fs)
 
@@ -80,11 +81,11 @@ pub record IsUsedBy (way : Use) (pl : Place) (at cell : ℕ) (f : Fact) : Type 0
   pub is_possible : possible pl f at word ≡ true
   pub used : uses way pl f at (meaning_in pl at word) cell ≡ true
 
--- So it is by one of the facts of the list of which conditions are asked.
+-- So it is by one of the facts of the list for which conditions are checked.
 abbrev pub IsUsedBySome : Use → Case → Routine → ℕ → ℕ → List Fact → Type 0
 IsUsedBySome way j r at cell fs = SomeAsked (IsUsedBy way (place_in j r) at cell) j r fs
 
--- By the fact at a place of the list, if conditions are asked of it.
+-- By the fact at a place of the list, if conditions are checked for it.
 abbrev pub IsUsedAt : Use → Case → Routine → ℕ → ℕ → ℕ → Type 0
 IsUsedAt way j r at index cell = IsUsedBySome way j r at cell (fact_at (j.certificate.facts at) index ∷ [])
 

@@ -62,14 +62,15 @@ impl Register {
     }
 }
 
-/// Room for an exit as it is claimed, and for the same exit as conditions are asked of it.
+/// Room for an exit as it is claimed, and for the same exit as conditions are checked for it.
 #[derive(Drop)]
 struct Rooms {
     claimed: Fact,
     asked: NarrowedFact,
 }
 
-/// The words that a register may hold by one of the exits of a routine for an offset, if conditions are asked of it.
+/// The words that a register may hold by one of the exits of a routine for an offset, if conditions are checked for
+/// it.
 fn returned_by<A: Allocator, D: Allocator>(
     register: Register,
     case: &Case<'_, D, Certificate<A>>,
@@ -96,7 +97,7 @@ fn returned_by<A: Allocator, D: Allocator>(
     held
 }
 
-/// The sites of the routine of an entry, none where it is not listed.
+/// The sites of the routine of an entry, none if it is not listed.
 fn sites_of<A: Allocator, D: Allocator>(case: &Case<'_, D, Certificate<A>>, entry: Word) -> WordSet
     ensures { words result ≡ (claims case.now.claims.now).sites entry }
 {
@@ -106,8 +107,9 @@ fn sites_of<A: Allocator, D: Allocator>(case: &Case<'_, D, Certificate<A>>, entr
     }
 }
 
-/// The words that a register may hold by some exit of the routine of an entry for an offset, of those of which conditions are asked:
-/// after a yes the register holds one of them whenever the routine returns so. There are none if the routine never returns so.
+/// The words that a register may hold by some exit of the routine of an entry for an offset, of those for which conditions are
+/// checked: after a yes the register holds one of them whenever the routine returns so. There are none if the routine never returns
+/// so.
 pub fn returned<A: Allocator, D: Allocator>(
     register: Register,
     image: &Image,

@@ -79,7 +79,7 @@ fn put_other_reads<D: Allocator>(
     *cells = without_own(&place.routine, cells);
 }
 
-/// Room for a fact as it is claimed, and for the same fact as conditions are asked of it.
+/// Room for a fact as it is claimed, and for the same fact as conditions are checked for it.
 #[derive(Drop)]
 struct Rooms {
     claimed: Fact,
@@ -172,8 +172,8 @@ fn used_from<A: Allocator, D: Allocator>(
     used_by_facts(way, case, body, at, near, rooms)
 }
 
-/// The cells that some possible word uses so by the facts of a certificate of which conditions are asked: after a yes all that
-/// instructions of the program's runs use so are among them.
+/// The cells that some possible word uses so by the facts of a certificate for which conditions are checked: after a yes all
+/// that instructions of the program's runs use so are among them.
 pub fn used<A: Allocator, D: Allocator>(
     way: Use,
     image: &Image,

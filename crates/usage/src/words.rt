@@ -100,7 +100,7 @@ fn returns<D: Allocator>(place: &Place<'_, D>, indirect: bool, named: Word) -> b
     indirect && (place.declaration.is_entry(named) || place.is_own(named))
 }
 
-/// Puts the cells to which a JMP may go that is no return into a place for them.
+/// Puts the cells to which a JMP may go that is not a return into a place for them.
 fn put_jumped<D: Allocator>(
     place: &Place<'_, D>,
     fact: &NarrowedFact,

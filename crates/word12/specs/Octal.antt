@@ -8,12 +8,14 @@ use Rattle.word12.specs.declared.OctalFault.TheVariants.{Empty, NotOctal, TooLar
 abbrev pub is_octal_digit : ℕ → Bool
 is_octal_digit c = nat_le 48 c && nat_le c 55
 
--- The number that digits spell: each counts eight to the number of digits after it.
+-- The number that digits spell: the weight of each digit is 8 to the power of the number of digits
+-- after it.
 abbrev pub octal_value : List ℕ → ℕ
 octal_value [] = 0
 octal_value (c ∷ cs) = (c - 48) * 8 ^ length cs + octal_value cs
 
--- The word that a text spells, or the first of the faults in the order Empty, NotOctal, TooLarge.
+-- The word that a text spells, or the first fault that it has, in the order Empty, NotOctal,
+-- TooLarge.
 abbrev pub octal_reading : List ℕ → Result ℕ OctalFault
 octal_reading text =
     if length text == 0 then Err Empty

@@ -10,7 +10,7 @@ pub record GoesFrom (lanes : List ℕ) (from : ℕ) (it : Iter) : Type 0 where
   pub next : it.next ≡ from
 
 -- The iterator gives the least word of its set from its place on, and goes on behind that word through the same set; it
--- gives none where none is left.
+-- gives none if none is left.
 abbrev pub GivesFirst : Iter → Option ℕ → Iter → Type 0
 GivesFirst before given after = MatchOption given
     (HasNoneFrom before.next (words before.set.now))

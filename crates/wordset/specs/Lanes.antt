@@ -10,7 +10,7 @@ pub record AreLanes (lanes : List ℕ) : Type 0 where
   pub fit : (i : ℕ) → slice_index lanes i < 2 ^ 64
 
 -- The set of the lanes: the word v is in it where bit v % 64 of lane v / 64 is set, the least bit being bit 0. A number
--- from 4096 on is no word.
+-- from 4096 on is not a word.
 unfoldable pub words : List ℕ → Words
 words lanes v = nat_lt v 4096 && (bit_at (slice_index lanes (v / 64)) (v % 64) == 1)
 

@@ -17,7 +17,7 @@ pub record RangesFrom (lanes : List ℕ) (from : ℕ) (it : Ranges) : Type 0 whe
   pub next : it.next ≡ from
 
 -- The iterator gives the least word of its set from its place on, with the last of the range that begins there, and goes on
--- behind that range through the same set; it gives none where no word is left.
+-- behind that range through the same set; it gives none if no word is left.
 abbrev pub GivesRange : Ranges → Option (ℕ × ℕ) → Ranges → Type 0
 GivesRange before given after = MatchOption given
     (HasNoneFrom before.next (words before.set.now))

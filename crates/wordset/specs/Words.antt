@@ -1,5 +1,5 @@
--- Sets of words as tests on numbers, and the mathematical image of each call. Words are the numbers below 4096. No set
--- here has a larger number, where its arguments and f give words alone: so two sets with the same words are equal.
+-- Sets of words as tests on numbers, and the mathematical image of each call. Words are the numbers below 4096. If
+-- their arguments and f yield only words, no set here has a larger number; so two sets with the same words are equal.
 use Rattle.std.specs.Prelude.{◌≡◌, ℕ, ◌+◌, ◌-◌, ◌/◌, ◌%◌, ◌<◌, ◌≤◌, ◌==◌, nat_le, nat_lt, Bool, true, false, not, ◌&&◌, ◌||◌, if◌then◌else◌, Option, Some, None, bit_and, bit_or}
 use Rattle.std.proofs.Common.{zero, suc}
 
@@ -7,7 +7,7 @@ use Rattle.std.proofs.Common.{zero, suc}
 abbrev pub plus : ℕ → ℕ → ℕ
 plus a b = (a + b) % 4096
 
--- The difference a - b of two words modulo 4096, which is a word also where b is the greater one.
+-- The difference a - b of two words modulo 4096, which is a word even if b is greater than a.
 abbrev pub minus : ℕ → ℕ → ℕ
 minus a b = (a + (4096 - b % 4096)) % 4096
 
@@ -19,11 +19,11 @@ Words = ℕ → Bool
 abbrev pub SameWords : Words → Words → Type 0
 SameWords a b = (v : ℕ) → v < 4096 → a v ≡ b v
 
--- Each word of the one set is in the other; larger numbers do not matter.
+-- Each word of the first set is in the second; larger numbers do not matter.
 abbrev pub IsWithin : Words → Words → Type 0
 IsWithin a b = (v : ℕ) → v < 4096 → a v ≡ true → b v ≡ true
 
--- Each link of the one set, 0 or 1, is in the other; larger numbers do not matter.
+-- Each link of the first set, 0 or 1, is in the second; larger numbers do not matter.
 abbrev pub IsLinkWithin : Words → Words → Type 0
 IsLinkWithin a b = (k : ℕ) → k < 2 → a k ≡ true → b k ≡ true
 
@@ -63,19 +63,19 @@ all_words v = nat_lt v 4096
 abbrev pub all_links : Words
 all_links k = nat_lt k 2
 
--- One word alone.
+-- The set of one word.
 abbrev pub one : ℕ → Words
 one a v = v == a
 
--- The words from one to another, both of them in it.
+-- The words from one to another, both included.
 abbrev pub between : ℕ → ℕ → Words
 between low high v = nat_le low v && nat_le v high
 
--- The set with a word more.
+-- The set with one more word.
 abbrev pub with_word : ℕ → Words → Words
 with_word w a v = a v || v == w
 
--- The set with a word left out.
+-- The set without one of its words.
 abbrev pub without : ℕ → Words → Words
 without w a v = if v == w then false else a v
 
@@ -91,12 +91,12 @@ meet a b v = a v && b v
 abbrev pub difference : Words → Words → Words
 difference a b v = a v && not (b v)
 
--- This word of a set, if there is one, where the set has no other; and none otherwise.
+-- This word of a set, if there is one and the set has no other; otherwise none.
 abbrev pub only_of : Words → Option ℕ → Option ℕ
 only_of set None = None
 only_of set (Some k) = if some_below 4096 (without k set) then None else Some k
 
--- The one word of a set, where it has one and no other; none where it has no word, or more than one.
+-- The only word of a set; none if the set has no word, or more than one.
 unfoldable pub only : Words → Option ℕ
 only set = only_of set (first_below 4096 set)
 
@@ -112,15 +112,17 @@ smeared set n v = nat_lt v 4096 && some_below n (λ k. set (minus v k))
 abbrev pub mirrored : Words → Words
 mirrored set v = nat_lt v 4096 && set (4095 - v)
 
--- The words that are sums a + b, modulo 4096, of a word a of the one set and a word b of the other.
+-- The words that are sums a + b, modulo 4096, of a word a of the first set and a word b of the
+-- second.
 abbrev pub sums : Words → Words → Words
 sums a b v = nat_lt v 4096 && some_below 4096 (λ x. a x && b (minus v x))
 
--- The carries of all a + b: 1 where one of these sums is 4096 or more, 0 where one is less.
+-- The carries of all a + b: 1 is among them if one of these sums is 4096 or more, and 0 if one is
+-- less.
 abbrev pub carries : Words → Words → Words
 carries a b k = some_below 4096 (λ x. a x && some_below 4096 (λ y. b y && ((x + y) / 4096 == k)))
 
--- The links after such a sum: without a carry the link stays, and a carry complements it.
+-- The links after such a sum: a carry complements the link, and without a carry it stays.
 abbrev pub toggled : Words → Words → Words
 toggled links carried k = nat_lt k 2 && ((carried 0 && links k) || (carried 1 && links (1 - k)))
 
@@ -132,7 +134,7 @@ ands a b v = some_below 4096 (λ x. a x && some_below 4096 (λ y. b y && (bit_an
 abbrev pub ors : Words → Words → Words
 ors a b v = some_below 4096 (λ x. a x && some_below 4096 (λ y. b y && (bit_or x y == v)))
 
--- All a or m for the parts m of the mask, the words that have bits of the mask alone.
+-- All a or m for the parts m of the mask, that is, for the words that have only bits of the mask.
 abbrev pub or_any : ℕ → Words → Words
 or_any mask a v = some_below 4096 (λ x. a x && some_below 4096 (λ m. (bit_and m mask == m) && (bit_or x m == v)))
 

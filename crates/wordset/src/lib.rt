@@ -102,7 +102,7 @@ impl WordSet {
         }
     }
 
-    /// The lanes of the set: bit j of lane i, the least bit being bit 0, is set exactly where the
+    /// The lanes of the set: bit j of lane i, the least bit being bit 0, is set if and only if the
     /// word 64 i + j is in the set.
     pub fn words(&self) -> &[u64; 64]
         ensures { (i j : ℕ) → i < 64 → j < 64 →

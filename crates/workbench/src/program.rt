@@ -29,7 +29,7 @@ use streams::standard::StdWriter;
 /// The arguments that stand for none at all.
 static RUN_STANDARD_INPUT: [&str; 3] = ["pdp8", "run", "-"];
 
-/// What is said where nothing is asked for and a person would have to type a tape.
+/// What is said where nothing is requested and a person would have to type a tape.
 const WAITING: &str = "pdp8 waits for a tape on standard input; pdp8 help lists the commands\n";
 
 /// Does what the program's arguments ask for, and says with which status it ends: 0 done, 1 refused, 2
@@ -103,7 +103,7 @@ fn carry_out<R: Files + Input + Print + Eprint>(
     }
 }
 
-/// Why the arguments were not copied: one is no text, or memory was refused.
+/// Why the arguments were not copied: one is not a text, or memory was refused.
 fn refusal_of(kind: ErrorKind) -> CommandLineFault {
     match kind {
         ErrorKind::InvalidData => CommandLineFault::Misuse(Misuse::NotText),

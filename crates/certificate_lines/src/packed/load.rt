@@ -267,7 +267,8 @@ impl<A: Allocator> PackedLines<A> {
     }
 }
 
-/// Whether a line is a fact's or an exit's, which the lent fact then says but for its details; of an exit it has all offsets.
+/// Whether a line is a fact's or an exit's, which the lent fact then says except for its details; of an exit it has all
+/// offsets.
 pub fn begin_said(lent: &LineView<'_>, fact: &mut CertifiedFact) -> bool
     requires { LiesWithin (length lent.now.runs.now) (length lent.now.steps.now) lent.now.line.now }
     ensures there { result ≡ has_details (said_of lent.now) }

@@ -19,7 +19,7 @@ use domain::{BriefSet, Chain, Step};
 use std::alloc::{AllocError, Allocator};
 use wordset::WordSet;
 
-/// Adds the runs of a set that is kept in brief, and tells how many there are.
+/// Adds the runs of a set that is kept in brief, and returns how many there are.
 fn lay_brief<A: Allocator>(runs: &mut Vec<Run, A>, set: &BriefSet) -> Result<u16, AllocError>
     ensures front { Begins runs.old.items runs.new.items }
     ensures count { IfOk result (λ count. length runs.old.items + count ≡ length runs.new.items) }

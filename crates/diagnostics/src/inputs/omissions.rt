@@ -23,7 +23,7 @@ enum Omission {
     OfThe8e,
     /// It stores into this cell, which is neither a variable nor an entry.
     Stores(Word),
-    /// It stores into this entry, and is no ISZ of the routine itself.
+    /// It stores into this entry, and is not an ISZ of the routine itself.
     StoresInEntry(Word),
     /// It is a DCA into this entry, its routine's own, in which the routine is not declared to store.
     StoresInOwn(Word),
@@ -174,7 +174,7 @@ fn omitted_at<D: Allocator>(
     }
 }
 
-/// Adds an address within a line of a declaration that is advised, with what stands before it and after it.
+/// Adds an address within a line of a declaration that is advised, with what comes before it and after it.
 fn push_advice<L: MessageWriter>(
     text: &mut L,
     before: &[u8],
@@ -185,7 +185,7 @@ fn push_advice<L: MessageWriter>(
     text.push_text(after)
 }
 
-/// What stands before and after the address that is named.
+/// What comes before and after the address that is named.
 #[derive(Clone, Copy)]
 struct Words {
     before: &'static [u8],
@@ -334,9 +334,9 @@ fn push_omission<L: MessageWriter>(
     text.push_text(b"\n")
 }
 
-/// Adds the line of what to do about the instruction at which a search is stuck, after those on what a condition asks
-/// of it, if the tape and the declaration show by themselves what it violates. Where the reason already names a line that would
-/// allow the instruction, nothing is added.
+/// Adds the line of what to do about the instruction at which a search is stuck, after those on what a condition asks of it, if
+/// the tape and the declaration show by themselves what it violates. If the reason already names a line that would allow the
+/// instruction, nothing is added.
 ///
 /// # Errors
 ///

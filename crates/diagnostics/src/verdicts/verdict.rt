@@ -184,7 +184,7 @@ fn push_number_of_assertions<A: Allocator>(
     text.extend_from_slice(b" assertions")
 }
 
-/// Adds a number of assertions behind a comma, if it is not 0.
+/// Adds a number of assertions after a comma, if it is not 0.
 fn push_assertion_count<A: Allocator>(text: &mut Vec<u8, A>, count: usize) -> Result<(), AllocError>
     ensures { OnOk result (text.new.items ≡ text.old.items ++ assertions_text count) }
 {

@@ -10,7 +10,7 @@ use std::alloc::Allocator;
 use word12::Word;
 use wordset::WordSet;
 
-/// Where more cells changed, only pointers and counters are looked at.
+/// If more cells changed, only pointers and counters are looked at.
 const MOST_CHANGED: usize = 10;
 
 /// The greatest factor.

@@ -193,7 +193,7 @@ impl<'a, D: Allocator> SumProgram<'a, D> {
         &self.readers
     }
 
-    /// The variables that are added, masked or counted by name, but for pointers.
+    /// The variables that are added, masked or counted by name, except for pointers.
     pub fn tested(&self) -> WordSet
         ensures { words result ≡ difference (words self.now.tested) (words self.now.pointers) }
     {

@@ -21,7 +21,7 @@ impl<A: Allocator + Copy> SumSearch<A> {
         self.table.routines.routine(entry)
     }
 
-    /// Claims more of a routine, and tells whether it is more.
+    /// Claims more of a routine, and returns whether it is more.
     fn claim(
         &mut self,
         entry: Word,
@@ -221,7 +221,7 @@ impl<A: Allocator + Copy> SumSearch<A> {
     }
 }
 
-/// Whether an entry may be called from an address: it is one, and its body has the address behind it.
+/// Whether an entry may be called from an address: it is one, and its body has the address after it.
 fn may_call<D: Allocator>(program: &SumProgram<'_, D>, at: Word, entry: Word) -> bool {
     let declaration = program.base.declaration;
     declaration.is_entry(entry)

@@ -42,8 +42,8 @@ pub(crate) enum SearchPhase {
     DescendingForth,
 }
 
-/// What is known, what is gathered in a sweep, which way the search goes, how facts are told apart, which cells they speak of,
-/// the addresses from which to go on, and how many turns this try may take yet, and all tries together.
+/// What is known, what is gathered in a sweep, which way the search goes, how facts are distinguished, which cells they speak
+/// of, the addresses from which to go on, and how many turns this try may take yet, and all tries together.
 #[derive(Drop)]
 pub struct SumSearch<A: Allocator> {
     pub(crate) alloc: A,
@@ -88,8 +88,8 @@ impl<A: Allocator + Copy> SumSearch<A> {
         self.alloc
     }
 
-    /// Looks for facts that are told apart in one way, within so many turns of those that there are; what was found before is
-    /// forgotten.
+    /// Looks for facts that are distinguished in one way, within so many turns of those that there are; what was found before
+    /// is forgotten.
     pub fn run<D: Allocator>(
         &mut self,
         program: &SumProgram<'_, D>,
@@ -215,7 +215,7 @@ impl<A: Allocator + Copy> SumSearch<A> {
         Ok(())
     }
 
-    /// Goes on from the least waiting address, and from those behind it until a turn is taken: as long as none is, nothing
+    /// Goes on from the least waiting address, and from those after it until a turn is taken: as long as none is, nothing
     /// grows. Tells whether one was taken; else no address waits any more.
     fn go_on<D: Allocator>(
         &mut self,

@@ -1,4 +1,4 @@
-//! How the facts at an address are told apart.
+//! How the facts at an address are distinguished.
 
 ghost use Rattle.std.specs.Prelude.{◌≡◌, true, false, None, Some};
 ghost use Rattle.wordset.specs.Words.{nothing, union};
@@ -12,11 +12,11 @@ use std::alloc::Allocator;
 use word12::{Link, Word};
 use wordset::{Links, WordSet};
 
-/// The most words of a cell by which facts are told apart.
+/// The most words of a cell by which facts are distinguished.
 pub(crate) const MOST_VALUES: usize = 16;
 
-/// By what the facts at an address are told apart: those of the routines of some entries by the call and by how far the return
-/// word was counted up, all of them by the link, and all of them by the word of a cell.
+/// By what the facts at an address are distinguished: those of the routines of some entries by the call and by how far the
+/// return word was incremented, all of them by the link, and all of them by the word of a cell.
 #[derive(Clone, Copy)]
 pub struct Split {
     pub(crate) called: WordSet,
@@ -24,7 +24,7 @@ pub struct Split {
     pub(crate) cell: Option<Word>,
 }
 
-/// What tells a fact apart from others at its address, as far as they are told apart.
+/// What distinguishes a fact from others at its address, as far as they are distinguished.
 #[derive(Clone, Copy, PartialEq, Eq)]
 pub(crate) struct Case {
     pub(crate) site: Option<Word>,
@@ -75,14 +75,14 @@ impl Split {
         }
     }
 
-    /// The entries of the routines whose facts are told apart by the call.
+    /// The entries of the routines whose facts are distinguished by the call.
     pub fn called(&self) -> &WordSet
         ensures { result.now ≡ self.now.called }
     {
         &self.called
     }
 
-    /// The same, and those of the routines of some entries are told apart by the call.
+    /// The same, and those of the routines of some entries are distinguished by the call.
     pub fn by_calls(self, entries: &WordSet) -> Split
         ensures called { words result.called ≡ union (words self.called) (words entries.now) }
         ensures links { result.links ≡ self.links }
@@ -95,7 +95,7 @@ impl Split {
         }
     }
 
-    /// The same, and they are told apart by the link.
+    /// The same, and they are distinguished by the link.
     pub fn by_links(self) -> Split
         ensures called { result.called ≡ self.called }
         ensures links { result.links ≡ true }
@@ -108,7 +108,7 @@ impl Split {
         }
     }
 
-    /// The same, and they are told apart by the word of a cell.
+    /// The same, and they are distinguished by the word of a cell.
     pub fn by_cell(self, cell: Word) -> Split
         ensures called { result.called ≡ self.called }
         ensures links { result.links ≡ self.links }
@@ -121,7 +121,7 @@ impl Split {
         }
     }
 
-    /// Whether the facts of a routine are told apart by the call.
+    /// Whether the facts of a routine are distinguished by the call.
     fn is_by_call(&self, routine: &Option<Word>) -> bool {
         match routine {
             None => false,
@@ -175,8 +175,8 @@ impl Split {
 }
 
 impl<A: Allocator + Copy> SumSearch<A> {
-    /// The variables by whose words facts may be told apart: those that the program tests, or of which something is declared to hold,
-    /// and of which some fact says that they hold one of few words, but more than one.
+    /// The variables by whose words facts may be distinguished: those that the program tests, or of which something is declared to
+    /// hold, and of which some fact says that they hold one of few words, but more than one.
     pub fn distinguishing_variables<D: Allocator>(&self, program: &SumProgram<'_, D>) -> WordSet {
         let mut found = WordSet::empty();
         let cells = program.tested().union(&program.asserted);

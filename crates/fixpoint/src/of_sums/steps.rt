@@ -222,7 +222,8 @@ impl<A: Allocator + Copy> SumSearch<A> {
         Ok(())
     }
 
-    /// Lets a part be known where it goes, each word for itself of a cell by which facts are told apart.
+    /// Lets a part be known where it goes, each word for itself of a cell by which facts are
+    /// distinguished.
     fn reach_each<D: Allocator>(
         &mut self,
         program: &SumProgram<'_, D>,

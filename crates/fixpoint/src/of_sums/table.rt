@@ -206,7 +206,7 @@ impl<A: Allocator> InvariantMap<A> {
 }
 
 impl<A: Allocator + Copy> Table<A> {
-    /// Claims more of a routine, and tells whether it is more.
+    /// Claims more of a routine, and returns whether it is more.
     pub(crate) fn claim(
         &mut self,
         alloc: A,

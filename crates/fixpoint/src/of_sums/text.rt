@@ -126,7 +126,7 @@ impl<A: Allocator> CertificateText<A> {
         }
     }
 
-    /// Adds a summand behind the first one.
+    /// Adds a summand after the first one.
     fn push_summand(&mut self, summand: &Summand) -> Result<(), SearchFault> {
         match summand.coefficient.index() {
             1 => self.push(b" + ")?,

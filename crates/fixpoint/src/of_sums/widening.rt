@@ -84,7 +84,7 @@ fn from_on(set: &WordSet, word: Word) -> WordSet {
 }
 
 /// A set that grew out of one that begins with 0 and ends with a word: what is new before the longest gap went on upwards, and
-/// what is new behind it came from above.
+/// what is new after it came from above.
 fn beyond(top: Word, grown: &WordSet, new: &WordSet, thresholds: &WordSet) -> WordSet {
     let start = behind_longest_gap(grown);
     let down = if start > top {

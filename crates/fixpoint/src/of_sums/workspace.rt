@@ -143,13 +143,13 @@ fn choose(
 }
 
 impl CallWorkspace {
-    /// Narrows the fact as it is kept, and tells whether some state may satisfy it.
+    /// Narrows the fact as it is kept, and returns whether some state may satisfy it.
     pub(crate) fn narrow(&mut self, image: &Image) -> bool {
         narrow(image, &self.claimed, &mut self.fact) && !self.fact.is_void()
     }
 
-    /// Narrows the fact as it is kept, with the words of a pointer that are permitted alone, and tells whether some state may
-    /// satisfy it.
+    /// Narrows the fact as it is kept, with the words of a pointer that are permitted alone, and returns whether some state
+    /// may satisfy it.
     pub(crate) fn clip(&mut self, image: &Image, pointer: Word, permitted: &WordSet) -> bool {
         self.claimed.is_within_room();
         self.clipped.copy_from(&self.claimed);

@@ -41,7 +41,7 @@ fn open_punch<'r, R: Files>(
     }
 }
 
-/// Puts what was punched in its place. It goes out by one write before the summary, so it is whole also where that
+/// Puts what was punched in its place. It goes out by one write before the summary, so it is whole even if that
 /// fails; a run that punched nothing leaves an empty file.
 fn finish_punch<R: Files>(
     punch: &mut Punch<'_, R>,
@@ -95,7 +95,7 @@ fn form_with<'n>(form: SummaryForm<'_>, name: &'n Option<String>) -> SummaryForm
     }
 }
 
-/// Runs a tape with an operator, up to where it is stopped, and shows its last instructions if that is asked for.
+/// Runs a tape with an operator, up to where it is stopped, and shows its last instructions if that is requested.
 fn follow_session<
     R: ByteSource,
     F: ByteSource,
@@ -190,7 +190,7 @@ pub fn hold_session<R: Files + Input + Print + Eprint>(
     hold_session_on(rt, alloc, session, &mut frames)
 }
 
-/// The key that interrupts a session at a terminal where no other is asked for: ^E.
+/// The key that interrupts a session at a terminal where no other is requested: ^E.
 const USUAL_KEY: u8 = 5;
 
 /// The byte of the key that interrupts a session, if one does.

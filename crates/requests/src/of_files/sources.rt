@@ -64,7 +64,7 @@ fn tell_all<R: Eprint, S: ByteSource>(
     }
 }
 
-/// Lists a source, with a table of its symbols if that is asked for.
+/// Lists a source, with a table of its symbols if that is requested.
 fn list_as_asked<S: ByteSource, W: ByteSink>(
     alloc: Global,
     parts: &mut [S],

@@ -142,8 +142,8 @@ fn run_events_until<R: Files + Input + Print, S: ByteSource>(
     }
 }
 
-/// Runs a tape with these frames, in rounds or by the events of a file, up to where it is stopped if that is asked
-/// for. In a long trace its instructions read as these statements.
+/// Runs a tape with these frames, in rounds or by the events of a file, up to where it is stopped if that is
+/// requested. In a long trace its instructions read as these statements.
 ///
 /// # Errors
 ///
@@ -175,7 +175,7 @@ pub(crate) fn run_on<R: Files + Input + Print, S: ByteSource, N: Statements>(
     run_events(alloc, frames, &mut list, asked.options, &mut out)
 }
 
-/// Runs the tape of a file, in rounds or by the events of a file, up to where it is stopped if that is asked for.
+/// Runs the tape of a file, in rounds or by the events of a file, up to where it is stopped if that is requested.
 #[inline(never)]
 pub fn run_from<R: Files + Input + Print>(
     rt: &R,

@@ -21,7 +21,7 @@ fn set_of(cells: Cells) -> WordSet {
     }
 }
 
-/// The address that cells are; none where they are a range.
+/// The address that cells are; none if they are a range.
 fn one_of(cells: Cells) -> Option<Word> {
     match cells {
         Cells::One(at) => Some(at),

@@ -43,7 +43,7 @@ fn write_found<R: Files + Print>(
     finish(file, status)
 }
 
-/// Tells on standard error why a search is stuck, and writes a report of its draft, each if it is asked for.
+/// Tells on standard error why a search is stuck, and writes a report of its draft, each if it is requested.
 #[inline(never)]
 fn tell_stuck<R: Files + Print + Eprint>(
     rt: &R,
@@ -66,7 +66,7 @@ fn tell_stuck<R: Files + Print + Eprint>(
     Err(Fault::Guess(GuessFault::Stuck(stuck.at)))
 }
 
-/// Searches for a certificate, of a version if one is asked for.
+/// Searches for a certificate, of a version if one is requested.
 fn found_for(
     alloc: Global,
     image: &Image,
@@ -79,7 +79,7 @@ fn found_for(
     }
 }
 
-/// Searches for a certificate, of a version if one is asked for, or for the draft of one.
+/// Searches for a certificate, of a version if one is requested, or for the draft of one.
 fn attempt_for(
     alloc: Global,
     image: &Image,
@@ -92,8 +92,8 @@ fn attempt_for(
     }
 }
 
-/// Searches for a certificate, of a version if one is asked for. If the search is stuck, it says why on standard error and writes a report, each if it is
-/// asked for: one search is made for all of them.
+/// Searches for a certificate, of a version if one is requested. If the search is stuck, it says why on standard error and writes a report,
+/// each if it is requested: one search is made for all of them.
 #[inline(never)]
 pub(crate) fn guessed<R: Files + Print + Eprint, I: Read + Drop>(
     rt: &R,

@@ -43,7 +43,7 @@ fn tell_lines<R: Print>(
     Ok(put(&mut StdWriter::new(io::writer(rt)), &lines)?)
 }
 
-/// Checks the certificate of a file, and says why the verdict is no if that is asked for.
+/// Checks the certificate of a file, and says why the verdict is no if that is requested.
 #[inline(never)]
 fn checked<R: Files + Input + Print, I: Read + Drop>(
     rt: &R,
@@ -221,7 +221,7 @@ fn named_of(
     }
 }
 
-/// Does what is asked for with a program that is open. Each command has a frame of its own on the stack, since they are
+/// Does what is requested with a program that is open. Each command has a frame of its own on the stack, since they are
 /// large.
 ///
 /// # Errors

@@ -147,7 +147,7 @@ fn wordless(
     }
 }
 
-/// The tape of a source and its declaration in numbers. If a declaration alone is asked for, the source may have no
+/// The tape of a source and its declaration in numbers. If a declaration alone is requested, the source may have no
 /// word.
 fn number_for(
     alloc: Global,
@@ -167,7 +167,7 @@ fn number_for(
 ///
 /// # Errors
 ///
-/// As of `number`; but if a declaration alone is asked for, the source may have no word.
+/// As of `number`; but if a declaration alone is requested, the source may have no word.
 #[inline(never)]
 pub fn numbered_from(
     alloc: Global,

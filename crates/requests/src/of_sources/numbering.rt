@@ -198,7 +198,7 @@ fn push_placing(
     writeln!(told, "{said}").map_err(|_| AllocError)
 }
 
-/// Tells the fault of a declaration with symbols, and below it the line and what is wrong, if that is asked for.
+/// Tells the fault of a declaration with symbols, and below it the line and what is wrong, if that is requested.
 fn tell_placing<R: Eprint>(
     rt: &R,
     alloc: Global,

@@ -1,5 +1,5 @@
 //! Where a source has what is named to people. It is proved that the first line of a text stays as it is; what is put
-//! behind it is tested.
+//! after it is tested.
 
 ghost use Rattle.std.specs.Prelude.{◌≡◌, IfOk};
 ghost use Rattle.std.specs.List.{position};

@@ -91,7 +91,7 @@ fn push_gap<L: MessageWriter>(text: &mut L, gap: &Counterexample) -> Result<(), 
     }
 }
 
-/// Adds what is possible, and a text behind it.
+/// Adds what is possible, and a text after it.
 fn push_excluded<L: MessageWriter>(
     text: &mut L,
     gap: &Counterexample,
@@ -144,7 +144,7 @@ fn push_left<L: MessageWriter>(
     Ok(())
 }
 
-/// Adds a word that a name may hold with a link, and a text behind it.
+/// Adds a word that a name may hold with a link, and a text after it.
 fn push_left_and<L: MessageWriter>(
     text: &mut L,
     link: Link,

@@ -65,7 +65,7 @@ fn push_minus<L: MessageWriter>(text: &mut L, first: bool) -> Result<(), AllocEr
     text.push_text(if first { b"-" } else { b" - " })
 }
 
-/// Adds a coefficient that is no sign.
+/// Adds a coefficient that is not a sign.
 fn push_factor<L: MessageWriter>(
     text: &mut L,
     first: bool,
@@ -80,7 +80,7 @@ fn push_factor<L: MessageWriter>(
     Ok(())
 }
 
-/// Adds what stands before a term.
+/// Adds what comes before a term.
 fn push_coefficient<L: MessageWriter>(
     text: &mut L,
     first: bool,
@@ -97,7 +97,7 @@ fn push_coefficient<L: MessageWriter>(
     push_factor(text, first, coefficient)
 }
 
-/// Adds a term with what stands before it.
+/// Adds a term with what comes before it.
 fn push_summand<L: MessageWriter>(
     text: &mut L,
     first: bool,
@@ -111,7 +111,7 @@ fn push_summand<L: MessageWriter>(
     Ok(())
 }
 
-/// Adds the terms of a sum behind the first one.
+/// Adds the terms of a sum after the first one.
 fn push_further<L: MessageWriter>(text: &mut L, summands: &[Summand]) -> Result<(), AllocError>
     ensures { OnOk result (L.text text.new ≡
         L.text text.old ++ further_text (map summand_of summands.now)) }

@@ -216,7 +216,7 @@ pub fn push_denied<L: MessageWriter>(
     Ok(())
 }
 
-/// How far an ISZ may count up the return word in its routine's own entry, by the rules.
+/// How far an ISZ may increment the return word in its routine's own entry, by the rules.
 fn counting(rules: &Rules) -> &'static [u8]
     ensures { result.now ≡ counting_text rules.now }
 {
@@ -247,7 +247,7 @@ fn push_moving<L: MessageWriter>(
     Ok(())
 }
 
-/// Adds an address, and behind it that a line with it is to be added.
+/// Adds an address, and after it that a line with it is to be added.
 fn push_address_and_advice<L: MessageWriter>(
     text: &mut L,
     before: &[u8],

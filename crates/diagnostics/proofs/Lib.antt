@@ -2,3 +2,4 @@ pub mod BoundLemmas
 pub mod CheckLemmas
 pub mod ReasonLemmas
 pub mod TellingLemmas
+pub mod OmissionLemmas

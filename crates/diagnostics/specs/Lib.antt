@@ -3,3 +3,4 @@ pub mod CertificateFaults
 pub mod CheckText
 pub mod ReasonContexts
 pub mod WhyText
+pub mod OmissionText

@@ -1,2 +1,3 @@
+pub mod DistanceLemmas
 pub mod ReachedLemmas
 pub mod ShownLemmas

@@ -1,5 +1,9 @@
 //! What is known at an address, item by item, and what of it is the same as on the line above.
 
+ghost use Rattle.std.specs.Prelude.{◌≡◌};
+ghost use Rattle.wordset.specs.Links.{links_of};
+ghost use Rattle.reports.specs.Rows.{link_said};
+
 use crate::cases::{FactDifferences, are_same_offsets};
 use crate::known_fact::KnownFact;
 use crate::relations::{write_chain, write_lost, write_lost_chain, write_name, write_relation};
@@ -44,7 +48,9 @@ fn write_item<A: Allocator>(writer: &mut ReportWriter<A>, name: &[u8], set: &Wor
 }
 
 /// What the link may be.
-pub(crate) fn link_text(links: Links) -> &'static [u8] {
+pub(crate) fn link_text(links: Links) -> &'static [u8]
+    ensures { result.now ≡ link_said (links_of links) }
+{
     match (links.contains(Link::CLEAR), links.contains(Link::SET)) {
         (true, true) => b"L any",
         (true, false) => b"L is 0",

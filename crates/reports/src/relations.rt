@@ -1,5 +1,11 @@
 //! Relations and chains in words.
 
+ghost use Rattle.std.specs.Prelude.{◌≡◌};
+ghost use Rattle.wordset.specs.Lanes.{words};
+ghost use Rattle.wordset.specs.Links.{links_of};
+ghost use Rattle.wordset.specs.Words.{SameWords, Words, union};
+ghost use Rattle.reports.specs.Rows.{IsDistance, begun_said};
+
 use crate::writer::ReportWriter;
 use domain::{Chain, Location, Step, Sum, Summand, Term, negated};
 use instruct::{Profile, name};
@@ -106,7 +112,10 @@ fn difference_of(sum: &Sum) -> Option<(Term, Term)> {
 }
 
 /// How far one term may be from another, where it may be less and more.
-fn distance_around(less: &WordSet, more: &WordSet) -> Distance {
+fn distance_around(less: &WordSet, more: &WordSet) -> Distance
+    ensures { (set : Words) → SameWords set (union (words less.now) (words more.now)) →
+        IsDistance set result }
+{
     let (Some(least), Some(greatest)) = (less.least(), more.greatest()) else {
         return Distance::Scattered;
     };
@@ -119,7 +128,9 @@ fn distance_around(less: &WordSet, more: &WordSet) -> Distance {
 }
 
 /// How far one term may be from another, if their difference is one of these words.
-fn distance_of(set: &WordSet) -> Distance {
+fn distance_of(set: &WordSet) -> Distance
+    ensures { IsDistance (words set.now) result }
+{
     let zero = WordSet::one(Word::ZERO);
     if *set == zero {
         return Distance::Same;
@@ -225,7 +236,9 @@ fn has_link(chain: &Chain) -> bool {
 }
 
 /// The links with which a chain begins.
-fn begun_with(links: Links) -> &'static [u8] {
+fn begun_with(links: Links) -> &'static [u8]
+    ensures { result.now ≡ begun_said (links_of links) }
+{
     match (links.contains(Link::CLEAR), links.contains(Link::SET)) {
         (true, true) => b" and any L",
         (true, false) => b" and L 0",

@@ -1,8 +1,17 @@
 //! What a declaration leaves out, as far as that is seen by the tape and the declaration alone: no
 //! certificate can fix it, if a run comes there.
 
+ghost use Rattle.std.specs.Prelude.{◌≡◌, ◌++◌, ℕ, List, Option, Some, IfSome, OnOk, false, true};
+ghost use Rattle.instruct.specs.Bits.{is_indirect};
+ghost use Rattle.instruct.specs.Instructions.{Dca, Jms, Jmp, instruction_of, kind_of, meaning_of, reference};
+ghost use Rattle.instruct.specs.declared.Instruction.TheVariants.{Memory, Unsupported};
+ghost use Rattle.bin_tape.specs.Image.{word_at};
+ghost use Rattle.declaration.specs.Declaration.{Declaration as Promise, Routine};
+ghost use Rattle.declaration.specs.DeclarationInCode.{meaning, routine_of};
+ghost use Rattle.diagnostics.specs.OmissionText.{IsHalt, IsOmitted, IsViolation, Means, SaysOmissions, SaysRemedy, Stores, act_text, around_place, halt_remedy, lack_text, omission_line, remedy_line, remedy_text, stop_for_pause, stuck_line, twice};
+
 use bin_tape::Image;
-use command_parts::message::{MessageWriter, push_text_and_advised};
+use command_parts::message::{MessageWriter, push_text_and_address, push_text_and_advised};
 use declaration::{Declaration, Owner};
 use instruct::{Instruction, Operation, Profile, decode, halts, refers_indirectly, target};
 use processor::is_auto_index;
@@ -52,23 +61,50 @@ enum Omission {
 /// The bits by which a HLT skips.
 const TESTS: u16 = 0o170;
 
-/// What a store into a cell that is not a variable would violate.
-fn omitted_by_store<D: Allocator>(declaration: &Declaration<D>, cell: Word) -> Omission {
-    if declaration.is_entry(cell) {
-        Omission::StoresInEntry(cell)
+/// What a memory reference that stores into the cell which it names would violate, where that is not its routine's own entry.
+fn omitted_by_store<D: Allocator>(declaration: &Declaration<D>, cell: Word) -> Option<Omission>
+    ensures { (image : List (Option ℕ)) (r : Routine) (at : ℕ) →
+        Stores image (meaning declaration.now) at cell →
+        (meaning declaration.now).body (Some cell) at ≡ false →
+        IfSome result (IsViolation image (meaning declaration.now) r at) }
+{
+    if declaration.is_variable(cell) {
+        None
+    } else if declaration.is_entry(cell) {
+        Some(Omission::StoresInEntry(cell))
     } else {
-        Omission::Stores(cell)
+        Some(Omission::Stores(cell))
     }
 }
 
-/// What a call of an address that is not an entry would violate.
-fn omitted_by_call<D: Allocator>(declaration: &Declaration<D>, place: Word) -> Omission {
-    if is_auto_index(place) {
-        Omission::CallsAutoIndex(place)
-    } else if declaration.owner_of(place).is_some() || declaration.is_variable(place) {
-        Omission::CallsIntoBody(place)
+/// What a DCA into its routine's own entry would violate.
+fn omitted_by_move<D: Allocator>(declaration: &Declaration<D>, entry: Word) -> Option<Omission>
+    ensures { (image : List (Option ℕ)) (r : Routine) (at : ℕ) →
+        Means image (meaning declaration.now) at (Dca false entry) →
+        (meaning declaration.now).body (Some entry) at ≡ true →
+        IfSome result (IsViolation image (meaning declaration.now) r at) }
+{
+    if declaration.may_move(entry) {
+        None
     } else {
-        Omission::Calls(place)
+        Some(Omission::StoresInOwn(entry))
+    }
+}
+
+/// What a call of the address that it names would violate.
+fn omitted_by_call<D: Allocator>(declaration: &Declaration<D>, place: Word) -> Option<Omission>
+    ensures { (image : List (Option ℕ)) (r : Routine) (at : ℕ) →
+        Means image (meaning declaration.now) at (Jms false place) →
+        IfSome result (IsViolation image (meaning declaration.now) r at) }
+{
+    if declaration.is_entry(place) {
+        None
+    } else if is_auto_index(place) {
+        Some(Omission::CallsAutoIndex(place))
+    } else if declaration.owner_of(place).is_some() || declaration.is_variable(place) {
+        Some(Omission::CallsIntoBody(place))
+    } else {
+        Some(Omission::Calls(place))
     }
 }
 
@@ -77,14 +113,75 @@ fn is_elsewhere<D: Allocator>(declaration: &Declaration<D>, place: Word) -> bool
     declaration.is_entry(place) || declaration.owner_of(place).is_some()
 }
 
-/// What a jump to an address that is not in the same body would violate.
-fn omitted_by_jump<D: Allocator>(declaration: &Declaration<D>, place: Word) -> Omission {
-    if declaration.in_main(place) {
-        Omission::JumpsToMain(place)
+/// Whether an address is in a body.
+fn is_in_body<D: Allocator>(declaration: &Declaration<D>, owner: Owner, at: Word) -> bool
+    ensures { result ≡ (meaning declaration.now).body (routine_of owner) at }
+{
+    match owner {
+        Owner::Main => declaration.in_main(at),
+        Owner::Routine(entry) => declaration.in_body(entry, at),
+    }
+}
+
+/// What a jump of a body to the address that it names would violate.
+fn omitted_by_jump<D: Allocator>(
+    declaration: &Declaration<D>,
+    owner: Owner,
+    place: Word,
+) -> Option<Omission>
+    ensures { (image : List (Option ℕ)) (at : ℕ) →
+        Means image (meaning declaration.now) at (Jmp false place) →
+        IfSome result (IsViolation image (meaning declaration.now) (routine_of owner) at) }
+{
+    if is_in_body(declaration, owner, place) || declaration.is_abandon(place) {
+        None
+    } else if declaration.in_main(place) {
+        Some(Omission::JumpsToMain(place))
     } else if is_elsewhere(declaration, place) {
-        Omission::JumpsAcross(place)
+        Some(Omission::JumpsAcross(place))
     } else {
-        Omission::Jumps(place)
+        Some(Omission::Jumps(place))
+    }
+}
+
+/// What a memory reference that is indirect would violate: that the pointer which it increments is a variable.
+fn omitted_by_pointer<D: Allocator>(
+    declaration: &Declaration<D>,
+    at: Word,
+    word: Word,
+) -> Option<Omission>
+    ensures { (image : List (Option ℕ)) (r : Routine) → word_at image at ≡ Some word →
+        kind_of (meaning_of (meaning declaration.now).profile at word) ≡ Memory →
+        is_indirect word ≡ true →
+        IfSome result (IsViolation image (meaning declaration.now) r at) }
+{
+    let named = target(word, at);
+    if is_auto_index(named) && !declaration.is_variable(named) {
+        return Some(Omission::Steps(named));
+    }
+    None
+}
+
+/// What a memory reference that is direct would violate, by its operation and the cell that it names.
+fn omitted_by_direct<D: Allocator>(
+    declaration: &Declaration<D>,
+    owner: Owner,
+    at: Word,
+    operation: Operation,
+    named: Word,
+) -> Option<Omission>
+    ensures { (image : List (Option ℕ)) →
+        Means image (meaning declaration.now) at (reference operation false named) →
+        IfSome result (IsViolation image (meaning declaration.now) (routine_of owner) at) }
+{
+    let is_own = declaration.in_body(named, at);
+    match operation {
+        Operation::Dca if is_own => omitted_by_move(declaration, named),
+        Operation::Isz if is_own => None,
+        Operation::Dca | Operation::Isz => omitted_by_store(declaration, named),
+        Operation::Jms => omitted_by_call(declaration, named),
+        Operation::Jmp => omitted_by_jump(declaration, owner, named),
+        Operation::And | Operation::Tad => None,
     }
 }
 
@@ -94,78 +191,86 @@ fn omitted_by_reference<D: Allocator>(
     owner: Owner,
     at: Word,
     word: Word,
-) -> Option<Omission> {
-    let named = target(word, at);
+) -> Option<Omission>
+    ensures { (image : List (Option ℕ)) → word_at image at ≡ Some word →
+        kind_of (meaning_of (meaning declaration.now).profile at word) ≡ Memory →
+        IfSome result (IsViolation image (meaning declaration.now) (routine_of owner) at) }
+{
     if refers_indirectly(word) {
-        let is_stepped = is_auto_index(named) && !declaration.is_variable(named);
-        return is_stepped.then_some(Omission::Steps(named));
+        return omitted_by_pointer(declaration, at, word);
     }
-    let is_own = owner == Owner::Routine(named);
-    let is_moved = is_own && declaration.may_move(named);
-    match Operation::of(word) {
-        Operation::Dca if is_own && !is_moved => Some(Omission::StoresInOwn(named)),
-        Operation::Dca if !declaration.is_variable(named) && !is_moved => {
-            Some(omitted_by_store(declaration, named))
-        }
-        Operation::Isz if !declaration.is_variable(named) && !is_own => {
-            Some(omitted_by_store(declaration, named))
-        }
-        Operation::Jms if !declaration.is_entry(named) => {
-            Some(omitted_by_call(declaration, named))
-        }
-        Operation::Jmp
-            if declaration.owner_of(named) != Some(owner) && !declaration.is_abandon(named) => {
-            Some(omitted_by_jump(declaration, named))
-        }
-        _ => None,
-    }
+    omitted_by_direct(
+        declaration,
+        owner,
+        at,
+        Operation::of(word),
+        target(word, at),
+    )
 }
 
-/// What a HLT of a body would violate. After a pause a HLT that tests nothing goes on at the next address.
-fn omitted_by_halt<D: Allocator>(
+/// What a HLT of a body at a pause would violate. A HLT that tests nothing goes on at the next address.
+fn omitted_by_pause<D: Allocator>(
     declaration: &Declaration<D>,
     owner: Owner,
     at: Word,
     word: Word,
-) -> Option<Omission> {
-    if declaration.is_stop(at) {
-        return None;
-    }
-    if !declaration.is_pause(at) {
-        return Some(Omission::Halts);
-    }
+) -> Option<Omission>
+    ensures { (image : List (Option ℕ)) → IsHalt image (meaning declaration.now) at →
+        (meaning declaration.now).pause at ≡ true →
+        IfSome result (IsViolation image (meaning declaration.now) (routine_of owner) at) }
+{
     let next = at.increment();
-    if word.value() & TESTS != 0 || declaration.owner_of(next) == Some(owner) {
-        return None;
-    }
-    if is_elsewhere(declaration, next) {
+    if word.value() & TESTS != 0 || is_in_body(declaration, owner, next) {
+        None
+    } else if is_elsewhere(declaration, next) {
         Some(Omission::GoesAcross(next))
     } else {
         Some(Omission::GoesOn(next))
     }
 }
 
-/// What a word that the declared machine does not have would violate.
-fn unsupported(word: Word) -> Omission {
-    match decode(word, Profile::Pdp8E) {
-        Instruction::Unsupported => Omission::Unsupported,
-        _ => Omission::OfThe8e,
+/// What a HLT of a body would violate.
+fn omitted_by_halt<D: Allocator>(
+    declaration: &Declaration<D>,
+    owner: Owner,
+    at: Word,
+    word: Word,
+) -> Option<Omission>
+    ensures { (image : List (Option ℕ)) → IsHalt image (meaning declaration.now) at →
+        IfSome result (IsViolation image (meaning declaration.now) (routine_of owner) at) }
+{
+    if declaration.is_stop(at) {
+        None
+    } else if declaration.is_pause(at) {
+        omitted_by_pause(declaration, owner, at, word)
+    } else {
+        Some(Omission::Halts)
     }
 }
 
-/// What the word at an address of a body would violate.
-fn omitted_at<D: Allocator>(
-    image: &Image,
-    declaration: &Declaration<D>,
-    at: Word,
-) -> Option<Omission> {
-    let owner = declaration.owner_of(at)?;
-    if declaration.is_variable(at) {
-        return None;
+/// What a word that the declared machine does not have would violate.
+fn unsupported(word: Word) -> Omission
+    ensures { (image : List (Option ℕ)) (d : Promise) (r : Routine) (at : ℕ) →
+        word_at image at ≡ Some word → instruction_of d.profile word ≡ Unsupported →
+        IsViolation image d r at result }
+{
+    if decode(word, Profile::Pdp8E) == Instruction::Unsupported {
+        Omission::Unsupported
+    } else {
+        Omission::OfThe8e
     }
-    let Some(word) = image.get(at) else {
-        return Some(Omission::NoWord);
-    };
+}
+
+/// What a word of a body would violate.
+fn omitted_by_word<D: Allocator>(
+    declaration: &Declaration<D>,
+    owner: Owner,
+    at: Word,
+    word: Word,
+) -> Option<Omission>
+    ensures { (image : List (Option ℕ)) → word_at image at ≡ Some word →
+        IfSome result (IsViolation image (meaning declaration.now) (routine_of owner) at) }
+{
     match decode(word, declaration.profile()) {
         Instruction::Memory => omitted_by_reference(declaration, owner, at, word),
         Instruction::Unsupported => Some(unsupported(word)),
@@ -174,107 +279,135 @@ fn omitted_at<D: Allocator>(
     }
 }
 
+/// What the word at an address of a body would violate, or that none stands there.
+fn omitted_in_body<D: Allocator>(
+    image: &Image,
+    declaration: &Declaration<D>,
+    owner: Owner,
+    at: Word,
+) -> Option<Omission>
+    ensures { IfSome result
+        (IsViolation image.now (meaning declaration.now) (routine_of owner) at) }
+{
+    match image.get(at) {
+        None => Some(Omission::NoWord),
+        Some(word) => omitted_by_word(declaration, owner, at, word),
+    }
+}
+
+/// What the instruction at an address would violate.
+fn omitted_at<D: Allocator>(
+    image: &Image,
+    declaration: &Declaration<D>,
+    at: Word,
+) -> Option<Omission>
+    ensures { IfSome result (IsOmitted image.now (meaning declaration.now) at) }
+{
+    let Some(owner) = declaration.owner_of(at) else {
+        return None;
+    };
+    if declaration.is_variable(at) {
+        return None;
+    }
+    omitted_in_body(image, declaration, owner, at)
+}
+
 /// Adds an address within a line of a declaration that is advised, with what stands before it and after it.
 fn push_advice<L: MessageWriter>(
     text: &mut L,
     before: &[u8],
     place: Word,
     after: &[u8],
-) -> Result<(), AllocError> {
+) -> Result<(), AllocError>
+    ensures { OnOk result
+        (L.text text.new ≡ L.text text.old ++ around_place before.now place after.now) }
+{
     push_text_and_advised(text, before, place)?;
     text.push_text(after)
 }
 
-/// What stands before and after the address that is named.
-#[derive(Clone, Copy)]
-struct Words {
-    before: &'static [u8],
-    after: &'static [u8],
-}
-
-/// Words before an address and after it.
-fn around_place(before: &'static [u8], after: &'static [u8]) -> Words {
-    Words { before, after }
-}
-
-/// What an instruction would violate, in words.
-fn violation_words(omission: &Omission) -> Words {
-    match omission {
-        Omission::NoWord => around_place(b"", b" is in a body, but the tape has no word there"),
-        Omission::Unsupported => around_place(b"the machine does not implement this word", b""),
-        Omission::OfThe8e => around_place(b"only the PDP-8/E implements this word", b""),
-        Omission::Stores(_) => around_place(b"it stores into ", b", which is not a variable"),
-        Omission::StoresInEntry(_) => around_place(b"it stores into ", b", which is an entry"),
-        Omission::StoresInOwn(_) => around_place(
-            b"it stores into ",
-            b", which is the routine's own entry",
-        ),
-        Omission::Steps(_) => around_place(
-            b"it increments the pointer ",
-            b", which is not a variable",
-        ),
-        Omission::Calls(_) | Omission::CallsIntoBody(_) | Omission::CallsAutoIndex(_) => {
-            around_place(b"it calls ", b", which is not an entry")
-        }
-        Omission::Jumps(_) | Omission::JumpsAcross(_) | Omission::JumpsToMain(_) => {
-            around_place(b"it jumps to ", b", which is not in the same body")
-        }
-        Omission::Halts => around_place(b"it halts, and no halt is declared there", b""),
-        Omission::GoesOn(_) | Omission::GoesAcross(_) => around_place(
-            b"the operator may continue at ",
-            b", which is not in the same body",
-        ),
-    }
-}
-
-/// The address that is named, if one is, of what the instruction at an address would violate.
-fn violation_place(at: Word, omission: &Omission) -> Option<Word> {
-    match omission {
-        Omission::NoWord => Some(at),
-        Omission::Unsupported | Omission::OfThe8e | Omission::Halts => None,
-        Omission::Stores(place)
-        | Omission::StoresInEntry(place)
-        | Omission::StoresInOwn(place)
-        | Omission::Steps(place)
-        | Omission::Calls(place)
-        | Omission::CallsIntoBody(place)
-        | Omission::CallsAutoIndex(place)
-        | Omission::Jumps(place)
-        | Omission::JumpsAcross(place)
-        | Omission::JumpsToMain(place)
-        | Omission::GoesOn(place)
-        | Omission::GoesAcross(place) => Some(*place),
-    }
-}
-
-/// Adds what the instruction at an address would violate.
-fn push_violation<L: MessageWriter>(
+/// Adds an address within a line of a declaration that is advised, where it stands twice.
+fn push_advice_twice<L: MessageWriter>(
     text: &mut L,
-    at: Word,
-    omission: &Omission,
-) -> Result<(), AllocError> {
-    let Words { before, after } = violation_words(omission);
-    text.push_text(before)?;
-    if let Some(place) = violation_place(at, omission) {
-        text.push_address(place)?;
-    }
-    text.push_text(after)
+    before: &[u8],
+    place: Word,
+    between: &[u8],
+    after: &[u8],
+) -> Result<(), AllocError>
+    ensures { OnOk result
+        (L.text text.new ≡ L.text text.old ++ twice before.now place between.now after.now) }
+{
+    push_advice(text, before, place, between)?;
+    push_advice(text, b"", place, after)
 }
 
-/// What to do about what is omitted, where that names no address.
-fn fixed_remedy(omission: &Omission) -> Option<&'static [u8]> {
+/// Adds that a stop may be declared at an address, or a pause.
+fn push_halt_remedy<L: MessageWriter>(text: &mut L, at: Word) -> Result<(), AllocError>
+    ensures { OnOk result (L.text text.new ≡ L.text text.old ++ halt_remedy at) }
+{
+    push_advice_twice(
+        text,
+        b"add `stop ",
+        at,
+        b"`, or `pause ",
+        b"` if the operator may continue",
+    )
+}
+
+/// Adds what the instruction at an address does.
+fn push_act<L: MessageWriter>(text: &mut L, at: Word, omission: &Omission) -> Result<(), AllocError>
+    ensures { OnOk result (L.text text.new ≡ L.text text.old ++ act_text at omission.now) }
+{
     match omission {
-        Omission::NoWord => Some(b"remove it from the body, or end the program before it"),
-        Omission::Unsupported => Some(b"if it is data, remove it from the body"),
-        Omission::OfThe8e => Some(b"add `profile 8e` if the program is for one"),
-        Omission::StoresInEntry(_) => {
-            Some(b"let only a JMS, or an ISZ of the routine itself, write there")
+        Omission::NoWord => text.push_address(at),
+        Omission::Unsupported => text.push_text(b"the machine does not implement this word"),
+        Omission::OfThe8e => text.push_text(b"only the PDP-8/E implements this word"),
+        Omission::Halts => text.push_text(b"it halts, and no halt is declared there"),
+        Omission::Stores(cell) | Omission::StoresInEntry(cell) | Omission::StoresInOwn(cell) => {
+            push_text_and_address(text, b"it stores into ", *cell)
         }
-        Omission::CallsAutoIndex(_) => Some(b"no routine can begin in 0010 to 0017"),
-        Omission::Jumps(_) => Some(b"add it there"),
-        Omission::JumpsAcross(_) => Some(b"call a routine with a JMS, and leave it with a return"),
-        _ => None,
+        Omission::Steps(cell) => push_text_and_address(text, b"it increments the pointer ", *cell),
+        Omission::Calls(place) | Omission::CallsIntoBody(place) | Omission::CallsAutoIndex(place) =>
+            push_text_and_address(text, b"it calls ", *place),
+        Omission::Jumps(place) | Omission::JumpsAcross(place) | Omission::JumpsToMain(place) => {
+            push_text_and_address(text, b"it jumps to ", *place)
+        }
+        Omission::GoesOn(next) | Omission::GoesAcross(next) => {
+            push_text_and_address(text, b"the operator may continue at ", *next)
+        }
     }
+}
+
+/// What is not declared of the address that the instruction names, if it names one.
+fn lack_of(omission: &Omission) -> &'static [u8]
+    ensures { result.now ≡ lack_text omission.now }
+{
+    match omission {
+        Omission::NoWord => b" is in a body, but the tape has no word there",
+        Omission::Unsupported | Omission::OfThe8e | Omission::Halts => b"",
+        Omission::Stores(_) | Omission::Steps(_) => b", which is not a variable",
+        Omission::StoresInEntry(_) => b", which is an entry",
+        Omission::StoresInOwn(_) => b", which is the routine's own entry",
+        Omission::Calls(_) | Omission::CallsIntoBody(_) | Omission::CallsAutoIndex(_) => {
+            b", which is not an entry"
+        }
+        Omission::Jumps(_)
+        | Omission::JumpsAcross(_)
+        | Omission::JumpsToMain(_)
+        | Omission::GoesOn(_)
+        | Omission::GoesAcross(_) => b", which is not in the same body",
+    }
+}
+
+/// Adds that a stop is declared at an address in place of a pause.
+fn push_stop_for_pause<L: MessageWriter>(
+    text: &mut L,
+    before: &[u8],
+    at: Word,
+) -> Result<(), AllocError>
+    ensures { OnOk result (L.text text.new ≡ L.text text.old ++ stop_for_pause before.now at) }
+{
+    push_advice_twice(text, before, at, b"` in place of `pause ", b"`")
 }
 
 /// Adds what to do about what is omitted at an address.
@@ -282,18 +415,22 @@ fn push_remedy<L: MessageWriter>(
     text: &mut L,
     at: Word,
     omission: &Omission,
-) -> Result<(), AllocError> {
+) -> Result<(), AllocError>
+    ensures { OnOk result (L.text text.new ≡ L.text text.old ++ remedy_text at omission.now) }
+{
     match omission {
+        Omission::NoWord => text.push_text(
+            b"remove it from the body, or end the program before it",
+        ),
+        Omission::Unsupported => text.push_text(b"if it is data, remove it from the body"),
+        Omission::OfThe8e => text.push_text(b"add `profile 8e` if the program is for one"),
         Omission::Stores(cell) | Omission::Steps(cell) => {
             push_advice(text, b"add `var ", *cell, b"`")
         }
+        Omission::StoresInEntry(_) => {
+            text.push_text(b"let only a JMS, or an ISZ of the routine itself, write there")
+        },
         Omission::StoresInOwn(entry) => push_advice(text, b"add `moves ", *entry, b"`"),
-        Omission::JumpsToMain(place) => push_advice(
-            text,
-            b"leave the routine with a return, or add `abandon ",
-            *place,
-            b"`",
-        ),
         Omission::Calls(entry) => push_advice(text, b"add `sub ", *entry, b" body .. returns ..`"),
         Omission::CallsIntoBody(entry) => push_advice(
             text,
@@ -301,24 +438,20 @@ fn push_remedy<L: MessageWriter>(
             *entry,
             b" body .. returns ..`, and remove it from the body and the variables",
         ),
-        Omission::Halts => {
-            push_advice(text, b"add `stop ", at, b"`, or `pause ")?;
-            push_advice(text, b"", at, b"` if the operator may continue")
-        }
-        Omission::GoesOn(_) => {
-            push_advice(
-                text,
-                b"add it there, or declare `stop ",
-                at,
-                b"` in place of `pause ",
-            )?;
-            push_advice(text, b"", at, b"`")
-        }
-        Omission::GoesAcross(_) => {
-            push_advice(text, b"declare `stop ", at, b"` in place of `pause ")?;
-            push_advice(text, b"", at, b"`")
-        }
-        _ => text.push_text(fixed_remedy(omission).unwrap_or(b"")),
+        Omission::CallsAutoIndex(_) => text.push_text(b"no routine can begin in 0010 to 0017"),
+        Omission::Jumps(_) => text.push_text(b"add it there"),
+        Omission::JumpsAcross(_) => {
+            text.push_text(b"call a routine with a JMS, and leave it with a return")
+        },
+        Omission::JumpsToMain(place) => push_advice(
+            text,
+            b"leave the routine with a return, or add `abandon ",
+            *place,
+            b"`",
+        ),
+        Omission::Halts => push_halt_remedy(text, at),
+        Omission::GoesOn(_) => { push_stop_for_pause(text, b"add it there, or declare `stop ", at) }
+        Omission::GoesAcross(_) => push_stop_for_pause(text, b"declare `stop ", at),
     }
 }
 
@@ -327,11 +460,57 @@ fn push_omission<L: MessageWriter>(
     text: &mut L,
     at: Word,
     omission: &Omission,
-) -> Result<(), AllocError> {
-    push_violation(text, at, omission)?;
+) -> Result<(), AllocError>
+    ensures { OnOk result (L.text text.new ≡ L.text text.old ++ omission_line at omission.now) }
+{
+    push_act(text, at, omission)?;
+    text.push_text(lack_of(omission))?;
     text.push_text(b": ")?;
     push_remedy(text, at, omission)?;
     text.push_text(b"\n")
+}
+
+/// Adds the line of what to do about what is omitted at an address.
+fn push_remedy_line<L: MessageWriter>(
+    text: &mut L,
+    before: &[u8],
+    at: Word,
+    omission: &Omission,
+) -> Result<(), AllocError>
+    ensures { OnOk result (L.text text.new ≡
+        L.text text.old ++ remedy_line before.now at omission.now) }
+{
+    text.push_text(before)?;
+    push_remedy(text, at, omission)?;
+    text.push_text(b"\n")
+}
+
+/// Adds what is said of the instruction at which a search is stuck, where this is omitted. Where the reason already names a line
+/// that would allow the instruction, nothing is added.
+fn push_stuck<L: MessageWriter>(
+    text: &mut L,
+    at: Word,
+    omission: &Omission,
+) -> Result<(), AllocError>
+    ensures { OnOk result (L.text text.new ≡ L.text text.old ++ stuck_line at omission.now) }
+{
+    match omission {
+        Omission::NoWord | Omission::Unsupported | Omission::OfThe8e => {
+            push_omission(text, at, omission)
+        }
+        Omission::StoresInOwn(_) | Omission::JumpsToMain(_) => Ok(()),
+        Omission::StoresInEntry(_)
+        | Omission::CallsAutoIndex(_)
+        | Omission::JumpsAcross(_)
+        | Omission::GoesAcross(_) => push_remedy_line(text, b"", at, omission),
+        Omission::Stores(_)
+        | Omission::Steps(_)
+        | Omission::Calls(_)
+        | Omission::CallsIntoBody(_)
+        | Omission::Jumps(_)
+        | Omission::Halts
+        | Omission::GoesOn(_) => push_remedy_line(text, b"if this is intended, ", at, omission),
+    }
 }
 
 /// Adds the line of what to do about the instruction at which a search is stuck, after those on what a condition asks
@@ -346,29 +525,37 @@ pub fn push_stuck_remedy<L: MessageWriter, D: Allocator>(
     image: &Image,
     declaration: &Declaration<D>,
     at: Word,
-) -> Result<(), AllocError> {
-    let Some(omission) = omitted_at(image, declaration, at) else {
-        return Ok(());
-    };
-    match &omission {
-        Omission::NoWord | Omission::Unsupported | Omission::OfThe8e => {
-            return push_omission(text, at, &omission);
-        }
-        Omission::StoresInOwn(_) | Omission::JumpsToMain(_) => return Ok(()),
-        Omission::StoresInEntry(_)
-        | Omission::CallsAutoIndex(_)
-        | Omission::JumpsAcross(_)
-        | Omission::GoesAcross(_) => {}
-        Omission::Stores(_)
-        | Omission::Steps(_)
-        | Omission::Calls(_)
-        | Omission::CallsIntoBody(_)
-        | Omission::Jumps(_)
-        | Omission::Halts
-        | Omission::GoesOn(_) => text.push_text(b"if this is intended, ")?,
+) -> Result<(), AllocError>
+    // What is said is so of the instruction at that address: its cell, its address or its entry is the one that is named.
+    ensures { OnOk result (SaysRemedy image.now (meaning declaration.now) at
+        (L.text text.old) (L.text text.new)) }
+{
+    match omitted_at(image, declaration, at) {
+        Some(omission) => push_stuck(text, at, &omission),
+        None => Ok(()),
     }
-    push_remedy(text, at, &omission)?;
-    text.push_text(b"\n")
+}
+
+/// Adds the lines on what is omitted at an address, behind a heading where they are the first.
+fn push_found<L: MessageWriter, D: Allocator>(
+    text: &mut L,
+    image: &Image,
+    declaration: &Declaration<D>,
+    is_first: bool,
+    at: Word,
+    omission: &Omission,
+) -> Result<(), AllocError>
+    requires { IsOmitted image.now (meaning declaration.now) at omission.now }
+    ensures { (before : List ℕ) →
+        SaysOmissions image.now (meaning declaration.now) before (L.text text.old) →
+        OnOk result (SaysOmissions image.now (meaning declaration.now) before (L.text text.new)) }
+{
+    if is_first {
+        text.push_text(b"no certificate can fix these, if a run reaches them:\n")?;
+    }
+    text.push_instruction(at, image.get(at), declaration.profile())?;
+    push_omission(text, at, omission)?;
+    Ok(())
 }
 
 /// Adds what the tape and the declaration show by themselves, of at most eight instructions in the order of their
@@ -383,7 +570,11 @@ pub fn push_omissions<L: MessageWriter, D: Allocator>(
     image: &Image,
     declaration: &Declaration<D>,
     left_out: Option<Word>,
-) -> Result<(), AllocError> {
+) -> Result<(), AllocError>
+    // Each line that is added is so of the instruction at its address.
+    ensures { OnOk result (SaysOmissions image.now (meaning declaration.now)
+        (L.text text.old) (L.text text.new)) }
+{
     let mut found = 0usize;
     for index in 0..4096usize {
         let at = Word::from_index(index);
@@ -393,15 +584,12 @@ pub fn push_omissions<L: MessageWriter, D: Allocator>(
         let Some(omission) = omitted_at(image, declaration, at) else {
             continue;
         };
-        if found == 0 {
-            text.push_text(b"no certificate can fix these, if a run reaches them:\n")?;
+        if found == MOST {
+            text.push_text(b"and more\n")?;
+            return Ok(());
         }
+        push_found(text, image, declaration, found == 0, at, &omission)?;
         found = found.saturating_add(1);
-        if found > MOST {
-            return text.push_text(b"and more\n");
-        }
-        text.push_instruction(at, image.get(at), declaration.profile())?;
-        push_omission(text, at, &omission)?;
     }
     Ok(())
 }

@@ -1,5 +1,5 @@
 -- What options ask for: the numbers, machines and flags that their words spell, and what holds where they are left out.
-use Rattle.std.specs.Prelude.{ℕ, ◌≡◌, ◌||◌, Bool, true, false, is_some, List, Option, None, Some, Result, Ok, codes, if◌then◌else◌, option_map, unwrap_or}
+use Rattle.std.specs.Prelude.{ℕ, ◌≡◌, ◌||◌, Bool, true, false, is_some, List, [], Option, None, Some, Result, Ok, codes, if◌then◌else◌, map, option_map, unwrap_or}
 use Rattle.std.specs.Str.{bytes_eq}
 use Rattle.clap.specs.Matches.{first_value, found_of, matched_of, one_text, raw_values}
 use Rattle.clap.specs.declared.parser.matches.ArgMatches.{ArgMatches}
@@ -16,10 +16,15 @@ use Rattle.command_parts.specs.declared.options.RunOptions.{RunOptions}
 use Rattle.command_parts.specs.declared.options.SessionOptions.{SessionOptions}
 use Rattle.command_parts.specs.declared.options.TeletypeOptions.{TeletypeOptions}
 use Rattle.command_parts.specs.declared.options.VerifyOptions.{VerifyOptions}
+use Rattle.command_line.specs.declared.place_options.PlaceOptions.{PlaceOptions}
 
 -- The value of an operand or of an option, if it is given.
 abbrev pub value : ArgMatches → List ℕ → Option (List ℕ)
 value found name = first_value (found_of found) name
+
+-- The values of an option or an operand that may have several; none if it is left out.
+abbrev pub values : ArgMatches → List ℕ → List (List ℕ)
+values found name = unwrap_or (option_map raw_values (matched_of (found_of found) name)) []
 
 -- The files of a source's parts, if the program is given by its source.
 abbrev pub sources_given : ArgMatches → Option (List (List ℕ))
@@ -129,3 +134,11 @@ pub record IsWatchedWithOperator (found : ArgMatches) (is : Bool) : Type 0 where
   pub flag : IsFlagGiven found (codes "mark") mark
   pub any : is ≡ (has_value found (codes "reader") || has_value found (codes "keys") || has_value found (codes "switches") || has_value found (codes "steps")
       || has_value found (codes "continue") || mark)
+
+-- The cells and the places that options of a run name are the words that were given, and so is the number of last instructions.
+pub record ArePlacesGiven (found : ArgMatches) (places : PlaceOptions) : Type 0 where
+  pub show : map (λ text. text.now) places.show.items ≡ values found (codes "show")
+  pub until : option_map (λ text. text.now) places.until ≡ value found (codes "until")
+  pub written : map (λ text. text.now) places.written.items ≡ values found (codes "until-write")
+  pub read : map (λ text. text.now) places.read.items ≡ values found (codes "until-read")
+  pub last : IsNumberNamed 1 1000000 (value found (codes "last")) places.last

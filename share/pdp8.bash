@@ -44,7 +44,7 @@ _pdp8() {
         report) options='--output --source --text --why --help' ;;
         guess) options='--output --source --certificate --report --why --help' ;;
         refute) options='--output --source --steps --seed --why --help' ;;
-        declare) options='--output --source --from --start --reads --profile --why --help' ;;
+        declare) options='--output --source --from --start --reads --tight --exits --profile --why --help' ;;
         place) options='--output --declaration --why --help' ;;
         migrate) options='--output --certificate --declaration --why --help' ;;
         explain) options='--help' ;;

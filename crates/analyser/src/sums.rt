@@ -134,8 +134,8 @@ fn tried_by_cells<A: Allocator + Copy, D: Allocator>(
     Err(GuessFault::Stuck(stuck))
 }
 
-/// Looks for a certificate of version 3: with one fact at an address, and where that is stuck with facts that are distinguished
-/// by the call, then by the link, then by the words of a cell.
+/// Looks for a certificate of version 3: with one fact at an address, and where that is stuck with facts that are distinguished by
+/// the call, then by the link, then by the words of a cell and where a skip may test it by the link.
 pub(crate) fn found_by_sums<A: Allocator + Copy, D: Allocator>(
     alloc: A,
     image: &Image,
@@ -159,9 +159,15 @@ pub(crate) fn found_by_sums<A: Allocator + Copy, D: Allocator>(
         return found;
     };
     let cells = search.distinguishing_variables(&program);
-    let found = tried(&mut search, &program, &split.by_links(), turns);
+    let found = tried(
+        &mut search,
+        &program,
+        &split.by_links(&WordSet::all()),
+        turns,
+    );
     let Err(GuessFault::Stuck(_)) = &found else {
         return found;
     };
-    tried_by_cells(&mut search, &program, &split, &cells, *at, turns)
+    let apart = split.by_links(program.tested_links());
+    tried_by_cells(&mut search, &program, &apart, &cells, *at, turns)
 }

@@ -1,5 +1,5 @@
--- What requests for a tape alone, or for a certificate alone, have of the words that were given. Nothing is said here of where a result
--- goes, of the cells that are shown, and of where a run is stopped.
+-- What requests for a tape alone, or for a certificate alone, have of the words that were given. Nothing is said here of the cells
+-- that are shown, and of where a run is stopped.
 use Rattle.std.specs.Prelude.{ℕ, ◌≡◌, List, Option, None, Some, Ok, codes, option_map}
 use Rattle.clap.specs.declared.parser.matches.ArgMatches.{ArgMatches}
 use Rattle.command_line.specs.declared.operator.Session.{Session}
@@ -8,6 +8,7 @@ use Rattle.command_line.specs.declared.tapes.DumpRequest.{DumpRequest}
 use Rattle.command_line.specs.declared.tapes.MigrateRequest.{MigrateRequest}
 use Rattle.command_line.specs.declared.tapes.RunRequest.{RunRequest}
 use Rattle.command_line.specs.declared.tapes.SourceRequest.{SourceRequest}
+use Rattle.command_line.specs.Outputs.{IsEmptiedGiven, IsKeptGiven}
 use Rattle.command_line.specs.Options.{AreRunOptions, AreSessionOptions, AreTeletypeOptions, IsFlagGiven, machine_given, operand, sources_given, start_given, value}
 
 -- The tape that is given, unless a source takes its place.
@@ -49,14 +50,19 @@ pub record IsDumpGiven (found : ArgMatches) (dump : DumpRequest) : Type 0 where
   pub machine : machine_given found ≡ Some dump.profile
   pub full : IsFlagGiven found (codes "full") dump.full
 
--- The source is of the tape and of the declaration that are given, for the start and the machine that are requested.
+-- The source is of the tape and of the declaration that are given, for the start and the machine that are requested, and goes where it
+-- is said.
 pub record IsSourceGiven (found : ArgMatches) (source : SourceRequest) : Type 0 where
   pub tape : source.tape.now ≡ operand found (codes "TAPE")
   pub declaration : option_map (λ name. name.now) source.declaration ≡ value found (codes "declaration")
   pub start : start_given found ≡ Ok source.start
   pub machine : machine_given found ≡ Some source.profile
+  pub out : IsKeptGiven (value found (codes "output")) (operand found (codes "OUT")) source.out
+  pub forced : IsFlagGiven found (codes "force") source.forced
 
--- The certificate that is migrated and the declaration are those that are given. Nothing is said here of the version that is requested.
+-- The certificate that is migrated and the declaration are those that are given, and the result goes where it is said. Nothing is said
+-- here of the version that is requested.
 pub record IsMigrateGiven (found : ArgMatches) (migrate : MigrateRequest) : Type 0 where
   pub certificate : migrate.certificate.now ≡ operand found (codes "CERTIFICATE")
   pub declaration : option_map (λ name. name.now) migrate.declaration ≡ value found (codes "declaration")
+  pub out : IsEmptiedGiven (value found (codes "output")) (operand found (codes "OUT")) migrate.out

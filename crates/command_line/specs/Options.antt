@@ -1,5 +1,5 @@
 -- What options ask for: the numbers, machines and flags that their words spell, and what holds where they are left out.
-use Rattle.std.specs.Prelude.{ℕ, ◌≡◌, ◌||◌, Bool, true, false, is_some, List, Option, None, Some, Result, Ok, codes, if◌then◌else◌, option_map, unwrap_or}
+use Rattle.std.specs.Prelude.{ℕ, ◌≡◌, ◌||◌, Bool, true, false, is_some, List, [], Option, None, Some, Result, Ok, codes, if◌then◌else◌, map, option_map, unwrap_or}
 use Rattle.std.specs.Str.{bytes_eq}
 use Rattle.clap.specs.Matches.{first_value, found_of, matched_of, one_text, raw_values}
 use Rattle.clap.specs.declared.parser.matches.ArgMatches.{ArgMatches}
@@ -11,15 +11,21 @@ use Rattle.streams.specs.Text.{decimal_between}
 use Rattle.word12.specs.Octal.{octal_reading}
 use Rattle.word12.specs.declared.OctalFault.{OctalFault}
 use Rattle.command_parts.specs.declared.options.DeclareOptions.{DeclareOptions}
+use Rattle.command_parts.specs.declared.options.Refinements.{Refinements}
 use Rattle.command_parts.specs.declared.options.RefuteOptions.{RefuteOptions}
 use Rattle.command_parts.specs.declared.options.RunOptions.{RunOptions}
 use Rattle.command_parts.specs.declared.options.SessionOptions.{SessionOptions}
 use Rattle.command_parts.specs.declared.options.TeletypeOptions.{TeletypeOptions}
 use Rattle.command_parts.specs.declared.options.VerifyOptions.{VerifyOptions}
+use Rattle.command_line.specs.declared.place_options.PlaceOptions.{PlaceOptions}
 
 -- The value of an operand or of an option, if it is given.
 abbrev pub value : ArgMatches → List ℕ → Option (List ℕ)
 value found name = first_value (found_of found) name
+
+-- The values of an option or an operand that may have several; none if it is left out.
+abbrev pub values : ArgMatches → List ℕ → List (List ℕ)
+values found name = unwrap_or (option_map raw_values (matched_of (found_of found) name)) []
 
 -- The files of a source's parts, if the program is given by its source.
 abbrev pub sources_given : ArgMatches → Option (List (List ℕ))
@@ -97,6 +103,11 @@ pub record AreDeclareOptions (found : ArgMatches) (options : DeclareOptions) : T
   pub machine : machine_given found ≡ Some options.profile
   pub reads : IsFlagGiven found (codes "reads") options.reads
 
+-- A declaration is refined as the options ask: without what is needless or not, and with or without what routines return with.
+pub record AreRefinements (found : ArgMatches) (refinements : Refinements) : Type 0 where
+  pub tight : IsFlagGiven found (codes "tight") refinements.tight
+  pub exits : IsFlagGiven found (codes "exits") refinements.exits
+
 -- A run is searched for as the options ask: with so many steps at most, from the seed, and with or without what is said of it.
 pub record AreRefuteOptions (found : ArgMatches) (options : RefuteOptions) : Type 0 where
   pub steps : number_or 1 100000000 20000000 (value found (codes "steps")) ≡ Some options.steps
@@ -129,3 +140,11 @@ pub record IsWatchedWithOperator (found : ArgMatches) (is : Bool) : Type 0 where
   pub flag : IsFlagGiven found (codes "mark") mark
   pub any : is ≡ (has_value found (codes "reader") || has_value found (codes "keys") || has_value found (codes "switches") || has_value found (codes "steps")
       || has_value found (codes "continue") || mark)
+
+-- The cells and the places that options of a run name are the words that were given, and so is the number of last instructions.
+pub record ArePlacesGiven (found : ArgMatches) (places : PlaceOptions) : Type 0 where
+  pub show : map (λ text. text.now) places.show.items ≡ values found (codes "show")
+  pub until : option_map (λ text. text.now) places.until ≡ value found (codes "until")
+  pub written : map (λ text. text.now) places.written.items ≡ values found (codes "until-write")
+  pub read : map (λ text. text.now) places.read.items ≡ values found (codes "until-read")
+  pub last : IsNumberNamed 1 1000000 (value found (codes "last")) places.last

@@ -1,6 +1,11 @@
--- When an output is an input, as far as the names tell.
-use Rattle.std.specs.Prelude.{ℕ, Bool, ◌||◌, if◌then◌else◌, codes, drop, take, List}
+-- Where results go, and when an output is an input, as far as the names tell.
+use Rattle.std.specs.Prelude.{ℕ, ◌≡◌, Bool, ◌||◌, if◌then◌else◌, codes, drop, take, List, Option, None, Some}
 use Rattle.std.specs.Str.{bytes_eq}
+use Rattle.clap.specs.declared.parser.matches.ArgMatches.{ArgMatches}
+use Rattle.command_line.specs.declared.outputs.Destination.{Destination}
+use Rattle.command_line.specs.declared.outputs.Destination.TheVariants.{EmptiedFirst, CheckedFirst, MadeLast}
+use Rattle.command_line.specs.declared.outputs.SaveOptions.{SaveOptions}
+use Rattle.command_line.specs.Options.{IsFlagGiven, operand, value}
 
 -- A name without `./` at its front.
 abbrev pub without_here : List ℕ → List ℕ
@@ -13,3 +18,44 @@ is_same_file left right = bytes_eq (without_here left) (without_here right)
 -- An input of this name is standard input.
 abbrev pub is_standard_input : List ℕ → Bool
 is_standard_input name = bytes_eq name (codes "-") || bytes_eq name (codes "/dev/stdin")
+
+-- The name of the file that a result goes to.
+abbrev pub file_of : Destination → List ℕ
+file_of (EmptiedFirst name) = name.now
+file_of (CheckedFirst name) = name.now
+file_of (MadeLast name) = name.now
+
+-- A result goes to the operand if it is given, whose file is checked first; otherwise to the value of `-o`, whose file is made last, and
+-- without it to standard output.
+abbrev pub IsResultGiven : ArgMatches → Option (List ℕ) → Destination → Type 0
+IsResultGiven found (Some name) (CheckedFirst file) = file.now ≡ name
+IsResultGiven found None (MadeLast file) = file.now ≡ operand found (codes "output")
+IsResultGiven found _ _ = ⊥
+
+-- A certificate goes to the operand if it is given, whose file is emptied first; otherwise as other results.
+abbrev pub IsCertificateResultGiven : ArgMatches → Option (List ℕ) → Destination → Type 0
+IsCertificateResultGiven found (Some name) (EmptiedFirst file) = file.now ≡ name
+IsCertificateResultGiven found None (MadeLast file) = file.now ≡ operand found (codes "output")
+IsCertificateResultGiven found _ _ = ⊥
+
+-- A result goes to the value of `-o` if it is given, whose file is made last; otherwise to the operand, whose file is emptied first.
+abbrev pub IsEmptiedGiven : Option (List ℕ) → List ℕ → Destination → Type 0
+IsEmptiedGiven (Some name) operand (MadeLast file) = file.now ≡ name
+IsEmptiedGiven None operand (EmptiedFirst file) = file.now ≡ operand
+IsEmptiedGiven _ operand _ = ⊥
+
+-- The same of an operand whose file is checked first.
+abbrev pub IsKeptGiven : Option (List ℕ) → List ℕ → Destination → Type 0
+IsKeptGiven (Some name) operand (MadeLast file) = file.now ≡ name
+IsKeptGiven None operand (CheckedFirst file) = file.now ≡ operand
+IsKeptGiven _ operand _ = ⊥
+
+-- What the names of saved files begin with is the value of `--save`, and they replace other files only where `--force` is given.
+pub record IsSaveNamed (found : ArgMatches) (save : SaveOptions) : Type 0 where
+  pub name : value found (codes "save") ≡ Some save.name.now
+  pub forced : IsFlagGiven found (codes "force") save.forced
+
+-- Something is saved exactly if `--save` is given.
+abbrev pub IsSaveGiven : ArgMatches → Option SaveOptions → Type 0
+IsSaveGiven found None = value found (codes "save") ≡ None
+IsSaveGiven found (Some save) = IsSaveNamed found save

@@ -9,7 +9,10 @@ use Rattle.command_line.specs.declared.programs.ProgramNames.{ProgramNames}
 use Rattle.command_line.specs.declared.programs.ProgramNames.TheVariants.{Tape, Source}
 use Rattle.command_line.specs.declared.programs.Task.{Task}
 use Rattle.command_line.specs.declared.programs.Task.TheVariants.{Verify, Check, Report, Watch, WatchSession, Guess, Refute, Declare}
-use Rattle.command_line.specs.Options.{AreDeclareOptions, AreRefuteOptions, AreSessionOptions, AreVerifyOptions, IsFlagGiven, IsNumberNamed, IsVersionNamed, IsWatchedWithOperator, has_value, operand, sources_given, value}
+use Rattle.command_line.specs.declared.outputs.Destination.{Destination}
+use Rattle.certificate_lines.specs.declared.Version.{Version}
+use Rattle.command_line.specs.Outputs.{IsCertificateResultGiven, IsResultGiven, IsSaveGiven}
+use Rattle.command_line.specs.Options.{AreDeclareOptions, AreRefinements, AreRefuteOptions, AreSessionOptions, AreVerifyOptions, IsFlagGiven, IsNumberNamed, IsVersionNamed, IsWatchedWithOperator, has_value, operand, sources_given, value}
 
 -- The files of a program are those that were given: that of its tape, or those of the parts of its source, in order.
 abbrev pub IsProgramGiven : ArgMatches → ProgramNames → Type 0
@@ -100,9 +103,9 @@ pub record IsSessionGiven (found : ArgMatches) (session : WatchedSession) : Type
   pub continues : IsNumberNamed 1 1000000 (value found (codes "continue")) session.continues
   pub explained : IsFlagGiven found (codes "why") session.explained
 
--- The search for an answer is made as the options ask.
+-- The search for an answer is made and what is found is saved as the options ask.
 abbrev pub IsVerifyGiven : ArgMatches → Task → Type 0
-IsVerifyGiven found (Verify save options) = AreVerifyOptions found options
+IsVerifyGiven found (Verify save options) = IsSaveGiven found save × AreVerifyOptions found options
 IsVerifyGiven found _ = ⊥
 
 -- The list of events is the one that is given last, or the run has an operator as the options ask.
@@ -111,24 +114,37 @@ IsWatchGiven found last (Watch events show stopping) = events.now ≡ unwrap_or 
 IsWatchGiven found last (WatchSession session) = IsSessionGiven found session
 IsWatchGiven found last _ = ⊥
 
--- The search for a certificate is for the version that is requested.
-abbrev pub IsGuessGiven : ArgMatches → Task → Type 0
-IsGuessGiven found (Guess out report version) = IsVersionNamed (value found (codes "certificate")) version
-IsGuessGiven found _ = ⊥
+-- The search for a certificate is for the version that is requested, and the certificate and the report of a search that is stuck go
+-- where it is said.
+pub record IsGuessOf (found : ArgMatches) (last : Option (List ℕ)) (out : Destination) (report : Option (List ℕ)) (version : Option Version) : Type 0 where
+  pub out_is : IsCertificateResultGiven found last out
+  pub report_is : report ≡ value found (codes "report")
+  pub version_is : IsVersionNamed (value found (codes "certificate")) version
 
--- The search for a run is made as the options ask.
-abbrev pub IsRefuteGiven : ArgMatches → Task → Type 0
-IsRefuteGiven found (Refute out options) = AreRefuteOptions found options
-IsRefuteGiven found _ = ⊥
+-- A search for a certificate is such a one.
+abbrev pub IsGuessGiven : ArgMatches → Option (List ℕ) → Task → Type 0
+IsGuessGiven found last (Guess out report version) = IsGuessOf found last out (option_map (λ name. name.now) report) version
+IsGuessGiven found last _ = ⊥
 
--- A declaration is proposed as the options ask.
-abbrev pub IsDeclareGiven : ArgMatches → Task → Type 0
-IsDeclareGiven found (Declare out options) = AreDeclareOptions found options
-IsDeclareGiven found _ = ⊥
+-- The search for a run is made as the options ask, and the run goes where it is said.
+abbrev pub IsRefuteGiven : ArgMatches → Option (List ℕ) → Task → Type 0
+IsRefuteGiven found last (Refute out options) = IsResultGiven found last out × AreRefuteOptions found options
+IsRefuteGiven found last _ = ⊥
 
--- The report is of the certificate that is given last, as text or as a page as the option asks.
+-- A declaration is proposed as the options ask, and goes where it is said.
+abbrev pub IsDeclareGiven : ArgMatches → Option (List ℕ) → Task → Type 0
+IsDeclareGiven found last (Declare out options refinements) = IsResultGiven found last out × AreDeclareOptions found options × AreRefinements found refinements
+IsDeclareGiven found last _ = ⊥
+
+-- The report is of the certificate that is given last, as text or as a page as the option asks, and goes where it is said.
+pub record IsReportOf (found : ArgMatches) (last : Option (List ℕ)) (certificate : List ℕ) (out : Destination) (text : Bool) : Type 0 where
+  pub certificate_is : certificate ≡ unwrap_or last (codes "-")
+  pub out_is : IsResultGiven found (value found (codes "OUT")) out
+  pub text_is : IsFlagGiven found (codes "text") text
+
+-- A report is such a one.
 abbrev pub IsReportGiven : ArgMatches → Option (List ℕ) → Task → Type 0
-IsReportGiven found last (Report certificate out text) = (certificate.now ≡ unwrap_or last (codes "-")) × IsFlagGiven found (codes "text") text
+IsReportGiven found last (Report certificate out text) = IsReportOf found last certificate.now out text
 IsReportGiven found last _ = ⊥
 
 -- The certificate that is checked is the one that is given last.
@@ -136,14 +152,14 @@ abbrev pub IsCheckGiven : Option (List ℕ) → Task → Type 0
 IsCheckGiven last (Check certificate) = certificate.now ≡ unwrap_or last (codes "-")
 IsCheckGiven last _ = ⊥
 
--- What is done is what the command is called for, with its last operand and as its options ask. Nothing is said here of where a result
--- goes and of the cells that are shown.
+-- What is done is what the command is called for, with its last operand and as its options ask. Nothing is said here of the cells that
+-- are shown and of where a run is stopped.
 abbrev pub IsTaskGiven : ProgramCommand → ArgMatches → Option (List ℕ) → Task → Type 0
 IsTaskGiven command.Verify found last task = IsVerifyGiven found task
 IsTaskGiven command.Watch found last task = IsWatchGiven found last task
-IsTaskGiven command.Guess found last task = IsGuessGiven found task
-IsTaskGiven command.Refute found last task = IsRefuteGiven found task
-IsTaskGiven command.Declare found last task = IsDeclareGiven found task
+IsTaskGiven command.Guess found last task = IsGuessGiven found last task
+IsTaskGiven command.Refute found last task = IsRefuteGiven found last task
+IsTaskGiven command.Declare found last task = IsDeclareGiven found last task
 IsTaskGiven command.Report found last task = IsReportGiven found last task
 IsTaskGiven command.Check found last task = IsCheckGiven last task
 

@@ -137,7 +137,7 @@ const EXPLAIN: Entry = Entry {
     name: "explain",
     usage: "pdp8 explain [CODE]",
     about: "Writes what a condition, a rule or a fault means, and what to do",
-    after_help: "Without CODE it lists the codes. In `no: V5 at 0210`, `broken: event 50 rule 2` and `pdp8: source: IR 1 2` the codes are V5, rule2 and IR.\n\nExample:\n  pdp8 explain V5",
+    after_help: "Without CODE it lists the codes. In `no: V5 at 0210`, `broken: event 50 rule 2` and `pdp8: source: IR 1 2` the codes are V5, rule 2 and IR.\n\nExample:\n  pdp8 explain V5",
 };
 
 /// The commands with their arguments, in the order of the list.

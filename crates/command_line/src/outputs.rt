@@ -1,13 +1,13 @@
 //! Where the result of a command goes.
 
-ghost use Rattle.std.specs.Prelude.{◌≡◌, ◌&&◌, IfOk, not, codes, option_map};
+ghost use Rattle.std.specs.Prelude.{◌≡◌, ◌&&◌, IfOk, not, codes, false, option_map};
 ghost use Rattle.std.specs.List.{list_any};
 ghost use Rattle.std.specs.Str.{bytes_eq};
-ghost use Rattle.command_line.specs.Options.{has_value, value};
-ghost use Rattle.command_line.specs.Outputs.{is_same_file, without_here};
+ghost use Rattle.command_line.specs.Options.{has_value, operand, value};
+ghost use Rattle.command_line.specs.Outputs.{IsEmptiedGiven, IsKeptGiven, IsSaveGiven, file_of, is_same_file, without_here};
 
 use crate::fault::{CommandLineFault, Misuse};
-use crate::values::has_value;
+use crate::values::{has_value, is_given, operand_of};
 use clap::ArgMatches;
 
 /// Where a result goes: the name of a file, or `-` for standard output.
@@ -25,7 +25,9 @@ pub enum Destination<'a> {
 
 impl<'a> Destination<'a> {
     /// The name of the file, or `-`.
-    pub fn name(&self) -> &'a str {
+    pub fn name(&self) -> &'a str
+        ensures { result.now ≡ file_of self.now }
+    {
         match self {
             Destination::EmptiedFirst(name)
             | Destination::CheckedFirst(name)
@@ -92,7 +94,10 @@ pub fn report_of<'a>(
     found: &ArgMatches<'a>,
     others: &[&str],
     out: &Destination<'_>,
-) -> Result<Option<&'a str>, CommandLineFault> {
+) -> Result<Option<&'a str>, CommandLineFault>
+    ensures { IfOk result (λ name. option_map (λ it. it.now) name ≡
+        value found.now (codes "report")) }
+{
     let Some(name) = found.get_str("report") else {
         return Ok(None);
     };
@@ -132,7 +137,11 @@ pub fn punch_of<'a>(
 pub fn no_input<'a>(
     destination: Destination<'a>,
     inputs: &[&str],
-) -> Result<Destination<'a>, CommandLineFault> {
+) -> Result<Destination<'a>, CommandLineFault>
+    ensures kept { IfOk result (λ out. out ≡ destination.entry) }
+    ensures free { IfOk result (λ out. (not (bytes_eq (file_of out) (codes "-")) &&
+        list_any (λ other. is_same_file other.now (file_of out)) inputs.now) ≡ false) }
+{
     if is_taken(destination.name(), inputs) {
         return Err(CommandLineFault::Misuse(Misuse::OutputIsInput));
     }
@@ -143,7 +152,11 @@ pub fn no_input<'a>(
 pub fn no_source<'a>(
     destination: Destination<'a>,
     inputs: &[&str],
-) -> Result<Destination<'a>, CommandLineFault> {
+) -> Result<Destination<'a>, CommandLineFault>
+    ensures kept { IfOk result (λ out. out ≡ destination.entry) }
+    ensures free { IfOk result (λ out. (not (bytes_eq (file_of out) (codes "-")) &&
+        list_any (λ other. is_same_file other.now (file_of out)) inputs.now) ≡ false) }
+{
     let destination = no_input(destination, inputs)?;
     if is_source_name(destination.name()) {
         return Err(CommandLineFault::Misuse(Misuse::ResultIsSource));
@@ -152,19 +165,25 @@ pub fn no_source<'a>(
 }
 
 /// Where the result goes: the value of `-o`, otherwise the operand OUT, which is emptied first.
-pub fn emptied_destination<'a>(found: &ArgMatches<'a>) -> Destination<'a> {
+pub fn emptied_destination<'a>(found: &ArgMatches<'a>) -> Destination<'a>
+    ensures { IsEmptiedGiven (value found.now (codes "output"))
+        (operand found.now (codes "OUT")) result }
+{
     match found.get_str("output") {
         Some(name) => Destination::MadeLast(name),
-        None => Destination::EmptiedFirst(found.get_str("OUT").unwrap_or("-")),
+        None => Destination::EmptiedFirst(operand_of(found, "OUT")),
     }
 }
 
 /// Where the result goes: the value of `-o`, otherwise the operand OUT, which stays as it was if there is nothing to
 /// write.
-pub fn kept_destination<'a>(found: &ArgMatches<'a>) -> Destination<'a> {
+pub fn kept_destination<'a>(found: &ArgMatches<'a>) -> Destination<'a>
+    ensures { IsKeptGiven (value found.now (codes "output"))
+        (operand found.now (codes "OUT")) result }
+{
     match found.get_str("output") {
         Some(name) => Destination::MadeLast(name),
-        None => Destination::CheckedFirst(found.get_str("OUT").unwrap_or("-")),
+        None => Destination::CheckedFirst(operand_of(found, "OUT")),
     }
 }
 
@@ -223,7 +242,9 @@ pub fn save_of<'a>(
     found: &ArgMatches<'a>,
     inputs: &[&str],
     proposed: bool,
-) -> Result<Option<SaveOptions<'a>>, CommandLineFault> {
+) -> Result<Option<SaveOptions<'a>>, CommandLineFault>
+    ensures { IfOk result (IsSaveGiven found.now) }
+{
     let Some(name) = found.get_str("save") else {
         return Ok(None);
     };
@@ -233,7 +254,7 @@ pub fn save_of<'a>(
     let save = SaveOptions {
         name,
         proposed,
-        forced: found.get_flag("force"),
+        forced: is_given(found, "force"),
     };
     if save.takes(inputs) {
         return Err(CommandLineFault::Misuse(Misuse::SaveIsTaken));

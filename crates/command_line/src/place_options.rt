@@ -1,9 +1,11 @@
 //! The cells and the places that options name.
 
-ghost use Rattle.std.specs.Prelude.{◌≡◌, ◌==◌};
+ghost use Rattle.std.specs.Prelude.{◌≡◌, ◌==◌, IfOk, codes, map};
 ghost use Rattle.std.specs.List.{position};
+ghost use Rattle.command_line.specs.Options.{ArePlacesGiven, IsNumberNamed, value, values};
 
 use crate::fault::{CommandLineFault, Misuse};
+use crate::operands::copied;
 use clap::ArgMatches;
 use command_parts::options::Stops;
 use std::alloc::{AllocError, Global};
@@ -108,23 +110,33 @@ fn values_of<'a>(
     alloc: Global,
     found: &ArgMatches<'a>,
     option: &str,
-) -> Result<Vec<&'a str>, AllocError> {
-    let mut values = Vec::new(alloc);
-    values.extend_from_slice(found.get_strs(option).unwrap_or(&[]))?;
-    Ok(values)
+) -> Result<Vec<&'a str>, AllocError>
+    ensures { IfOk result (λ texts. map (λ text. text.now) texts.items ≡
+        values found.now option.now) }
+{
+    match found.get_strs(option) {
+        Some(texts) => copied(alloc, texts),
+        None => Ok(Vec::new(alloc)),
+    }
 }
 
 /// The cells and the places that options of a run name.
 pub(crate) fn places_of<'a>(
     alloc: Global,
     found: &ArgMatches<'a>,
-) -> Result<PlaceOptions<'a>, CommandLineFault> {
+) -> Result<PlaceOptions<'a>, CommandLineFault>
+    ensures { IfOk result (ArePlacesGiven found.now) }
+{
     let last = last_of(found)?;
+    let show = values_of(alloc, found, "show")?;
+    let until = found.get_str("until");
+    let written = values_of(alloc, found, "until-write")?;
+    let read = values_of(alloc, found, "until-read")?;
     Ok(PlaceOptions {
-        show: values_of(alloc, found, "show")?,
-        until: found.get_str("until"),
-        written: values_of(alloc, found, "until-write")?,
-        read: values_of(alloc, found, "until-read")?,
+        show,
+        until,
+        written,
+        read,
         last,
     })
 }
@@ -223,16 +235,17 @@ pub struct StopOptions {
 }
 
 /// How many of the last instructions are shown, if that is requested.
-fn last_of(found: &ArgMatches<'_>) -> Result<Option<u32>, CommandLineFault> {
-    let Some(text) = found.get_str("last") else {
-        return Ok(None);
-    };
-    if found.get_flag("trace") || found.get_flag("trace-long") {
-        return Err(CommandLineFault::Misuse(Misuse::LastAndTrace));
-    }
-    match decimal_between(1, MOST_LAST, text.as_bytes()) {
-        Some(most) => Ok(Some(most)),
-        None => Err(CommandLineFault::Misuse(Misuse::Last)),
+fn last_of(found: &ArgMatches<'_>) -> Result<Option<u32>, CommandLineFault>
+    ensures { IfOk result (IsNumberNamed 1 1000000 (value found.now (codes "last"))) }
+{
+    let is_traced = found.get_flag("trace") || found.get_flag("trace-long");
+    match found.get_str("last") {
+        None => Ok(None),
+        Some(_) if is_traced => Err(CommandLineFault::Misuse(Misuse::LastAndTrace)),
+        Some(text) => match decimal_between(1, MOST_LAST, text.as_bytes()) {
+            Some(most) => Ok(Some(most)),
+            None => Err(CommandLineFault::Misuse(Misuse::Last)),
+        },
     }
 }
 

@@ -3,7 +3,8 @@
 
 ghost use Rattle.std.specs.Prelude.{◌≡◌, IfOk, Some, codes, option_map, unwrap_or};
 ghost use Rattle.command_line.specs.ProgramCommands.{command_of};
-ghost use Rattle.command_line.specs.Options.{IsFlagGiven, IsVersionNamed, value, version_named};
+ghost use Rattle.command_line.specs.Outputs.{IsCertificateResultGiven, IsResultGiven};
+ghost use Rattle.command_line.specs.Options.{ArePlacesGiven, IsFlagGiven, IsVersionNamed, value, version_named};
 ghost use Rattle.command_line.specs.Requests.{IsDeclarationGiven, IsDeclareGiven, IsGuessGiven, IsProgramGiven, IsRefuteGiven, IsReportGiven, IsSessionGiven, IsTaskGiven, IsTaskOf, IsVerifyGiven};
 
 use crate::fault::{CommandLineFault, Misuse};
@@ -18,12 +19,12 @@ use crate::place_options::{OctalAddresses, PlaceOptions, StopOptions, places_of}
 use crate::program_command::{ProgramCommand, command_of};
 use crate::sources::source_names;
 use crate::values::{
-    declare_options, is_given, is_start_named, read_standard_input_once, refute_options,
-    verify_options,
+    declare_options, is_given, is_start_named, operand_of, read_standard_input_once, refinements_of,
+    refute_options, verify_options,
 };
 use certificate_lines::Version;
 use clap::ArgMatches;
-use command_parts::options::{DeclareOptions, RefuteOptions, VerifyOptions};
+use command_parts::options::{DeclareOptions, Refinements, RefuteOptions, VerifyOptions};
 use std::alloc::Global;
 use wordset::WordSet;
 
@@ -111,6 +112,8 @@ pub enum Task<'a> {
         out: Destination<'a>,
         /// What it is proposed for.
         options: DeclareOptions,
+        /// What is made of it if a certificate is found.
+        refinements: Refinements,
     },
     /// To write the declaration in numbers.
     Place {
@@ -232,18 +235,23 @@ impl<'a> Task<'a> {
 
 /// Where a result goes: the operand OUT, which stays as it was if there is nothing to write; without one the value of
 /// `-o`.
-fn result_of<'a>(found: &ArgMatches<'a>, out: Option<&'a str>) -> Destination<'a> {
+fn result_of<'a>(found: &ArgMatches<'a>, out: Option<&'a str>) -> Destination<'a>
+    ensures { IsResultGiven found.now (option_map (λ name. name.now) out.entry) result }
+{
     match out {
         Some(name) => Destination::CheckedFirst(name),
-        None => Destination::MadeLast(found.get_str("output").unwrap_or("-")),
+        None => Destination::MadeLast(operand_of(found, "output")),
     }
 }
 
 /// Where a certificate goes: the operand OUT, which is emptied first; without one the value of `-o`.
-fn certificate_of<'a>(found: &ArgMatches<'a>, out: Option<&'a str>) -> Destination<'a> {
+fn certificate_of<'a>(found: &ArgMatches<'a>, out: Option<&'a str>) -> Destination<'a>
+    ensures { IsCertificateResultGiven found.now
+        (option_map (λ name. name.now) out.entry) result }
+{
     match out {
         Some(name) => Destination::EmptiedFirst(name),
-        None => result_of(found, None),
+        None => Destination::MadeLast(operand_of(found, "output")),
     }
 }
 
@@ -313,7 +321,8 @@ fn guess_task<'a>(
     operands: &Operands<'a>,
     inputs: &[&'a str],
 ) -> Result<Task<'a>, CommandLineFault>
-    ensures { IfOk result (IsGuessGiven found.now) }
+    ensures { IfOk result (IsGuessGiven found.now
+        (option_map (λ name. name.now) operands.now.last)) }
 {
     let is_tape = operands.program.tape().is_some();
     let out = no_source(certificate_of(found, operands.last), inputs)?;
@@ -356,7 +365,8 @@ fn refute_task<'a>(
     operands: &Operands<'a>,
     inputs: &[&'a str],
 ) -> Result<Task<'a>, CommandLineFault>
-    ensures { IfOk result (IsRefuteGiven found.now) }
+    ensures { IfOk result (IsRefuteGiven found.now
+        (option_map (λ name. name.now) operands.now.last)) }
 {
     let out = no_source(result_of(found, operands.last), inputs)?;
     let options = refute_options(found)?;
@@ -369,11 +379,17 @@ fn declare_task<'a>(
     operands: &Operands<'a>,
     inputs: &[&'a str],
 ) -> Result<Task<'a>, CommandLineFault>
-    ensures { IfOk result (IsDeclareGiven found.now) }
+    ensures { IfOk result (IsDeclareGiven found.now
+        (option_map (λ name. name.now) operands.now.last)) }
 {
     let out = no_source(result_of(found, operands.last), inputs)?;
     let options = declare_options(found)?;
-    Ok(Task::Declare { out, options })
+    let refinements = refinements_of(found);
+    Ok(Task::Declare {
+        out,
+        options,
+        refinements,
+    })
 }
 
 /// To write what a certificate says.
@@ -385,9 +401,11 @@ fn report_task<'a>(
     ensures { IfOk result (IsReportGiven found.now
         (option_map (λ name. name.now) operands.now.last)) }
 {
-    let out = no_source(result_of(found, found.get_str("OUT")), inputs)?;
+    let named = found.get_str("OUT");
+    let out = no_source(result_of(found, named), inputs)?;
+    let certificate = name_or_input(&operands.last);
     Ok(Task::Report {
-        certificate: name_or_input(&operands.last),
+        certificate,
         out,
         text: is_given(found, "text"),
     })
@@ -501,6 +519,8 @@ pub(crate) fn program_request<'a>(
         IsTaskOf (command_of command.now) found.now asked.program asked.task) }
     ensures explained { IfOk result (λ asked.
         IsFlagGiven found.now (codes "why") asked.explained) }
+    // The words that name cells and places of a run are those that were given.
+    ensures places { IfOk result (λ asked. ArePlacesGiven found.now asked.places) }
 {
     let called = command_of(command);
     let operands = operands_of(alloc, called, found)?;

@@ -38,6 +38,8 @@ pub enum Request<'a> {
     Explain {
         /// Its code; without one the codes are listed.
         code: Option<&'a str>,
+        /// What stands after it as a word of its own, as the number in `rule 2`.
+        number: Option<&'a str>,
     },
     /// To work on a program and its declaration.
     Program(ProgramRequest<'a>),
@@ -67,6 +69,7 @@ fn request_of<'a>(
         "place" => Ok(Request::Program(place_request(alloc, found)?)),
         "explain" => Ok(Request::Explain {
             code: found.get_str("CODE"),
+            number: found.get_str("NUMBER"),
         }),
         _ => Ok(Request::Program(program_request(alloc, command, found)?)),
     }

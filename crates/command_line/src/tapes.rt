@@ -162,7 +162,7 @@ pub(crate) fn source_request<'a>(
     Ok(SourceRequest {
         tape,
         out,
-        forced: found.get_flag("force"),
+        forced: is_given(found, "force"),
         declaration,
         start,
         profile,

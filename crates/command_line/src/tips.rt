@@ -10,8 +10,14 @@ const TIP: &str = "  tip: ";
 /// What a tip begins with that proposes an option.
 const SIMILAR: &str = "  tip: a similar argument exists: ";
 
-/// How many letters of a misspelt option are changed, left out, added or swapped at most.
-const MOST_EDITS: usize = 2;
+/// From how many characters on, with its dashes, an option counts as long.
+const LONG: usize = 10;
+
+/// How many letters of a misspelt option are changed, left out, added or swapped at most. Two letters of a short one make
+/// another word of it: `--stop` does not stand for `--steps`.
+fn most_edits(given: &str) -> usize {
+    if given.len() < LONG { 1 } else { 2 }
+}
 
 /// What stands between the first two quotes of a text.
 fn quoted(text: &str) -> &str {
@@ -36,5 +42,5 @@ pub fn is_wrong_tip<A: Allocator + Copy>(
     if !line.starts_with(SIMILAR) {
         return Ok(false);
     }
-    Ok(osa_distance(alloc, given, quoted(line))? > MOST_EDITS)
+    Ok(osa_distance(alloc, given, quoted(line))? > most_edits(given))
 }

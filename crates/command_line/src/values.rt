@@ -3,11 +3,13 @@
 ghost use Rattle.std.specs.Prelude.{◌≡◌, ◌≤◌, IfOk, IfErr, Ok, Some, codes, is_some};
 ghost use Rattle.std.specs.List.{count_by};
 ghost use Rattle.command_line.specs.Outputs.{is_standard_input};
-ghost use Rattle.command_line.specs.Options.{AreDeclareOptions, AreRefuteOptions, AreRunOptions, AreVerifyOptions, IsFlagGiven, IsNumberNamed, machine_given, machine_named, number_or, operand, start_given, value, value_or};
+ghost use Rattle.command_line.specs.Options.{AreDeclareOptions, AreRefinements, AreRefuteOptions, AreRunOptions, AreVerifyOptions, IsFlagGiven, IsNumberNamed, machine_given, machine_named, number_or, operand, start_given, value, value_or};
 
 use crate::fault::{CommandLineFault, Misuse};
 use clap::ArgMatches;
-use command_parts::options::{DeclareOptions, RefuteOptions, RunOptions, VerifyOptions};
+use command_parts::options::{
+    DeclareOptions, Refinements, RefuteOptions, RunOptions, VerifyOptions,
+};
 use instruct::Profile;
 use streams::text::decimal_between;
 use word12::Word;
@@ -173,6 +175,16 @@ pub(crate) fn declare_options(found: &ArgMatches<'_>) -> Result<DeclareOptions, 
         profile,
         reads: is_given(found, "reads"),
     })
+}
+
+/// What is made of a declaration for which a certificate is found.
+pub(crate) fn refinements_of(found: &ArgMatches<'_>) -> Refinements
+    ensures { AreRefinements found.now result }
+{
+    Refinements {
+        tight: is_given(found, "tight"),
+        exits: is_given(found, "exits"),
+    }
 }
 
 /// How many steps a search for a run makes at most.

@@ -75,6 +75,15 @@ pub struct DeclareOptions {
     pub reads: bool,
 }
 
+/// What is made of a declaration for which a certificate is found.
+#[derive(Clone, Copy, PartialEq, Eq, Debug)]
+pub struct Refinements {
+    /// What the certificate shows to be needless is left out.
+    pub tight: bool,
+    /// It is added with what each routine returns.
+    pub exits: bool,
+}
+
 /// How a run that violates a declaration is looked for.
 #[derive(Clone, Copy, PartialEq, Eq, Debug)]
 pub struct RefuteOptions {

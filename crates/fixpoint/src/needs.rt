@@ -20,11 +20,13 @@ type Sets<A> = BTreeMap<usize, WordSet, A>;
 /// its routine returns; at each entry, too, the cells that the routine's words name to write. Some
 /// cells may be partners: where a routine writes one of them that is needed when it returns, all of
 /// them that are needed then are needed in it too, as what is known of them may be how they differ.
+/// Of some cells a routine tells when it returns if it looks at them, as it may have tested them.
 #[derive(Drop)]
 pub(crate) struct Needs<A: Allocator> {
     cells: Sets<A>,
     writes: Sets<A>,
     partners: WordSet,
+    told: WordSet,
 }
 
 /// The set of an address.
@@ -139,16 +141,18 @@ pub(crate) fn returned_cells<D: Allocator>(
 }
 
 impl<A: Allocator + Copy> Needs<A> {
-    /// What the words of a program need, where some cells are partners.
+    /// What the words of a program need, where some cells are partners, and routines that look at some cells tell of them.
     pub(crate) fn of<D: Allocator>(
         alloc: A,
         program: &AnalysedProgram<'_, D>,
         partners: &WordSet,
+        told: &WordSet,
     ) -> Result<Needs<A>, SearchFault> {
         let mut needs = Needs {
             cells: BTreeMap::new(alloc),
             writes: BTreeMap::new(alloc),
             partners: *partners,
+            told: *told,
         };
         needs.find_writes(program)?;
         needs.add_returned(program)?;
@@ -272,7 +276,7 @@ impl<A: Allocator + Copy> Needs<A> {
     }
 
     /// What is needed before a call; all, where it is not known what is called. What is needed after it
-    /// and the routine writes is needed when the routine returns.
+    /// and the routine writes is needed when the routine returns, and of some cells what it looks at.
     fn before_call<D: Allocator>(
         &mut self,
         program: &AnalysedProgram<'_, D>,
@@ -285,7 +289,8 @@ impl<A: Allocator + Copy> Needs<A> {
         let after = self.after_returns(program, at, entry);
         let written = set_at(&self.writes, entry);
         let returned = with_partners(&after, &after.meet(&written), &self.partners);
-        add_at(&mut self.cells, entry, &returned)?;
+        let seen = self.at(entry.increment()).meet(&self.told);
+        add_at(&mut self.cells, entry, &returned.union(&after.meet(&seen)))?;
         let within = self.at(entry.increment());
         Ok(within.union(&after.minus(&written)))
     }

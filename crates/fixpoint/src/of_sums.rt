@@ -11,6 +11,7 @@ mod search;
 mod splits;
 mod steps;
 mod table;
+mod tested_links;
 mod text;
 mod widening;
 mod workspace;

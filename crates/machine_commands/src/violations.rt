@@ -117,11 +117,20 @@ fn push_pointer<L: MessageWriter>(text: &mut L, reference: &Reference) -> Result
     )
 }
 
+/// Whether a reference is a DCA that names the entry of the running routine.
+fn moves_return(calls: &[Call], reference: &Reference) -> bool {
+    let is_own = calls
+        .last()
+        .is_some_and(|call| call.entry == reference.place);
+    is_own && !reference.indirect && matches!(reference.operation, Operation::Dca)
+}
+
 /// Adds the lines of a cell that is written: the pointer that is incremented, or what is stored into; and of the
 /// words there before and after.
 fn push_write<L: MessageWriter, D: Allocator>(
     text: &mut L,
     declaration: &Declaration<D>,
+    calls: &[Call],
     cpu: &Cpu,
     reference: &Reference,
 ) -> Result<(), AllocError> {
@@ -135,7 +144,16 @@ fn push_write<L: MessageWriter, D: Allocator>(
     let place = reference.place;
     push_text_and_address(text, b"it stores into ", place)?;
     text.push_text(b", which is not a variable")?;
-    push_variable_advice(text, declaration, place)?;
+    if moves_return(calls, reference) {
+        push_advice(
+            text,
+            b" but the running routine's own entry; if it may store its return address, add `moves ",
+            place,
+            b"`",
+        )?;
+    } else {
+        push_variable_advice(text, declaration, place)?;
+    }
     push_pointer(text, reference)?;
     match reference.operation {
         Operation::Isz => push_change(text, cpu, place, cpu.memory.get(place).increment()),
@@ -263,13 +281,19 @@ fn push_return<L: MessageWriter, D: Allocator>(
     }
 }
 
-/// Adds the line of an address that is not in the running routine's body: what it is, or what to declare if it is
-/// code of that routine.
+/// Whether an instruction is a JMP.
+fn is_jump(last: Option<ExecutedInstruction>) -> bool {
+    last.is_some_and(|executed| matches!(Operation::of(executed.word), Operation::Jmp))
+}
+
+/// Adds the line of an address that is not in the running routine's body, to which this instruction led: what it is, or what
+/// to declare if it is code of that routine, or if all calls may be over there.
 fn push_outside<L: MessageWriter, D: Allocator>(
     text: &mut L,
     declaration: &Declaration<D>,
     calls: &[Call],
     at: Word,
+    last: Option<ExecutedInstruction>,
 ) -> Result<(), AllocError> {
     text.push_address(at)?;
     text.push_text(b" is not in the running routine's body")?;
@@ -282,6 +306,12 @@ fn push_outside<L: MessageWriter, D: Allocator>(
         return push_body_advice(text, calls, at);
     };
     match owner {
+        Owner::Main if is_jump(last) => push_advice(
+            text,
+            b": it is in main's body; if this JMP may end all calls, add `abandon ",
+            at,
+            b"`",
+        ),
         Owner::Main => text.push_text(b": it is in main's body\n"),
         Owner::Routine(entry) => push_advice(text, b": it is in the body of `sub ", entry, b"`"),
     }
@@ -341,13 +371,14 @@ fn push_stray<L: MessageWriter, D: Allocator>(
     declaration: &Declaration<D>,
     calls: &[Call],
     cpu: &Cpu,
+    last: Option<ExecutedInstruction>,
 ) -> Result<(), AllocError> {
     let inside = match calls.last() {
         None => declaration.in_main(cpu.pc),
         Some(call) => declaration.in_body(call.entry, cpu.pc),
     };
     if !inside {
-        return push_outside(text, declaration, calls, cpu.pc);
+        return push_outside(text, declaration, calls, cpu.pc, last);
     }
     push_word_line(
         text,
@@ -369,7 +400,7 @@ fn push_reference<L: MessageWriter, D: Allocator>(
         return Ok(());
     };
     match rule {
-        Rule::WritesDeclared => push_write(text, declaration, cpu, &reference),
+        Rule::WritesDeclared => push_write(text, declaration, calls, cpu, &reference),
         Rule::CallsEntries => push_no_entry(text, declaration, reference.place),
         Rule::ReturnsToItsCall => push_return(text, declaration, calls, cpu, reference.named),
         _ => push_read(text, declaration, calls, cpu, &reference),
@@ -467,9 +498,10 @@ fn push_act<L: MessageWriter, D: Allocator>(
     calls: &[Call],
     cpu: &Cpu,
     rule: Rule,
+    last: Option<ExecutedInstruction>,
 ) -> Result<(), AllocError> {
     match rule {
-        Rule::StaysInBody => push_stray(text, declaration, calls, cpu),
+        Rule::StaysInBody => push_stray(text, declaration, calls, cpu, last),
         Rule::HaltsDeclared => push_no_halt(text, cpu.pc),
         Rule::KeepsCode => push_line(text, b"the word at ", cpu.pc, b" is not that of the tape"),
         Rule::WritesDeclared | Rule::CallsEntries | Rule::ReturnsToItsCall | Rule::ReadsListed =>
@@ -537,7 +569,7 @@ fn lines_of<A: Allocator + Copy, D: Allocator, C: Allocator>(
     let mut text = Message::new(alloc);
     text.push_instruction(cpu.pc, Some(word), declaration.profile())?;
     push_asked(&mut text, rule)?;
-    push_act(&mut text, declaration, calls, cpu, rule)?;
+    push_act(&mut text, declaration, calls, cpu, rule, last)?;
     push_origin(&mut text, declaration.profile(), rule, last)?;
     push_running(&mut text, calls)?;
     Ok(text)

@@ -3,7 +3,7 @@
 
 use crate::faults::bytes_of;
 use crate::files::is_read_once;
-use command_line::{FileNames, Request};
+use command_line::{FileNames, ProgramRequest, Request};
 use command_parts::inputs::tape_from;
 use command_parts::status::Fault;
 use command_parts::visible::visible_text;
@@ -20,6 +20,7 @@ enum Kind {
     Source,
     Declaration,
     Certificate,
+    Events,
     OtherText,
     OtherBytes,
 }
@@ -28,6 +29,17 @@ enum Kind {
 const DECLARING: [&[u8]; 13] = [
     b"start", b"main", b"sub", b"var", b"stop", b"pause", b"profile", b"read", b"skips", b"moves",
     b"abandon", b"holds", b"returns",
+];
+
+/// The words that begin the lines of a list of events.
+const HAPPENING: [&[u8]; 7] = [
+    b"step",
+    b"key",
+    b"reader",
+    b"printer",
+    b"punch",
+    b"switches",
+    b"continue",
 ];
 
 /// Whether these are the characters of a text, as a source has them and a tape has not.
@@ -45,6 +57,21 @@ fn declares(line: &[u8]) -> bool {
         Some(first) => DECLARING.iter().any(|known| *known == first),
         None => false,
     }
+}
+
+/// Whether a line is like that of an event: a word that begins one, and behind it nothing but digits.
+fn happens(line: &[u8]) -> bool {
+    let said = line
+        .split(|byte| *byte == b'/')
+        .next()
+        .unwrap_or(line)
+        .trim_ascii();
+    let mut words = said.split(|byte| matches!(*byte, b' ' | b'\t'));
+    let is_known = match words.next() {
+        Some(first) => HAPPENING.iter().any(|known| *known == first),
+        None => false,
+    };
+    is_known && words.all(|word| word.iter().all(|byte| byte.is_ascii_digit()))
 }
 
 /// Whether a line is the end of a source, or sets the location.
@@ -79,6 +106,9 @@ fn kind_of(bytes: &[u8]) -> Kind {
         if declares(line) {
             return Kind::Declaration;
         }
+        if happens(line) {
+            return Kind::Events;
+        }
     }
     Kind::OtherText
 }
@@ -93,15 +123,15 @@ fn stem_of<'n>(name: &'n str) -> &'n str {
 
 /// What is known of a command whose input has a fault.
 #[derive(Clone, Copy)]
-struct CommandContext<'a> {
+struct CommandContext<'p, 'a> {
     /// Its name.
     command: &'static str,
     /// Whether it takes `--source`.
     takes_source: bool,
     /// Whether it is given a source in place of a tape.
     is_sourced: bool,
-    /// Whether its source has several parts.
-    has_several_parts: bool,
+    /// The names of the parts of its source, where they are known.
+    parts: &'p [&'a str],
     /// Its files.
     names: FileNames<'a>,
 }
@@ -130,7 +160,21 @@ fn takes_declaration(command: &str) -> bool {
         .any(|name| *name == command)
 }
 
-impl CommandContext<'_> {
+impl CommandContext<'_, '_> {
+    /// Adds the program as the command line names it, with a space before it.
+    fn push_program(&self, text: &mut String) {
+        if let Some(tape) = self.names.tape {
+            let _ = write!(text, " {tape}");
+            return;
+        }
+        for part in self.parts {
+            let _ = write!(text, " --source {part}");
+        }
+        if self.parts.is_empty() {
+            let _ = text.push_str(" --source SOURCE");
+        }
+    }
+
     /// Adds the command with a source in place of its tape.
     fn push_with_source(&self, text: &mut String, source: &str) {
         let _ = write!(text, "pdp8 {} --source {source}", self.command);
@@ -203,7 +247,19 @@ impl CommandContext<'_> {
                     "{name} is a certificate, not a tape: it comes after the tape and the declaration"
                 );
             }
+            Kind::Events => self.push_events_as_tape(text, name),
         }
+    }
+
+    /// Adds what to do with a list of events that was given as a tape.
+    fn push_events_as_tape(&self, text: &mut String, name: &str) {
+        let _ = write!(text, "{name} is a list of events, not a tape: ");
+        if self.command == "watch" {
+            let _ = text.push_str("it comes after the tape and the declaration");
+            return;
+        }
+        let tape = self.names.events.unwrap_or("TAPE");
+        let _ = write!(text, "pdp8 run {tape} --events {name} runs a tape by it");
     }
 
     /// Where a tape is given.
@@ -249,14 +305,25 @@ impl CommandContext<'_> {
                     "{name} is a certificate, not a declaration: it comes after the declaration"
                 );
             }
+            Kind::Events => {
+                let _ = write!(text, "{name} is a list of events, not a declaration: ");
+                self.push_watch_by(text, self.names.events.unwrap_or("DECLARATION"), name);
+            }
         }
+    }
+
+    /// Adds the command that watches the program by a list of events, with this declaration.
+    fn push_watch_by(&self, text: &mut String, declaration: &str, name: &str) {
+        let _ = text.push_str("pdp8 watch");
+        self.push_program(text);
+        let _ = write!(text, " {declaration} {name} watches a run by it");
     }
 
     /// Adds what to do with a tape that was given as a source.
     fn push_tape_as_source(&self, text: &mut String, name: &str) {
         let command = self.command;
         let _ = write!(text, "{name} is a tape, not a source");
-        if self.has_several_parts {
+        if self.parts.len() > 1 {
             return;
         }
         if self.takes_source {
@@ -290,27 +357,87 @@ impl CommandContext<'_> {
             Kind::Certificate => {
                 let _ = write!(text, "{name} is a certificate, not a source");
             }
+            Kind::Events => {
+                let _ = write!(text, "{name} is a list of events, not a source");
+            }
         }
+    }
+
+    /// Adds what to do with a declaration that was given as a certificate.
+    fn push_declaration_as_certificate(&self, text: &mut String, name: &str) {
+        let _ = write!(
+            text,
+            "{name} is a declaration, not a certificate: pdp8 guess"
+        );
+        self.push_program(text);
+        let _ = write!(text, " {name} -o new.certificate searches for one");
     }
 
     /// Adds what to do with a file that was given as a certificate, if it is none.
     fn push_as_certificate(&self, text: &mut String, name: &str, kind: Kind) {
-        let _ = match kind {
-            Kind::Certificate | Kind::OtherText | Kind::OtherBytes => Ok(()),
+        match kind {
+            Kind::Certificate | Kind::OtherText | Kind::OtherBytes => {}
             Kind::Tape => {
                 let place = self.place_of_tape();
-                write!(text, "{name} is a tape, not a certificate: {place}")
+                let _ = write!(text, "{name} is a tape, not a certificate: {place}");
             }
-            Kind::Source => write!(
-                text,
-                "{name} is a source, not a certificate: pdp8 guess --source {name} -o new.certificate searches for one"
-            ),
-            Kind::Declaration => write!(
-                text,
-                "{name} is a declaration, not a certificate: pdp8 guess {} {name} -o new.certificate searches for one",
-                self.names.tape.unwrap_or("--source SOURCE")
-            ),
+            Kind::Source => {
+                let _ = write!(
+                    text,
+                    "{name} is a source, not a certificate: pdp8 guess --source {name} -o new.certificate searches for one"
+                );
+            }
+            Kind::Declaration => self.push_declaration_as_certificate(text, name),
+            Kind::Events => {
+                let _ = write!(text, "{name} is a list of events, not a certificate: ");
+                self.push_watch_by(text, self.names.declaration.unwrap_or("DECLARATION"), name);
+            }
+        }
+    }
+
+    /// Adds the command that watches a run without a list of events, with this declaration if there is one.
+    fn push_watch_without(&self, text: &mut String, declaration: Option<&str>) {
+        let _ = text.push_str("pdp8 watch");
+        self.push_program(text);
+        if let Some(declaration) = declaration {
+            let _ = write!(text, " {declaration}");
+        }
+        let _ = text.push_str(" --steps 100000 watches a run without one");
+    }
+
+    /// Adds the command that judges a certificate.
+    fn push_check(&self, text: &mut String, name: &str) {
+        let _ = text.push_str("pdp8 check");
+        self.push_program(text);
+        let declaration = self.names.declaration.unwrap_or("DECLARATION");
+        let _ = write!(text, " {declaration} {name} judges it");
+    }
+
+    /// Adds what to do with a file that was given as a list of events, if it is none.
+    fn push_as_events(&self, text: &mut String, name: &str, kind: Kind) {
+        let found = match kind {
+            Kind::Events | Kind::OtherText | Kind::OtherBytes => return,
+            Kind::Tape => "a tape",
+            Kind::Source => "a source",
+            Kind::Declaration => "a declaration",
+            Kind::Certificate => "a certificate",
         };
+        let _ = write!(text, "{name} is {found}, not a list of events: ");
+        match kind {
+            Kind::Certificate => self.push_check(text, name),
+            Kind::Declaration => match self.names.declaration {
+                Some(declaration) => self.push_watch_without(text, Some(declaration)),
+                None => self.push_watch_without(text, Some(name)),
+            },
+            _ if self.command == "watch" => self.push_watch_without(text, self.names.declaration),
+            Kind::Source => {
+                self.push_with_source(text, name);
+                let _ = text.push_str(" runs it without one");
+            }
+            _ => {
+                let _ = write!(text, "pdp8 run {name} runs it without one");
+            }
+        }
     }
 }
 
@@ -320,13 +447,13 @@ fn is_sourced(request: &Request<'_>) -> bool {
 }
 
 /// What is known of a request.
-fn asked_of<'a>(request: &Request<'a>) -> CommandContext<'a> {
+fn asked_of<'p, 'a>(request: &'p Request<'a>) -> CommandContext<'p, 'a> {
     let command = request.command();
     CommandContext {
         command,
         takes_source: takes_source(command),
         is_sourced: is_sourced(request),
-        has_several_parts: request.parts().len() > 1,
+        parts: request.parts(),
         names: request.names(),
     }
 }
@@ -346,16 +473,17 @@ fn shown_line(alloc: Global, text: &str) -> String {
 /// standard input.
 pub(crate) fn declaration_hint(
     alloc: Global,
-    command: &'static str,
+    request: &ProgramRequest<'_>,
     name: &str,
     text: &[u8],
 ) -> String {
+    let command = request.task.command();
     let asked = CommandContext {
         command,
         takes_source: takes_source(command),
         is_sourced: true,
-        has_several_parts: false,
-        names: FileNames::NONE,
+        parts: request.program.parts(),
+        names: request.names(),
     };
     let mut told = String::new(alloc);
     if name != "-" && !text.is_empty() {
@@ -366,11 +494,11 @@ pub(crate) fn declaration_hint(
 
 /// The line on a file that was given as a part of a source, if it is none; else nothing, and nothing of standard
 /// input. These are the names and the texts of the parts.
-pub(crate) fn source_hint(
+pub(crate) fn source_hint<'a>(
     alloc: Global,
     command: &'static str,
-    names: FileNames<'_>,
-    parts: &[&str],
+    names: FileNames<'a>,
+    parts: &[&'a str],
     fault: PalFault,
     texts: &[&[u8]],
 ) -> String {
@@ -378,7 +506,7 @@ pub(crate) fn source_hint(
         command,
         takes_source: takes_source(command),
         is_sourced: true,
-        has_several_parts: parts.len() > 1,
+        parts,
         names,
     };
     let index = fault.part.wrapping_sub(1);
@@ -426,7 +554,7 @@ pub(crate) fn part_hint<R: Files + Input>(
         command,
         takes_source: false,
         is_sourced: true,
-        has_several_parts: parts.len() > 1,
+        parts,
         names: FileNames::NONE,
     };
     let name = match fault {
@@ -455,6 +583,7 @@ pub fn hint_line<R: Files + Input>(
         Fault::Tape(_) => asked.names.tape,
         Fault::Declared(_) => asked.names.declaration,
         Fault::Certificate(_) => asked.names.certificate,
+        Fault::Events(_) => asked.names.events,
         Fault::Source(fault) => faulty_part(request.parts(), *fault),
         _ => None,
     };
@@ -468,6 +597,7 @@ pub fn hint_line<R: Files + Input>(
         Fault::Tape(_) => asked.push_as_tape(&mut text, name, kind),
         Fault::Declared(_) => asked.push_as_declaration(&mut text, name, kind),
         Fault::Source(_) => asked.push_as_source(&mut text, name, kind),
+        Fault::Events(_) => asked.push_as_events(&mut text, name, kind),
         _ => asked.push_as_certificate(&mut text, name, kind),
     }
     shown_line(alloc, &text)

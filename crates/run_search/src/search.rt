@@ -28,6 +28,24 @@ use wordset::WordSet;
 /// Steps before the first lesson from failed tests.
 const FIRST_LESSON: u32 = 200_000;
 
+/// A search with fewer turns than this is a short one.
+const SHORT_SEARCH: u32 = 100_000;
+
+/// In a short search a long run takes at most one of so many turns, so that shorter runs come too.
+const LONG_PART: u32 = 16;
+
+/// So many steps a long run may make in any search.
+const LEAST_LONG: u32 = 1000;
+
+/// The most steps that a long run makes in a search with so many turns.
+fn most_of_long_run(limit: u32) -> u32 {
+    if limit < SHORT_SEARCH {
+        (limit / LONG_PART).max(LEAST_LONG)
+    } else {
+        u32::MAX
+    }
+}
+
 /// A program with its declaration.
 #[derive(Drop)]
 pub struct DeclaredProgram<'a, D: Allocator> {
@@ -45,7 +63,7 @@ pub struct RunSearch<A: Allocator> {
     pub(crate) dictionary: Dictionary<A>,
     /// What is worth a look at each of the 4096 words.
     pub(crate) looks: [Feedback; 4096],
-    /// The places at which something is declared to hold.
+    /// The places at which something is declared to hold, there or when control returns from there.
     pub(crate) asserted: WordSet,
     pub(crate) seen: Coverage<A>,
     pub(crate) corpus: Corpus<A>,
@@ -120,7 +138,7 @@ impl<A: Allocator + Copy> RunSearch<A> {
             random: Random::new(seed),
             dictionary: Dictionary::of(alloc, program.image)?,
             looks: looks(program.declaration.profile()),
-            asserted: asserted_places(program.declaration),
+            asserted: asserted_places(program.image, program.declaration),
             seen: Coverage::nothing(alloc)?,
             corpus: Corpus::new(alloc, program)?,
             failed_tests: FailedTests::none(alloc)?,
@@ -242,6 +260,9 @@ impl<A: Allocator + Copy> RunSearch<A> {
     {
         turns.are_within();
         self.restart(program, plan, trial)?;
+        if trial.plan.purpose.is_long() {
+            trial.left = trial.left.min(most_of_long_run(turns.limit()));
+        }
         if !self.go_on(program, trial, turns)? {
             return Ok(None);
         }

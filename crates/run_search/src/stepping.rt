@@ -4,7 +4,7 @@ ghost use Rattle.std.specs.Prelude.{◌≡◌, ◌≤◌};
 ghost use Rattle.declaration.specs.DeclarationInCode.{meaning};
 ghost use Rattle.peripherals.specs.World.{profile_of};
 
-use crate::assertions::{asserted_word, beyond_assertion};
+use crate::assertions::{NextReturn, asserted_word, beyond_assertion};
 use crate::corpus::InputSuffix;
 use crate::failed_tests::FailedTest;
 use crate::feedback::Feedback;
@@ -323,6 +323,26 @@ impl<A: Allocator + Copy> RunSearch<A> {
                 self.note_assertion(holding.assertion(), cpu, run, plan)?;
             }
         }
+        match NextReturn::of(declaration, cpu, watcher.calls()) {
+            Some(next) => self.note_return(declaration, cpu, &next, run, plan),
+            None => Ok(()),
+        }
+    }
+
+    /// The same of what is declared to hold at the return that comes next.
+    fn note_return<D: Allocator>(
+        &mut self,
+        declaration: &Declaration<D>,
+        cpu: &Cpu,
+        next: &NextReturn,
+        run: &mut Run<A>,
+        plan: &Plan<A>,
+    ) -> Result<(), NoMemory> {
+        for returning in declaration.returns() {
+            if next.is_among(returning.entry(), returning.offsets()) {
+                self.note_assertion(returning.assertion(), cpu, run, plan)?;
+            }
+        }
         Ok(())
     }
 
@@ -334,9 +354,7 @@ impl<A: Allocator + Copy> RunSearch<A> {
         run: &mut Run<A>,
         plan: &Plan<A>,
     ) -> Result<(), NoMemory> {
-        let Some(word) = asserted_word(assertion, cpu) else {
-            return Ok(());
-        };
+        let word = asserted_word(assertion, cpu);
         self.note_value(run, cpu.pc, word);
         let Some(beyond) = beyond_assertion(assertion, word) else {
             return Ok(());

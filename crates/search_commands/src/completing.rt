@@ -117,7 +117,7 @@ fn given_program_from<A: Allocator + Copy, R: ByteSource, D: ByteSource>(
 }
 
 /// Why no certificate is found for a declaration, if none is.
-fn lack_in<A: Allocator + Copy, D: Allocator>(
+pub(crate) fn lack_in<A: Allocator + Copy, D: Allocator>(
     alloc: A,
     image: &Image,
     declaration: &Declaration<D>,
@@ -193,7 +193,7 @@ fn tried<A: Allocator + Copy, D: Allocator>(
 }
 
 /// Ends the last line of a text, if it lacks its end.
-fn end_text<A: Allocator>(text: &mut Vec<u8, A>) -> Result<(), AllocError> {
+pub(crate) fn end_text<A: Allocator>(text: &mut Vec<u8, A>) -> Result<(), AllocError> {
     match text.last() {
         None | Some(b'\n') => Ok(()),
         Some(_) => text.extend_from_slice(b"\n"),

@@ -55,12 +55,12 @@ fn added_bodies(held: &DeclaredCells, main: &WordSet, routines: &[Routine]) -> W
 }
 
 /// The routine of an entry, if there is one.
-fn routine_of(routines: &[Routine], entry: Word) -> Option<&Routine> {
+pub(crate) fn routine_of(routines: &[Routine], entry: Word) -> Option<&Routine> {
     routines.iter().find(|routine| routine.entry() == entry)
 }
 
 /// Offsets as a set.
-fn set_of(offsets: &Offsets) -> WordSet {
+pub(crate) fn set_of(offsets: &Offsets) -> WordSet {
     let mut set = WordSet::empty();
     for index in 0..8usize {
         let offset = Word::from_index(index);
@@ -149,7 +149,10 @@ fn addition_to<A: Allocator, B: Allocator>(
 }
 
 /// Adds the ranges of a set, each after a space.
-fn push_ranges<A: Allocator>(text: &mut Vec<u8, A>, set: &WordSet) -> Result<(), AllocError> {
+pub(crate) fn push_ranges<A: Allocator>(
+    text: &mut Vec<u8, A>,
+    set: &WordSet,
+) -> Result<(), AllocError> {
     for (first, last) in set.ranges() {
         push_range(text, first, last)?;
     }
@@ -157,7 +160,10 @@ fn push_ranges<A: Allocator>(text: &mut Vec<u8, A>, set: &WordSet) -> Result<(),
 }
 
 /// Adds the offsets of a set, each after a space.
-fn push_offsets<A: Allocator>(text: &mut Vec<u8, A>, set: &WordSet) -> Result<(), AllocError> {
+pub(crate) fn push_offsets<A: Allocator>(
+    text: &mut Vec<u8, A>,
+    set: &WordSet,
+) -> Result<(), AllocError> {
     for offset in 0..8usize {
         if set.contains(Word::from_index(offset)) {
             text.extend_from_slice(b" ")?;
@@ -168,7 +174,7 @@ fn push_offsets<A: Allocator>(text: &mut Vec<u8, A>, set: &WordSet) -> Result<()
 }
 
 /// Ends a line that is added.
-fn end_line<A: Allocator>(text: &mut Vec<u8, A>) -> Result<(), AllocError> {
+pub(crate) fn end_line<A: Allocator>(text: &mut Vec<u8, A>) -> Result<(), AllocError> {
     text.extend_from_slice(b" / added\n")
 }
 
@@ -249,7 +255,7 @@ fn push_routines<A: Allocator>(
 }
 
 /// The words of a part of a line, up to its comment, and what comes after them.
-fn parted(part: &[u8]) -> (&[u8], &[u8]) {
+pub(crate) fn parted(part: &[u8]) -> (&[u8], &[u8]) {
     let front = match part.iter().position(|byte| *byte == b'/') {
         None => part,
         Some(end) => &part[..end],

@@ -191,8 +191,19 @@ fn answer<R: Files + Input + Print + Eprint>(
         Request::Sourced(asked) => answer_sourced(rt, alloc, asked, at_terminal),
         Request::Program(asked) => answer_program(rt, alloc, asked),
         Request::Migrate(asked) => migrate_from(rt, alloc, asked),
-        Request::Explain { code } => explain_code(rt, alloc, *code),
+        Request::Explain { code, number } => explain_code(rt, alloc, *code, *number),
     }
+}
+
+/// A code, with its number if that is a word of its own: `rule 2`.
+fn whole_code(alloc: Global, code: &str, number: Option<&str>) -> Result<String, AllocError> {
+    let mut whole = String::new(alloc);
+    whole.push_str(code)?;
+    if let Some(number) = number {
+        whole.push(' ')?;
+        whole.push_str(number)?;
+    }
+    Ok(whole)
 }
 
 /// Says what is meant by a code, or which codes there are. A code that there is not is a bad command line.
@@ -201,13 +212,15 @@ fn explain_code<R: Print + Eprint>(
     rt: &R,
     alloc: Global,
     code: Option<&str>,
+    number: Option<&str>,
 ) -> Result<Status, Fault> {
     let mut text = String::new(alloc);
     match code {
         None => push_codes(&mut text)?,
         Some(code) => {
-            if !push_explanations(&mut text, code)? {
-                let shown = visible_text(alloc, code)?;
+            let code = whole_code(alloc, code, number)?;
+            if !push_explanations(&mut text, &code)? {
+                let shown = visible_text(alloc, &code)?;
                 let told = eprintln!(rt;
                     "error: unknown code '{shown}': 'pdp8 explain' lists all codes"
                 );

@@ -207,7 +207,14 @@ const CODE: Argument = Argument {
     name: "CODE",
     short: None,
     form: Form::OptionalOperand,
-    help: "a condition such as V5, a rule such as rule2, or the name of a fault such as IR or BadLine",
+    help: "a condition such as V5, a rule such as rule2 or rule 2, or the name of a fault such as IR or BadLine",
+};
+
+const NUMBER: Argument = Argument {
+    name: "NUMBER",
+    short: None,
+    form: Form::OptionalOperand,
+    help: "the number of a rule, if CODE is rule",
 };
 
 const PROFILE: Argument = Argument {
@@ -372,6 +379,20 @@ const CROSS: Argument = Argument {
     short: None,
     form: Form::Flag,
     help: "after the listing, writes a table of the symbols, with the places where each is defined and used",
+};
+
+const TIGHT: Argument = Argument {
+    name: "tight",
+    short: None,
+    form: Form::Flag,
+    help: "leaves out what a certificate shows to be needless, and says on standard error what goes",
+};
+
+const EXITS: Argument = Argument {
+    name: "exits",
+    short: None,
+    form: Form::Flag,
+    help: "adds for each routine what AC and the link are shown to be when it returns",
 };
 
 const READS: Argument = Argument {
@@ -579,7 +600,7 @@ pub(crate) const REPORT_ARGUMENTS: [Argument; 8] = [
     WHY_INPUT,
 ];
 
-pub(crate) const DECLARE_ARGUMENTS: [Argument; 9] = [
+pub(crate) const DECLARE_ARGUMENTS: [Argument; 11] = [
     TAPE_OR_SOURCE,
     DECLARATION_OUT,
     OUTPUT,
@@ -587,6 +608,8 @@ pub(crate) const DECLARE_ARGUMENTS: [Argument; 9] = [
     FROM,
     START,
     READS,
+    TIGHT,
+    EXITS,
     PROFILE,
     WHY_INPUT,
 ];
@@ -630,4 +653,4 @@ pub(crate) const MIGRATE_ARGUMENTS: [Argument; 6] = [
     WHY_INPUT,
 ];
 
-pub(crate) const EXPLAIN_ARGUMENTS: [Argument; 1] = [CODE];
+pub(crate) const EXPLAIN_ARGUMENTS: [Argument; 2] = [CODE, NUMBER];

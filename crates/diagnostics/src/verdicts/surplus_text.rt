@@ -148,7 +148,7 @@ fn push_offsets<L: MessageWriter>(text: &mut L, offsets: &WordSet) -> Result<(),
 }
 
 /// Adds a line that names some cells, if there are any.
-fn push_cells<L: MessageWriter>(
+pub fn push_cells<L: MessageWriter>(
     text: &mut L,
     name: &[u8],
     cells: &WordSet,
@@ -163,7 +163,7 @@ fn push_cells<L: MessageWriter>(
 }
 
 /// Adds a line that names some offsets of a routine, if there are any.
-fn push_routine_offsets<L: MessageWriter>(
+pub fn push_routine_offsets<L: MessageWriter>(
     text: &mut L,
     name: &[u8],
     entry: Word,

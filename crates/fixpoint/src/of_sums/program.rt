@@ -5,6 +5,7 @@ ghost use Rattle.wordset.specs.Words.{difference};
 ghost use Rattle.wordset.specs.Lanes.{words};
 ghost use Rattle.declaration.specs.DeclarationInCode.{meaning};
 
+use crate::of_sums::tested_links::tested_links;
 use crate::program::{AnalysedProgram, add_asserted, is_reference};
 use crate::widening::{Limits, MANY_RUNS};
 use bin_tape::Image;
@@ -20,7 +21,8 @@ use wordset::WordSet;
 const MOST_REACHED: usize = 16;
 
 /// A program, the variables that it uses as pointers, those that it tests, those of which something is declared to hold, those to
-/// which pointers lead that never change, the routines that look at their return word, and words at which sets may end.
+/// which pointers lead that never change, the routines that look at their return word, the addresses from which the link may be
+/// tested and the entries after whose return it may, and words at which sets may end.
 #[derive(Drop)]
 pub struct SumProgram<'a, D: Allocator> {
     pub base: AnalysedProgram<'a, D>,
@@ -29,6 +31,7 @@ pub struct SumProgram<'a, D: Allocator> {
     pub(crate) asserted: WordSet,
     pub(crate) reached: WordSet,
     pub(crate) readers: WordSet,
+    pub(crate) tested_links: WordSet,
     pub(crate) thresholds: WordSet,
 }
 
@@ -146,6 +149,7 @@ impl<'a, D: Allocator> SumProgram<'a, D> {
             reached,
             readers,
         } = uses_of(&base);
+        let tested_links = tested_links(&base);
         SumProgram {
             base,
             pointers,
@@ -153,6 +157,7 @@ impl<'a, D: Allocator> SumProgram<'a, D> {
             asserted,
             reached,
             readers,
+            tested_links,
             thresholds,
         }
     }
@@ -191,6 +196,14 @@ impl<'a, D: Allocator> SumProgram<'a, D> {
         ensures { result.now ≡ self.now.readers }
     {
         &self.readers
+    }
+
+    /// The addresses from which a run may come to a skip that tests the link, and the entries of the routines after whose return
+    /// it may.
+    pub fn tested_links(&self) -> &WordSet
+        ensures { result.now ≡ self.now.tested_links }
+    {
+        &self.tested_links
     }
 
     /// The variables that are added, masked or counted by name, except for pointers.

@@ -125,7 +125,7 @@ impl<A: Allocator + Copy> SumSearch<A> {
         self.tracked = program.base.named;
         self.reached = program.reached;
         let partners = program.pointers.union(&program.base.limits.counted);
-        self.needs = Some(Needs::of(self.alloc, &program.base, &partners)?);
+        self.needs = Some(Needs::of(self.alloc, &program.base, &partners, &program.base.named)?);
         self.waiting = WordSet::empty();
         self.start(program)?;
         SumWorkspace::new(self.alloc)
@@ -179,7 +179,7 @@ impl<A: Allocator + Copy> SumSearch<A> {
         let at = program.base.declaration.start();
         let tracked = self.tracked_at(at);
         let fact = Fact::any();
-        let case = self.split.case_of(&program.owner(at), &fact);
+        let case = self.split.case_of(at, &program.owner(at), &fact);
         let mut kept = SumInvariant::without_cells(self.alloc, at, case, &fact);
         for cell in tracked.iter() {
             if let Some(word) = program.base.image.get(cell) {

@@ -1,6 +1,6 @@
 //! How the facts at an address are distinguished.
 
-ghost use Rattle.std.specs.Prelude.{◌≡◌, true, false, None, Some};
+ghost use Rattle.std.specs.Prelude.{◌≡◌, None, Some};
 ghost use Rattle.wordset.specs.Words.{nothing, union};
 ghost use Rattle.wordset.specs.Lanes.{words};
 
@@ -15,12 +15,13 @@ use wordset::{Links, WordSet};
 /// The most words of a cell by which facts are distinguished.
 pub(crate) const MOST_VALUES: usize = 16;
 
-/// By what the facts at an address are distinguished: those of the routines of some entries by the call and by how far the
-/// return word was incremented, all of them by the link, and all of them by the word of a cell.
+/// By what the facts at an address are distinguished: those of the routines of some entries by the call and by how far the return
+/// word was incremented, those at some addresses and at the returns of some entries by the link, and all of them by the word of a
+/// cell.
 #[derive(Clone, Copy)]
 pub struct Split {
     pub(crate) called: WordSet,
-    pub(crate) links: bool,
+    pub(crate) links: WordSet,
     pub(crate) cell: Option<Word>,
 }
 
@@ -65,12 +66,12 @@ impl Split {
     /// One fact at an address.
     pub fn none() -> Split
         ensures called { words result.called ≡ nothing }
-        ensures links { result.links ≡ false }
+        ensures links { words result.links ≡ nothing }
         ensures cell { result.cell ≡ None }
     {
         Split {
             called: WordSet::empty(),
-            links: false,
+            links: WordSet::empty(),
             cell: None,
         }
     }
@@ -95,15 +96,15 @@ impl Split {
         }
     }
 
-    /// The same, and they are distinguished by the link.
-    pub fn by_links(self) -> Split
+    /// The same, and those at some addresses and at the returns of some entries are distinguished by the link.
+    pub fn by_links(self, addresses: &WordSet) -> Split
         ensures called { result.called ≡ self.called }
-        ensures links { result.links ≡ true }
+        ensures links { words result.links ≡ union (words self.links) (words addresses.now) }
         ensures cell { result.cell ≡ self.cell }
     {
         Split {
             called: self.called,
-            links: true,
+            links: self.links.union(addresses),
             cell: self.cell,
         }
     }
@@ -129,9 +130,9 @@ impl Split {
         }
     }
 
-    /// The link of a case.
-    fn link_of<F: KnownFact>(&self, known: &F) -> Option<Link> {
-        if self.links {
+    /// The link of a case at an address, or at the return of an entry.
+    fn link_of<F: KnownFact>(&self, at: Word, known: &F) -> Option<Link> {
+        if self.links.contains(at) {
             only_link(known.link())
         } else {
             None
@@ -146,8 +147,13 @@ impl Split {
         set.only()
     }
 
-    /// The case of a fact in the body of a routine, if it is not main's.
-    pub(crate) fn case_of<F: KnownFact>(&self, routine: &Option<Word>, known: &F) -> Case {
+    /// The case of a fact at an address, in the body of a routine, if it is not main's; or at the return of an entry.
+    pub(crate) fn case_of<F: KnownFact>(
+        &self,
+        at: Word,
+        routine: &Option<Word>,
+        known: &F,
+    ) -> Case {
         let apart = self.is_by_call(routine);
         Case {
             site: if apart { only_site(known) } else { None },
@@ -156,19 +162,14 @@ impl Split {
             } else {
                 None
             },
-            link: self.link_of(known),
+            link: self.link_of(at, known),
             value: self.value_of(known),
         }
     }
 
-    /// The case of a fact where a routine returns by an offset.
-    pub(crate) fn case_of_exit<F: KnownFact>(
-        &self,
-        routine: &Option<Word>,
-        offset: usize,
-        known: &F,
-    ) -> Case {
-        let mut case = self.case_of(routine, known);
+    /// The case of a fact where the routine of an entry returns by an offset.
+    pub(crate) fn case_of_exit<F: KnownFact>(&self, entry: Word, offset: usize, known: &F) -> Case {
+        let mut case = self.case_of(entry, &Some(entry), known);
         case.offset = Some(offset);
         case
     }

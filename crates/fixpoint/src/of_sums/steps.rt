@@ -281,11 +281,14 @@ impl<A: Allocator + Copy> SumSearch<A> {
     ) -> Result<(), SearchFault> {
         match goal.exit {
             None => {
-                let case = self.split.case_of(&goal.routine, known);
+                let case = self.split.case_of(goal.to, &goal.routine, known);
                 self.reach_fact(program, goal, &case, known, before, after)
             }
             Some(offset) => {
-                let case = self.split.case_of_exit(&goal.routine, offset, known);
+                let Some(entry) = goal.routine else {
+                    return Ok(());
+                };
+                let case = self.split.case_of_exit(entry, offset, known);
                 self.reach_exit(program, goal, &case, known, before, after)
             }
         }

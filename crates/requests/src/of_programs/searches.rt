@@ -14,7 +14,8 @@ use bin_tape::Image;
 use certificate::Certificate;
 use certificate_lines::Version;
 use command_line::{Destination, ProgramRequest};
-use command_parts::options::{DeclareOptions, RefuteOptions};
+use command_parts::inputs::tape_from;
+use command_parts::options::{DeclareOptions, Refinements, RefuteOptions};
 use command_parts::programs::ProgramWithDeclaration;
 use command_parts::status::{Fault, Status};
 use declaration::Declaration;
@@ -22,12 +23,16 @@ use diagnostics::verdicts::certificates::write_certificate;
 use machine_commands::messages::refute_message;
 use search_commands::completing::complete;
 use search_commands::declaring::declare;
+use search_commands::refining::{Refinement, tightened, with_returns};
 use std::alloc::Global;
 use std::io::Read;
 use std::rt::Files;
 use streams::standard::{StdReader, StdWriter};
-use streams::{ByteSink, put};
+use streams::{ByteSink, put, read_at_most};
 use turns::GuessFault;
+
+/// One frame more than the tape is read, so that a longer one is seen to be too long.
+const MOST_FRAMES: usize = 65_537;
 
 /// Writes a certificate that was found.
 fn write_found<R: Files + Print>(
@@ -139,14 +144,15 @@ pub(crate) fn refuted<R: Files + Print + Eprint, I: Read + Drop>(
     Ok(status)
 }
 
-/// Adds a declaration that is proposed for a program, or its own completed.
+/// Adds a declaration that is proposed for the program of a tape, or its own completed.
 fn push_proposal<I: Read + Drop>(
     alloc: Global,
     opened: &mut OpenProgram<'_, I>,
+    tape: &[u8],
     options: DeclareOptions,
     found: &mut Vec<u8>,
 ) -> Result<Status, Fault> {
-    let mut frames = StdReader::new(&mut opened.frames);
+    let mut frames = StdReader::new(tape);
     let mut out = StdWriter::new(found);
     let answer = if opened.is_declared {
         let mut text = StdReader::new(&mut opened.text);
@@ -164,47 +170,104 @@ fn push_proposal<I: Read + Drop>(
 const NO_LIST: &str =
     "--reads adds nothing: the declaration has no `read` line, so any cell may be read; to have a list, add a line that says `read`\n";
 
-/// Whether a declaration in numbers lists the cells that may be read.
+/// Whether a declaration lists the cells that may be read.
 fn lists_reads(text: &[u8]) -> bool {
     text.split(|byte| *byte == b'\n')
         .any(|line| line.trim_ascii().starts_with(b"read"))
 }
 
-/// Whether reads are to be added to the declaration of a source, and it has no list of them.
-fn lacks_list(source: Option<&AssembledSource>, reads: bool) -> bool {
-    match source {
-        Some(source) => {
-            reads && source.is_declared() && !lists_reads(&source.numbered.declaration)
-        }
-        None => false,
-    }
-}
-
-/// A declaration that was proposed or completed, and the status of the command.
+/// A declaration that was proposed or completed, the status of the command, and what is told of how it was refined.
 #[derive(Drop)]
 struct Proposal {
     text: Vec<u8>,
     status: Status,
+    told: Vec<u8>,
 }
 
-/// A declaration that is proposed for a program, or its own completed; of a source with its symbols.
+impl Proposal {
+    /// Leaves out what is needless.
+    fn tighten(
+        &mut self,
+        alloc: Global,
+        image: &Image,
+        source: Option<&AssembledSource>,
+    ) -> Result<(), Fault> {
+        let refined = tightened(alloc, image, &self.text)?;
+        self.replace(alloc, refined, source)
+    }
+
+    /// Adds with what routines return.
+    fn add_returns(
+        &mut self,
+        alloc: Global,
+        image: &Image,
+        source: Option<&AssembledSource>,
+    ) -> Result<(), Fault> {
+        let refined = with_returns(alloc, image, &self.text)?;
+        self.replace(alloc, refined, source)
+    }
+
+    /// Takes another text, and what is told of it.
+    fn replace(
+        &mut self,
+        alloc: Global,
+        refined: Refinement<Global>,
+        source: Option<&AssembledSource>,
+    ) -> Result<(), Fault> {
+        let Refinement { text, told } = refined;
+        self.told
+            .extend_from_slice(&lines_of(alloc, source, &told)?)?;
+        self.text = text;
+        Ok(())
+    }
+
+    /// Refines it as is asked for.
+    fn refine(
+        &mut self,
+        alloc: Global,
+        tape: &[u8],
+        refinements: Refinements,
+        source: Option<&AssembledSource>,
+    ) -> Result<(), Fault> {
+        if !refinements.tight && !refinements.exits {
+            return Ok(());
+        }
+        let image = tape_from(&mut StdReader::new(tape))?;
+        if refinements.tight {
+            self.tighten(alloc, &image, source)?;
+        }
+        if refinements.exits {
+            self.add_returns(alloc, &image, source)?;
+        }
+        Ok(())
+    }
+}
+
+/// A declaration that is proposed for a program, or its own completed, as it is refined; of a source with its symbols.
 fn proposal_for<I: Read + Drop>(
     alloc: Global,
     opened: &mut OpenProgram<'_, I>,
     options: DeclareOptions,
+    refinements: Refinements,
 ) -> Result<Proposal, Fault> {
     let source = opened.source;
+    let tape = read_at_most(alloc, &mut StdReader::new(&mut opened.frames), MOST_FRAMES)?;
     let mut text = Vec::new(alloc);
-    let status = push_proposal(alloc, opened, options, &mut text)?;
+    let status = push_proposal(alloc, opened, &tape, options, &mut text)?;
+    let mut proposal = Proposal {
+        text,
+        status,
+        told: Vec::new(alloc),
+    };
+    proposal.refine(alloc, &tape, refinements, source)?;
     if let Some(source) = source {
-        let text = source.with_symbols(alloc, &text)?;
-        return Ok(Proposal { text, status });
+        proposal.text = source.with_symbols(alloc, &proposal.text)?;
     }
-    Ok(Proposal { text, status })
+    Ok(proposal)
 }
 
-/// Writes a declaration that is proposed for a program, or its own completed, and says so if no reads are added to it
-/// that should be.
+/// Writes a declaration that is proposed for a program, or its own completed, as it is refined. Says what goes, and if no reads are
+/// added to it that should be.
 #[inline(never)]
 pub(crate) fn declared<R: Files + Print + Eprint, I: Read + Drop>(
     rt: &R,
@@ -212,13 +275,15 @@ pub(crate) fn declared<R: Files + Print + Eprint, I: Read + Drop>(
     opened: &mut OpenProgram<'_, I>,
     out: Destination<'_>,
     options: DeclareOptions,
+    refinements: Refinements,
 ) -> Result<Status, Fault> {
     let mut file = open_output(rt, alloc, out)?;
-    let is_without_list = lacks_list(opened.source, options.reads);
-    let found = proposal_for(alloc, opened, options)?;
+    let is_completed = opened.is_declared;
+    let found = proposal_for(alloc, opened, options, refinements)?;
     put(&mut StdWriter::new(&mut file), &found.text)?;
     let status = finish(&mut file, found.status)?;
-    if is_without_list {
+    let _ = put(&mut tell_to(rt), &found.told);
+    if is_completed && options.reads && !lists_reads(&found.text) {
         tell_lines(rt, NO_LIST);
     }
     Ok(status)

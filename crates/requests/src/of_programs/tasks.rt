@@ -280,7 +280,11 @@ pub(crate) fn carry_out<R: Files + Input + Print + Eprint, I: Read + Drop>(
             version,
         } => guessed(rt, alloc, opened, asked, *out, *report, *version),
         Task::Refute { out, options } => refuted(rt, alloc, opened, *out, options),
-        Task::Declare { out, options } => declared(rt, alloc, opened, *out, *options),
+        Task::Declare {
+            out,
+            options,
+            refinements,
+        } => declared(rt, alloc, opened, *out, *options, *refinements),
         Task::Place { out } => placed(rt, alloc, opened.source, *out),
     }
 }

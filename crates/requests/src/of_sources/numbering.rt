@@ -269,8 +269,7 @@ pub fn tell_refused<R: Eprint>(
             let part_line = placing_spot(alloc, fault, asked, &parts)?;
             let status = tell_placing(rt, alloc, fault, &part_line, text, explained);
             if let Some(name) = asked.declaration {
-                let command = asked.task.command();
-                tell_lines(rt, &declaration_hint(alloc, command, name, text));
+                tell_lines(rt, &declaration_hint(alloc, asked, name, text));
             }
             Ok(status)
         }

@@ -1,7 +1,7 @@
 //! Where a source has what is named to people. It is proved that the first line of a text stays as it is; what is put
 //! after it is tested.
 
-ghost use Rattle.std.specs.Prelude.{◌≡◌, IfOk};
+ghost use Rattle.std.specs.Prelude.{◌≡◌, IfOk, None};
 ghost use Rattle.std.specs.List.{position};
 ghost use Rattle.command_parts.specs.Messages.{BeginsWith, plain};
 ghost use Rattle.requests.specs.Messages.{first_line, is_line_end};
@@ -168,7 +168,17 @@ pub fn with_source_lines(
     Ok(text)
 }
 
-/// A text for people, with what a source says about its addresses if there is one.
+/// A text of its own with these bytes.
+fn copy_of(alloc: Global, bytes: &[u8]) -> Result<Vec<u8>, AllocError>
+    ensures { IfOk result (λ copy. copy.items ≡ bytes.now) }
+{
+    let mut copy = Vec::new(alloc);
+    copy.extend_from_slice(bytes)?;
+    Ok(copy)
+}
+
+/// A text for people, with what a source says about its addresses if there is one. Its first line, which is that of an answer, comes
+/// first and as it is.
 ///
 /// # Errors
 ///
@@ -177,11 +187,13 @@ pub fn lines_of(
     alloc: Global,
     source: Option<&AssembledSource>,
     told: &Message<Global>,
-) -> Result<Vec<u8>, AllocError> {
-    if let Some(source) = source {
-        return with_source_lines(alloc, source, told);
+) -> Result<Vec<u8>, AllocError>
+    ensures front { IfOk result (λ text. BeginsWith (first_line (plain told.now)) text.items) }
+    // Without a source it is the text as it is.
+    ensures whole { source.entry ≡ None → IfOk result (λ text. text.items ≡ plain told.now) }
+{
+    match source {
+        Some(source) => with_source_lines(alloc, source, told),
+        None => copy_of(alloc, told.as_bytes()),
     }
-    let mut text = Vec::new(alloc);
-    text.extend_from_slice(told.as_bytes())?;
-    Ok(text)
 }

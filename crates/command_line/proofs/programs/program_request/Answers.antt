@@ -8,3 +8,6 @@ returns-clause-declaration c = rw c.command_of-called.ensures at c.in_ok-operand
 
 pub returns-clause-task : goal.returns-clause-task
 returns-clause-task c = record { last = _; last_is = rw c.command_of-called.ensures at c.in_ok-operands.ensures.last; task_is = rw c.command_of-called.ensures at c.in_ok-task.ensures }
+
+pub returns-clause-places : goal.returns-clause-places
+returns-clause-places c = c.in_ok-places.ensures

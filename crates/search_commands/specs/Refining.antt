@@ -1,0 +1,33 @@
+-- What `declare` makes of a declaration for which a certificate is found.
+use Rattle.std.specs.Prelude.{ℕ, ◌≡◌, ◌⊎◌, List, Option, is_some}
+use Rattle.peripherals.specs.Loading.{image_of}
+use Rattle.declaration.specs.Declaration.{Declaration}
+use Rattle.declaration.specs.Text.{Declares}
+use Rattle.policy.specs.Runs.{IsSafe}
+use Rattle.search_commands.specs.Adding.{AddsOnly}
+
+-- The second declaration is no wider than the first: start and machine are the same, it allows nothing that the first does not, and
+-- it lists reads exactly where the first does. What is to hold at places is the same.
+pub record IsNoWider (given less : Declaration) : Type 0 where
+  pub start_is : less.start ≡ given.start
+  pub profile_is : less.profile ≡ given.profile
+  pub adds : AddsOnly given given less
+  pub listed : is_some less.reads ≡ is_some given.reads
+  pub holds : less.holds ≡ given.holds
+
+-- The text declares something that is no wider than a declaration, and no run of the program with these words breaks it.
+pub record IsShownNoWider (image : List (Option ℕ)) (given : Declaration) (text : List ℕ) : Type 0 where
+  pub declaration : Declaration
+  pub declares : Declares text declaration
+  pub is : IsNoWider given declaration
+  pub safe : IsSafe (image_of image) declaration
+
+-- The first text declares a program, and what the second one declares is no wider, and is shown.
+pub record IsShownChange (image : List (Option ℕ)) (text written : List ℕ) : Type 0 where
+  pub given : Declaration
+  pub declares : Declares text given
+  pub is : IsShownNoWider image given written
+
+-- What is written is the text that was given, or such a change of it.
+abbrev pub IsRefined : List (Option ℕ) → List ℕ → List ℕ → Type 0
+IsRefined image text written = (written ≡ text) ⊎ IsShownChange image text written

@@ -1,0 +1,338 @@
+//! The text of a declaration without what a certificate shows to be needless.
+
+use crate::merging::{parted, push_offsets, push_ranges, routine_of, set_of};
+use bin_tape::Image;
+use certificate::Certificate;
+use control_flow::{push_range, push_skips};
+use declaration::{Declaration, Routine};
+use std::alloc::{AllocError, Allocator};
+use streams::text::{Words, is, octal_word};
+use usage::{Register, Surplus, returned, surplus_of};
+use word12::Word;
+use wordset::WordSet;
+
+/// How many offsets there are by which a routine may be declared to return.
+const OFFSETS: usize = 64;
+
+/// A program with its declaration and a certificate, and what of the declaration is left out.
+#[derive(Drop)]
+struct Needless<'a, D: Allocator, C: Allocator> {
+    image: &'a Image,
+    declaration: &'a Declaration<D>,
+    certificate: &'a Certificate<C>,
+    surplus: Surplus,
+    /// The cells that bodies lose.
+    cells: WordSet,
+    /// The entries of the routines that go.
+    entries: WordSet,
+}
+
+/// How the cells of a line are spelled.
+#[derive(Clone, Copy, PartialEq, Eq)]
+enum Spelling {
+    /// As ranges, and the line goes with its last cell.
+    Ranges,
+    /// As ranges, and the line stays without a cell.
+    RangesOrNone,
+    /// One by one, and the line goes with its last cell.
+    Addresses,
+}
+
+/// The places at which something is declared to hold.
+fn asserted_places<D: Allocator>(declaration: &Declaration<D>) -> WordSet {
+    let mut places = WordSet::empty();
+    for holding in declaration.holds() {
+        places = places.union(holding.places());
+    }
+    places
+}
+
+/// The entries of the routines at whose returns something is declared to hold.
+fn asserted_entries<D: Allocator>(declaration: &Declaration<D>) -> WordSet {
+    let mut entries = WordSet::empty();
+    for returning in declaration.returns() {
+        entries.insert(returning.entry());
+    }
+    entries
+}
+
+/// The entries of the routines that go: they are never called, their bodies lose all cells, and nothing is declared to hold at their
+/// returns.
+fn entries_without_use<D: Allocator>(
+    declaration: &Declaration<D>,
+    uncalled: &WordSet,
+    cells: &WordSet,
+) -> WordSet {
+    let asserted = asserted_entries(declaration);
+    let mut entries = WordSet::empty();
+    for routine in declaration.routines() {
+        let entry = routine.entry();
+        let is_idle = uncalled.contains(entry) && routine.body().is_subset(cells);
+        if is_idle && !asserted.contains(entry) {
+            entries.insert(entry);
+        }
+    }
+    entries
+}
+
+/// The cells of a word that is an address, or a range of them.
+fn range_of(word: &[u8]) -> Option<WordSet> {
+    let Some(at) = word.iter().position(|byte| *byte == b'-') else {
+        return octal_word(word).map(WordSet::one);
+    };
+    let low = octal_word(word.get(..at)?)?;
+    let high = octal_word(word.get(at.saturating_add(1)..)?)?;
+    if low.value() > high.value() {
+        return None;
+    }
+    Some(WordSet::range(low, high))
+}
+
+/// The cells that the words of a line spell.
+fn cells_of(rest: Words<'_>) -> WordSet {
+    let mut words = rest;
+    let mut cells = WordSet::empty();
+    while let Some(word) = words.next() {
+        if let Some(more) = range_of(word) {
+            cells = cells.union(&more);
+        }
+    }
+    cells
+}
+
+/// Adds each cell of a set, after a space.
+fn push_each<A: Allocator>(text: &mut Vec<u8, A>, cells: &WordSet) -> Result<(), AllocError> {
+    for at in cells.iter() {
+        push_range(text, at, at)?;
+    }
+    Ok(())
+}
+
+/// Adds a line as it is.
+fn push_whole<A: Allocator>(text: &mut Vec<u8, A>, line: &[u8]) -> Result<(), AllocError> {
+    text.extend_from_slice(line)?;
+    text.extend_from_slice(b"\n")
+}
+
+/// Adds a line of cells without those that go, and the whole line if none goes.
+fn push_cells<A: Allocator>(
+    text: &mut Vec<u8, A>,
+    line: &[u8],
+    gone: &WordSet,
+    spelling: Spelling,
+) -> Result<(), AllocError> {
+    let (front, rest) = parted(line);
+    let mut words = Words::of(front);
+    let name = words.next().unwrap_or(b"");
+    let listed = cells_of(words);
+    let kept = listed.minus(gone);
+    if kept == listed {
+        return push_whole(text, line);
+    }
+    if kept.is_empty() && spelling != Spelling::RangesOrNone {
+        return Ok(());
+    }
+    text.extend_from_slice(name)?;
+    if spelling == Spelling::Addresses {
+        push_each(text, &kept)?;
+    } else {
+        push_ranges(text, &kept)?;
+    }
+    push_whole(text, rest)
+}
+
+impl<'a, D: Allocator, C: Allocator> Needless<'a, D, C> {
+    /// What a certificate shows to be needless. What is declared to hold stays, and with it the cells and the routines of which it
+    /// speaks.
+    fn of(
+        image: &'a Image,
+        declaration: &'a Declaration<D>,
+        certificate: &'a Certificate<C>,
+    ) -> Needless<'a, D, C> {
+        let surplus = surplus_of(image, declaration, certificate);
+        let cells = surplus.unexecuted.minus(&asserted_places(declaration));
+        let entries = entries_without_use(declaration, &surplus.uncalled, &cells);
+        Needless {
+            image,
+            declaration,
+            certificate,
+            surplus,
+            cells,
+            entries,
+        }
+    }
+
+    /// Whether a routine returns by an offset.
+    fn returns_by(&self, entry: Word, offset: usize) -> bool {
+        if offset >= OFFSETS {
+            return false;
+        }
+        !returned(
+            Register::Accumulator,
+            self.image,
+            self.declaration,
+            self.certificate,
+            entry,
+            offset,
+        )
+        .is_empty()
+    }
+
+    /// The offsets by which a routine never returns.
+    fn idle_offsets(&self, entry: Word) -> WordSet {
+        let mut offsets = WordSet::empty();
+        for offset in 0..OFFSETS {
+            if !self.returns_by(entry, offset) {
+                offsets.insert(Word::from_index(offset));
+            }
+        }
+        offsets
+    }
+
+    /// What the body of a routine that stays keeps: a body has a cell.
+    fn kept_body(&self, routine: &Routine) -> WordSet {
+        let kept = routine.body().minus(&self.cells);
+        if kept.is_empty() {
+            *routine.body()
+        } else {
+            kept
+        }
+    }
+
+    /// Adds the line of a routine without what goes.
+    fn push_routine<A: Allocator>(
+        &self,
+        text: &mut Vec<u8, A>,
+        line: &[u8],
+        routine: &Routine,
+    ) -> Result<(), AllocError> {
+        let entry = routine.entry();
+        if self.entries.contains(entry) {
+            return Ok(());
+        }
+        let body = self.kept_body(routine);
+        let listed = set_of(&routine.offsets());
+        let offsets = listed.minus(&self.idle_offsets(entry));
+        if body == *routine.body() && offsets == listed {
+            return push_whole(text, line);
+        }
+        let (_, rest) = parted(line);
+        text.extend_from_slice(b"sub")?;
+        push_range(text, entry, entry)?;
+        text.extend_from_slice(b" body")?;
+        push_ranges(text, &body)?;
+        text.extend_from_slice(b" returns")?;
+        push_offsets(text, &offsets)?;
+        push_whole(text, rest)
+    }
+
+    /// Adds the line of a routine, the first word behind `sub` being its entry.
+    fn push_sub<A: Allocator>(
+        &self,
+        text: &mut Vec<u8, A>,
+        line: &[u8],
+        rest: Words<'_>,
+    ) -> Result<(), AllocError> {
+        let mut words = rest;
+        let entry = words.next().and_then(octal_word);
+        let routines = self.declaration.routines();
+        match entry.and_then(|entry| routine_of(routines, entry)) {
+            Some(routine) => self.push_routine(text, line, routine),
+            None => push_whole(text, line),
+        }
+    }
+
+    /// Adds a line of further offsets without what goes.
+    fn push_further<A: Allocator>(
+        &self,
+        text: &mut Vec<u8, A>,
+        line: &[u8],
+        rest: Words<'_>,
+    ) -> Result<(), AllocError> {
+        let mut words = rest;
+        let Some(entry) = words.next().and_then(octal_word) else {
+            return push_whole(text, line);
+        };
+        let listed = cells_of(words);
+        let kept = listed.minus(&self.idle_offsets(entry));
+        if self.entries.contains(entry) || kept.is_empty() {
+            return Ok(());
+        }
+        if kept == listed {
+            return push_whole(text, line);
+        }
+        let (_, comment) = parted(line);
+        push_skips(text, entry, &kept)?;
+        push_whole(text, comment)
+    }
+
+    /// Adds a line that gives permissions to entries or cells, or another line, without what goes of it.
+    fn push_permission<A: Allocator>(
+        &self,
+        text: &mut Vec<u8, A>,
+        line: &[u8],
+        name: &[u8],
+        rest: Words<'_>,
+    ) -> Result<(), AllocError> {
+        let surplus = &self.surplus;
+        if is(name, "moves") {
+            let gone = surplus.unmoved.union(&self.entries);
+            return push_cells(text, line, &gone, Spelling::Addresses);
+        }
+        if is(name, "abandon") {
+            return push_cells(text, line, &surplus.unabandoned, Spelling::Addresses);
+        }
+        if is(name, "skips") {
+            return self.push_further(text, line, rest);
+        }
+        push_whole(text, line)
+    }
+
+    /// Adds a line without what goes of it.
+    fn push_line<A: Allocator>(
+        &self,
+        text: &mut Vec<u8, A>,
+        line: &[u8],
+    ) -> Result<(), AllocError> {
+        let (front, _) = parted(line);
+        let mut words = Words::of(front);
+        let surplus = &self.surplus;
+        let Some(name) = words.next() else {
+            return push_whole(text, line);
+        };
+        if is(name, "main") {
+            return push_cells(text, line, &self.cells, Spelling::Ranges);
+        }
+        if is(name, "var") {
+            return push_cells(text, line, &surplus.unwritten, Spelling::Ranges);
+        }
+        if is(name, "read") {
+            return push_cells(text, line, &surplus.unread, Spelling::RangesOrNone);
+        }
+        if is(name, "stop") || is(name, "pause") {
+            return push_cells(text, line, &surplus.unhalted, Spelling::Addresses);
+        }
+        if is(name, "sub") {
+            return self.push_sub(text, line, words);
+        }
+        self.push_permission(text, line, name, words)
+    }
+}
+
+/// The text of a declaration without what a certificate shows to be needless.
+pub(crate) fn narrowed<A: Allocator + Copy, D: Allocator, C: Allocator>(
+    alloc: A,
+    bytes: &[u8],
+    image: &Image,
+    declaration: &Declaration<D>,
+    certificate: &Certificate<C>,
+) -> Result<Vec<u8, A>, AllocError> {
+    let needless = Needless::of(image, declaration, certificate);
+    let mut text = Vec::new(alloc);
+    for line in bytes.split(|byte| *byte == b'\n') {
+        needless.push_line(&mut text, line)?;
+    }
+    // Behind the last line feed there is no line.
+    let _ = text.pop();
+    Ok(text)
+}

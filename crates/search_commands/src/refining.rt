@@ -1,0 +1,340 @@
+//! What `declare` makes of a declaration for which a certificate is found: it leaves out what is needless, and adds with what routines
+//! return.
+
+ghost use Rattle.std.specs.Prelude.{◌≡◌, true, is_some, IfOk, IfErr, IfSome};
+ghost use Rattle.command_parts.specs.Answers.{IsMemoryFault};
+ghost use Rattle.declaration.specs.DeclarationInCode.{meaning};
+ghost use Rattle.declaration.specs.Text.{Declares};
+ghost use Rattle.search_commands.specs.Keeping.{KeepsLines};
+ghost use Rattle.search_commands.specs.Refining.{IsNoWider, IsRefined, IsShownNoWider};
+
+use crate::adding::adds_only;
+use crate::completing::{end_text, lack_in};
+use crate::declaring::copy_of;
+use crate::keeping::keeps_lines;
+use crate::narrowing::narrowed;
+use crate::returning::push_all_returns;
+use crate::verifying::inconclusive_reason_of;
+use analyser::guess;
+use bin_tape::Image;
+use certificate::Certificate;
+use command_parts::message::{Message, MessageWriter};
+use command_parts::status::Fault;
+use declaration::{Declaration, DeclarationFault};
+use diagnostics::verdicts::surplus_text::{push_cells, push_routine_offsets};
+use std::alloc::{AllocError, Allocator};
+use word12::Word;
+use wordset::WordSet;
+
+/// How many offsets there are by which a routine may be declared to return.
+const OFFSETS: usize = 64;
+
+/// What is told if nothing is left out since no certificate is found.
+const NOT_SHOWN: &[u8] =
+    b"--tight leaves nothing out: no certificate is found for the declaration\n";
+
+/// What is told if nothing is left out since no certificate is found for what would be left.
+const NOT_SHOWN_NARROWER: &[u8] =
+    b"--tight leaves nothing out: no certificate is found for the declaration without what is needless\n";
+
+/// What is told if nothing is needless but what is declared to hold.
+const ALL_NEEDED: &[u8] =
+    b"--tight leaves nothing out: all that the declaration lists is needed, or something is declared to hold there\n";
+
+/// What is told if no return is added since no certificate is found.
+const NO_RETURNS_SHOWN: &[u8] =
+    b"--exits adds nothing: no certificate is found for the declaration\n";
+
+/// What is told if there is no return to be added.
+const NO_RETURNS: &[u8] =
+    b"--exits adds nothing: no routine is shown to return with certain words in AC or the link that are not declared\n";
+
+/// What is told if returns cannot be added.
+const TOO_MANY_RETURNS: &[u8] =
+    b"--exits adds nothing: the declaration would become too long, or no certificate is found for it\n";
+
+/// A declaration that was changed, or not, and what is told of that.
+#[derive(Drop)]
+pub struct Refinement<A: Allocator> {
+    /// The text of the declaration.
+    pub text: Vec<u8, A>,
+    /// What is told on standard error.
+    pub told: Message<A>,
+}
+
+/// Whether a declaration is no wider than another one.
+fn is_no_wider<A: Allocator, B: Allocator>(given: &Declaration<A>, less: &Declaration<B>) -> bool
+    ensures { result ≡ true → IsNoWider (meaning given.now) (meaning less.now) }
+{
+    if less.start() != given.start() {
+        return false;
+    }
+    if less.profile() != given.profile() {
+        return false;
+    }
+    if less.reads_listed() != given.reads_listed() {
+        return false;
+    }
+    if less.holds() != given.holds() {
+        return false;
+    }
+    adds_only(given, given, less)
+}
+
+/// What a text declares, if that is no wider than a declaration, and a certificate is found for it.
+fn shown_no_wider<A: Allocator + Copy, D: Allocator>(
+    alloc: A,
+    image: &Image,
+    given: &Declaration<D>,
+    text: &[u8],
+) -> Result<Option<Declaration<A>>, Fault>
+    ensures shown { IfOk result (λ found. IfSome found (λ less.
+        IsShownNoWider image.now (meaning given.now) text.now)) }
+    ensures faults { IfErr result IsMemoryFault }
+{
+    match Declaration::parse(alloc, text) {
+        Ok(less) => {
+            if !is_no_wider(given, &less) {
+                return Ok(None);
+            }
+            match lack_in(alloc, image, &less)? {
+                None => Ok(Some(less)),
+                Some(_) => Ok(None),
+            }
+        }
+        Err(DeclarationFault::NoMemory) => Err(Fault::NoMemory),
+        Err(_) => Ok(None),
+    }
+}
+
+/// A certificate for a program, if one is found.
+fn certificate_for<A: Allocator + Copy, D: Allocator>(
+    alloc: A,
+    image: &Image,
+    declaration: &Declaration<D>,
+) -> Result<Option<Certificate<A>>, Fault>
+    ensures { IfErr result IsMemoryFault }
+{
+    match guess(alloc, image, declaration) {
+        Ok(certificate) => Ok(Some(certificate)),
+        Err(fault) => match inconclusive_reason_of(fault) {
+            Ok(_) => Ok(None),
+            Err(fault) => Err(fault),
+        },
+    }
+}
+
+/// The text that is given, and why it is not changed.
+fn unchanged<A: Allocator + Copy>(alloc: A, text: &[u8], why: &[u8]) -> Result<Refinement<A>, Fault>
+    ensures same { IfOk result (λ refined. refined.text.items ≡ text.now) }
+    ensures faults { IfErr result IsMemoryFault }
+{
+    let text = copy_of(alloc, text)?;
+    let mut told = Message::new(alloc);
+    told.push_text(why)?;
+    Ok(Refinement { text, told })
+}
+
+/// The cells of all bodies of a declaration.
+fn bodies_of<D: Allocator>(declaration: &Declaration<D>) -> WordSet {
+    let mut cells = *declaration.main();
+    for routine in declaration.routines() {
+        cells = cells.union(routine.body());
+    }
+    cells
+}
+
+/// The entries of all routines of a declaration.
+fn entries_of<D: Allocator>(declaration: &Declaration<D>) -> WordSet {
+    let mut entries = WordSet::empty();
+    for routine in declaration.routines() {
+        entries.insert(routine.entry());
+    }
+    entries
+}
+
+/// The cells on the list of reads, none where there is no list.
+fn reads_of<D: Allocator>(declaration: &Declaration<D>) -> WordSet {
+    match declaration.reads() {
+        Some(cells) => *cells,
+        None => WordSet::empty(),
+    }
+}
+
+/// The offsets by which a routine may return in one declaration and not in another one.
+fn lost_offsets<A: Allocator, B: Allocator>(
+    given: &Declaration<A>,
+    less: &Declaration<B>,
+    entry: Word,
+) -> WordSet {
+    let mut offsets = WordSet::empty();
+    for index in 0..OFFSETS {
+        let offset = Word::from_index(index);
+        if given.has_offset(entry, offset) && !less.has_offset(entry, offset) {
+            offsets.insert(offset);
+        }
+    }
+    offsets
+}
+
+/// Adds the offsets that routines lose which stay.
+fn push_lost_offsets<L: MessageWriter, A: Allocator, B: Allocator>(
+    told: &mut L,
+    given: &Declaration<A>,
+    less: &Declaration<B>,
+) -> Result<(), AllocError> {
+    for routine in less.routines() {
+        let entry = routine.entry();
+        let offsets = lost_offsets(given, less, entry);
+        push_routine_offsets(
+            told,
+            b"Left out, offsets by which the routine ",
+            entry,
+            &offsets,
+        )?;
+    }
+    Ok(())
+}
+
+/// Adds what a declaration has of the other things and another one lacks.
+fn push_lost_leave<L: MessageWriter, A: Allocator, B: Allocator>(
+    told: &mut L,
+    given: &Declaration<A>,
+    less: &Declaration<B>,
+) -> Result<(), AllocError> {
+    let halts = given.stops().union(given.pauses());
+    let kept_halts = less.stops().union(less.pauses());
+    push_cells(
+        told,
+        b"Left out, stops and pauses at which no run halts",
+        &halts.minus(&kept_halts),
+    )?;
+    push_cells(
+        told,
+        b"Left out, places of abandon lines for which no call is abandoned",
+        &given.abandons().minus(less.abandons()),
+    )?;
+    push_cells(
+        told,
+        b"Left out, routines of moves lines that do not store their return word",
+        &given.moves().minus(less.moves()),
+    )
+}
+
+/// Adds what a declaration has and another one lacks.
+fn push_lost<L: MessageWriter, A: Allocator, B: Allocator>(
+    told: &mut L,
+    given: &Declaration<A>,
+    less: &Declaration<B>,
+) -> Result<(), AllocError> {
+    push_cells(
+        told,
+        b"Left out, body cells that no run reaches",
+        &bodies_of(given).minus(&bodies_of(less)),
+    )?;
+    push_cells(
+        told,
+        b"Left out, routines that are never called",
+        &entries_of(given).minus(&entries_of(less)),
+    )?;
+    push_lost_offsets(told, given, less)?;
+    push_cells(
+        told,
+        b"Left out, variables that no instruction writes",
+        &given.variables().minus(less.variables()),
+    )?;
+    push_cells(
+        told,
+        b"Left out, listed reads that are not needed",
+        &reads_of(given).minus(&reads_of(less)),
+    )?;
+    push_lost_leave(told, given, less)
+}
+
+/// What is told of a declaration from which something was left out, or nothing.
+fn told_of<A: Allocator + Copy, D: Allocator, E: Allocator>(
+    alloc: A,
+    given: &Declaration<D>,
+    less: &Declaration<E>,
+) -> Result<Message<A>, AllocError> {
+    let mut told = Message::new(alloc);
+    push_lost(&mut told, given, less)?;
+    if told.is_empty() {
+        told.push_text(ALL_NEEDED)?;
+    }
+    Ok(told)
+}
+
+/// The text of a declaration without what a certificate shows to be needless, if one is found for the declaration and one for what is
+/// left of it; else the text as it is. What is declared to hold stays. What goes is told.
+///
+/// # Errors
+///
+/// `Declaration` if the text declares nothing; `NoMemory`.
+pub fn tightened<A: Allocator + Copy>(
+    alloc: A,
+    image: &Image,
+    text: &[u8],
+) -> Result<Refinement<A>, Fault>
+    ensures { IfOk result (λ refined. IsRefined image.now text.now refined.text.items) }
+{
+    let given = Declaration::parse(alloc, text)?;
+    let Some(certificate) = certificate_for(alloc, image, &given)? else {
+        return unchanged(alloc, text, NOT_SHOWN);
+    };
+    let less = narrowed(alloc, text, image, &given, &certificate)?;
+    let Some(left) = shown_no_wider(alloc, image, &given, &less)? else {
+        return unchanged(alloc, text, NOT_SHOWN_NARROWER);
+    };
+    let told = told_of(alloc, &given, &left)?;
+    Ok(Refinement { text: less, told })
+}
+
+/// A text, and behind it the lines that say with what routines return.
+fn text_with_returns<A: Allocator + Copy, D: Allocator, C: Allocator>(
+    alloc: A,
+    text: &[u8],
+    image: &Image,
+    declaration: &Declaration<D>,
+    certificate: &Certificate<C>,
+) -> Result<Vec<u8, A>, AllocError> {
+    let mut more = copy_of(alloc, text)?;
+    end_text(&mut more)?;
+    push_all_returns(&mut more, image, declaration, certificate)?;
+    Ok(more)
+}
+
+/// The text of a declaration, and behind it a line for each return of a routine that says what AC has by a certificate, and one that
+/// says what the link is, if a certificate is found for the declaration and one for what is written; else the text as it is. What is
+/// not added is told.
+///
+/// # Errors
+///
+/// `Declaration` if the text declares nothing; `NoMemory`.
+pub fn with_returns<A: Allocator + Copy>(
+    alloc: A,
+    image: &Image,
+    text: &[u8],
+) -> Result<Refinement<A>, Fault>
+    ensures refined { IfOk result (λ refined. IsRefined image.now text.now refined.text.items) }
+    ensures keeps { IfOk result (λ refined. KeepsLines text.now refined.text.items) }
+{
+    let given = Declaration::parse(alloc, text)?;
+    let Some(certificate) = certificate_for(alloc, image, &given)? else {
+        return unchanged(alloc, text, NO_RETURNS_SHOWN);
+    };
+    let more = text_with_returns(alloc, text, image, &given, &certificate)?;
+    if more.len() <= text.len().saturating_add(1) {
+        return unchanged(alloc, text, NO_RETURNS);
+    }
+    if !keeps_lines(text, &more) {
+        return unchanged(alloc, text, TOO_MANY_RETURNS);
+    }
+    match shown_no_wider(alloc, image, &given, &more)? {
+        None => unchanged(alloc, text, TOO_MANY_RETURNS),
+        Some(_) => Ok(Refinement {
+            text: more,
+            told: Message::new(alloc),
+        }),
+    }
+}

@@ -12,7 +12,7 @@ use Rattle.domain.specs.FactInCode.{fact_in_code}
 use Rattle.domain.specs.declared.sum_fact.SumFact.{SumFact}
 use Rattle.certificate_lines.specs.declared.Version.{Version}
 use Rattle.certificate_lines.specs.declared.Version.TheVariants.{One, Two, Three}
-use Rattle.certificate_lines.specs.FieldSpelling.{RoutineLine, Registers, ended}
+use Rattle.certificate_lines.specs.FieldSpelling.{ended}
 use Rattle.certificate_lines.specs.RisingLists.{Each, EndsBefore}
 use Rattle.certificate_lines.specs.Lines.{Line, RoutineIs, FactIs, ExitIs, CellIs, SumIs, ChainIs, End, is_end, is_of_sums}
 use Rattle.certificate_lines.specs.Spelling.{version_text}
@@ -26,7 +26,6 @@ use Rattle.certificate_lines.specs.CertificateInCode.{Kept, meaning}
 use Rattle.certificate_lines.specs.Made.{details_of, lines_of_fact, lines_of_exit, before_end, with_lines, MayAdd, AreDetails}
 use Rattle.certificate_lines.proofs.SumTextLemmas.{both_ended}
 use Rattle.certificate_lines.proofs.SumWholeLemmas.{newest_both, followed, whole}
-use Rattle.certificate_lines.proofs.SumReaderLemmas.{has_place}
 
 pub text_ended : (v : Version) (ls : List Line) → ended (version_text v) ++ all_ended v ls ++ ended (codes "end") ≡ bytes_of (record { version = v; lines = ls ++ End ∷ [] })
 text_ended v ls =
@@ -145,12 +144,6 @@ details v ls head f m =
     let outer = each_parts (IsLine v) (map CellIs (cell_sets_of f.cells) ++ map SumIs (fact_in_code f).relations) (map ChainIs (fact_in_code f).chains) all in
     let inner = each_parts (IsLine v) (map CellIs (cell_sets_of f.cells)) (map SumIs (fact_in_code f).relations) outer.0 in
     record { sums = sums_formed v (fact_in_code f).relations inner.1; steps = steps_formed v (fact_in_code f).chains outer.1 }
-
-pub exit_small : (v : Version) (ls : List Line) (e o : ℕ) (s : Words) (r : Registers) (more : List Line) → MayAdd (text_of_kept v ls) (ExitIs e o s r ∷ more) → o < 64
-exit_small v ls e o s r more m = has_place v (ExitIs e o s r) (may_follow v ls (ExitIs e o s r ∷ more) m).0.0
-
-pub rank_small : (v : Version) (ls : List Line) (r : RoutineLine) (more : List Line) → MayAdd (text_of_kept v ls) (RoutineIs r ∷ more) → r.rank < 64
-rank_small v ls r more m = ltb-true r.rank 64 (and_parts (nat_lt r.entry 4096) _ (may_follow v ls (RoutineIs r ∷ more) m).0.0).1
 
 -- Lines in order are so in version 2 too.
 pub mq_one : (mq : Words) → mq ≡ all_words → EndsBefore 4096 mq

@@ -3,7 +3,7 @@ use Rattle.std.proofs.Common.{◌≡◌, ℕ, ◌+◌, ◌<◌, ◌≤◌, ◌==
 use Rattle.std.specs.Prelude.{if◌then◌else◌, map, nat_lt}
 use Rattle.std.specs.List.{list_any}
 use Rattle.std.proofs.Math.Path.{fun_ext}
-use Rattle.std.proofs.lemmas.List.{drop_all, map_push}
+use Rattle.std.proofs.lemmas.List.{drop_all}
 use Rattle.std.proofs.lemmas.Bool.{true≢false, cases_Bool, and_parts, ltb-true, lt-ltb, ne_eqb, eqb-true}
 use Rattle.wordset.specs.Words.{Words, nothing, one, has_some, some_below}
 use Rattle.wordset.proofs.Tests.{IsSome, some_from, some_to, some_none_of, and_both, and_first, and_second, both_ways}
@@ -333,6 +333,3 @@ pub whole_sited : (k : Kept) (d : Declaration) (new : Packed) → IsWhole k.vers
     said_lines new ≡ map (sited_by d (claims k)) (said_lines k.lines) → IsWhole Three new
 whole_sited k d new w e same =
     whole_three (sites_by d (claims k)) k.version k.lines new e (λ l. by_end d (claims k) l (claimed_sites k w)) w same
-
-pub text_sited : (f : Line → Line) (ls new : List Line) → f End ≡ End → new ≡ map f ls → new ++ End ∷ [] ≡ map f (ls ++ End ∷ [])
-text_sited f ls new e same = ap (λ (x : List Line). x ++ End ∷ []) same ∙ (ap (λ (x : Line). map f ls ++ x ∷ []) (sym e) ∙ sym (map_push f ls End))

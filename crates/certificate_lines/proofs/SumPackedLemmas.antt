@@ -241,15 +241,6 @@ laid_alone old new runs before later steps l n m e f g h within =
     packed_after old new (take (run_count l) runs) before later (take (step_count l) steps) l (rw e at g) (rw f at h) a.within in
     record { within = p.within; is = p.is ∙ a.is }
 
-pub counts_within : (n m : ℕ) (l : PackedLine) → LiesWithin n m l → (run_count l ≤ n) × (step_count l ≤ m)
-counts_within n m (packed.Routine r) h = (h.inside, omega arith)
-counts_within n m (packed.Fact f) h = (h, omega arith)
-counts_within n m (packed.Exit e) h = (h, omega arith)
-counts_within n m (packed.Cell a c) h = (h, omega arith)
-counts_within n m (packed.Sum s c) h = (h, omega arith)
-counts_within n m (packed.Chain c) h = (omega arith, h.0)
-counts_within n m packed.End h = (omega arith, omega arith)
-
 -- Runs behind a place.
 drop_twice : (k n : ℕ) (xs : List Run) → drop n (drop k xs) ≡ drop (k + n) xs
 drop_twice zero n xs = let e : 0 + n ≡ n = omega arith in rw e refl

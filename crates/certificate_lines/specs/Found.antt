@@ -104,11 +104,6 @@ begins test (l ∷ ls) = test l
 abbrev pub FitUnder : List Line → Type 0
 FitUnder ls = (length (cells_under ls) ≤ 64) × (length (relations_under ls) ≤ 32) × (length (chains_under ls) ≤ 4)
 
--- There is room for those after the first line.
-abbrev pub FitUnderFirst : List Line → Type 0
-FitUnderFirst [] = Unit {0}
-FitUnderFirst (l ∷ ls) = FitUnder ls
-
 -- The lines after the details at the front.
 abbrev pub behind_details : List Line → List Line
 behind_details [] = []

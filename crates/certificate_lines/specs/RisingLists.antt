@@ -1,9 +1,8 @@
 -- Lists that rise, members of lists, tracked cells and sets that end, as lines of a certificate have them.
-use Rattle.std.specs.Prelude.{◌≡◌, ℕ, ◌+◌, ◌<◌, ◌≤◌, true, false, List, [], ◌∷◌}
-use Rattle.wordset.specs.Words.{Words, has_some}
+use Rattle.std.specs.Prelude.{◌≡◌, ℕ, ◌+◌, ◌<◌, ◌≤◌, false, List, [], ◌∷◌}
+use Rattle.wordset.specs.Words.{Words}
 use Rattle.wordset.specs.Links.{links_of}
 use Rattle.domain.specs.Locations.{Location, Ac, Cell}
-use Rattle.domain.specs.TrackedCells.{TrackedCell}
 
 -- The numbers rise, from a number on.
 abbrev pub RiseFrom : ℕ → List ℕ → Type 0
@@ -19,11 +18,6 @@ place_of_name (Cell a) = a + 1
 abbrev pub Each : {A : Type 0} → (A → Type 0) → List A → Type 0
 Each p [] = Unit {0}
 Each p (x ∷ xs) = p x × Each p xs
-
--- A tracked cell is a cell, and its set is not empty.
-pub record IsTracked (c : TrackedCell) : Type 0 where
-  pub address : c.address < 4096
-  pub set : has_some c.set ≡ true
 
 -- No number from this one on is in the set.
 abbrev pub EndsBefore : ℕ → Words → Type 0

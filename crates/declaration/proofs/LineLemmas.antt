@@ -8,7 +8,7 @@ use Rattle.std.proofs.lemmas.Bool.{cases_Bool, and_parts, leb-true, lt-ltb}
 use Rattle.word12.specs.Octal.{is_octal_digit, octal_value}
 use Rattle.wordset.specs.Words.{Words, nothing, union}
 use Rattle.streams.specs.Text.{octal_word}
-use Rattle.declaration.specs.Lines.{read_first, all_read, address_of, range_of, offset_of, any_of, these, is_returns, is_subject, body_read}
+use Rattle.declaration.specs.Lines.{read_first, all_read, address_of, range_of, offset_of, any_of, these, is_returns, is_subject}
 use Rattle.declaration.specs.Drafts.{cells_before, ranges_before}
 
 or_assoc : (a b c : Bool) → (a || (b || c)) ≡ ((a || b) || c)
@@ -74,21 +74,11 @@ body_step set new c ws others w all left not is grown so_far =
     let some : with_cells set (read_first (Some c) (ranges_before others)) ≡ all = rw (← is) at reads in
     rw grown (sym (with_first set c (ranges_before others)) ∙ some)
 
--- a range of a body that doesn't read
-pub body_fail : (set : Words) (ws others : List (List ℕ)) (w : List ℕ) (all : Option Words) → ws ≡ w ∷ others → is_returns w ≡ false → None ≡ range_of w → with_cells set (ranges_before ws) ≡ all → None ≡ all
-body_fail set ws others w all left not is so_far =
-    let reads : with_cells set (read_first (range_of w) (ranges_before others)) ≡ all = rw (left, ranges_before-first w others not) at so_far in
-    rw (← is) at reads
-
 -- the end of a body
 pub body_end : (set : Words) (ws others : List (List ℕ)) (w : List ℕ) (all : Option Words) → ws ≡ w ∷ others → is_returns w ≡ true → with_cells set (ranges_before ws) ≡ all → Some set ≡ all
 body_end set ws others w all left is so_far =
     let same : union set (any_of []) ≡ set = fun_ext (λ a. or_nothing (set a)) in
     rw same at (rw (left, is) at so_far)
-
--- a body without an end
-pub body_lacks : (set : Words) (ws : List (List ℕ)) (all : Option Words) → ws ≡ [] → with_cells set (ranges_before ws) ≡ all → None ≡ all
-body_lacks set ws all none so_far = rw none at so_far
 
 one_more : (n : ℕ) → 1 + n + 1 ≡ suc (n + 1)
 one_more n = omega arith
@@ -100,18 +90,7 @@ after_other ws others w left not = rw (left, not) (ap (λ n. drop n (w ∷ other
 pub after_returns : (ws others : List (List ℕ)) (w : List ℕ) → ws ≡ w ∷ others → is_returns w ≡ true → after_first is_returns ws ≡ others
 after_returns ws others w left is = rw (left, is) refl
 
--- a body of one range or more
-pub body_some : (ws others : List (List ℕ)) (w : List ℕ) → ws ≡ w ∷ others → is_returns w ≡ false → option_map any_of (ranges_before ws) ≡ body_read ws
-body_some ws others w left not = elim (cases_Bool (list_any is_returns others)) [
-  | inl e ↦ rw (left, not, e, one_suc (position_or_len is_returns others)) refl
-  | inr e ↦ rw (left, not, e) refl
 ]
-
-pub body_none : (ws : List (List ℕ)) → ws ≡ [] → None ≡ body_read ws
-body_none ws none = rw none refl
-
-pub body_empty : (ws others : List (List ℕ)) (w : List ℕ) → ws ≡ w ∷ others → is_returns w ≡ true → None ≡ body_read ws
-body_empty ws others w left is = rw (left, is) refl
 
 -- ---- up to the name of a subject
 
@@ -177,10 +156,6 @@ pub offsets_end : (set : Words) (ws : List (List ℕ)) (all : Option Words) → 
 offsets_end set ws all none so_far =
     let same : union set (these []) ≡ set = fun_ext (λ a. or_nothing (set a)) in
     rw same at (rw none at so_far)
-
-pub offsets_start : (set : Words) (more : Option (List ℕ)) → set ≡ nothing → with_offsets set more ≡ option_map these more
-offsets_start set None none = refl
-offsets_start set (Some offsets) none = ap (λ s. Some s) (fun_ext (λ a. ap (λ s. s a || these offsets a) none))
 
 -- one octal digit spells a number below 8
 pub digit_below_8 : (word : List ℕ) (v : ℕ) → length word ≡ 1 → Some v ≡ octal_word word → v < 8

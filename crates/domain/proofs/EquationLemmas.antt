@@ -1,5 +1,5 @@
 -- What an equation of a fact leaves to its two names: each is a word of the other that is so much more or less.
-use Rattle.std.proofs.Common.{◌≡◌, ℕ, ◌+◌, ◌-◌, ◌*◌, ◌%◌, ◌<◌, ◌==◌, true, false, ◌&&◌, List, refl, sym, ap, ◌∙◌, arith}
+use Rattle.std.proofs.Common.{◌≡◌, ℕ, ◌+◌, ◌-◌, ◌*◌, ◌%◌, ◌<◌, ◌==◌, true, ◌&&◌, List, refl, sym, ap, ◌∙◌, arith}
 use Rattle.std.specs.Prelude.{Some}
 use Rattle.std.proofs.lemmas.Bool.{eq-eqb, eqb-true}
 use Rattle.wordset.specs.Words.{Words, SameWords, some_below, minus, shifted, sums, one, only, meet}
@@ -14,7 +14,7 @@ use Rattle.domain.specs.Facts.{Fact, OfSums}
 use Rattle.domain.specs.Adding.{times, differences, adding, adding_all}
 use Rattle.domain.specs.Knowing.{said_of}
 use Rattle.domain.specs.Narrowing.{parts_of}
-use Rattle.domain.proofs.NameAskedLemmas.{told_here, told_of_other, meet_below}
+use Rattle.domain.proofs.NameAskedLemmas.{told_here, meet_below}
 
 -- A sum of one word and a word of a set.
 sum_with_one : (a b : Words) (k v : ℕ) → IsOnly a k → v < 4096 → sums a b v ≡ b (minus v k)
@@ -78,15 +78,6 @@ pub parts_of_difference : (image : Image) (own f : Fact) (l r : Location) (set :
     adding_all OfSums (parts_of image own (difference_of l r) set) f
 unfolding said_of
 parts_of_difference image own f l r set = refl
-
--- Of other names it says nothing.
-pub difference_of_others : (image : Image) (own f : Fact) (l r n : Location) (set : Words) → same n l ≡ false → same n r ≡ false →
-    f.set n ≡ (adding_all OfSums (parts_of image own (difference_of l r) set) f).set n
-difference_of_others image own f l r n set a b =
-    let first : Fact = adding OfSums (record { sum = sum_of_name l; set = λ v. differences set (times 4095 (own.set r)) ((1 * v) % 4096) }) f in
-    told_of_other f n l (λ v. differences set (times 4095 (own.set r)) ((1 * v) % 4096)) a
-    ∙ told_of_other first n r (λ v. differences set (times 1 (own.set l)) ((4095 * v) % 4096)) b
-    ∙ ap (λ (g : Fact). g.set n) (parts_of_difference image own f l r set)
 
 -- The words of a name that are words of another with the number added.
 pub moved_here : (f : Fact) (n m : Location) (lanes : List ℕ) (set moved p : Words) → same n m ≡ true → SameWords set moved → words lanes ≡ f.set n →

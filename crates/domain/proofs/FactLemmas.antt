@@ -1,5 +1,5 @@
 -- Facts of sums, part by part.
-use Rattle.std.proofs.Common.{◌≡◌, ℕ, ◌<◌, true, false, List, [], ◌∷◌, length, refl, ap, arith}
+use Rattle.std.proofs.Common.{◌≡◌, ℕ, ◌<◌, List, [], ◌∷◌, length, refl, ap, arith}
 use Rattle.std.specs.Prelude.{Option, Some, None}
 use Rattle.std.proofs.Math.Path.{fun_ext}
 use Rattle.wordset.specs.Words.{Words, all_words}
@@ -8,7 +8,7 @@ use Rattle.domain.specs.TrackedCells.{TrackedCell}
 use Rattle.domain.specs.Terms.{Sum}
 use Rattle.domain.specs.Shapes.{Spelled, spelled}
 use Rattle.domain.specs.Facts.{Fact, Rules}
-use Rattle.domain.specs.Adding.{with_set, adding, with_spelled_in, with_shape_in, with_term_in, with_relation, is_kept, times, set_of_sum, set_if_spelled, set_of_shape, set_of_term, set_among}
+use Rattle.domain.specs.Adding.{with_set, adding, with_spelled_in, with_shape_in, with_term_in, times, set_of_sum, set_if_spelled, set_of_shape, set_of_term, set_among}
 use Rattle.domain.specs.InCode.{summand_at}
 use Rattle.domain.specs.CellsInCode.{words_in_cells, with_cell}
 use Rattle.domain.specs.FactInCode.{names_words}
@@ -68,14 +68,3 @@ pub added_of_one : (rules : Rules) (set : Words) (f : Fact) (xs : Sum) → lengt
 added_of_one rules set f [] e = absurd (omega (arith, e))
 added_of_one rules set f (x ∷ []) e = refl
 added_of_one rules set f (x ∷ y ∷ ys) e = absurd (omega (arith, e))
-
-pub kept_of_more : (rules : Rules) (set : Words) (f : Fact) (xs : Sum) → 1 < length xs → is_kept rules xs set ≡ true →
-    record f { relations = with_relation xs set f.relations } ≡ with_shape_in rules xs set f
-kept_of_more rules set f [] e k = absurd (omega (arith, e))
-kept_of_more rules set f (x ∷ []) e k = absurd (omega (arith, e))
-kept_of_more rules set f (x ∷ y ∷ ys) e k = rw k refl
-
-pub left_of_more : (rules : Rules) (set : Words) (f : Fact) (xs : Sum) → 1 < length xs → is_kept rules xs set ≡ false → f ≡ with_shape_in rules xs set f
-left_of_more rules set f [] e k = absurd (omega (arith, e))
-left_of_more rules set f (x ∷ []) e k = absurd (omega (arith, e))
-left_of_more rules set f (x ∷ y ∷ ys) e k = rw k refl

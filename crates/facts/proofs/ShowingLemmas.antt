@@ -50,11 +50,6 @@ some_step f P p apart put xs i x lt e not h = (
   λ a. elim (apart (f x) (map f (drop (i + 1) xs)) (subst (λ ys. P (map f ys)) (drop_item xs i x lt e) (h.1 a))) [ inl q ↦ absurd (not q) | inr r ↦ r ],
 )
 
-pub some_found : {A : Type 0} {B : Type 0} (f : A → B) (P : List B → Type 0) (p : B → Type 0) → ((b : B) (bs : List B) → p b ⊎ P bs → P (b ∷ bs)) →
-    (xs : List A) (i : ℕ) (x : A) → i < length xs → x ≡ get_or xs i x → p (f x) → (P (map f (drop i xs)) ↔ P (map f xs)) → IsTrue true ↔ P (map f xs)
-some_found f P p put xs i x lt e w h = (
-  λ t. h.0 (subst (λ ys. P (map f ys)) (sym (drop_item xs i x lt e)) (put (f x) (map f (drop (i + 1) xs)) (inl w))),
-  λ a. refl,
 )
 
 -- the entries, one by one or by cell
@@ -139,27 +134,9 @@ one_sum (s ∷ ss) (t ∷ ts) h =
 pub same_sums : (s t : Sum) → s ≡ t → same_sum s t ≡ true
 same_sums s t e = subst (λ x. same_sum s x ≡ true) e (same_sum_self s)
 
-pub both_within : (a b : Words) → IsWithin a b → IsWithin b a → SameWords a b
-both_within a b f g v lt = go (a v) (b v) (f v lt) (g v lt)
-  where
-    go : (x y : Bool) → (x ≡ true → y ≡ true) → (y ≡ true → x ≡ true) → x ≡ y
-    go true y f g = sym (f refl)
-    go false true f g = g refl
-    go false false f g = refl
-
-pub same_within : (a b : Words) → SameWords a b → IsWithin a b
-same_within a b h v lt w = sym (h v lt) ∙ w
-
-pub same_outside : (a b : Words) → SameWords a b → IsWithin b a
-same_outside a b h v lt w = h v lt ∙ w
-
 -- a relation among others
 abbrev pub IsOne : Relation → Relation → Type 0
 IsOne r g = (g.sum ≡ r.sum) × SameWords g.set r.set
-
-pub among_found : {A : Type 0} (f : A → Relation) (r : Relation) (xs : List A) (i : ℕ) (x : A) → i < length xs → x ≡ get_or xs i x → IsOne r (f x) →
-    (Among r (map f (drop i xs)) ↔ Among r (map f xs)) → IsTrue true ↔ Among r (map f xs)
-among_found f r xs i x lt e w h = some_found f (Among r) (IsOne r) (λ b bs k. k) xs i x lt e w h
 
 -- the one at a place
 pub among_at : {A : Type 0} (f : A → Relation) (r : Relation) (xs : List A) (i : ℕ) (x : A) → i < length xs → x ≡ get_or xs i x → IsOne r (f x) → Among r (map f xs)
@@ -179,10 +156,6 @@ among_behind f r xs i x lt e w h = behind (subst (λ ys. Among r (map f ys)) (dr
 -- past the last one there is none
 pub among_none : {A : Type 0} (f : A → Relation) (r : Relation) (xs : List A) (i : ℕ) → length xs ≤ i → Among r (map f (drop i xs)) → ⊥
 among_none f r xs i le h = subst (λ ys. Among r (map f ys)) (drop_of_length-le xs le) h
-
-pub among_step : {A : Type 0} (f : A → Relation) (r : Relation) (xs : List A) (i : ℕ) (x : A) → i < length xs → x ≡ get_or xs i x → (IsOne r (f x) → ⊥) →
-    (Among r (map f (drop i xs)) ↔ Among r (map f xs)) → Among r (map f (drop (i + 1) xs)) ↔ Among r (map f xs)
-among_step f r xs i x lt e w h = some_step f (Among r) (IsOne r) (λ b bs k. k) (λ b bs k. k) xs i x lt e w h
 
 -- what each relation, entry and chain of a list is asked
 pub within_step : {A : Type 0} (f : A → TrackedCell) (pl : Place) (a : Fact) (xs : List A) (i : ℕ) (x : A) → i < length xs → x ≡ get_or xs i x →

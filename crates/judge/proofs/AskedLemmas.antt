@@ -104,11 +104,6 @@ each_both p (f ∷ fs) gs = let rest = each_both p fs gs in (
   λ e. (e.0.0, rest.1 (e.0.1, e.1)),
 )
 
--- the facts that are asked are those of the first fact and those of the rest
-sited_first : (rules : Rules) (sites : Words) (f : Fact) (fs : List Fact) → sited rules sites (f ∷ fs) ≡ sited rules sites (f ∷ []) ++ sited rules sites fs
-sited_first OfSums sites f fs = refl
-sited_first OfEquations sites f fs = refl
-
 pub asked_first : (rules : Rules) (image : Image) (f : Fact) (fs : List Fact) → asked rules image (f ∷ fs) ≡ asked rules image (f ∷ []) ++ asked rules image fs
 asked_first OfEquations image f fs = refl
 asked_first OfSums image f fs = elim (cases_Bool (is_void (narrowed image f))) [ inl t ↦ rw t refl | inr n ↦ rw n refl ]

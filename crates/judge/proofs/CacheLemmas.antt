@@ -16,22 +16,6 @@ some_same h = cc
 none_some : {a : ℕ} → None ≡ Some a → ⊥
 none_some h = cc
 
--- the fact of no address
-pub shows_none : (c : Certificate) (s : FactCache) → s.address ≡ None → Shows c s
-shows_none c s none a there = absurd (none_some (sym none ∙ there))
-
-pub nothing_ahead : (c : Certificate) (sites : Words) (s : FactCache) → s.address ≡ None → StandsAhead c sites s
-nothing_ahead c sites s none a there = absurd (none_some (sym none ∙ there))
-
--- a fact that was read, with its own sites beside it
-pub shows_read : (c : Certificate) (s : FactCache) (a : ℕ) (f : Fact) → c.facts a ≡ f ∷ [] → HasShape f → fact_in_code s.fact ≡ f → brief_words s.sites ≡ f.sites → s.address ≡ Some a → Shows c s
-shows_read c s a f only shape is own there b here =
-    let as_read : with_sites (brief_words s.sites) (fact_in_code s.fact) ≡ f = ap (λ (w : Words). with_sites w (fact_in_code s.fact)) own ∙ ap (λ (g : Fact). with_sites f.sites g) is in
-    subst (λ (x : ℕ). IsOnlyAt c s x) (some_same (sym there ∙ here)) (record {
-      only = only ∙ ap (λ (g : Fact). g ∷ []) (sym as_read);
-      shape = subst HasShape (sym is) shape;
-    })
-
 -- other sites
 pub shows_sited : (c : Certificate) (s t : FactCache) (w : Words) → Shows c s → fact_in_code t.fact ≡ with_sites w (fact_in_code s.fact) → t.sites ≡ s.sites → t.address ≡ s.address → Shows c t
 shows_sited c s t w shows is own same a there =

@@ -63,9 +63,6 @@ same_point i j q r b a g h limit place case routine at fact k =
 allowed : (j : Case) (r : Routine) (own : Rules) (f g : Fact) (t : Bool) → own ≡ j.certificate.rules → g ≡ f → (IsTrue t ↔ IsOfBody own r g) → IsTrue t ↔ IsOfBody j.certificate.rules r f
 allowed j r own f g t rules read told = subst (λ (x : Fact). IsTrue t ↔ IsOfBody j.certificate.rules r x) read (subst (λ (k : Rules). IsTrue t ↔ IsOfBody k r g) rules told)
 
-pub not_allowed : (j : Case) (r : Routine) (a : ℕ) (own : Rules) (f g : Fact) (limit : ℕ) (t : Bool) → own ≡ j.certificate.rules → g ≡ f → t ≡ false → (IsTrue t ↔ IsOfBody own r g) → IsLeastOf j r a f limit 1
-not_allowed j r a own f g limit t rules read fails told = inl (refl, λ h. true≢false (sym ((allowed j r own f g t rules read told).1 h) ∙ fails))
-
 pub not_asked : (j : Case) (r : Routine) (a : ℕ) (own : Rules) (sites : Words) (f g h k : Fact) (limit : ℕ) (t b : Bool) → 2 ≤ limit → own ≡ j.certificate.rules → sites ≡ sites_of j.certificate r → g ≡ f → t ≡ true → (IsTrue t ↔ IsOfBody own r g) →
     h ≡ sited_one own sites g → asked own j.image (h ∷ []) ≡ (if b then k ∷ [] else []) → b ≡ false → IsLeastOf j r a f limit limit
 not_asked j r a own sites f g h k limit t b low rules same read is told put chosen none =
@@ -84,19 +81,6 @@ mapped f (x ∷ xs) = ap suc (mapped f xs)
 
 chain_count : {C R : ℕ} (g : SumFact C R) (cs : List Chain) → (fact_in_code g).chains ≡ cs → length g.chains.items ≡ length cs
 chain_count g cs is = sym (mapped chain_of g.chains.items) ∙ ap length is
-
-pub copied_roomy : {C R D S : ℕ} (g : SumFact C R) (f : SumFact D S) → HasShape (fact_in_code f) → length (cell_sets_of f.cells) ≤ 64 → length (relations_of f.relations) ≤ 32 →
-    fact_in_code g ≡ fact_in_code f → cell_sets_of g.cells ≡ cell_sets_of f.cells → relations_of g.relations ≡ relations_of f.relations → IsRoomy g
-copied_roomy g f shape cells relations is same alike =
-    let count : length g.chains.items ≡ length (fact_in_code f).chains = chain_count g (fact_in_code f).chains (ap (λ (x : Fact). x.chains) is) in
-    let few : length (fact_in_code f).chains ≤ 4 = shape.few in
-    record {
-      terms = subst (λ (x : Fact). HaveFewTerms x.relations) (sym is) shape.terms;
-      short = subst (λ (x : Fact). AreShort x.chains) (sym is) shape.short;
-      cells = omega (arith, cells, ap length same);
-      relations = omega (arith, relations, ap length alike);
-      chains = omega (arith, relations, ap length alike, count, few);
-    }
 
 pub narrowed_roomy : {C R D S : ℕ} (image : Image) (g : SumFact C R) (f : SumFact D S) → HasShape (fact_in_code f) → length (cell_sets_of f.cells) ≤ 64 → length (relations_of f.relations) ≤ 32 →
     fact_in_code g ≡ narrowed image (fact_in_code f) →
@@ -122,10 +106,6 @@ narrowing_fits f shape = let own : length f.chains.items ≡ length (fact_in_cod
 pub empty_returns : (xs : List KeptReturnAssertion) (rs : List ReturnAssertion) → map return_assertion_of xs ≡ rs → (length xs == 0) ≡ true → rs ≡ []
 empty_returns [] rs are none = sym are
 empty_returns (x ∷ xs) rs are none = absurd (omega (arith, eqb-true (length (x ∷ xs)) 0 none))
-
-pub none_counted : (fs : List Fact) (n : ℕ) → n ≡ length fs → n ≡ 0 → fs ≡ []
-none_counted [] n count none = refl
-none_counted (f ∷ fs) n count none = absurd (omega (arith, count, none))
 
 -- one exit after another
 module _ (j : Case) (e o : ℕ) where

@@ -16,7 +16,6 @@ use Rattle.judge.specs.Landing.{Case, place_in, facts_in}
 use Rattle.judge.specs.Conditions.{HoldsAt, EachFact, ExitsAreHeld, IsPlaced, IsOfMain, IsOfRoutine, HasSites, LinesArePlaced}
 use Rattle.judge.specs.Bodies.{IsOfBody}
 use Rattle.judge.specs.Asked.{RoutinesArePlaced, HoldsBetween, FailsAtLine, IsLeastOfAll}
-use Rattle.judge.specs.declared.body.Body.{Body}
 use Rattle.judge.specs.declared.case.Case.{Case as KeptCase}
 use Rattle.judge.specs.Judged.{case_kept}
 use Rattle.domain.specs.declared.sum_fact.Rules.{Rules as KeptRules}
@@ -106,11 +105,6 @@ no_body j a some none = lines_fail j a (fact_line j a some) (λ l. go (j.certifi
     go : (fs : List Fact) → 0 < length fs → EachFact (IsPlaced j a) fs → ⊥
     go [] lt e = omega (arith, lt)
     go (f ∷ fs) lt e = none f e.0
-
--- no facts
-length_none : (fs : List Fact) → length fs ≡ 0 → fs ≡ []
-length_none [] h = refl
-length_none (f ∷ fs) h = absurd (omega arith)
 
 pub no_facts : (j : Case) (a : ℕ) → RoutinesArePlaced j a → j.certificate.facts a ≡ [] → ExitsAreHeld j a → HoldsBetween j 1 16 a
 no_facts j a placed none held =
@@ -222,9 +216,6 @@ some_site f s x sites empty = (
     not_not false q = absurd (false≢true q)
 
 -- ---- bodies and places
-
-pub inside_body : (j : Case) (a : ℕ) (b : Body) (r : Routine) → b.routine ≡ r → j.declaration.body r a ≡ true → j.declaration.body b.routine a ≡ true
-inside_body j a b r is here = ap (λ (k : Routine). j.declaration.body k a) is ∙ here
 
 pub place_made : {A C : Type 0} (claims : C → Certificate) (k : KeptCase A C) (p : KeptPlace A) (r : Routine) (rules : KeptRules) →
     p.image.now ≡ k.image.now → p.declaration.now ≡ k.declaration.now → p.routine ≡ r → p.rules ≡ rules → rules_of rules ≡ (claims k.claims.now).rules → place_in_code p ≡ place_in (case_kept claims k) r

@@ -101,10 +101,6 @@ is_ok_both : {X : Type 0} (f : Option FaultCode) (t u : X) → both f t ≡ Ok u
 is_ok_both None t u e = (refl, cc)
 is_ok_both (Some c) t u e = cc
 
-is_err_both : {X : Type 0} (f : Option FaultCode) (t : X) (c : FaultCode) → both f t ≡ Err c → f ≡ Some c
-is_err_both None t c e = cc
-is_err_both (Some d) t c e = cc
-
 pub took : (permanent : List (Name × ℕ)) (limit : ℕ) (own : List (Name × ℕ)) (here : ℕ) (e : List SignedTerm) (a : Act) (new : List (Name × ℕ)) → taken permanent limit own here e a ≡ Ok new
     → (fault permanent limit own here e a ≡ None) × (new ≡ after permanent limit own here e a)
 took permanent limit own here e a new h = is_ok_both (fault permanent limit own here e a) (after permanent limit own here e a) new (sym (taken_is permanent limit own here e a) ∙ h)

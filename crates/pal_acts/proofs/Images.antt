@@ -1,6 +1,6 @@
 -- Images as lists.
-use Rattle.std.proofs.Common.{◌≡◌, ◌≢◌, ◌∙◌, sym, ap, ℕ, ◌<◌, List, [], ◌∷◌, Option, None, Some, length, length-set, get_or, replicate, slice_set, nat_eq}
-use Rattle.std.proofs.lemmas.Bool.{cond_both, eqb-true, eqb-false}
+use Rattle.std.proofs.Common.{◌≡◌, ◌≢◌, ◌∙◌, sym, ℕ, ◌<◌, List, [], ◌∷◌, Option, None, length, length-set, get_or, replicate}
+use Rattle.std.proofs.lemmas.Bool.{eqb-true, eqb-false}
 use Rattle.std.proofs.lemmas.List.{length-replicate, get_or-replicate, same_lists, get_or_default}
 use Rattle.std.proofs.lemmas.Option.{unwrap_or-slice_get}
 use Rattle.bin_tape.specs.Image.{word_at}
@@ -17,14 +17,6 @@ blank n a h = unwrap_or-slice_get (replicate n none_yet) a None ∙ get_or-repli
 pub blank_image : IsImage [] (replicate 4096 none_yet)
 blank_image = record { size = length-replicate 4096 none_yet; cells = λ a h. blank 4096 a h }
 
--- a word is put into the image of those before it
-pub put_word : (ws : List PlacedWord) (w : PlacedWord) (image new : List (Option ℕ)) → new ≡ slice_set image w.at (Some w.word) → word_at new w.at ≡ Some w.word
-    → ((a : ℕ) → a ≢ w.at → word_at new a ≡ word_at image a) → IsImage ws image → IsImage (w ∷ ws) new
-put_word ws w image new is here others h = record {
-  size = ap length is ∙ length-set image w.at (Some w.word) ∙ h.size;
-  cells = λ a lt. cond_both (nat_eq w.at a) (Some w.word) (last_at a ws) (λ o. word_at new a ≡ o)
-      (λ same. ap (word_at new) (sym (eqb-true w.at a same)) ∙ here)
-      (λ other. others a (λ e. eqb-false w.at a other (sym e)) ∙ h.cells a lt);
 }
 
 cell : (ws : List PlacedWord) (image : List (Option ℕ)) (a : ℕ) (d : Option ℕ) → IsImage ws image → a < 4096 → get_or image a d ≡ last_at a ws

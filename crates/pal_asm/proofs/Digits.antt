@@ -85,10 +85,6 @@ character_left b v bytes i h one = ap (number_from b v) (characters_left bytes i
 abbrev pub found : ℕ → ℕ → Option ℕ
 found b c = if is_digit_of b c then Some (c - 48) else None
 
-found_one : (b c d : ℕ) → found b c ≡ Some d → (is_digit_of b c ≡ true) × (c - 48 ≡ d)
-found_one b c d h = elim (cases_Bool (is_digit_of b c)) [
-  | inl is ↦ (is, (let same : Some (c - 48) ≡ Some d = sym (ap (λ t. if t then Some (c - 48) else None) is) ∙ h in cc))
-  | inr other ↦ cc (sym (ap (λ t. if t then Some (c - 48) else None) other) ∙ h)
 ]
 
 found_none : (b c : ℕ) → found b c ≡ None → is_digit_of b c ≡ false
@@ -96,13 +92,3 @@ found_none b c h = elim (cases_Bool (is_digit_of b c)) [
   | inl is ↦ cc (sym (ap (λ t. if t then Some (c - 48) else None) is) ∙ h)
   | inr other ↦ other
 ]
-
-pub digit_left : (b v : ℕ) (bytes : List ℕ) (i d : ℕ) → i < length bytes → is_character (code (get_or bytes i 0)) ≡ true → found b (code (get_or bytes i 0)) ≡ Some d
-    → number_from b v (characters (drop i bytes)) ≡ number_from b (capped (v * b + d)) (characters (drop (i + 1) bytes))
-digit_left b v bytes i d h one digit =
-    let f : (is_digit_of b (code (get_or bytes i 0)) ≡ true) × (code (get_or bytes i 0) - 48 ≡ d) = found_one b (code (get_or bytes i 0)) d digit in
-    character_left b v bytes i h one ∙ cond-true (is_digit_of b (code (get_or bytes i 0))) _ _ f.0 ∙ ap (λ n. number_from b (capped (v * b + n)) (characters (drop (i + 1) bytes))) f.1
-
-pub no_digit_left : (b v : ℕ) (bytes : List ℕ) (i : ℕ) → i < length bytes → is_character (code (get_or bytes i 0)) ≡ true → found b (code (get_or bytes i 0)) ≡ None
-    → number_from b v (characters (drop i bytes)) ≡ Err IllegalCharacter
-no_digit_left b v bytes i h one other = character_left b v bytes i h one ∙ cond-false (is_digit_of b (code (get_or bytes i 0))) _ _ (found_none b (code (get_or bytes i 0)) other)

@@ -1,5 +1,5 @@
 -- Lines, words and symbols taken one by one.
-use Rattle.std.proofs.Common.{◌≡◌, ◌∙◌, sym, ap, refl, ℕ, ◌+◌, ◌-◌, ◌<◌, ◌≤◌, List, [], ◌∷◌, ◌++◌, arith, length, get_or, take, drop, append_assoc, Some, true}
+use Rattle.std.proofs.Common.{◌≡◌, ◌∙◌, sym, ap, ℕ, ◌+◌, ◌-◌, ◌<◌, ◌≤◌, List, [], ◌∷◌, ◌++◌, arith, length, get_or, take, drop, append_assoc, Some, true}
 use Rattle.std.specs.Prelude.{codes, slice_get}
 use Rattle.std.proofs.lemmas.Bool.{cond-true}
 use Rattle.std.proofs.lemmas.List.{take_all, drop_more}
@@ -7,13 +7,8 @@ use Rattle.std.proofs.lemmas.Option.{slice_get_within, slice_get-get_or}
 use Rattle.pal_text.specs.declared.names.Name.{Name}
 use Rattle.pal_acts.specs.declared.act.SourcePlace.{SourcePlace}
 use Rattle.pal_acts.specs.declared.act.PlacedWord.{PlacedWord}
-use Rattle.pal_asm.specs.Listings.{is_at, line_text, words_text, word_text, symbols_text, symbol_text}
+use Rattle.pal_asm.specs.Listings.{is_at, words_text, word_text, symbols_text, symbol_text}
 use Rattle.pal_asm.specs.SourceInCode.{next_at, after_those}
-
--- a line with text and without a word
-pub bare_line : (cs : List ℕ) → 0 < length cs → line_text [] cs ≡ codes "            " ++ cs ++ codes "\n"
-bare_line [] h = absurd (omega arith)
-bare_line (c ∷ cs) h = refl
 
 some_is : {X : Type 0} (x y : X) → Some x ≡ Some y → x ≡ y
 some_is x y e = cc

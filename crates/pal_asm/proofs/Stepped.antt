@@ -19,7 +19,7 @@ use Rattle.pal_asm.specs.declared.statement.NumberedPart.{NumberedPart}
 use Rattle.pal_asm.specs.Numbers.{base, radix_after}
 use Rattle.pal_asm.specs.Acts.{statement_acts, Does, ends, goes_on}
 use Rattle.pal_asm.specs.Sources.{PartDoes}
-use Rattle.pal_asm.specs.SourceInCode.{Says, IsRead, StopsPart}
+use Rattle.pal_asm.specs.SourceInCode.{Says, StopsPart}
 
 -- the acts so far: where the part has ended so, all of them, and else those of the pieces that are left follow
 abbrev Came : NumberedPart → Radix → Radix → ℕ → Option PartEnd → List PlacedAct → Type 0
@@ -33,13 +33,6 @@ pub record Stepped (part : NumberedPart) (before radix : Radix) (old new : List 
   pub acts : List PlacedAct
   pub came : Came part before radix n close acts
   pub new_is : new ≡ old ++ acts
-
-pub stepped_none : (part : NumberedPart) (before : Radix) (old : List PlacedAct) (n : ℕ) (close : Option PartEnd) → n ≡ 0 → close ≡ None → Stepped part before before old old n close
-stepped_none part before old n close zero' none =
-    let begun : Came part before before 0 None [] = (λ more r' c h. h, λ line h. h) in
-    let P : ℕ → Type 0 = λ k. Came part before before k None [] in
-    let Q : Option PartEnd → Type 0 = λ o. Came part before before n o [] in
-    record { acts = []; came = subst Q (sym none) (subst P (sym zero') begun); new_is = sym (append-nil old) }
 
 -- what was found, as what its tokens say
 abbrev pub says_by : (source : List ℕ) (n m : ℕ) (found : DelimitedStatement) (mine seen : List Token) (after : Option PartEnd) → IsNext source n found mine m after → seen ≡ mine → Says seen found.statement
@@ -91,12 +84,6 @@ stepped_more part before r r' old mid new n m close after found mine st going ne
       came = subst S (sym radix_is) (came_by part before r n m p found.statement next.fills st.acts after (sym next.rest_is) closes (subst R going st.came));
       new_is = kept ∙ (λ i. st.new_is i ++ X (next.fills.is i).line) ∙ append_assoc old st.acts (X found.mark.line);
     }
-
--- the part has ended
-pub stepped_all : (part : NumberedPart) (before r : Radix) (old new : List PlacedAct) (n : ℕ) (close : Option PartEnd) (c : PartEnd) → Stepped part before r old new n close → close ≡ Some c → IsRead part before old new (record { radix = r; close = c })
-stepped_all part before r old new n close c st is =
-    let R : Option PartEnd → Type 0 = λ o. Came part before r n o st.acts in
-    record { acts = st.acts; does = subst R is st.came; new_is = st.new_is }
 
 -- the next statement has no form
 stuck : (part : NumberedPart) (before r : Radix) (old new : List PlacedAct) (n : ℕ) (close : Option PartEnd) (fault : StatementFault) → Stepped part before r old new n close → close ≡ None → StopsAt part.source.now n fault

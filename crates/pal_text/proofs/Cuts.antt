@@ -39,9 +39,6 @@ Reached tokens size n None statements =
     × ((line : ℕ) → Breaks tokens size (left tokens n n) line → Breaks tokens size (pieces 0 0 tokens) line)
 Reached tokens size n (Some c) statements = Stand tokens size (pieces 0 0 tokens) statements c
 
-pub reached_none : (tokens : List Token) (size : ℕ) → Reached tokens size 0 None []
-reached_none tokens size = (λ ss c h. h, λ line h. h)
-
 -- what the code makes of a piece
 abbrev pub made : ℕ → ℕ → Token → Shape → Statement
 made first at t s = record { line = t.line; first = first; last = at; tags = s.tags; form = s.form }
@@ -136,9 +133,6 @@ pub record Held (source : List ℕ) (n : ℕ) (tokens : List Token) (statements 
   pub inside : n ≤ length (part_tokens source)
   pub placed : AllByRecursion (IsPlaced tokens) statements
 
-pub held_none : (source : List ℕ) → Held source 0 [] []
-held_none source = record { tokens_are = refl; past_is = refl; inside = omega arith; placed = tt }
-
 past_more : (n : ℕ) (ss : List Statement) (s : Statement) → past n (ss ++ s ∷ []) ≡ s.last + 1
 past_more n [] s = refl
 past_more n (t ∷ ss) s = past_more (t.last + 1) ss s
@@ -179,10 +173,6 @@ held_next source n m found mine tokens more close statements all next h e f =
       placed = subst P (sym f) (all_append (IsPlaced more) statements (found.statement ∷ []) (placed_longer tokens more statements (omega arith) h.placed)
           (record { forward = omega (arith, first_is, k.is); inside = omega (arith, next.count_is) }, tt));
     }
-
--- fewer pieces are left after each
-pub rest_falls : (source : List ℕ) (n m : ℕ) (found : DelimitedStatement) (mine : List Token) (close : Option PartEnd) → IsNext source n found mine m close → length (rest source m) < length (rest source n)
-rest_falls source n m found mine close next = omega (arith, ap length next.rest_is)
 
 -- what a reader of these bytes found
 pub found_at : (old new : Progress) (source : List ℕ) (o : PartItem) (found : DelimitedStatement) → old.source ≡ source → o ≡ found_next.Statement found → Finds old o new → (old.close ≡ None) × IsNext source old.count found new.own new.count new.close

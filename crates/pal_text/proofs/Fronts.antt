@@ -154,9 +154,6 @@ onward_run source at items count t run n some h r =
       ends_none = λ o. opened items (set items (count - 1) y) k.others t y k.was k.is (word_open run.kind r.word) o;
     }
 
-pub onward_none : (source : List ℕ) (at : ℕ) (items : List Token) → IsOutside source at → IsOnward source at at items items
-onward_none source at items o = record { outside = o; forward = omega arith; line_is = refl; tokens_are = λ before e. e; ends_none = λ h. h }
-
 -- how far the tokens of a statement were read
 abbrev pub Reading : List ℕ → Place → ℕ → Bool → List Token → Type 0
 Reading source place at was own =

@@ -1,7 +1,7 @@
 -- A list in the order of the source grows at its end as the newest-first list does at its front.
-use Rattle.std.proofs.Common.{◌≡◌, ◌∙◌, sym, ap, ℕ, ◌+◌, ◌-◌, ◌<◌, List, [], ◌∷◌, ◌++◌, length, set, get_or, arith, Some, None, length-append, take, if◌then◌else◌, true, false}
+use Rattle.std.proofs.Common.{◌≡◌, ◌∙◌, sym, ap, ℕ, ◌+◌, ◌-◌, ◌<◌, List, [], ◌∷◌, ◌++◌, length, set, get_or, arith, Some, None, length-append, if◌then◌else◌, true, false}
 use Rattle.std.specs.Prelude.{reverse, Result, Ok, Err, OnOk, OnErr}
-use Rattle.std.proofs.lemmas.List.{reverse-append, take_more}
+use Rattle.std.proofs.lemmas.List.{reverse-append}
 use Rattle.std.proofs.Math.Seq.{set-append_seam, get_or-append_seam}
 use Rattle.pal_text.specs.declared.tokens.Token.{Token}
 use Rattle.pal_text.specs.Tokens.{is_space}
@@ -55,8 +55,3 @@ grow_both items (t ∷ ts) next count x is len some h j =
     let e : x ≡ t = last_is items ts t x count is len h in
     let j' : joined t next ≡ None = ap (λ s. joined s next) (sym e) ∙ j in
     ap (λ l. l ++ next ∷ []) is ∙ sym (turned next (t ∷ ts)) ∙ ap (λ o. reverse (one_or_both next t ts o)) (sym j')
-
--- one more byte of a list read from its front is one more at the front of the newest-first list
-pub reverse_more : {X : Type 0} (xs : List X) (i : ℕ) (x : X) → i < length xs → x ≡ get_or xs i x → reverse (take (i + 1) xs) ≡ x ∷ reverse (take i xs)
-reverse_more xs i x h is =
-    ap reverse (take_more xs i x h) ∙ reverse-append (take i xs) (get_or xs i x ∷ []) ∙ ap (λ y. y ∷ reverse (take i xs)) (sym is)

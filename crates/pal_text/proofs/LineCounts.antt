@@ -50,9 +50,6 @@ pub record Lined (bytes : List ℕ) (at : ℕ) (ls : List Line) (start : ℕ) (b
   pub returned_is : ret ≡ returned (reverse (take at bytes))
   pub forward : start ≤ at
 
-pub lined_none : (bytes : List ℕ) → Lined bytes 0 [] 0 false false
-lined_none bytes = record { lines_are = refl; start_is = refl; begun_is = refl; returned_is = refl; forward = omega arith }
-
 pub same_lined : (bytes : List ℕ) (at : ℕ) (ls ls' : List Line) (start start' : ℕ) (begun begun' ret ret' : Bool) → Lined bytes at ls start begun ret → ls' ≡ ls → start' ≡ start → begun' ≡ begun → ret' ≡ ret → Lined bytes at ls' start' begun' ret'
 same_lined bytes at ls ls' start start' begun begun' ret ret' l a b c d =
     record { lines_are = a ∙ l.lines_are; start_is = b ∙ l.start_is; begun_is = c ∙ l.begun_is; returned_is = d ∙ l.returned_is; forward = omega (arith, b, l.forward) }

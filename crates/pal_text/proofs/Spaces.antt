@@ -48,10 +48,6 @@ longer_begins kind.Mixed kind.Number h = (refl, refl)
 longer_begins kind.Space _ h = cc
 longer_begins _ _ h = tt
 
-none_if : {X : Type 0} (b : Bool) (x : X) → b ≡ false → (if b then Some x else None) ≡ None
-none_if true x h = cc
-none_if false x h = refl
-
 without_begins : (t next : Token) → Begins t.kind → OneBegins (without_space t next)
 without_begins t next h =
     cond_both (is_space next.kind && absorbs t.kind) (Some t) (if is_space t.kind && absorbs next.kind then Some next else None) (λ o. OneBegins o) (λ is. h)

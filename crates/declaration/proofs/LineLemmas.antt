@@ -90,8 +90,6 @@ after_other ws others w left not = rw (left, not) (ap (λ n. drop n (w ∷ other
 pub after_returns : (ws others : List (List ℕ)) (w : List ℕ) → ws ≡ w ∷ others → is_returns w ≡ true → after_first is_returns ws ≡ others
 after_returns ws others w left is = rw (left, is) refl
 
-]
-
 -- ---- up to the name of a subject
 
 before_other : (w : List ℕ) (ws : List (List ℕ)) → is_subject w ≡ false → before_first is_subject (w ∷ ws) ≡ w ∷ before_first is_subject ws

@@ -50,8 +50,6 @@ some_step f P p apart put xs i x lt e not h = (
   λ a. elim (apart (f x) (map f (drop (i + 1) xs)) (subst (λ ys. P (map f ys)) (drop_item xs i x lt e) (h.1 a))) [ inl q ↦ absurd (not q) | inr r ↦ r ],
 )
 
-)
-
 -- the entries, one by one or by cell
 pub each_tracked : (pl : Place) (f : Fact) (cells : List TrackedCell) → EachWithin pl f cells → (a : ℕ) → IsWithin (words_known pl f (Cell a)) (tracked a cells)
 each_tracked pl f [] w a v lt h = lt_to v lt

@@ -17,8 +17,6 @@ blank n a h = unwrap_or-slice_get (replicate n none_yet) a None ∙ get_or-repli
 pub blank_image : IsImage [] (replicate 4096 none_yet)
 blank_image = record { size = length-replicate 4096 none_yet; cells = λ a h. blank 4096 a h }
 
-}
-
 cell : (ws : List PlacedWord) (image : List (Option ℕ)) (a : ℕ) (d : Option ℕ) → IsImage ws image → a < 4096 → get_or image a d ≡ last_at a ws
 cell ws image a d h lt =
     let within : a < length image = rw h.size lt in

@@ -85,8 +85,6 @@ character_left b v bytes i h one = ap (number_from b v) (characters_left bytes i
 abbrev pub found : ℕ → ℕ → Option ℕ
 found b c = if is_digit_of b c then Some (c - 48) else None
 
-]
-
 found_none : (b c : ℕ) → found b c ≡ None → is_digit_of b c ≡ false
 found_none b c h = elim (cases_Bool (is_digit_of b c)) [
   | inl is ↦ cc (sym (ap (λ t. if t then Some (c - 48) else None) is) ∙ h)

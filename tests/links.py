@@ -1,8 +1,8 @@
 #!/usr/bin/env python3
-"""Looks at the pages: each link leads to a file or a heading that is there, each file or page that is named in a page is there, README.md
-isn't too long, and no line of a page has more than 600 characters.
+"""Checks the pages: each link leads to a file or a heading that exists, each file or page that a page names exists, README.md is not too
+long, and no line of a page has more than 600 characters.
 
-usage: tests/links.py    names each page and what is wrong with it; exit status 1 where anything is
+usage: tests/links.py    names each page and what is wrong with it; exit status 1 if anything is wrong
 """
 import os
 import re
@@ -16,7 +16,7 @@ NAMED = re.compile(r'\b(?:docs|tests|bench|crates|examples|share)/[\w./-]*\w\.(?
 
 
 def pages():
-    """The pages that git knows, or that are new."""
+    """The pages that git tracks, and new ones."""
     told = subprocess.run(['git', 'ls-files', '--cached', '--others', '--exclude-standard', '*.md'], cwd=TOP, capture_output=True, text=True, check=True)
     return [path for path in told.stdout.split() if os.path.isfile(os.path.join(TOP, path))]
 

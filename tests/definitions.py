@@ -41,34 +41,34 @@ SMALL = "a all an and are as at be by each for from has have in is it its no not
 YES = ("policy::IsSafe", "declaration::Declares", "bin_tape::IsTape", "peripherals::image_of")
 
 OWN = """\
-Contracts use the toolchain's own definitions besides: numbers, lists, options and results with their tests (`IfOk`, `IfErr`, \
-`IfSome`), bit by bit `bit_and` and `bit_or`, `codes` for the bytes of a text, `decimal`, `lines`, and for sources and sinks \
-`Appends` (known bytes grow by these) and `Consumes` (known bytes begin with these, and lose them). What is taken from a \
-crate's `specs.declared` is a public type of its `src/`. A name that stands in several modules may mean something else in each.
+Contracts also use definitions of the toolchain: numbers, lists, options and results with their tests (`IfOk`, `IfErr`, `IfSome`), \
+`bit_and` and `bit_or` for operations bit by bit, `codes` for the bytes of a text, `decimal`, `lines`, and for sources and sinks \
+`Appends` (known bytes grow by these) and `Consumes` (known bytes begin with these, and lose them). What is taken from \
+`specs.declared` of a crate is a public type of its `src/`. If a name occurs in several modules, it may mean something else in each.
 """
 
 FRONT = """\
-# The definitions behind a yes, in reading order
+# The definitions on which a yes rests, in reading order
 
-A yes says that a program is safe: no run violates its declaration. What that means is said by the definitions below, and by \
-nothing else. The prover ensures that the code keeps to them. That they say what a PDP-8, a tape and a safe program are, only a \
-reader can see. So each definition stands here with its comment and its formula, under its module. Each crate stands after \
-those that it uses, and so does each module of a crate. The last one, `IsSafe`, is what a yes says.
+A yes says that a program is safe: no run violates its declaration. The definitions below say what that means, and nothing else \
+does. The prover ensures that the code complies with them. Only a reader can see that they say what a PDP-8, a tape and a safe \
+program are. So each definition is here with its comment and its formula, under its module. Each crate comes after those that it \
+uses, and so does each module of a crate. The last definition, `IsSafe`, is what a yes says.
 
 The words of the answer itself, and how it is written, are defined in `diagnostics` and `command_parts`: \
 [THEOREM](THEOREM.md#what-must-be-believed) lists them.
 
 """ + OWN + """
 `python3 tests/definitions.py --all` prints this page for all definitions that the contract of some public function, type or \
-trait reaches, and `--behind CRATE::NAME` lists those behind a name. What neither prints need not be believed: everything under \
-`proofs/`, and the definitions that only private contracts cite. `tests/definitions.py --write` makes this page, and `make test` \
+trait reaches, and `--behind CRATE::NAME` lists those that a name uses. What neither of them prints need not be believed: everything \
+under `proofs/`, and the definitions that only private contracts cite. `tests/definitions.py --write` makes this page, and `make test` \
 fails if it is out of date.
 """
 
 FRONT_OF_ALL = """\
 # The definitions, in reading order
 
-What is promised of the code is said in terms of these definitions: those that the contract of a public function, type or trait \
+The promises about the code are stated with these definitions: those that the contract of a public function, type or trait \
 reaches.
 
 """ + OWN

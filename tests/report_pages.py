@@ -64,7 +64,7 @@ class Page(Report):
         self.rows = set(self.lines())
         said = ("yes", self.yes()) if self.refused is None else ("no", self.no(why))
         name = escaped(files[0].stem)
-        parts = [constant("FRONT"), name, constant("STYLE"), f"</head>\n<body>\n<p class=name>{name}</p>\n<h1>", line]
+        parts = [constant("FRONT"), name, constant("STYLE"), f"{name}</p>\n<h1>", line]
         parts += [f"\n</h1>\n<p class={said[0]}>", said[1]]
         parts.append("<p>Files: " + escaped("; ".join(map(sum_and_date, files))) + escaped(
             ". A sum is that of the file's bytes, in octal, modulo 200000; a date is that of its last change, in UTC.") + "</p>\n")

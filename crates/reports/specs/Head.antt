@@ -10,7 +10,7 @@ use Rattle.reports.specs.Html.{escaped_text}
 unfoldable pub front_of_page : List ℕ
 front_of_page = FRONT.now
 
--- How a page looks, after its title.
+-- How a page looks, after its title, and what comes before its name.
 unfoldable pub style_of_page : List ℕ
 style_of_page = STYLE.now
 
@@ -18,7 +18,7 @@ style_of_page = STYLE.now
 -- its heading.
 abbrev pub page_head : List ℕ → List ℕ
 page_head name =
-    front_of_page ++ escaped_text name ++ style_of_page ++ codes "</head>\n<body>\n<p class=name>" ++ escaped_text name ++ codes "</p>\n<h1>"
+    front_of_page ++ escaped_text name ++ style_of_page ++ escaped_text name ++ codes "</p>\n<h1>"
 
 -- Plain text begins with the verdict, a page of HTML with its head.
 unfoldable pub head_of : ReportForm → List ℕ → List ℕ

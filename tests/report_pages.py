@@ -63,8 +63,10 @@ class Page(Report):
         line, why = front.partition("\n")[::2]
         self.rows = set(self.lines())
         said = ("yes", self.yes()) if self.refused is None else ("no", self.no(why))
-        parts = [constant("HEAD"), line, f"\n</h1>\n<p class={said[0]}>", said[1]]
-        parts.append(f"<p>{files[0].stem}. Files: " + escaped("; ".join(map(sum_and_date, files))) + escaped(
+        name = escaped(files[0].stem)
+        parts = [constant("FRONT"), name, constant("STYLE"), f"{name}</p>\n<h1>", line]
+        parts += [f"\n</h1>\n<p class={said[0]}>", said[1]]
+        parts.append("<p>Files: " + escaped("; ".join(map(sum_and_date, files))) + escaped(
             ". A sum is that of the file's bytes, in octal, modulo 200000; a date is that of its last change, in UTC.") + "</p>\n")
         parts.append("<p>A declaration says where the program starts and may halt, which cells are its instructions, which it may "
                      "write, and which routines it has. A certificate says what holds before each instruction, so that compliance "

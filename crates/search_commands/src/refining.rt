@@ -1,7 +1,7 @@
 //! What `declare` makes of a declaration for which a certificate is found: it leaves out what is needless, and adds with what routines
 //! return.
 
-ghost use Rattle.std.specs.Prelude.{◌≡◌, true, is_some, IfOk, IfErr, IfSome};
+ghost use Rattle.std.specs.Prelude.{◌≡◌, true, length, take, IfOk, IfErr, IfSome};
 ghost use Rattle.command_parts.specs.Answers.{IsMemoryFault};
 ghost use Rattle.declaration.specs.DeclarationInCode.{meaning};
 ghost use Rattle.declaration.specs.Text.{Declares};
@@ -62,6 +62,25 @@ pub struct Refinement<A: Allocator> {
     pub told: Message<A>,
 }
 
+/// Whether the same is to hold at places in two declarations.
+fn holds_alike<A: Allocator, B: Allocator>(given: &Declaration<A>, less: &Declaration<B>) -> bool
+    ensures { result ≡ true → (meaning less.now).holds ≡ (meaning given.now).holds }
+{
+    less.holds() == given.holds()
+}
+
+/// Whether what is to hold at returns in a declaration comes first in what is to hold there in another one.
+fn keeps_returns<A: Allocator, B: Allocator>(given: &Declaration<A>, less: &Declaration<B>) -> bool
+    ensures { result ≡ true →
+        take (length (meaning given.now).returns) (meaning less.now).returns ≡ (meaning given.now).returns }
+{
+    let kept = given.returns();
+    match less.returns().get(..kept.len()) {
+        Some(first) => first == kept,
+        None => false,
+    }
+}
+
 /// Whether a declaration is no wider than another one.
 fn is_no_wider<A: Allocator, B: Allocator>(given: &Declaration<A>, less: &Declaration<B>) -> bool
     ensures { result ≡ true → IsNoWider (meaning given.now) (meaning less.now) }
@@ -75,7 +94,7 @@ fn is_no_wider<A: Allocator, B: Allocator>(given: &Declaration<A>, less: &Declar
     if less.reads_listed() != given.reads_listed() {
         return false;
     }
-    if less.holds() != given.holds() {
+    if !holds_alike(given, less) || !keeps_returns(given, less) {
         return false;
     }
     adds_only(given, given, less)

@@ -1,7 +1,7 @@
 //! Proposes declarations: what a program may do, from its tape and its start alone.
 #![tactic(auto)]
 
-ghost use Rattle.std.specs.Prelude.{ℕ, ◌≡◌, ◌≢◌, ◌≤◌, List, Option, IfOk, IfErr, None, is_some, true};
+ghost use Rattle.std.specs.Prelude.{ℕ, ◌≡◌, ◌≢◌, ◌≤◌, List, Option, IfOk, IfErr, None, is_some, false, true};
 ghost use Rattle.analyser.specs.Versions.{IsVersionFor};
 ghost use Rattle.turns.specs.declared.GuessFault.TheVariants as guess_fault;
 ghost use Rattle.certificate_lines.specs.CertificateInCode as certified;
@@ -544,7 +544,9 @@ fn unfound<A: Allocator>(fault: GuessFault) -> Result<Verdict<A>, ProposeFault>
 impl<A: Allocator> Proposal<A> {
     /// Whether a certificate is found that the judge accepts.
     fn is_safe(&self) -> bool
-        ensures { result ≡ is_safe self.now.verdict }
+        ensures safe { result ≡ is_safe self.now.verdict }
+        ensures open { (image : List (Option ℕ)) → result ≡ false →
+            AreWritten image self.now.declaration self.now.verdict }
     {
         matches!(&self.verdict, Verdict::Safe(_))
     }

@@ -282,6 +282,9 @@ impl<A: Allocator + Copy> SumSearch<A> {
         match goal.exit {
             None => {
                 let case = self.split.case_of(goal.to, &goal.routine, known);
+                if program.is_past_returns(&goal.routine, case.offset) {
+                    return Ok(());
+                }
                 self.reach_fact(program, goal, &case, known, before, after)
             }
             Some(offset) => {

@@ -8,6 +8,7 @@ pub mod Stopping
 pub mod StopLaws
 pub mod Last
 pub mod WatchText
+pub mod ViolationText
 pub mod RefuteText
 pub mod Session
 pub mod SessionParts

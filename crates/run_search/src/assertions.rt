@@ -49,16 +49,22 @@ fn returns_with_assertion<D: Allocator>(
     }
 }
 
+/// The places at which something is declared to hold.
+fn held_places<D: Allocator>(declaration: &Declaration<D>) -> WordSet {
+    let mut places = WordSet::empty();
+    for holding in declaration.holds() {
+        places = places.union(holding.places());
+    }
+    places
+}
+
 /// The places at which something is declared to hold, and those of the tape's words that return from a routine at whose returns
 /// something is.
 pub(crate) fn asserted_places<D: Allocator>(
     image: &Image,
     declaration: &Declaration<D>,
 ) -> WordSet {
-    let mut places = WordSet::empty();
-    for holding in declaration.holds() {
-        places = places.union(holding.places());
-    }
+    let mut places = held_places(declaration);
     for index in 0..4096usize {
         let at = Word::from_index(index);
         if returns_with_assertion(image, declaration, at) {

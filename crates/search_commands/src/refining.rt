@@ -1,12 +1,14 @@
 //! What `declare` makes of a declaration for which a certificate is found: it leaves out what is needless, and adds with what routines
 //! return.
 
-ghost use Rattle.std.specs.Prelude.{◌≡◌, true, is_some, IfOk, IfErr, IfSome};
+ghost use Rattle.std.specs.Prelude.{◌≡◌, true, is_some, length, take, IfOk, IfErr, IfSome};
 ghost use Rattle.command_parts.specs.Answers.{IsMemoryFault};
 ghost use Rattle.declaration.specs.DeclarationInCode.{meaning};
 ghost use Rattle.declaration.specs.Text.{Declares};
 ghost use Rattle.search_commands.specs.Keeping.{KeepsLines};
-ghost use Rattle.search_commands.specs.Refining.{IsNoWider, IsRefined, IsShownNoWider};
+ghost use Rattle.peripherals.specs.Loading.{image_of};
+ghost use Rattle.policy.specs.Runs.{IsSafe};
+ghost use Rattle.search_commands.specs.Refining.{IsNoWider, IsRefined};
 
 use crate::adding::adds_only;
 use crate::completing::{end_text, lack_in};
@@ -62,9 +64,31 @@ pub struct Refinement<A: Allocator> {
     pub told: Message<A>,
 }
 
-/// Whether a declaration is no wider than another one.
-fn is_no_wider<A: Allocator, B: Allocator>(given: &Declaration<A>, less: &Declaration<B>) -> bool
-    ensures { result ≡ true → IsNoWider (meaning given.now) (meaning less.now) }
+/// Whether the same is to hold at places in two declarations.
+fn holds_alike<A: Allocator, B: Allocator>(given: &Declaration<A>, less: &Declaration<B>) -> bool
+    ensures { result ≡ true → (meaning less.now).holds ≡ (meaning given.now).holds }
+{
+    less.holds() == given.holds()
+}
+
+/// Whether what is to hold at returns in a declaration comes first in what is to hold there in another one.
+fn keeps_returns<A: Allocator, B: Allocator>(given: &Declaration<A>, less: &Declaration<B>) -> bool
+    ensures { result ≡ true →
+        take (length (meaning given.now).returns) (meaning less.now).returns ≡ (meaning given.now).returns }
+{
+    let kept = given.returns();
+    match less.returns().get(..kept.len()) {
+        Some(first) => first == kept,
+        None => false,
+    }
+}
+
+/// Whether a declaration has the start and the machine of another one, and lists reads where it does.
+fn is_alike<A: Allocator, B: Allocator>(given: &Declaration<A>, less: &Declaration<B>) -> bool
+    ensures start { result ≡ true → (meaning less.now).start ≡ (meaning given.now).start }
+    ensures profile { result ≡ true → (meaning less.now).profile ≡ (meaning given.now).profile }
+    ensures listed { result ≡ true →
+        is_some (meaning less.now).reads ≡ is_some (meaning given.now).reads }
 {
     if less.start() != given.start() {
         return false;
@@ -72,10 +96,20 @@ fn is_no_wider<A: Allocator, B: Allocator>(given: &Declaration<A>, less: &Declar
     if less.profile() != given.profile() {
         return false;
     }
-    if less.reads_listed() != given.reads_listed() {
+    less.reads_listed() == given.reads_listed()
+}
+
+/// Whether a declaration is no wider than another one.
+fn is_no_wider<A: Allocator, B: Allocator>(given: &Declaration<A>, less: &Declaration<B>) -> bool
+    ensures { result ≡ true → IsNoWider (meaning given.now) (meaning less.now) }
+{
+    if !is_alike(given, less) {
         return false;
     }
-    if less.holds() != given.holds() {
+    if !holds_alike(given, less) {
+        return false;
+    }
+    if !keeps_returns(given, less) {
         return false;
     }
     adds_only(given, given, less)
@@ -88,8 +122,11 @@ fn shown_no_wider<A: Allocator + Copy, D: Allocator>(
     given: &Declaration<D>,
     text: &[u8],
 ) -> Result<Option<Declaration<A>>, Fault>
-    ensures shown { IfOk result (λ found. IfSome found (λ less.
-        IsShownNoWider image.now (meaning given.now) text.now)) }
+    ensures declares { IfOk result (λ found. IfSome found (λ less. Declares text.now (meaning less))) }
+    ensures is { IfOk result (λ found. IfSome found (λ less.
+        IsNoWider (meaning given.now) (meaning less))) }
+    ensures safe { IfOk result (λ found. IfSome found (λ less.
+        IsSafe (image_of image.now) (meaning less))) }
     ensures faults { IfErr result IsMemoryFault }
 {
     match Declaration::parse(alloc, text) {
@@ -97,10 +134,10 @@ fn shown_no_wider<A: Allocator + Copy, D: Allocator>(
             if !is_no_wider(given, &less) {
                 return Ok(None);
             }
-            match lack_in(alloc, image, &less)? {
-                None => Ok(Some(less)),
-                Some(_) => Ok(None),
+            if lack_in(alloc, image, &less)?.is_some() {
+                return Ok(None);
             }
+            Ok(Some(less))
         }
         Err(DeclarationFault::NoMemory) => Err(Fault::NoMemory),
         Err(_) => Ok(None),

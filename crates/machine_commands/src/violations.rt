@@ -8,7 +8,7 @@ use command_parts::message::{
     Message, MessageWriter, push_text_and_address, push_text_and_advised, push_text_and_word,
 };
 use declaration::{Assertion, Declaration, Owner, Subject};
-use instruct::{Operation, Profile};
+use instruct::{Operation, Profile, refers_indirectly, target};
 use itoa::Buffer;
 use peripherals::{Event, NoMemory, Start};
 use policy::{Call, Rule, Watched, Watcher};
@@ -281,9 +281,14 @@ fn push_return<L: MessageWriter, D: Allocator>(
     }
 }
 
-/// Whether an instruction is a JMP.
-fn is_jump(last: Option<ExecutedInstruction>) -> bool {
-    last.is_some_and(|executed| matches!(Operation::of(executed.word), Operation::Jmp))
+/// Whether an instruction is a JMP, and no return: a return ends one call, whatever is declared.
+fn is_jump<D: Allocator>(declaration: &Declaration<D>, last: Option<ExecutedInstruction>) -> bool {
+    let Some(executed) = last else {
+        return false;
+    };
+    let is_return = refers_indirectly(executed.word)
+        && declaration.is_entry(target(executed.word, executed.at));
+    matches!(Operation::of(executed.word), Operation::Jmp) && !is_return
 }
 
 /// Adds the line of an address that is not in the running routine's body, to which this instruction led: what it is, or what
@@ -306,7 +311,7 @@ fn push_outside<L: MessageWriter, D: Allocator>(
         return push_body_advice(text, calls, at);
     };
     match owner {
-        Owner::Main if is_jump(last) => push_advice(
+        Owner::Main if is_jump(declaration, last) => push_advice(
             text,
             b": it is in main's body; if this JMP may end all calls, add `abandon ",
             at,

@@ -2,8 +2,8 @@
 in one place at a time: without one line, or with a set (also that of a sum) without its first or its last word. If both say
 yes, random runs are watched: none may violate a rule.
 
-usage: forged.py PROGRAM EXAMPLES FOLDER SEED [PART OF], where files are made in FOLDER, and EXAMPLES has the certificates.
-With PART and OF, only every change whose number is PART plus a multiple of OF is tried.
+usage: forged.py PROGRAM EXAMPLES FOLDER SEED [PART OF], where FOLDER takes what is made and EXAMPLES has the certificates.
+With PART and OF only each so-manieth change is tried, from PART on.
 """
 import collections
 import re

@@ -2,8 +2,9 @@
 in one place at a time: without one line, or with a set (also that of a sum) without its first or its last word. If both say
 yes, random runs are watched: none may violate a rule.
 
-usage: forged.py PROGRAM EXAMPLES FOLDER SEED [PART OF], where FOLDER takes what is made and EXAMPLES has the certificates.
-With PART and OF only each so-manieth change is tried, from PART on.
+usage: forged.py PROGRAM EXAMPLES FOLDER SEED [accepted] [PART OF], where files are made in FOLDER, and EXAMPLES has the certificates.
+With PART and OF, only every OF-th change is tried, beginning with number PART. With the word accepted, the reference, which is slow, is
+asked only about the certificates that the program accepts: this finds every wrong yes, but no wrong no.
 """
 import collections
 import re
@@ -37,15 +38,20 @@ def with_each_set_smaller(text):
 
 
 def main():
-    program, examples, folder, seed, *share = sys.argv[1:]
-    part, of = map(int, share) if share else (0, 1)
+    program, examples, folder, seed, *rest = sys.argv[1:]
+    only_accepted = rest[:1] == ["accepted"]
+    part, of = map(int, rest[only_accepted:] or (0, 1))
     changes, kinds, different, clean = verdicts.Changes(int(seed)), collections.Counter(), [], 0
     known = [case for case in verdicts.programs(Path(examples)) if verdicts.is_third(case[3])]
     every = [(case, *change) for case in known for change in (*without_each_line(case[3]), *with_each_set_smaller(case[3]))]
     for number, ((name, image, declaration, _), kind, text) in list(enumerate(every))[part::of]:
         case = verdicts.Case(Path(folder) / f"{number:06}-{name}", image, declaration, text, [])
-        wanted = verdicts.verdict(image, declaration, text)
         got = verdicts.said(program, ["check", case.tape, case.declaration, case.certificate])
+        if only_accepted and not got.startswith("yes"):
+            kinds[kind, "not accepted"] += 1
+            case.forget()
+            continue
+        wanted = verdicts.verdict(image, declaration, text)
         kinds[kind, re.split(" at |: .* cells", wanted)[0].split(" ")[0]] += 1
         broken = wanted.startswith("yes") and any(
             watch.watch(image, verdicts.declaration_of(declaration), changes.events(), **changes.start())[0] for _ in range(RUNS))

@@ -1,16 +1,16 @@
 #!/bin/bash
-# Times the assembler against Debian's palbart on one source of the largest size: 65,536 bytes with 1,024 symbols of its
-# own, each used over and over. By turns in one run, so many times each. Prints for each the processor time of one run,
-# then that of a run on a source of one word, which is the start of the program, and the difference, which is what the
-# source costs; and for our program the most memory that it held on both.
-# usage: bench/assembler.sh [RUNS]; PALBART names another palbart than /usr/bin/palbart.
+# Times the assembler and Debian's palbart in turn, each as often as requested, on one source of the largest size: 65,536 bytes with
+# 1,024 symbols of its own, each of which is used many times. Prints for each program the processor time of one run, the time of a
+# run on a source of one word, which is the start of the program, and the difference, which is the time for the source. For our
+# program it also prints the maximum of the memory that it used for either source.
+# usage: bench/assembler.sh [RUNS]; PALBART names a palbart other than /usr/bin/palbart.
 set -euo pipefail
 top=$(cd "$(dirname "$0")/.." && pwd)
 runs=${1:-50}
 palbart=${PALBART:-/usr/bin/palbart}
 work=$(mktemp -d)
 trap 'rm -r "$work"' EXIT
-# Building runs the program once, whose lines are left out.
+# Building the program also runs it once; what that prints is left out.
 (cd "$top/crates/pdp8" && rt run <stdin >"$work/built" 2>&1) || { cat "$work/built"; exit 1; }
 program=$top/crates/pdp8/out/pdp8
 
@@ -31,7 +31,7 @@ open(sys.argv[1], 'w').write(text)
 print(len(text), 'bytes,', len(names), 'symbols,', count, 'words')
 PYTHON
 
-# Seconds of processor time of so many runs of a command.
+# The processor time, in seconds, of this many runs of a command.
 TIMEFORMAT='%U %S'
 seconds() { { time for ((run = 0; run < runs; run++)); do "$@" >"$work/said" 2>&1 </dev/null; done; } 2>&1; }
 
@@ -55,7 +55,7 @@ awk -v runs="$runs" '
             printf "palbart takes %.1f times as long for the source, %.1f times with the start\n", cost["palbart"] / cost["pdp8"], least["palbart large"] / least["pdp8 large"]
     }' "$work/times"
 if command -v valgrind >/dev/null; then
-    # Host instructions repeat exactly.
+    # The number of host instructions is the same in each run.
     instructions() { (cd "$work" && valgrind --tool=callgrind --callgrind-out-file=/dev/null "$@" 2>&1 >/dev/null | awk '/Collected/ { print $NF }'); }
     echo "pdp8 $(instructions "$program" assemble "$work/ours.bin" large.pal) host instructions"
     [ ! -x "$palbart" ] || echo "palbart $(instructions "$palbart" large.pal) host instructions"

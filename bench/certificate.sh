@@ -1,10 +1,10 @@
 #!/bin/bash
-# Times `pdp8 check` on certificates of some 100 KB and 1 MB that certificate/make.py makes: the whole, and without their
-# end, where the text is read and nothing is judged. Each is the least of eleven calls, with the start of the program. The
-# memory that a call takes at most is printed too.
-# PDP8 names a built program in place of this repository's. PLAIN names the source of the same checker in plain Rust, with the
-# words `bench-check TAPE DECLARATION CERTIFICATE ROUNDS`: it is built by `rustc -O`, and reads the same texts in turn. Then what
-# the start of the program takes is left out of ours, and the two rates are compared.
+# Times `pdp8 check` on certificates of some 100 KB and 1 MB that certificate/make.py makes: complete ones, and ones without their
+# end, for which the text is read and nothing is judged. Each figure is the least of eleven calls, and includes the start of the
+# program. The maximum of the memory that a call takes is printed, too.
+# PDP8 names a built program to be used in place of the one in this repository. PLAIN names the source of the same checker in plain
+# Rust, with the arguments `bench-check TAPE DECLARATION CERTIFICATE ROUNDS`: it is built by `rustc -O`, and reads the same texts in
+# turn. Then the start of the program is subtracted from our time, and the two rates are compared.
 set -euo pipefail
 top=$(cd "$(dirname "$0")/.." && pwd)
 program=${PDP8:-$top/crates/pdp8/out/pdp8}
@@ -12,7 +12,7 @@ work=$(mktemp -d)
 trap 'rm -r "$work"' EXIT
 [ -x "$program" ] || (cd "$top/crates/pdp8" && rt run <stdin >"$work/built" 2>&1) || { cat "$work/built"; exit 1; }
 TIMEFORMAT=%R
-# The least of eleven calls with this certificate, whose answer must begin so.
+# The least time of eleven calls with this certificate; the answer must begin with this text.
 least() {
     "$program" check tape declaration "$1" >answer 2>&1 || true
     grep -q "^$2" answer || { cat answer; exit 1; }
@@ -20,14 +20,14 @@ least() {
         { time "$program" check tape declaration "$1" >/dev/null 2>&1 || true; } 2>&1
     done | sort -n | head -1
 }
-# The memory, in KB, that a call with this certificate takes at most.
+# The maximum of the memory, in KB, that a call with this certificate takes.
 memory() {
     python3 -c '
 import resource, subprocess, sys
 subprocess.run(sys.argv[1:], stdout=subprocess.DEVNULL, stderr=subprocess.DEVNULL)
 print(resource.getrusage(resource.RUSAGE_CHILDREN).ru_maxrss)' "$program" check tape declaration "$1"
 }
-# The seconds that plain Rust takes to read a certificate, least of thirty rounds.
+# The seconds that plain Rust takes to read a certificate, the least of thirty rounds.
 plainly() {
     "$work/plain" bench-check tape declaration certificate 30 | sed -n 's/^parse \([0-9.]*\) .* least round.*/\1/p'
 }

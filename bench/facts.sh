@@ -1,22 +1,21 @@
 #!/bin/bash
-# Times one outcome of a word and whether it entails a fact: with two tracked cells and two equations, and with 64 and
-# 32; then the same in plain Rust (rustc -O). Prints for each the least processor time of seven runs. Other work on the machine slows a run down and never speeds
-# it up.
+# Times one outcome of a word and the test whether it entails a fact: with two tracked cells and two equations, with 64 and 32, and then
+# the same in plain Rust (rustc -O). Prints for each the least processor time of seven runs: other work on the machine slows a run down
+# and never speeds it up.
 # usage: bench/facts.sh [THOUSANDS]
 set -euo pipefail
 top=$(cd "$(dirname "$0")/.." && pwd)
 thousands=${1:-1000}
 work=$(mktemp -d)
 trap 'rm -r "$work"' EXIT
-# Building runs the program once, whose lines are left out.
+# Building the program also runs it once; what that prints is left out.
 (cd "$top/crates/speed" && rt run >"$work/built" 2>&1) || { cat "$work/built"; exit 1; }
 program=$top/crates/speed/out/speed
 few=$((thousands / 20 + 1))
 rustc -O -o "$work/plain" "$top/bench/facts/plain.rs"
 
-# A certificate with so many pairs of cells, each with an equation: at 0200 there is 0 in the accumulator, and five words are
-# in each cell, the first of which is 0010; at 0201 is what TAD of 0010 makes of that, with one equation more where there are
-# fewer than 32.
+# A certificate with this many pairs of cells, each with an equation. At 0200 the accumulator is 0, and each cell holds one of five
+# words; the first cell is 0010. The fact at 0201 is what TAD of 0010 makes of that, with one more equation if there are fewer than 32.
 certificate() {
     echo "PDP8-CERTIFICATE 1"
     for at in 0200 0201; do
@@ -33,7 +32,7 @@ certificate() {
     echo end
 }
 
-# Seconds of processor time that a command takes on a file; what it writes goes to another one.
+# The processor time, in seconds, of a command that reads one file and writes to another one.
 TIMEFORMAT=%U
 seconds() { { time "${@:3}" >"$1" 2>&1 <"$2"; } 2>&1; }
 

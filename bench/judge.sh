@@ -1,14 +1,14 @@
 #!/bin/bash
-# Times reading and judging certificates in one process, over and over: `speed read` and `speed judge` with many rounds and
-# with one, whose difference is what they cost. Each is the least processor time of nine runs. Then `pdp8 check` on the same,
-# from start to end, as the least of eleven calls.
+# Times reading and judging certificates in one process: `speed read` and `speed judge` are run with many rounds and with one, and the
+# difference is the time of the other rounds. Each figure is the least processor time of nine runs. Then `pdp8 check` is timed on the
+# same certificates from start to end, as the least of eleven calls.
 # usage: bench/judge.sh [FOLDER..]
-# A folder has the files t, d and c: a tape, a declaration and a certificate that the program accepts. Without folders two
-# are made by certificate/make.py.
-# PDP8 and SPEED name built programs in place of this repository's. PLAIN names the source of a checker in plain Rust,
-# which is built by rustc -O and takes its turn in the same run: its words are `bench-check TAPE DECLARATION CERTIFICATE
-# ROUNDS`, and the first line that it prints is `parse SECONDS judge SECONDS seconds per round`, the means of its rounds. As
-# with ours, the least of nine such means is told.
+# A folder has the files t, d and c: a tape, a declaration and a certificate that the program accepts. Without folders,
+# certificate/make.py makes two.
+# PDP8 and SPEED name built programs to be used in place of those in this repository. PLAIN names the source of a checker in plain Rust,
+# which is built by rustc -O and timed in turn with ours. Its arguments are `bench-check TAPE DECLARATION CERTIFICATE ROUNDS`, and the
+# first line that it prints is `parse SECONDS judge SECONDS seconds per round`, with the means of its rounds. As for ours, the least of
+# nine such means is printed.
 set -euo pipefail
 top=$(cd "$(dirname "$0")/.." && pwd)
 program=${PDP8:-$top/crates/pdp8/out/pdp8}
@@ -29,12 +29,12 @@ if [ "${#folders[@]}" = 0 ]; then
     done
 fi
 TIMEFORMAT='%U %S'
-# Seconds of processor time of a command that reads a file.
+# The processor time, in seconds, of a command that reads a file.
 seconds() { { time "${@:2}" <"$1" >"$work/answer" 2>&1; } 2>&1 | awk '{ print $1 + $2 }'; }
-# The least of so many numbers, one a line.
+# The least of the numbers, which are one to a line.
 least() { sort -g | head -1; }
 rounds=200
-# What a round takes, of the times of many and of one.
+# The time of a round, from the time of many rounds and that of one.
 a_round() {
     echo "$(least <"$work/$1many") $(least <"$work/$1one") $rounds" | awk '{ printf "%.5f", ($1 - $2) / $3 }'
 }

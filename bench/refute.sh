@@ -1,9 +1,9 @@
 #!/bin/bash
-# Times the search for a run: `pdp8 refute` on safe programs of examples/, which no run breaks, so that it makes all of its steps.
-# Prints millions of steps a second of processor time: the median of so many runs, and the best one.
-# PDP8 names a built program in place of this repository's. PLAIN names the source of a plain search, which is compiled by rustc
-# and timed by turns with ours: its arguments are the output of `pdp8 dump`, the declaration, a file for the events, millions of
-# steps and the seed.
+# Times the search for a run: `pdp8 refute` on safe programs of examples/, so that it makes all of its steps. Prints millions of steps
+# per second of processor time: the median of the runs, and the best one.
+# PDP8 names a built program to be used in place of the one in this repository. PLAIN names the source of a search in plain Rust, which
+# is compiled by rustc and timed in turn with ours. Its arguments are the output of `pdp8 dump`, the declaration, a file for the events,
+# millions of steps, and the seed.
 # usage: bench/refute.sh [MILLIONS [RUNS]]
 set -euo pipefail
 top=$(cd "$(dirname "$0")/.." && pwd)
@@ -15,10 +15,10 @@ trap 'rm -r "$work"' EXIT
 [ -x "$program" ] || (cd "$top/crates/pdp8" && rt run <stdin >"$work/built" 2>&1) || { cat "$work/built"; exit 1; }
 [ -z "${PLAIN:-}" ] || rustc -O -o "$work/plain" "$PLAIN" 2>"$work/told" || { cat "$work/told"; exit 1; }
 
-# Seconds of processor time that a command takes.
+# The processor time, in seconds, of a command.
 TIMEFORMAT=%U
 seconds() { { time "$@" >"$work/said" 2>&1 </dev/null || true; } 2>&1; }
-# The median of the seconds in a file as millions of steps a second, and the best.
+# The median of the seconds in a file, as millions of steps per second, and the best.
 rates() {
     sort -n "$1" | awk -v millions="$millions" '{ of[NR] = $1 } END { printf "%.1f at the median, %.1f at best", millions / of[int((NR + 1) / 2)], millions / of[1] }'
 }

@@ -1,8 +1,9 @@
 #!/bin/bash
-# Times `pdp8 report` as pages of HTML: for the certificates of examples/, for two of some 100 KB and 1 MB that certificate/make.py
-# makes, and for the loads that are named: folders with a tape t, a declaration d and a certificate c. Prints the least processor
-# time of eleven calls in milliseconds, that of `check` beside it, and the bytes of the page. A page is to come in 50 ms.
-# PDP8 names a built program in place of this repository's.
+# Times `pdp8 report` as it writes pages of HTML: for the certificates of examples/, for two of some 100 KB and 1 MB that
+# certificate/make.py makes, and for the folders that are named, each with a tape t, a declaration d and a certificate c. Prints the
+# least processor time of eleven calls in milliseconds, that of `check` for comparison, and the number of bytes of the page. A page
+# should take at most 50 ms.
+# PDP8 names a built program to be used in place of the one in this repository.
 # usage: bench/report.sh [FOLDER..]
 set -euo pipefail
 top=$(cd "$(dirname "$0")/.." && pwd)
@@ -17,7 +18,7 @@ least() {
         { time "$@" >"$work/said" 2>&1 </dev/null || true; } 2>&1
     done | awk '{ print 1000 * ($1 + $2) }' | sort -n | head -1
 }
-# A load: what it is called, its tape, its declaration and its certificate.
+# What is reported on: a name, the tape, the declaration and the certificate.
 load() {
     "$program" report "$2" "$3" "$4" -o "$work/page.html" >"$work/said" 2>&1 || { grep -q '^<h1>' "$work/page.html" || { cat "$work/said"; exit 1; }; }
     echo "$1: $(least "$program" report "$2" "$3" "$4" -o "$work/page.html") ms, check $(least "$program" check "$2" "$3" "$4") ms, $(wc -c <"$work/page.html") bytes"

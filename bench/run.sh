@@ -1,18 +1,18 @@
 #!/bin/bash
-# Times one loop of ISZ and JMP on the processor alone, on a world that is driven by events, and on SIMH's pdp8
-# (Debian's package simh), by turns in one run, and prints for each the least processor time of seven runs and the
-# millions of instructions a second. Other work on the machine slows a run down and never speeds it up.
+# Times one loop of ISZ and JMP on the processor alone, on a world that is driven by events, and on SIMH's pdp8 (Debian's package
+# simh), in turn. Prints for each the least processor time of seven runs and the millions of instructions per second. Other work on the
+# machine slows a run down and never speeds it up.
 #
-# Where OLD names a program pdp8 of an older commit, it also times `pdp8 run` (a million instructions, CALLS times, 40
-# by default) and `pdp8 teletype` (the whole loop) without any option that stops or traces, by turns with the same of
-# the program PDP8, or of this repository's where PDP8 is not set. For the older program, build that commit in a tree
-# of its own and keep what it makes:
+# If OLD names a program pdp8 of an older commit, it also times `pdp8 run` (a million instructions, CALLS times, 40 by default) and
+# `pdp8 teletype` (the whole loop), without any option that stops or traces, in turn with the same commands of the program PDP8, or of
+# the program in this repository if PDP8 is not set. To get an older program, build its commit in a tree of its own and keep the
+# result:
 #     git worktree add /tmp/old COMMIT && make -C /tmp/old run && cp /tmp/old/crates/pdp8/out/pdp8 /tmp/pdp8.old
 #     OLD=/tmp/pdp8.old bench/run.sh
-# `make run` takes as long as README.md says. Both programs have to be proved ones: one that was built without proofs
-# has checks in it, and is slower.
+# README.md says how long `make run` takes. Both programs have to be proved ones: a program that was built without proofs contains
+# run-time checks, and is slower.
 #
-# usage: bench/run.sh [ROUNDS]; a round has 33,558,529 instructions. SIMH names another simulator than /usr/bin/pdp8.
+# usage: bench/run.sh [ROUNDS]; a round has 33,558,529 instructions. SIMH names a simulator other than /usr/bin/pdp8.
 set -euo pipefail
 top=$(cd "$(dirname "$0")/.." && pwd)
 rounds=${1:-6}
@@ -22,13 +22,13 @@ program=${PDP8:-$top/crates/pdp8/out/pdp8}
 simh=${SIMH:-/usr/bin/pdp8}
 work=$(mktemp -d)
 trap 'rm -r "$work"' EXIT
-# Building runs the program once, whose lines are left out.
+# Building the program also runs it once; what that prints is left out.
 (cd "$top/crates/speed" && rt run >"$work/built" 2>&1) || { cat "$work/built"; exit 1; }
 [ -z "$old" ] || [ -x "$program" ] || (cd "$top/crates/pdp8" && rt run <stdin >"$work/built" 2>&1) || { cat "$work/built"; exit 1; }
 speed=$top/crates/speed/out/speed
 
 if ! echo quit | "$simh" 2>&1 | grep -q 'PDP-8 simulator'; then
-    echo "bench/run.sh: SIMH's pdp8 isn't installed, so its column is left out"
+    echo "bench/run.sh: SIMH's pdp8 is not installed, so its column is left out"
     simh=
 fi
 count=$(printf '%o' $(((4096 - rounds) & 4095)))
@@ -41,12 +41,12 @@ count=$(printf '%o' $(((4096 - rounds) & 4095)))
 printf '*200;7300;2210;5201;2211;5201;2212;5201;7402;0;0;%s\n$\n' "$count" >"$work/loop.pal"
 [ -z "$old" ] || "$program" assemble -o "$work/loop.bin" "$work/loop.pal"
 
-# Seconds of processor time that a command takes; what it writes goes to a file.
+# The processor time, in seconds, of a command that writes to a file.
 TIMEFORMAT=%U
 seconds() { { time "${@:2}" >"$1" 2>&1 </dev/null; } 2>&1; }
-# Runs a million instructions of the loop, so many times.
+# Runs a million instructions of the loop, this many times.
 runs() { for _ in $(seq "$calls"); do "$1" run "$work/loop.bin" --steps 1000000; done; }
-# The times of a program's runs and of its session, under a name.
+# The times of the runs and of the session of a program, each under a name.
 of_program() {
     echo "$1run $(seconds "$work/$1run" runs "$2")"
     echo "$1teletype $(seconds "$work/$1teletype" "$2" teletype "$work/loop.bin")"
@@ -63,7 +63,7 @@ for _ in 1 2 3 4 5 6 7; do
 done >"$work/times"
 cat "$work/cpu" "$work/world"
 [ -z "$simh" ] || grep -E '^(HALT|PC|AC|212)' "$work/simh" | paste -sd' '
-# Programs that end otherwise are not compared.
+# Programs that end differently are not compared.
 if [ -n "$old" ]; then
     sort -u "$work/run" "$work/old-run" "$work/teletype" "$work/old-teletype"
     cmp "$work/run" "$work/old-run"

@@ -1,8 +1,7 @@
 #!/bin/bash
-# Times a million rounds of the program with a tape in the reader and a punch, which copies the tape, and the same rounds
-# without them, by turns in one run, and prints for each the least processor time of nine runs and how many times as long
-# the first takes as the second.
-# usage: bench/tape_readers.sh, with the program pdp8 built.
+# Times a million rounds of the program with a tape in the reader and a punch, which copies the tape, and the same rounds without them,
+# in turn. Prints for each the least processor time of nine runs, and how many times as long as the second the first takes.
+# usage: bench/tape_readers.sh, after the program pdp8 was built
 set -euo pipefail
 top=$(cd "$(dirname "$0")/.." && pwd)
 program=${PDP8:-$top/crates/pdp8/out/pdp8}
@@ -10,11 +9,11 @@ work=$(mktemp -d)
 trap 'rm -r "$work"' EXIT
 "$program" assemble "$work/copier.bin" "$top/examples/copier.pal"
 head -c 1000000 /dev/zero | tr '\0' '\125' >"$work/frames"
-# The plain run has the same program with the reader's flag always there: it punches in the same loop.
+# The plain run has the same program, changed as if the flag of the reader were always set: it punches in the same loop.
 sed 's/^NEXT,   RSF/NEXT,   NOP/; s/^        JMP .-1         \/Wait for it/        NOP/' "$top/examples/copier.pal" >"$work/plain.pal"
 "$program" assemble "$work/plain.bin" "$work/plain.pal"
 
-# Seconds of processor time that a command takes.
+# The processor time, in seconds, of a command.
 TIMEFORMAT='%U %S'
 seconds() { { time "$@" >"$work/out" 2>&1 </dev/null; } 2>&1 | awk '{ print $1 + $2 }'; }
 

@@ -1,6 +1,6 @@
 #!/bin/bash
-# Times the writing and reading of the fullest tape, 4096 words on 8228 frames: both together, a thousand times over,
-# and prints the microseconds for one write with one read, the least of seven runs.
+# Times writing and reading the fullest tape, 4096 words on 8228 frames, a thousand times each. Prints the microseconds for writing it
+# once and reading it once, the least of seven runs.
 set -euo pipefail
 top=$(cd "$(dirname "$0")/.." && pwd)
 times=${1:-1000}

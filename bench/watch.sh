@@ -1,8 +1,8 @@
 #!/bin/bash
-# Times `pdp8 watch` beside `pdp8 run` on the same tape and the same events: a million steps of a loop that counts a cell up
-# through a routine, so that each fourth step is a call or a return. By turns in one run, so many times each; prints the
-# median and the least processor time of each.
-# PDP8 names a built program in place of this repository's.
+# Times `pdp8 watch` and, for comparison, `pdp8 run` on the same tape and the same events: a million steps of a loop that increments a
+# cell through a routine, so that every fourth step is a call or a return. The two are run in turn, each as often as requested. Prints
+# the median and the least processor time of each.
+# PDP8 names a built program to be used in place of the one in this repository.
 # usage: bench/watch.sh [RUNS]
 set -euo pipefail
 top=$(cd "$(dirname "$0")/.." && pwd)
@@ -10,7 +10,7 @@ runs=${1:-25}
 work=$(mktemp -d)
 trap 'rm -r "$work"' EXIT
 program=${PDP8:-$top/crates/pdp8/out/pdp8}
-# Building runs the program once, whose lines are left out.
+# Building the program also runs it once; what that prints is left out.
 [ -x "$program" ] || (cd "$top/crates/pdp8" && rt run <stdin >"$work/built" 2>&1) || { cat "$work/built"; exit 1; }
 
 cat >"$work/loop.pal" <<'SOURCE'
@@ -35,7 +35,7 @@ DECLARATION
 echo 'step 1000000' >"$work/loop.events"
 "$program" assemble "$work/loop.bin" "$work/loop.pal"
 
-# Seconds of processor time that a command takes; what it writes goes to a file.
+# The processor time, in seconds, of a command that writes to a file.
 TIMEFORMAT=%U
 seconds() { { time "${@:2}" >"$1" 2>&1 </dev/null; } 2>&1; }
 
@@ -44,7 +44,7 @@ for ((run = 0; run < runs; run++)); do
     echo "watch $(seconds "$work/watched" "$program" watch "$work/loop.bin" "$work/loop.declaration" "$work/loop.events")"
 done >"$work/times"
 cat "$work/ran" "$work/watched"
-# The seconds of a command in order: the one in the middle, and the least.
+# The median of the seconds of a command, and the least.
 middle() { grep "^$1 " "$work/times" | cut -d' ' -f2 | sort -n | awk '{ of[NR] = $1 } END { print of[int((NR + 1) / 2)], of[1] }'; }
 read -r ran ran_least < <(middle run)
 read -r watched watched_least < <(middle watch)

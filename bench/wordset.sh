@@ -1,9 +1,8 @@
 #!/bin/sh
-# Times the kernels of `wordset` in one run: against their plain bodies, and against a plain Rust
-# program of the same lanes (rustc -O). Prints a table of nanoseconds for one call, the least of five
-# runs of each program.
-# `speed.rattle` is the Rattle program, which isn't named as a source so that no gate reads it.
-# It proves and builds the Rattle program in a folder of its own, over copies of the crates.
+# Times the kernels of `wordset`, their plain bodies, and a program in plain Rust with the same lanes (rustc -O), in one run. Prints a
+# table with the nanoseconds for one call, the least of five runs of each program.
+# `speed.rattle` is the program in Rattle; it does not have the name of a source file, so that no gate reads it. This script proves it and
+# builds it in a folder of its own, with copies of the crates.
 set -e
 top=$(cd "$(dirname "$0")/.." && pwd)
 work=${1:-$(mktemp -d)}
@@ -11,7 +10,7 @@ mkdir -p "$work/crates/wordset_speed/src"
 for crate in word12 instruct wordset; do
     cp -r "$top/crates/$crate" "$work/crates/"
 done
-# Of the crate `library_tests` the plain bodies alone.
+# Only the plain bodies of the crate `library_tests`.
 mkdir -p "$work/crates/library_tests/src" "$work/crates/library_tests/specs" "$work/crates/library_tests/proofs"
 cp "$top/crates/library_tests/src/plain.rt" "$work/crates/library_tests/src/"
 printf '#![tactic(auto)]\n\npub mod plain;\n' >"$work/crates/library_tests/src/lib.rt"
@@ -23,7 +22,7 @@ grep -E '^(word12|instruct|wordset):' "$top/crates.txt" >"$work/crates.txt"
 echo 'library_tests: word12 wordset' >>"$work/crates.txt"
 echo 'wordset_speed: word12 wordset library_tests anyhow' >>"$work/crates.txt"
 rustc -O -o "$work/lanes" "$top/bench/wordset/lanes.rs"
-# Building runs the program once, whose lines are left out.
+# Building the program also runs it once; what that prints is left out.
 (cd "$work/crates/wordset_speed" && rt run >"$work/built" 2>&1) || { cat "$work/built"; exit 1; }
 # Other work on the machine slows a run down and never speeds it up: the table has the least of five.
 : >"$work/times"

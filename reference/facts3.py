@@ -222,7 +222,7 @@ def narrow_by_chain(fact, found, x, chain):
     put(found.relations, {AC: 1, x: -1}, sets.of((ac - word) % 4096 for word, _, ac in fits))
 
 
-# What may stand where -------------------------------------------------------------------------------------------
+# Which words a cell may hold ------------------------------------------------------------------------------------
 
 def values(fact, cell, place):
     """The words that a cell may hold."""

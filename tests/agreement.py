@@ -1,13 +1,13 @@
 #!/usr/bin/env python3
-"""Sees to it that the help of the built program, docs/COMMANDS.md, the man page and the completions for bash agree.
+"""Checks that the help of the built program, docs/COMMANDS.md, the man page and the completions for bash agree.
 
-usage: tests/agreement.py PDP8   PDP8 is the built program; names each difference, and exits with status 1 where there is one
+usage: tests/agreement.py PDP8   PDP8 is the built program; names each difference, and exits with status 1 if there is one
 
 Each place is read as statements (KIND, SUBJECT, ANSWER), such as ('operands', 'run', 'TAPE') or ('default', '--start', '0200').
 The kinds are: command, operands, option (which options a command has), value, short and default (of an option, whichever command
-has it) and status. The help of the program decides. Each other place makes statements of some kinds, and must make exactly
-those of these kinds that the help makes. The completions are asked by bash. That each command has the option --help, and pdp8
-without a command --help and --version, isn't compared; their short forms are.
+has it) and status. The help of the program decides. Each other place makes statements of some kinds, and these must be exactly the statements of
+these kinds that the help makes. What the completions propose is found out with bash. It is not compared that each command has the
+option --help, and that pdp8 without a command has --help and --version; their short forms are compared.
 """
 import os
 import re
@@ -28,7 +28,7 @@ def read(path):
 # What all places share.
 
 def said_by_use(line):
-    """What a line of use says: `pdp8 run TAPE [--start A]`. OUT stands behind -o, or alone."""
+    """What a line of use says: `pdp8 run TAPE [--start A]`. OUT comes after -o, or alone."""
     line = line.replace('[-o]', '[-o, --output OUT]')
     command, *operands = re.sub(r'\[.*?\]\S*', '', line).removeprefix('pdp8').split()
     return {('operands', command, ' '.join(operands)), ('command', command, '')} | {
@@ -36,19 +36,19 @@ def said_by_use(line):
 
 
 def said_by_uses(lines):
-    """What lines of use say, and that the options that clap gives, which they leave out, take no value."""
+    """What lines of use say, and that the options of clap, which they leave out, take no value."""
     return set().union(*map(said_by_use, lines), {('value', option, '') for option in GIVEN_BY_CLAP})
 
 
 def said_of_option(tag, text):
-    """What is said of an option: its tag `-h, --help` or `--start A`, and the text that explains it, `.. 0200 by default`."""
+    """What is said about an option: its tag `-h, --help` or `--start A`, and the text that explains it, `.. 0200 by default`."""
     short, option, value = OPTION.match(tag).groups()
     default = re.search(r'(\w+) by default', text)
     return {('value', option, value or ''), ('short', option, short or ''), ('default', option, default[1] if default else '')}
 
 
 def without_clap(said):
-    """The statements without those on which command has the options that clap gives each."""
+    """The statements without those that say which command has the options that clap gives to each."""
     return {it for it in said if not (it[0] == 'option' and it[2] in GIVEN_BY_CLAP)}
 
 
@@ -144,7 +144,7 @@ def said_by_tags(manual, heading, kind):
 # The completions.
 
 def completed(*words):
-    """What bash proposes behind these words, of which the last is unfinished."""
+    """What bash proposes after these words, the last of which is unfinished."""
     script = '. "$0"; COMP_WORDS=("$@"); COMP_CWORD=$(($# - 1)); _pdp8; printf "%s\\n" "${COMPREPLY[@]}"'
     run = ['bash', '-c', script, os.path.join(TOP, COMPLETIONS), 'pdp8', *words]
     return subprocess.run(run, stdout=subprocess.PIPE, check=True, text=True).stdout.split()
@@ -176,7 +176,7 @@ def places():
 
 
 def differences(decided, kinds, said):
-    """What a place lacks of what is decided, and what it says besides, of some kinds."""
+    """The statements of some kinds that a place lacks, and those that it makes in addition."""
     decided, said = ({it for it in them if it[0] in kinds.split()} for them in (decided, said))
     for where, them in (('in the help alone', decided - said), ('not in the help', said - decided)):
         yield from (f'{where}: {kind} {subject}' + (f': {answer}' if answer else '') for kind, subject, answer in sorted(them))

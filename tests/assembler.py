@@ -1,8 +1,7 @@
-"""Compares `pdp8 assemble` and `pdp8 list` with the assembler in reference on sources by chance, most of them
-with faults: the tape, the listing and the fault line must be the same to the byte.
+"""Compares `pdp8 assemble` and `pdp8 list` with the assembler in reference on random sources, most of them
+with faults: the tape, the listing and the line of the fault must be the same to the byte.
 
-usage: assembler.py PROGRAM FOLDER COUNT SEED, where FOLDER takes what is made. Parts of sources on which they differ
-stay there.
+usage: assembler.py PROGRAM FOLDER COUNT SEED. Files are made in FOLDER. If the two differ on a source, its parts stay there.
 """
 import random
 import subprocess
@@ -24,7 +23,7 @@ PIECES = [b" ", b"  ", b"\t", b",", b"=", b"+", b"-", b"*", b".", b";", b"/", b"
 
 
 class Chance:
-    """What is chosen by chance."""
+    """What is chosen at random."""
 
     def __init__(self, seed):
         self.numbers = random.Random(seed)
@@ -92,7 +91,7 @@ class Chance:
 
 
 def expected(parts, profile):
-    """The tape, the listing, and what is said at fault by each command."""
+    """The tape, the listing, and what each command says about a fault."""
     try:
         program = pal.assemble(parts, profile)
     except pal.Fault as fault:

@@ -1,24 +1,24 @@
 #!/usr/bin/env python3
-"""Runs the sessions and tables that stand in pages, those of tests/cases/ as well as README.md and docs/, against a built pdp8.
+"""Runs the sessions and tables in pages, those of tests/cases/ as well as README.md and docs/, with a built pdp8.
 
-A page is Markdown. Of its blocks of code these are read, in their order, in a folder of the page's own:
+A page is Markdown. Of its blocks of code the following are read, in their order, in a folder that the page has for itself:
 
 ```NAME file          the text below is written to the file NAME
 ```NAME tape          NAME is a tape of the words below: "0200: 7402 7000*3", an origin and words, in octal; COUNT in decimal
 ```NAME bytes         NAME has the bytes below, in octal: "200*16 102 000"
-```console            a line after "$ " is a command of bash, which goes on in the next line after a backslash; below it stand
-                      the lines that it prints on standard output and standard error, and, where it isn't 0, its status: "[1]"
-```table              "$ COMMAND" and then a row a line, "GIVEN | GIVEN => PRINTED [STATUS]": the command is run for each row
+```console            a line after "$ " is a command of bash, which continues on the next line after a backslash; below it are
+                      the lines that it prints on standard output and standard error, and its status, if it is not 0: "[1]"
+```table              "$ COMMAND", and then one row per line, "GIVEN | GIVEN => PRINTED [STATUS]": the command is run for each row
                       with {1}, {2}, .. replaced by what is given, without blanks at its ends. \\n, \\t, \\r, \\\\ and three
-                      octal digits after \\ are bytes in what is printed, and in what is given where it goes into a file;
-                      nothing given is written as -, a dash as --, and behind => nothing as nothing
+                      octal digits after \\ are bytes in what is printed, and in what is given if it goes into a file;
+                      - means that nothing is given, and -- a dash; if nothing is printed, nothing follows =>
 
-A file, a tape or bytes with the word "rows" at the end of its fence is written anew for each row of the tables below it, up to
-the next heading, with {1}, {2}, .. replaced. What a row writes is removed after it. A page finds in its folder the files of the
-programs of examples/ that it names, the tape NAME.bin of each source NAME.pal of theirs, and programs/, the folder
-tests/cases/programs, and version3/, style-of-1970/ and style-of-1970-b/, folders of tests/, if it names them. Statuses are compared in
-tests/cases/; other pages may leave them out. The cases of the pages in tests/cases/wrong/ are wrong on purpose, and one of them fails
-where it isn't told as wrong.
+A file, a tape or bytes with the word "rows" at the end of its fence is written again for each row of the tables below it, up to
+the next heading, with {1}, {2}, .. replaced. The files that a row writes are removed after it. A page finds in its folder the files of
+the programs of examples/ that it names, and the tape NAME.bin of each of their sources NAME.pal. If it names them, it also finds the
+folder tests/cases/programs as programs/, and the folders version3/, style-of-1970/ and style-of-1970-b/ of tests/. Statuses are compared
+in tests/cases/; other pages may leave them out. The cases of the pages in tests/cases/wrong/ are wrong on purpose: the runner must report
+each of them as wrong, otherwise this counts as a failure.
 
 usage: tests/cases.py PDP8 [PAGE..]    PDP8 is the built program; without pages all of tests/cases/, README.md and docs/
 """
@@ -40,7 +40,7 @@ SECONDS = 60
 
 @dataclass
 class Block:
-    """A block of code: what its fence says, its first line's number and its lines."""
+    """A block of code: what its fence says, the number of its first line, and its lines."""
     name: str
     kind: str
     for_rows: bool
@@ -50,7 +50,7 @@ class Block:
 
 @dataclass
 class Page:
-    """A page while it is run: its name, its folder, the program's folder, and what was counted."""
+    """A page while it is run: its name, its folder, the folder of the program, and what was counted."""
     path: str
     folder: str
     program: str
@@ -98,7 +98,7 @@ def unescaped(text):
 
 
 def numbers(text):
-    """The octal numbers of a text, each as often as it says."""
+    """The octal numbers of a text, each repeated as often as the text says."""
     found = []
     for word in text.split():
         number, _, times = word.partition('*')
@@ -121,7 +121,7 @@ def tape_of(text):
 
 
 def filled(text, given):
-    """A text with {1}, {2}, .. replaced by what a row gives; what it doesn't give is nothing."""
+    """A text with {1}, {2}, .. replaced by what a row gives, or by nothing if it does not give it."""
     return re.sub(r'\{(\d)\}', lambda it: given[int(it[1]) - 1] if int(it[1]) <= len(given) else '', text)
 
 
@@ -151,7 +151,7 @@ def run(command, page):
 
 
 def sessions(block):
-    """The commands of a session with their lines' numbers, and the lines that each prints."""
+    """The commands of a session with the numbers of their lines, and the lines that each of them prints."""
     found = []
     for number, line in enumerate(block.lines, block.first):
         if line.startswith('$ '):

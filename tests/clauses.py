@@ -1,11 +1,11 @@
 """Lists the public functions of this repository's crates with their contracts, so that two states can be compared.
 
-usage: tests/clauses.py [--root DIR]            the list, sorted, of the crates below DIR (else of this repository)
+usage: tests/clauses.py [--root DIR]            the sorted list of the crates below DIR, or of this repository
        tests/clauses.py --compare BEFORE AFTER  what was lost, added or changed from one to the other; each is such a list
                                                 or a folder. A function is matched by its name without the crate, so that
-                                                it may move. Exit status 1 where a function or a clause was lost or changed
+                                                it may move. Exit status 1 if a function or a clause was lost or changed
 
-What an impl or a trait says by ghost items, as the view of a type, stands as clauses of `Type as Trait`."""
+Ghost items of an impl or a trait, such as the view of a type, are listed as clauses of `Type as Trait`."""
 import os
 import sys
 from collections import defaultdict
@@ -44,12 +44,12 @@ def taken(path):
 
 
 def likeness(one, other):
-    """How well two functions of one name match: by their crate first, then by the lines that they share."""
+    """How well two functions of the same name match: first by their crate, then by the lines that they share."""
     return one[0] == other[0], len({*one[2]} & {*other[2]})
 
 
 def matched(before, after):
-    """Pairs of functions of one name; None stands for one that is lost or added."""
+    """Pairs of functions of the same name, with None in place of one that was lost or added."""
     names = defaultdict(lambda: ([], []))
     for side, found in enumerate((before, after)):
         for it in found:

@@ -1,8 +1,8 @@
 #!/usr/bin/env python3
-"""Compares this repository's program with others: SIMH, palbart, and the assembler, machine, watcher and checker in reference/.
+"""Compares the program of this repository with others: SIMH, palbart, and the assembler, machine, watcher and checker in reference/.
 
-No gate runs these comparisons. SIMH and palbart are the packages simh and palbart of Debian; a comparison is left out, and
-says so, if what it needs is not installed.
+No gate runs these comparisons. SIMH and palbart are the packages simh and palbart of Debian. If what a comparison needs is not
+installed, it is left out and this is reported.
 
 usage: tests/compare.py [NAME..] [--program PDP8] [--count N] [--seed N]
 
@@ -41,7 +41,7 @@ def palbart():
 
 
 def simh():
-    """The path of SIMH's pdp8, which has the name of ours: what it says of itself tells it apart."""
+    """The path of SIMH's pdp8, which has the same name as this program: the two are distinguished by what they print about themselves."""
     path = os.environ.get('SIMH', '/usr/bin/pdp8')
     if not os.access(path, os.X_OK):
         raise Missing('the package simh is not installed')
@@ -84,8 +84,8 @@ def compare_watcher(asked, folder):
 
 
 def compare_facts(asked, folder):
-    """The program that reads the cases is no crate of this repository: it is built in a folder of its own, over copies of the
-    crates, and run unproved, with checks of indexes and overflows."""
+    """The program that reads the cases is not a crate of this repository. It is built in a folder of its own, with copies of the
+    crates, and is run without proofs, with checks of indexes and overflows."""
     count = asked.count or 10000
     home = folder / 'crates' / 'facts_cases'
     (home / 'src').mkdir(parents=True)
@@ -169,7 +169,7 @@ COMPARISONS = {
     'assembler': (compare_assembler, 'generated sources with the assembler in reference/'),
     'watcher': (compare_watcher, 'generated programs and events with the watcher in reference/'),
     'facts': (compare_facts, 'generated facts of all versions and their outcomes with those in reference/'),
-    'watched': (compare_watched, 'what gets a yes of the programs in the style of 1970 and of version 3, in runs of chance'),
+    'watched': (compare_watched, 'random runs of the programs that get a yes, of those in the style of 1970 and those for version 3'),
     'verdicts': (compare_verdicts, 'verdicts on changed programs and certificates of all versions with the checkers in reference/'),
     'forged': (compare_forged, 'verdicts on certificates of version 3 with one line, or one word of a set, left out in turn'),
     'second-reader': (compare_second_reader, 'the fullest tape with a reader in Python'),
@@ -182,7 +182,7 @@ COMPARISONS = {
 
 
 def arguments():
-    """What is asked for."""
+    """What the command line requests."""
     parser = argparse.ArgumentParser(description=__doc__, formatter_class=argparse.RawDescriptionHelpFormatter)
     parser.add_argument('names', nargs='*', metavar='NAME', choices=[[], *COMPARISONS], help=', '.join(COMPARISONS))
     built = TOP / 'crates' / 'pdp8' / 'out' / 'pdp8'

@@ -1,24 +1,25 @@
-"""Makes docs/DEFINITIONS.md from the comments of the crates' specs/, and sees to it that it is what they make.
+"""Makes docs/DEFINITIONS.md from the comments in the specs/ of the crates, and checks that the page is up to date.
 
 usage: tests/definitions.py                          names each difference; exit status 1 if there is one
        tests/definitions.py --write                  makes the page
        tests/definitions.py --all                    prints the same for all definitions that public contracts reach
        tests/definitions.py --compare BEFORE AFTER   the definitions that public contracts reach: which were lost or added
-                                                     from one folder to the other, and which read otherwise
+                                                     from one folder to the other, and which have another text
        tests/definitions.py --behind CRATE::NAME..   each module with the definitions behind these names: those that the
-                                                     definitions of this name reach, themselves among them, or the
-                                                     contracts of the public functions of this name
+                                                     definitions of this name use, directly or not, and these definitions
+                                                     themselves, or those that the contracts of the public functions of
+                                                     this name use
 
-The page has the definitions that a yes rests on, each with its comment and its formula. A public contract is the clauses of a
-public function, or what a public type or trait says by ghost items, but for invariants; it reaches the definitions that it
-names and those that they name. A module in specs/inside/, or one whose first comment says that it serves private contracts,
-must not be reached.
+The page has the definitions on which a yes rests, each with its comment and its formula. A public contract consists of the clauses of
+a public function, or of the ghost items of a public type or trait, except invariants. It reaches the definitions that it names and those
+that these name. A module in specs/inside/, or one whose first comment says that it serves private contracts, must not be reached.
 
-Each definition that a public contract reaches must have a comment that says more than its name: the lines right above it, without a blank line between, or the first
-comment of a module that has no other definition. A comment above one definition isn't taken to cover the next ones.
+Each definition that a public contract reaches must have a comment that says more than its name: the lines right above it, without a
+blank line between, or the first comment of a module that has no other definition. A comment above one definition does not count for
+the next ones.
 
-The crates stand in the order and under the headings of crates.txt, each with the first sentence of its src/lib.rt. The
-modules of a crate stand as its Lib.antt names them, but each after those that it uses."""
+The crates are in the order and under the headings of crates.txt, each with the first sentence of its src/lib.rt. The modules of a
+crate are in the order in which its Lib.antt names them, except that each comes after those that it uses."""
 import os
 import re
 import sys
@@ -30,44 +31,44 @@ from rattle_sources import crates_of, functions_of, modules_of
 ROOT = os.path.dirname(os.path.dirname(os.path.abspath(__file__)))
 PAGE = "docs/DEFINITIONS.md"
 WIDTH = 120
-# What these hold is no contract on a caller's side: how a value is kept.
+# These say how a value is stored, which is not a contract for callers.
 INSIDE = ("invariant", "inverse")
-# A comment of these and of the words of its name says nothing.
+# A comment that consists of these words and of those of the name says nothing.
 SMALL = "a all an and are as at be by each for from has have in is it its no not of on one or that the this to what which with"
 
-# What a yes says: `IsSafe` of a program and its declaration, which bytes are a declaration's text and a tape, and what a tape puts
+# What a yes says: `IsSafe` of a program and its declaration, which bytes are the text of a declaration or a tape, and what a tape puts
 # into memory.
 YES = ("policy::IsSafe", "declaration::Declares", "bin_tape::IsTape", "peripherals::image_of")
 
 OWN = """\
-Contracts use the toolchain's own definitions besides: numbers, lists, options and results with their tests (`IfOk`, `IfErr`, \
-`IfSome`), bit by bit `bit_and` and `bit_or`, `codes` for the bytes of a text, `decimal`, `lines`, and for sources and sinks \
-`Appends` (known bytes grow by these) and `Consumes` (known bytes begin with these, and lose them). What is taken from a \
-crate's `specs.declared` is a public type of its `src/`. A name that stands in several modules may mean something else in each.
+Contracts also use definitions of the toolchain: numbers, lists, options and results with their tests (`IfOk`, `IfErr`, `IfSome`), \
+`bit_and` and `bit_or` for operations bit by bit, `codes` for the bytes of a text, `decimal`, `lines`, and for sources and sinks \
+`Appends` (known bytes grow by these) and `Consumes` (known bytes begin with these, and lose them). What is taken from \
+`specs.declared` of a crate is a public type of its `src/`. If a name occurs in several modules, it may mean something else in each.
 """
 
 FRONT = """\
-# The definitions behind a yes, in reading order
+# The definitions on which a yes rests, in reading order
 
-A yes says that a program is safe: no run violates its declaration. What that means is said by the definitions below, and by \
-nothing else. The prover ensures that the code keeps to them. That they say what a PDP-8, a tape and a safe program are, only a \
-reader can see. So each definition stands here with its comment and its formula, under its module. Each crate stands after \
-those that it uses, and so does each module of a crate. The last one, `IsSafe`, is what a yes says.
+A yes says that a program is safe: no run violates its declaration. The definitions below say what that means, and nothing else \
+does. The prover ensures that the code complies with them. Only a reader can see that they say what a PDP-8, a tape and a safe \
+program are. So each definition is here with its comment and its formula, under its module. Each crate comes after those that it \
+uses, and so does each module of a crate. The last definition, `IsSafe`, is what a yes says.
 
 The words of the answer itself, and how it is written, are defined in `diagnostics` and `command_parts`: \
 [THEOREM](THEOREM.md#what-must-be-believed) lists them.
 
 """ + OWN + """
 `python3 tests/definitions.py --all` prints this page for all definitions that the contract of some public function, type or \
-trait reaches, and `--behind CRATE::NAME` lists those behind a name. What neither prints need not be believed: everything under \
-`proofs/`, and the definitions that only private contracts cite. `tests/definitions.py --write` makes this page, and `make test` \
+trait reaches, and `--behind CRATE::NAME` lists those that a name uses. What neither of them prints need not be believed: everything \
+under `proofs/`, and the definitions that only private contracts cite. `tests/definitions.py --write` makes this page, and `make test` \
 fails if it is out of date.
 """
 
 FRONT_OF_ALL = """\
 # The definitions, in reading order
 
-What is promised of the code is said in terms of these definitions: those that the contract of a public function, type or trait \
+The promises about the code are stated with these definitions: those that the contract of a public function, type or trait \
 reaches.
 
 """ + OWN
@@ -92,7 +93,7 @@ class Definitions:
         return self.modules[key[0]][key[1]].definitions[key[2]]
 
     def named(self, text, imports, own=None, bound=()):
-        """The definitions that a text names, where imports and the module itself say what names mean, but for bound names."""
+        """The definitions that a text names, except bound names. Imports and the module itself say what names mean."""
         here = {}
         for name, path in imports:
             if path[0] == "Rattle" and len(path) > 3 and path[2] == "specs":
@@ -125,7 +126,7 @@ class Definitions:
             yield from self.named(text, function.imports, None, parameters | bound_in(text))
 
     def closed(self, ahead, why, found):
-        """Puts these definitions, and all that they name, into what is found, each with the reason why."""
+        """Adds these definitions, and all that they name, to those that were found, each with the reason."""
         ahead = list(ahead)
         while ahead:
             key = ahead.pop()
@@ -174,7 +175,7 @@ def crates_in_order(root):
 
 
 def sentence_of(folder):
-    """The first sentence that a crate says of itself."""
+    """The first sentence that a crate says about itself."""
     with open(f"{folder}/src/lib.rt", encoding="utf-8") as file:
         said = " ".join(it[3:].strip() for it in file if it.startswith("//!"))
     first = re.match(r".*?\.(?=\s|$)", said)
@@ -206,12 +207,12 @@ def comment_of(module, definition):
 
 
 def said_by(text):
-    """The words of a name or a comment, in small letters and each without an s at its end."""
+    """The words of a name or a comment, in lower case, each without an s at its end."""
     return {it.lower().rstrip("s") for it in re.findall(r"[a-z0-9]+|[A-Z]+[a-z0-9]*", text)}
 
 
 def says_nothing(name, comment):
-    """Whether a comment says no more than the name below it; what stands between backquotes says something."""
+    """Whether a comment says no more than the name below it; whatever is between backquotes says something."""
     return "`" not in comment and not said_by(comment) - said_by(name) - said_by(SMALL)
 
 
@@ -250,7 +251,7 @@ def page_of_yes(definitions):
 
 
 def lacking(definitions, reached):
-    """The reached definitions that have no comment, or one that says nothing."""
+    """The definitions that are reached and have no comment, or one that says nothing."""
     for key in sorted(reached):
         if says_nothing(key[2], comment_of(definitions.modules[key[0]][key[1]], definitions.definition(key))):
             yield key
@@ -271,7 +272,7 @@ def differences(definitions, reached):
         return
     with open(f"{definitions.root}/{PAGE}", encoding="utf-8") as file:
         if file.read() != page_of_yes(definitions):
-            yield f"{PAGE} isn't what the comments make: tests/definitions.py --write makes it"
+            yield f"{PAGE} is out of date: tests/definitions.py --write makes it again"
 
 
 def texts(root):

@@ -1,15 +1,15 @@
-"""Sees to it that each wrong edit can be applied, without trying it: rt says so only at its end. And that the gate has not too
-many of them.
+"""Checks that each wrong edit can be applied, without trying it, because rt reports this only at its end; and that the gate does not have
+too many edits.
 
-usage: tests/edits.py [--root DIR]   names each edit that can't be, and what there is too much of; exit status 1 where there is
-                                     any; counts the edits by crate
+usage: tests/edits.py [--root DIR]   names each edit that cannot be applied, and each number that is too large, with exit
+                                     status 1 if there is any; counts the edits of each crate
 
-An edit is a file with a line 'file: PATH' and pairs of lines 'old: TEXT' and 'new: TEXT'. Each old text stands exactly once in
-what the pairs before it made of the file, and the new one differs from it. Its name is of small letters, digits and _, and no
-other edit of the crate has it.
+An edit is a file with a line 'file: PATH' and pairs of lines 'old: TEXT' and 'new: TEXT'. Each old text occurs exactly once in
+the file as the pairs before it have changed it, and the new text differs from it. The name of an edit consists of lower-case letters,
+digits and _, and no other edit of the crate has the same name.
 
 The edits of crates/NAME/must-fail/ are tried by the gate. There may be 8 of them in a crate and 110 in all, since each costs
-10 to 60 seconds of a processor, and the first of a crate its whole proof once more. Those of crates/NAME/more-edits/, of which
+10 to 60 seconds of a processor, and the first edit of a crate costs its whole proof once more. Those of crates/NAME/more-edits/, of which
 there may be any number, are tried by tests/more_edits.py."""
 import os
 import re
@@ -21,15 +21,15 @@ MOST_IN_A_CRATE, MOST = 8, 110
 
 
 def edits_in(root, crate, folder):
-    """The names of a crate's edits in one of its two folders."""
+    """The names of the edits of a crate in one of its two folders."""
     at = f"{root}/crates/{crate}/{folder}"
     return [it for it in sorted(os.listdir(at)) if not it.endswith(".md")] if os.path.isdir(at) else []
 
 
 def why_not(folder, edit):
-    """Why an edit can't be applied to the crate in this folder, or nothing."""
+    """The reason why an edit cannot be applied to the crate in this folder, or nothing."""
     if not re.fullmatch(r"[a-z0-9_]+\.edit", os.path.basename(edit)):
-        return "its name isn't of small letters, digits and _"
+        return "its name must consist of lower-case letters, digits and _"
     path, old, texts = None, None, {}
     with open(edit, encoding="utf-8") as file:
         lines = file.read().split("\n")
@@ -42,13 +42,13 @@ def why_not(folder, edit):
             old = line[len("old: ") :]
         elif line.startswith("new:"):
             if not path or not old:
-                return "a 'new:' line stands before any 'file:' or 'old:' line"
+                return "a 'new:' line comes before any 'file:' or 'old:' line"
             if path not in texts:
                 with open(f"{folder}/{path}", encoding="utf-8") as file:
                     texts[path] = file.read()
             new = line[len("new:") :].removeprefix(" ")
             if texts[path].count(old) != 1:
-                return f"an 'old:' text stands in {path} {texts[path].count(old)} times"
+                return f"an 'old:' text occurs {texts[path].count(old)} times in {path}"
             if old == new:
                 return "an edit changes nothing"
             texts[path], old = texts[path].replace(old, new), None
@@ -56,7 +56,7 @@ def why_not(folder, edit):
 
 
 def unfit(root, crates, folder):
-    """Names each edit of these crates, in one of their two folders, that can't be applied, and says why."""
+    """Names each edit of these crates, in one of their two folders, that cannot be applied, and says why."""
     for crate in crates:
         for name in edits_in(root, crate, folder):
             path = f"crates/{crate}/{folder}/{name}"
@@ -66,14 +66,14 @@ def unfit(root, crates, folder):
 
 
 def twins(root, crates):
-    """Names each edit of which there is another of its name in the crate's other folder."""
+    """Names each edit whose name an edit in the other folder of the crate has, too."""
     for crate in crates:
         for name in sorted({*edits_in(root, crate, GATE)} & {*edits_in(root, crate, MORE)}):
             yield f"crates/{crate}/{MORE}/{name}: {GATE}/ has one of this name too"
 
 
 def passed_budgets(counts):
-    """What there is too much of, by how many edits of the gate each crate has."""
+    """The numbers that are too large, from the number of edits that the gate has for each crate."""
     for crate, count in counts.items():
         if count > MOST_IN_A_CRATE:
             yield f"crates/{crate}/{GATE} has {count} edits, and a crate may have {MOST_IN_A_CRATE}: move some to {MORE}/"
@@ -82,7 +82,7 @@ def passed_budgets(counts):
 
 
 def counts_of(root, crates, folder):
-    """How many edits the crates have in one of their two folders, those that have any."""
+    """How many edits the crates have in one of their two folders, for those that have any."""
     counts = {crate: len(edits_in(root, crate, folder)) for crate in crates}
     return {crate: count for crate, count in counts.items() if count}
 

@@ -1,4 +1,4 @@
-"""Cases by chance of facts as versions 1 and 2 of certificates have them, for facts.py: what the program prints of a word at a fact."""
+"""Random cases with facts of versions 1 and 2 of certificates, for facts.py: what the program prints about a word at a fact."""
 import random
 import sys
 from dataclasses import replace
@@ -29,7 +29,7 @@ DECLARED = [declaration("8i", {0o10, 0o11, 0o250, *range(0o300, 0o304)}), declar
 
 
 class Chance:
-    """What is chosen by chance."""
+    """What is chosen at random."""
 
     def __init__(self, seed):
         self.numbers = random.Random(seed)
@@ -64,7 +64,7 @@ class Chance:
         return sets.of(self.one(near[:5] if self.share(0.8) else near) for _ in range(self.one([1, 1, 1, 2, 3])))
 
     def fact(self, entry):
-        """A fact whose equations are fulfilled by some values, most often."""
+        """A fact whose equations usually hold for some values."""
         values = {cell: self.number() for cell in [AC, *CELLS]}
         cells = {}
         for cell in self.numbers.sample(VARIABLES, self.numbers.randrange(7)) + ([ENTRY] if self.share(0.1) else []):
@@ -81,7 +81,7 @@ class Chance:
         return Fact(ac, self.set() or sets.ALL, frozenset(link), cells, frozenset(equations), offsets)
 
     def weaker(self, fact):
-        """A fact that this one entails, or nearly."""
+        """A fact that this one entails, or nearly entails."""
         def more(members):
             return members | (self.set() if self.share(0.3) else 0)
         def seen(name):
@@ -120,7 +120,7 @@ class Chance:
 
 
 class Case:
-    """One word with its place and facts."""
+    """One word with its address and facts."""
 
     def __init__(self, chance):
         self.machine = chance.numbers.randrange(2)
@@ -147,7 +147,7 @@ class Case:
             self.after = Fact(cells=some, equations=equal)
 
     def breaks(self):
-        """The first condition on the word that is broken."""
+        """The first condition on the word that fails."""
         if not supported(self.word, self.declared):
             return 3
         certificate = check.Certificate(routines={ENTRY: check.Routine(1, self.sites, self.writes)})
@@ -158,7 +158,7 @@ class Case:
         return None
 
     def outcomes(self):
-        """The outcomes as a way, the next addresses and a fact."""
+        """The outcomes, each as a kind, the next addresses and a fact."""
         if self.breaks():
             return []
         stepped, cells = targets(self.fact, self.at, self.word, self.place) if self.word < 0o6000 else (self.fact, 0)

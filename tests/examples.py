@@ -1,10 +1,10 @@
-"""Checks what stands in examples/ by other programs: Debian's palbart and SIMH, and the Python in reference.
+"""Checks the files of examples/ with other programs: Debian's palbart and SIMH, and the Python in reference.
 
-usage: examples.py PALBART SIMH EXAMPLES FOLDER [PROGRAM], where FOLDER takes what is made. Each source is assembled
-with palbart. The tape is run with its events, watched under its declaration and checked with its certificate by
-reference, and what comes out must be NAME.run, NAME.watch and NAME.check; of DEC's loader `rim`, which breaks its declaration, the last two. Where SIMH is given it runs the tape
-with the same keys, frames and switches: AC, link and program counter at each halt, the memory at the end and the
-output must be the same. PROGRAM is a built `pdp8`, which is compared too in the commands that it has.
+usage: examples.py PALBART SIMH EXAMPLES FOLDER [PROGRAM]. Files are made in FOLDER. Each source is assembled with palbart. The
+Python in reference runs the tape with its events, watches it under its declaration and checks it with its certificate; the
+outputs must be NAME.run, NAME.watch and NAME.check, and for DEC's loader `rim`, which violates its declaration, the last two.
+If SIMH is given, it runs the tape with the same keys, frames and switches: AC, link and program counter at each halt, the
+memory at the end and the output must be the same. PROGRAM is a built `pdp8`; the commands that it has are compared, too.
 """
 import re
 import subprocess
@@ -19,8 +19,8 @@ import watch  # noqa: E402
 
 
 def halts(world, happening):
-    """What SIMH is told, so that the same happens, and AC, link and program counter at each halt. SIMH runs to its
-    next halt by itself, so switches are set when it stands."""
+    """The commands for SIMH that make the same happen, and AC, link and program counter at each halt. SIMH runs to its
+    next halt by itself, so switches are set while it is halted."""
     told, found, begin = [], [], "run 200"
     for event in happening:
         running = world.halted_at is None
@@ -35,7 +35,7 @@ def halts(world, happening):
 
 
 def keys_taken(happening):
-    """The keys that the program takes: of keys without a step between them the last."""
+    """The keys that the program takes: the last one of several keys without a step between them."""
     left = [event for event in happening if event[0] in ("key", "step")]
     return bytes(now[1] for now, after in zip(left, left[1:] + [("step",)]) if now[0] == "key" and after[0] == "step")
 
@@ -59,33 +59,33 @@ def of_simh(simh, folder, name, told, happening):
 
 
 def compare_with_simh(simh, folder, name, world, happening):
-    """What differs between SIMH and reference. The examples print nulls and bytes above 177 alone, which SIMH's
-    own words never have."""
+    """What differs between SIMH and reference. The examples print only nulls and bytes above 177, which never occur
+    in what SIMH itself prints."""
     told, registers = halts(world, happening)
     theirs, printed, punched, memory = of_simh(simh, folder, name, told, happening)
     if registers != theirs:
         return [f"at the halts {registers}, SIMH {theirs}"]
     if memory != world.memory:
         return ["another memory on SIMH"]
-    # At the last halt SIMH's printer still has a byte under way.
+    # At the last halt the printer of SIMH has not finished its last byte.
     if printed not in (world.printed, world.printed[:-1]) or punched != world.punched:
         return [f"printed {world.printed}, punched {world.punched}, SIMH {printed} and {punched}"]
     return []
 
 
 def compare_broken(simh, folder, name, world, happening):
-    """For a run of nothing but steps: whether SIMH, after as many, stands where the illegal step was found."""
+    """For a run that consists of steps only: whether SIMH, after the same number of steps, is at the address of the illegal step."""
     if any(event[0] != "step" for event in happening):
         return []
     lines = ["deposit 0-7777 0", f"load {name}.bin", "deposit PC 200", f"step {len(happening)}", "examine PC", "quit"]
     (folder / f"{name}.ini").write_text("\n".join(lines) + "\n")
     ran = subprocess.run([simh, f"{name}.ini"], cwd=folder, stdin=subprocess.DEVNULL, capture_output=True, timeout=60)
     theirs = int(re.search(r"^PC:\s*(\d+)", ran.stdout.decode("latin-1"), re.M).group(1), 8)
-    return [] if theirs == world.pc else [f"stands at {world.pc:04o}, SIMH at {theirs:04o}"]
+    return [] if theirs == world.pc else [f"is at {world.pc:04o}, SIMH at {theirs:04o}"]
 
 
 def compare_program(program, words, wanted):
-    """What a built `pdp8` says otherwise than it should. A command that it doesn't have is left out."""
+    """What a built `pdp8` says that differs from what it should say. A command that it does not have is left out."""
     ran = subprocess.run([program, *words], capture_output=True, text=True, timeout=60)
     if ran.returncode == 2 or ran.stdout == wanted:
         return []
@@ -109,7 +109,7 @@ class Example:
         return (self.examples / f"{self.name}.{kind}").read_text()
 
     def wrong(self, simh, program):
-        """What isn't as it should be."""
+        """What is not as it should be."""
         if self.image is None:
             return ["palbart refuses it"]
         happening = machine.events(self.events.read_bytes())
@@ -118,7 +118,7 @@ class Example:
         failed = judge.judge(self.image, declared, judge.parse(self.certificate.read_text()))
         verdicts = {"watch": "broken: event {} rule {}".format(*broken) if broken else "clean",
                     "check": "no: V{} at {:04o}".format(*failed) if failed else judge.counts(declared)}
-        wrong = [f"{kind} isn't {said}" for kind, said in verdicts.items() if said + "\n" != self.expected(kind)]
+        wrong = [f"{kind} is not {said}" for kind, said in verdicts.items() if said + "\n" != self.expected(kind)]
         if program:
             for kind, file in (("watch", self.events), ("check", self.certificate)):
                 wrong += compare_program(program, [kind, self.tape, self.declaration, file], self.expected(kind))
@@ -128,7 +128,7 @@ class Example:
         if self.name != self.stem or self.name == "rim":
             return wrong + (compare_broken(simh, self.folder, self.name, world, happening[:broken[0]]) if simh else [])
         summary = machine.run(machine.World(self.image, declared.start, self.profile), happening).summary()
-        wrong += [f"run isn't {summary}"] if summary != self.expected("run") else []
+        wrong += [f"run is not {summary}"] if summary != self.expected("run") else []
         if program:
             words = ["run", self.tape, "--profile", self.profile, "--events", self.events]
             wrong += compare_program(program, words, self.expected("run"))

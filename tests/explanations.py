@@ -1,16 +1,16 @@
 #!/usr/bin/env python3
-"""Makes the texts of `pdp8 explain` from the pages, and sees to it that they are what the pages make.
+"""Makes the texts of `pdp8 explain` from the pages, and checks that they are up to date.
 
 usage: tests/explanations.py            names each file that is out of date; exit status 1 if there is one
        tests/explanations.py --write    makes the files
 
 The files are conditions.rt, rules.rt and faults.rt in crates/command_line/src/explanations, in the layout that `rt fmt` leaves.
 
-What is said of a condition stands below its heading in docs/NO.md: what it asks is the line `V5 asks: ..` of a session there, and
-what to do is the text outside blocks. A rule has a row in the table of rules of docs/NO.md, which also has an example, and what it
-asks stands in the list of rules of docs/DECLARATIONS.md. A fault has a row in the table of faults of docs/COMMANDS.md, and what to
-do in that of docs/NO.md. Of a link its text is taken, and behind it the page that it leads to, unless that is the same page. Lines
-end where a terminal's do, except in what a fault means, which is one line."""
+The text about a condition is below its heading in docs/NO.md: what the condition requires is the line `V5 asks: ..` of a session there,
+and what to do is the text outside blocks. A rule has a row in the table of rules of docs/NO.md, which also has an example; what the
+rule requires is in the list of rules of docs/DECLARATIONS.md. What a fault means is in the table of faults of docs/COMMANDS.md, and what
+to do is in the table of docs/NO.md. A link is replaced by its text, followed by the page to which it leads unless that is the same page.
+Lines are wrapped to the width of a terminal, except for the meaning of a fault, which is one line."""
 import os
 import re
 import sys
@@ -18,7 +18,7 @@ import textwrap
 
 ROOT = os.path.dirname(os.path.dirname(os.path.abspath(__file__)))
 FOLDER = "crates/command_line/src/explanations"
-# How long a line of an explanation may be, with what stands before the text, and how long one of the source.
+# The maximum length of a line of an explanation, including what comes before the text, and of a line of the source.
 WIDTH, SOURCE_WIDTH = 79, 100
 
 FILE = """\
@@ -59,13 +59,13 @@ def plain(text):
 
 
 def in_lines(before, text):
-    """A text in lines that fit a terminal, where something stands before it."""
+    """A text in lines that fit a terminal, if something comes before it."""
     lines = textwrap.wrap(before + plain(text), WIDTH, break_long_words=False, break_on_hyphens=False)
     return "\n".join(lines).removeprefix(before)
 
 
 def between(page, begin, end):
-    """What stands in a page between these texts, of which the first must be there."""
+    """What a page has between these texts, the first of which must be there."""
     _, found, rest = page.partition(begin)
     if not found:
         raise ValueError(f"no page has {begin.strip()!r}")
@@ -79,19 +79,19 @@ def rows_of(page, heading):
 
 
 def section_of(page, heading):
-    """What stands below a heading of a page, up to the next one of its level."""
+    """What is below a heading of a page, up to the next heading of the same level."""
     return between(page, f"\n## {heading}\n", "\n## ")
 
 
 def conditions(page):
-    """Code, subject, what is asked and what to do, of each condition."""
+    """Code, subject, what is required and what to do, for each condition."""
     for code, name, text in re.findall(r"^### (V\d+): (.*)\n((?:(?!### ).*\n)*)", section_of(page, "The sixteen conditions") + "\n", re.M):
         asked = re.search(rf"^{code} asks: (.*)$", text, re.M)[1]
         yield code, f"Asked({quoted(plain(name))})", in_lines("asked: ", asked), re.sub(r"```.*?```", "", text, flags=re.S)
 
 
 def rules(page, declarations):
-    """The same of each rule."""
+    """The same for each rule."""
     listed = re.findall(r"^(\d)\. (.*(?:\n   .*)*)", section_of(declarations, "The eight rules"), re.M)
     for name, example, change in rows_of(page, "Rule"):
         number, _, name = name.partition(": ")
@@ -101,7 +101,7 @@ def rules(page, declarations):
 
 
 def changes(page):
-    """What to do of each fault, by its kind and name."""
+    """What to do about each fault, by its kind and name."""
     found = {}
     for names, change in [row for row in rows_of(page, "Fault") if len(row) == 2]:
         kind = re.match(r"`(\w+): ", names)[1]
@@ -112,7 +112,7 @@ def changes(page):
 
 
 def faults(page, commands):
-    """The same of each fault, with what it means in place of what is asked."""
+    """The same for each fault, with what it means in place of what is required."""
     found = changes(page)
     for line, meaning in rows_of(commands, "Line, after `pdp8: `"):
         line = line.strip("`")
@@ -126,7 +126,7 @@ def quoted(text):
 
 
 def subject_in_source(subject):
-    """A subject as the source spells it: on lines of its own where one is too long."""
+    """A subject as the source spells it: on lines of its own if a single line is too long."""
     line = f"Subject::{subject}"
     if len(f"        subject: {line},") <= SOURCE_WIDTH:
         return line
@@ -168,7 +168,7 @@ def main(words):
             with open(f"{ROOT}/{path}", "w", encoding="utf-8") as file:
                 file.write(text)
     stale = [path for path, text in made.items() if not is_current(path, text)]
-    print("".join(f"{path} is not what the pages make: tests/explanations.py --write makes it\n" for path in stale), end="")
+    print("".join(f"{path} is out of date: tests/explanations.py --write makes it again\n" for path in stale), end="")
     print(f"explanations: {len(made)} files, {len(stale)} out of date")
     return 1 if stale else 0
 

@@ -1,10 +1,10 @@
-"""Compares the facts of crates/facts with those in reference on words, facts and places by chance: the first condition that a
-word breaks, its outcomes, the facts that these and a return entail or among which they land, and what holds of every start.
-Half of the cases are of facts as versions 1 and 2 of certificates have them, with equations, and half as version 3 has them.
+"""Compares the facts of crates/facts with those in reference on random words, facts and addresses: the first condition that a
+word violates, its outcomes, the facts that these and a return entail or among which they land, and what holds of every start.
+Half of the cases have facts of versions 1 and 2 of certificates, with equations, and half have facts of version 3.
 
 usage: facts.py make FOLDER COUNT SEED        writes files of cases to FOLDER
-       facts.py compare PRINTED COUNT SEED    compares what the program of tests/facts/cases.rattle printed of them, in the
-                                              file PRINTED, the cases of each file after a line with its name
+       facts.py compare PRINTED COUNT SEED    compares what the program of tests/facts/cases.rattle printed about them in the
+                                              file PRINTED, where the cases of each file follow a line with its name
 """
 import sys
 from pathlib import Path
@@ -17,7 +17,7 @@ IN_FILE = 250
 
 
 def files(count, seed):
-    """The names of files and their cases: the first half of equations, the second of sums."""
+    """The names of files and their cases: the first half has equations, the second half has sums."""
     for number, first in enumerate(range(0, count, IN_FILE)):
         most = min(IN_FILE, count - first)
         if 2 * first < count:
@@ -36,7 +36,7 @@ def kinds_of(lines):
 
 
 def parts(printed):
-    """What was printed of each file of cases."""
+    """What was printed about each file of cases."""
     found = {}
     for part in ("\n" + printed).split("\n== ")[1:]:
         name, _, lines = part.partition("\n")

@@ -1,4 +1,4 @@
-"""How cases of facts are spelled for the program of tests/facts/cases.rattle, and what it prints of a fact."""
+"""How cases with facts are spelled for the program of tests/facts/cases.rattle, and what it prints about a fact."""
 import sys
 from functools import lru_cache
 from pathlib import Path
@@ -17,7 +17,7 @@ def said(test):
 
 @lru_cache(100000)
 def hash_of(members):
-    """What stands for a set."""
+    """The spelling of a set."""
     found = 5
     for lane in range(64):
         found = (found ^ (members >> 64 * lane & MASK)) * 0x9E3779B97F4A7C15 & MASK
@@ -64,7 +64,7 @@ def spelled_parts(fact, cells, relations):
 
 
 def told(fact):
-    """What is printed of a fact, in an order of its own."""
+    """What is printed about a fact, in an order of its own."""
     relations = [" ".join(["", *(term_text(*term) for term in form if isinstance(term, tuple))]) + f" : {hash_of(members)}"
                  for form, members in fact.relations.items() if form != ((AC, 1),) and members != sets.ALL]
     chains = [" ".join(["", f"{x} {k} {sum(1 << link for link in links)}", *(f"{step} {word}" for step, word in steps)])

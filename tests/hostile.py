@@ -1,13 +1,13 @@
 #!/usr/bin/env python3
-"""Gives pdp8 random, cut and mixed-up inputs, and sees that each run ends with an answer that docs/COMMANDS.md names.
+"""Gives pdp8 random, cut and mixed-up inputs, and checks that each run ends with an answer that docs/COMMANDS.md names.
 
-Each input comes from the programs of examples: tapes, sources, declarations, events and certificates, of which
-bytes are changed, left out, doubled, put in or exchanged with another file's, or from random bytes. A run that ends by a
-signal, takes more than a minute of processor time, or says something that isn't named is a failure. Where the answer is yes, the run by the
-program's events is watched, and must be clean. The same seed gives the same runs.
+Each input consists of random bytes, or comes from the programs of examples: it is a tape, a source, a declaration, a list of events or a
+certificate, in which bytes are changed, left out, doubled, inserted or exchanged with those of another file. A run fails if it ends by
+a signal, takes more than a minute of processor time, or says something that the page does not name. If the answer is yes, the run with
+the events of the program is watched, and must be clean. The same seed gives the same runs.
 
-Before that each command that has inputs and outputs is run with files in every order, and each output in every spelling of its
-file's name, a hard link and symbolic links among them: no input changes, no source, and no file that --save didn't write.
+Before that, each command that has inputs and outputs is run with files in every order, and with each output in every spelling of the
+name of its file, including a hard link and symbolic links: no input, no source and no file that --save did not write may change.
 
 usage: tests/hostile.py PDP8 [COUNT [SEED]]    PDP8 is the built program, as crates/pdp8/out/pdp8
 """
@@ -40,13 +40,13 @@ WATCH = re.compile(r'clean\n|broken: event \d+ rule [1-8]\n')
 REFUTED = re.compile(r'not broken in 20000 steps\n|broken: event \d+ rule [1-8]\n')
 CHECK = re.compile(r'yes: \d+ body cells, \d+ variable cells, \d+ entries, \d+ halts(, \d+ read cells)?(, \d+ assertions)?\n|no: V\d+ at [0-7]{4}\n')
 DECLARED = re.compile(r'(/ [^\n]*\n)*(profile 8e\n)?start [0-7]{4}\n([a-z]+( [^\n]*)?\n)+')
-# What follows the line of a source's fault under --why: the same fault with its column.
+# What follows the line of a fault of a source under --why: the same fault with its column.
 WHY = re.compile(r'\Apdp8: source: (?P<code>..) 1 (?P<line>\d+)\npal:(?P=line):\d+: (?P=code): ')
 ANY = re.compile('.*', re.DOTALL)
 
 
 class Programs:
-    """The programs of the examples: for each its tape, source, declaration, events and certificate."""
+    """The programs of the examples, each with its tape, source, declaration, events and certificate."""
 
     def __init__(self, pdp8):
         self.all = []
@@ -125,7 +125,7 @@ def job(chance, programs):
 
 
 def limited():
-    """A minute of processor time, whatever else the machine has to do."""
+    """A minute of processor time, whatever else the machine is doing."""
     resource.setrlimit(resource.RLIMIT_CPU, (60, 60))
 
 
@@ -155,7 +155,7 @@ def fails(done, said):
 
 
 def broken_after(pdp8, folder, one, declaration):
-    """What is wrong with a declaration that is said to be kept, or nothing: a run by the program's events must be clean."""
+    """What is wrong with a declaration with which a program is said to comply, or nothing: a run with the events of the program must be clean."""
     for name, data in (('declaration', declaration), ('events', one['events'])):
         with open(os.path.join(folder, name), 'wb') as file:
             file.write(data)
@@ -164,7 +164,7 @@ def broken_after(pdp8, folder, one, declaration):
 
 
 def part(task):
-    """Runs some jobs; gives how many got a yes, how many were refused, and what failed."""
+    """Runs some jobs; returns how many got a yes, how many were refused, and what failed."""
     pdp8, seed, count = task
     chance = random.Random(seed)
     yes = refused = 0
@@ -185,7 +185,7 @@ def part(task):
                     file.write(one['events'])
                 seen = ended(pdp8, ['watch', 'tape', 'declaration', 'events'], folder)
                 if seen is None or seen.stdout != b'clean\n':
-                    fault = 'it got a yes, and a run of it is broken'
+                    fault = 'it got a yes, and a run of it violates a rule'
             if fault is None and words[0] == 'declare' and done.returncode == 0:
                 fault = broken_after(pdp8, folder, one, done.stdout)
             if fault is None and words[0] == 'refute' and done.stdout.startswith(b'broken'):
@@ -213,7 +213,7 @@ ENDINGS = ('.bin', '.pal', '.declaration', '.certificate', '.events')
 
 
 def spellings(folder, name):
-    """Other spellings of a file's name, some of them links that are made for it."""
+    """Other spellings of the name of a file, some of them links that are made for it."""
     os.link(os.path.join(folder, name), os.path.join(folder, 'hard' + name))
     os.symlink(name, os.path.join(folder, 'soft' + name))
     os.symlink('soft' + name, os.path.join(folder, 'far' + name))
@@ -222,7 +222,7 @@ def spellings(folder, name):
 
 
 def filled(folder, files):
-    """Fills an empty folder with the files, and gives the spellings of each."""
+    """Fills an empty folder with the files, and returns the spellings of each."""
     os.mkdir(os.path.join(folder, 'sub'))
     for name, data in files.items():
         with open(os.path.join(folder, name), 'wb') as file:
@@ -231,7 +231,7 @@ def filled(folder, files):
 
 
 def lost(folder, files, form, names):
-    """The files that a run changed and had to keep: its inputs, sources, and what --save didn't write."""
+    """The files that a run changed although it had to keep them: its inputs, sources, and what --save did not write."""
     kept = {names[int(word[1])] for word in form.split() if word[0] == '<'} | {'data.pal'}
     if '=' in form:
         kept |= {'data.declaration', 'data.events'}
@@ -246,13 +246,13 @@ def lost(folder, files, form, names):
 
 
 def words_of(form, names, spelled):
-    """The words of a form: inputs as they are named, an output as it is spelled, and the value of --save without its ending."""
+    """The words of a form: inputs by their names, an output as it is spelled, and the value of --save without its ending."""
     kinds = {'<': lambda at: names[at], '>': lambda at: spelled, '=': lambda at: os.path.splitext(spelled)[0]}
     return [kinds[word[0]](int(word[1:])) if word[0] in kinds else word for word in form.split()]
 
 
 def try_form(task):
-    """Runs a command with files in every order and spelling; gives how many runs there were, and which lost a file."""
+    """Runs a command with files in every order and spelling; returns how many runs there were, and which of them lost a file."""
     pdp8, form, files = task
     wrong, count = [], 0
     for names in itertools.product(files, repeat=sum(word[0] in '<>=' for word in form.split())):
@@ -272,7 +272,7 @@ def try_form(task):
 
 
 def try_forms(pdp8, pool):
-    """Runs all forms; gives how many runs there were, and which lost a file."""
+    """Runs all forms; returns how many runs there were, and which of them lost a file."""
     one = next(it for it in PROGRAMS.all if not it['profile'])
     files = {'data' + ending: one['tape' if ending == '.bin' else ending[1:]] for ending in ENDINGS}
     results = pool.map(try_form, [(pdp8, form, files) for form in FORMS], chunksize=1)

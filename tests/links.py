@@ -1,8 +1,9 @@
 #!/usr/bin/env python3
-"""Looks at the pages: each link leads to a file or a heading that is there, each file or page that is named in a page is there, README.md
-isn't too long, and no line of a page has more than 600 characters.
+"""Checks the pages: each link leads to a file or a heading that exists, each file or page that a page names exists, README.md is not too
+long, and no line of a page has more than 600 characters.
 
-usage: tests/links.py    names each page and what is wrong with it; exit status 1 where anything is
+usage: tests/links.py [--quotes]    names each page and what is wrong with it; exit status 1 if anything is wrong. With --quotes it also
+                                    checks that the examples of docs/PROOF_FORMS.md are in the files from which they are quoted.
 """
 import os
 import re
@@ -12,11 +13,13 @@ import sys
 TOP = os.path.join(os.path.dirname(os.path.abspath(__file__)), '..')
 # How many bytes README.md may have; no other page has a limit.
 MOST = {'README.md': 10_000}
+FORMS = 'docs/PROOF_FORMS.md'
+EXAMPLE = re.compile(r'From\s+((?:`crates/[^`]+`(?:\s+and\s+)?)+):\n\n((?:  ```\w+\n.*?\n  ```\n*)+)', re.S)
 NAMED = re.compile(r'\b(?:docs|tests|bench|crates|examples|share)/[\w./-]*\w\.(?:md|py|sh|txt|rt|antt|pal)\b')
 
 
 def pages():
-    """The pages that git knows, or that are new."""
+    """The pages that git tracks, and new ones."""
     told = subprocess.run(['git', 'ls-files', '--cached', '--others', '--exclude-standard', '*.md'], cwd=TOP, capture_output=True, text=True, check=True)
     return [path for path in told.stdout.split() if os.path.isfile(os.path.join(TOP, path))]
 
@@ -58,8 +61,27 @@ def faults(path):
         yield f'has {len(text.encode())} bytes, at most {MOST[path]}'
 
 
+def has_lines(path, wanted):
+    """Whether a file has these lines one after another, apart from white space at their ends."""
+    lines = [line.strip() for line in text_of(path).splitlines()]
+    return any(lines[at:at + len(wanted)] == wanted for at in range(len(lines)))
+
+
+def changed_quotes():
+    """The examples that differ from the files from which they are quoted; a line `..` is in place of lines that are left out."""
+    for paths, blocks in EXAMPLE.findall(text_of(FORMS)):
+        paths, blocks = re.findall(r'`([^`]+)`', paths), re.findall(r'```\w+\n(.*?)\n  ```', blocks, re.S)
+        for path, block in zip(paths, blocks):
+            for part in re.split(r'^ *\.\.\n', block + '\n', flags=re.M):
+                wanted = [line.strip() for line in part.splitlines()]
+                if not os.path.isfile(os.path.join(TOP, path)) or not has_lines(path, wanted):
+                    yield f'{FORMS}: {path} has no lines {wanted[0]!r} ..'
+
+
 def main():
     wrong = [f'{path}: {fault}' for path in pages() for fault in faults(path)]
+    if '--quotes' in sys.argv[1:]:
+        wrong += changed_quotes()
     print('\n'.join([*wrong, f'links: {len(pages())} pages, {len(wrong)} faults']))
     sys.exit(1 if wrong else 0)
 

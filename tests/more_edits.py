@@ -1,11 +1,11 @@
-"""Tries the wrong edits that the gate leaves out, those of crates/NAME/more-edits/: the prover must refuse each.
+"""Tries the wrong edits that the gate leaves out, those of crates/NAME/more-edits/: the prover must refuse each of them.
 
-usage: tests/more_edits.py [CRATE..]   those of these crates, or all that there are; make edits CRATES="CRATE.." does the same
+usage: tests/more_edits.py [CRATE..]   the edits of these crates, or all of them; make edits CRATES="CRATE.." does the same
 
-It ends with the status of rt must-fail, which tries them in a scratch folder: over copies of crates/, crates.txt and HANDLES
-as they stand at the start, in which they have the place of must-fail/. So the files may change meanwhile. rt begins with what
-a check kept of a crate, and tries no edit again while the crate and those below it stay as they are. Whoever changes a contract
-runs this for its crate, since the gate doesn't tell which of these edits it lets through now."""
+It ends with the status of rt must-fail, which tries the edits in a scratch folder, on copies of crates/, crates.txt and HANDLES as they
+are at the start; in these copies the edits are in must-fail/. So the files may change while it runs. rt begins with the work that a
+check has kept for a crate, and does not try an edit again while the crate and those below it stay as they are. Whoever changes a
+contract runs this for the crate, since the gate does not say which of these edits the prover would now accept."""
 import os
 import shutil
 import signal
@@ -15,7 +15,7 @@ import tempfile
 
 from edits import GATE, MORE, edits_in, unfit
 
-# Seconds of a processor that an edit takes, at least and at most, and a line of a crate that is proved before its edits.
+# Seconds of processor time that an edit takes, at least and at most, and those that a line takes of a crate that is proved first.
 LEAST_FOR_EDIT, MOST_FOR_EDIT, MOST_FOR_LINE = 10, 40, 0.25
 
 
@@ -28,7 +28,7 @@ def uses_of(root):
 
 
 def with_those_below(uses, crates):
-    """These crates and all that they stand on."""
+    """These crates and all crates that they use."""
     found, left = set(), [*crates]
     while left:
         crate = left.pop()
@@ -54,14 +54,14 @@ def forecast(root, uses, crates, scratch):
     lines = sum(lines_of(root, crate) for crate in with_those_below(uses, crates))
     least, most = count * LEAST_FOR_EDIT / 60, (count * MOST_FOR_EDIT + lines * MOST_FOR_LINE) / 60
     named = ", ".join(crates) if len(crates) < 6 else f"{len(crates)} crates"
-    return f"""{count} edits of {named}, tried in {scratch}, which goes when this ends.
-Minutes of a processor: {least:.0f} where a check has kept its work of these crates and of those below, and up to {most:.0f}
-where they are proved first, those below one after another; {len(os.sched_getaffinity(0))} processors share the edits.
-What came of each is told once all are tried."""
+    return f"""{count} edits of {named}, tried in {scratch}, which is removed at the end.
+Minutes of processor time: {least:.0f} if a check has kept its work on these crates and on those below, and up to {most:.0f}
+if they are proved first, those below one after another; {len(os.sched_getaffinity(0))} processors share the edits.
+The results are printed when all edits have been tried."""
 
 
 def make_scratch(root, scratch, crates):
-    """Copies what rt reads, with the further edits of some crates as those of the gate."""
+    """Copies what rt reads, with the further edits of some crates in place of those of the gate."""
     folder = f"{root}/crates"
     shutil.copytree(
         folder,
@@ -77,7 +77,7 @@ def make_scratch(root, scratch, crates):
 
 
 def run_rt(scratch, crates):
-    """Has rt try the edits, and gives its status."""
+    """Has rt try the edits, and returns its status."""
     with subprocess.Popen(["rt", "must-fail", *crates], cwd=scratch) as rt:
         try:
             return rt.wait()

@@ -1,8 +1,8 @@
-"""Assembles sources with Debian's palbart and with this repository's program, and compares the images.
+"""Assembles sources with Debian's palbart and with the program of this repository, and compares the images.
 
-usage: palbart.py PALBART PROGRAM EXAMPLES FOLDER COUNT SEED, where EXAMPLES has sources *.pal and FOLDER takes what is
-made. COUNT sources are generated from SEED in the part of the language that both assemblers understand alike; some have
-a fault, and then both must refuse. Where they differ, the source stays in FOLDER and is named.
+usage: palbart.py PALBART PROGRAM EXAMPLES FOLDER COUNT SEED, where EXAMPLES has sources *.pal, and files are
+made in FOLDER. COUNT sources are generated from SEED in the part of the language that both assemblers understand in the same way. Some
+have a fault, and then both must refuse them. If the two differ, the source stays in FOLDER and is named.
 """
 import random
 import subprocess
@@ -14,7 +14,7 @@ import second_reader
 OPERATES = ["NOP", "CLA", "CLL", "CMA", "CML", "RAR", "RTR", "RAL", "RTL", "IAC", "SMA", "SZA", "SPA", "SNA", "SNL",
             "SZL", "SKP", "OSR", "HLT", "CIA", "LAS", "STL", "STA", "GLK", "ION", "IOF", "RSF", "RRB", "RFC", "PSF",
             "PCF", "PPC", "PLS", "KSF", "KCC", "KRS", "KRB", "TSF", "TCF", "TPC", "TLS"]
-# palbart knows these always, and doesn't know CAM.
+# palbart always defines these, and does not define CAM.
 OPERATES_8E = ["MQL", "MQA", "SWP", "BSW", "KCF", "TFL"]
 REFERENCES = ["AND", "TAD", "ISZ", "DCA", "JMS", "JMP"]
 FAULTS = ["QNONE", "TAD QNONE+1", "OCTAL;8", "5A", "?", "1=2", "*QNONE", "5+", "*", "QTWICE,1;QTWICE,2",
@@ -22,7 +22,7 @@ FAULTS = ["QNONE", "TAD QNONE+1", "OCTAL;8", "5A", "?", "1=2", "*QNONE", "5+", "
 
 
 class Source:
-    """A source that is being made. Lines end in the same way throughout; the radix is that of what was written."""
+    """A source that is being made. All its lines end in the same way; the radix is that of what was written so far."""
 
     def __init__(self, numbers):
         self.numbers = numbers
@@ -48,24 +48,24 @@ class Source:
                 return name
 
     def gap(self):
-        """What stands between two terms."""
+        """What comes between two terms."""
         return self.numbers.choice([" ", " ", "  ", "\t", " \t "])
 
     def away(self, value):
-        """How a sum goes on by so much; nothing for 0."""
+        """The text that adds this number to a sum; nothing for 0."""
         if value == 0:
             return ""
         gap = self.gap() if self.chance(0.1) else ""
         return ("+" if value > 0 else "-") + gap + self.number(abs(value))
 
     def term(self):
-        """A term whose value is known before."""
+        """A term whose value is known already."""
         if self.values and self.chance(0.3):
             return self.numbers.choice(sorted(self.values))
         return "." if self.chance(0.1) else self.number(self.numbers.randrange(4096))
 
     def expression(self):
-        """Sums first and then what is or'd in: there both assemblers work from left to right."""
+        """Sums first, and then the terms that are combined by OR: in this order both assemblers work from left to right."""
         text = self.numbers.choice(["", "", "", "-", "+"]) + self.term()
         for _ in range(self.numbers.choice([0, 0, 1, 2])):
             text += self.numbers.choice("+-") + self.term()
@@ -95,7 +95,7 @@ class Source:
         text = self.numbers.choice(REFERENCES)
         chosen = self.numbers.choice([[], [], ["I"], ["Z"], ["I", "Z"], ["Z", "I"]])
         if "Z" in chosen:
-            # palbart doesn't refuse Z with another page, so the address is on page zero.
+            # palbart does not refuse Z with another page, so the address is on page zero.
             address = self.number(self.numbers.randrange(128))
         else:
             address = self.address(at, tags) if self.chance(0.95) else ""
@@ -151,7 +151,7 @@ class Source:
 
 
 def generated(seed):
-    """A source's text, its profile, and whether it has a fault."""
+    """The text of a source, its profile, and whether it has a fault."""
     made = Source(random.Random(seed))
     pages = made.numbers.sample(range(1, 32), made.numbers.randrange(1, 4))
     for page in ([0] if made.chance(0.5) else []) + pages:
@@ -171,7 +171,7 @@ def image(path):
 
 
 def of_palbart(palbart, path):
-    """The image that palbart makes of a source, or None where it says that there is an error."""
+    """The image that palbart makes from a source, or None if it reports an error."""
     made, errors = path.with_suffix(".bin"), path.with_suffix(".err")
     made.unlink(missing_ok=True)
     errors.unlink(missing_ok=True)
@@ -180,7 +180,7 @@ def of_palbart(palbart, path):
 
 
 def of_program(program, path, profile):
-    """The image that `pdp8 assemble` makes of it, or None, and what it says."""
+    """The image that `pdp8 assemble` makes from it, or None, and what it prints."""
     made = path.with_suffix(".tape")
     ran = subprocess.run([program, "assemble", "--profile", profile, str(made), str(path)], capture_output=True,
                          text=True, timeout=60)

@@ -1,9 +1,9 @@
 #!/usr/bin/env python3
 """Proves the program and all crates below it from nothing, builds it as crates/pdp8/out/pdp8, and runs it on the stored tape.
 
-This is the gate's own run, rt ci, over copies of these crates alone, without tests and without edits that must fail. A crate
-that no other waits beside gets several processors, as far as memory allows; RT_JOBS=N proves N crates side by side with one
-processor each. Where the program was built of these very files by this toolchain before, it is only run.
+This is the run of the gate, rt ci, on copies of these crates alone, without tests and without edits that must fail. A crate that is
+proved alone gets several processors, as far as memory allows; RT_JOBS=N proves N crates side by side with one processor each. If this
+toolchain has already built the program from exactly these files, it is only run.
 
 usage: tests/prove.py
 """
@@ -27,7 +27,7 @@ def uses():
 
 
 def needed(found, name):
-    """A crate and all crates of the repository that it stands on."""
+    """A crate and all crates of the repository that it uses."""
     return {name}.union(*(needed(found, it) for it in found[name] if it in found))
 
 
@@ -44,7 +44,7 @@ def copied(room):
 
 
 def sum_of(folder):
-    """A sum of all files of a folder, and of the toolchain's name."""
+    """A checksum of all files of a folder and of the name of the toolchain."""
     total = hashlib.sha256(subprocess.run(['rt', 'version'], capture_output=True, check=True).stdout)
     for at, folders, names in os.walk(folder):
         folders[:] = sorted(it for it in folders if it not in ('.git', 'out'))
@@ -56,7 +56,7 @@ def sum_of(folder):
 
 
 def proved(room, out):
-    """Proves the copy, and puts the program that it gives into the folder out; gives the status."""
+    """Proves the copy, and puts the program that is built into the folder out; returns the status."""
     status = subprocess.run(['rt', 'ci'], cwd=room, check=False).returncode
     built = os.path.join(room, 'crates', PROGRAM, 'out', PROGRAM)
     if status or not os.path.isfile(built):
@@ -67,7 +67,7 @@ def proved(room, out):
 
 
 def is_built(program, note, sources):
-    """Whether the note beside the program says that it was built of these sources."""
+    """Whether the note next to the program says that it was built from these sources."""
     if not os.path.isfile(program) or not os.path.isfile(note):
         return False
     with open(note, encoding='utf-8') as file:
@@ -75,7 +75,7 @@ def is_built(program, note, sources):
 
 
 def note_of(program, sources):
-    """What is noted beside a program that was built of these sources."""
+    """The note that is written next to a program that was built from these sources."""
     with open(program, 'rb') as file:
         return f'{sources} {hashlib.sha256(file.read()).hexdigest()}\n'
 

@@ -1,5 +1,5 @@
-"""Reads the sources of this repository's crates as far as the scripts beside it need: the public functions with their
-contracts in src/, and the definitions in specs/. It reads rt fmt's layout and no more of the language than stands here."""
+"""Reads the sources of the crates as far as the other scripts in this folder need them: the public functions with their contracts in
+src/, and the definitions in specs/. It reads the layout of rt fmt, and only the part of the language that occurs here."""
 import os
 import re
 
@@ -13,7 +13,7 @@ OPENS, CLOSES = "([{", ")]}"
 
 
 def folded(text):
-    """The text without comments, each run of white space one space."""
+    """The text without comments, with one space for each run of white space."""
     parts = [" " if it.lastgroup == "comment" else it[0] for it in TOKENS.finditer(text)]
     return re.sub(r"\s+", " ", "".join(parts)).strip()
 
@@ -26,7 +26,7 @@ class Function:
 
 
 class Item:
-    """What stands at one place of a module: kind, name, whether it is public, and its parts."""
+    """An item of a module: kind, name, whether it is public, and its parts."""
 
     def __init__(self, kind, name, is_public, **parts):
         self.kind, self.name, self.is_public = kind, name, is_public
@@ -46,7 +46,7 @@ class Reader:
         return self.tokens[at][0] if at < len(self.tokens) else ""
 
     def skip_group(self):
-        """Goes past a bracket and all up to the one that closes it."""
+        """Skips a bracket and everything up to the one that closes it."""
         depth = 0
         while self.at < len(self.tokens):
             token = self.now()
@@ -56,13 +56,13 @@ class Reader:
                 return
 
     def group(self):
-        """The text within the brackets that open here, and goes past them."""
+        """Returns the text within the brackets that open here, and skips them."""
         start = self.tokens[self.at].end()
         self.skip_group()
         return self.text[start : self.tokens[self.at - 1].start()]
 
     def until(self, *ends):
-        """The text up to one of these tokens outside of brackets, without it."""
+        """The text up to one of these tokens outside brackets, without the token."""
         start = self.at
         while self.at < len(self.tokens) and self.now() not in ends:
             if self.now() in OPENS:
@@ -74,7 +74,7 @@ class Reader:
         return self.text[self.tokens[start].start() : self.tokens[self.at - 1].end()]
 
     def items(self, end=""):
-        """The items up to a closing brace or the file's end."""
+        """The items up to a closing brace or the end of the file."""
         found = []
         while self.at < len(self.tokens) and self.now() != end:
             item = self.item()
@@ -83,7 +83,7 @@ class Reader:
         return found
 
     def attributes(self):
-        """Goes past attributes, and says whether they leave the item to tests."""
+        """Skips attributes, and says whether they restrict the item to tests."""
         is_test = False
         while self.now() == "#":
             self.at += 1
@@ -218,7 +218,7 @@ class Reader:
 
 
 def without_parameters(head):
-    """The head of an impl without the parameters in angles that it begins with."""
+    """The head of an impl without the parameters in angle brackets with which it begins."""
     if not head.startswith("<"):
         return head
     depth = 0
@@ -230,7 +230,7 @@ def without_parameters(head):
 
 
 def used_names(said, front=()):
-    """Each name that a use brings in, as (the name here, its path)."""
+    """Each name that a use imports, as (the name here, its path)."""
     said = said.strip()
     path, brace, names = said.partition("{")
     if brace:
@@ -278,7 +278,7 @@ def imports_of(items):
 
 def functions_of(crate, folder):
     """The public functions of a crate: those that a crate above can name, methods of its public types and traits, and
-    what impls say of such a type by clauses or ghost items."""
+    the clauses and ghost items of impls for such a type."""
     modules = list(read_module(f"{folder}/src", "lib", (), True))
     uses = [it for _, _, items in modules for item in items if item.kind == "use" and item.is_public for it in item.names]
     handed_on = {it for name, path in uses for it in (name, path[-1])}
@@ -355,12 +355,12 @@ class Module:
 
     @property
     def is_private(self):
-        """Whether it serves private contracts alone: it stands in specs/inside/, or its first comment says so."""
+        """Whether it serves only private contracts: it is in specs/inside/, or its first comment says so."""
         return self.name.startswith("inside.") or "private contracts" in self.first
 
 
 def modules_of(folder):
-    """The modules of a crate's specs/ by name, as Words or inside.Steps, in the order in which Lib.antt names them."""
+    """The modules in specs/ of a crate by name, such as Words or inside.Steps, in the order in which Lib.antt names them."""
     found = {}
     for at, _, files in os.walk(f"{folder}/specs"):
         inside = os.path.relpath(at, f"{folder}/specs")

@@ -1,11 +1,11 @@
 #!/usr/bin/env python3
 """Refuses pdp8 each request for memory in turn, command by command, until a run ends without a refusal.
 
-A library is laid over malloc and realloc (by cc and LD_PRELOAD), which refuses the request of a given number once. Where one
-was refused the status must be 4, `pdp8: memory: NoMemory` must stand on standard error, alone but for what a session reports
-there and, under `--why`, the two lines that say what to do; and nothing may be in OUT or on standard output but the punch's
-bytes and the front of a trace or of what was typed. Where none was, the run must end as without the library; so it may where a
-refusal changes nothing, which is counted: the system's own start asks for memory too.
+A library replaces malloc and realloc (by cc and LD_PRELOAD), and refuses the request of a given number once. If a request was refused,
+the status must be 4, and standard error must have the line `pdp8: memory: NoMemory`. There may be nothing else on standard error except
+what a session reports there and, under `--why`, the two lines that say what to do. There may be nothing in OUT or on standard output
+except the punched bytes and a prefix of a trace or of what was typed. If no request was refused, the run must end as it does without the
+library. It may also do so if a refusal changes nothing, since the start of the system requests memory too; these cases are counted.
 
 usage: tests/refused.py PDP8    PDP8 is the built program, as crates/pdp8/out/pdp8
 """
@@ -73,7 +73,7 @@ def run(pdp8, words, folder, extra):
 
 
 def is_told(answer, words, whole):
-    """Whether an answer is that of a run to which memory was refused."""
+    """Whether an answer is one that a run may give when memory was refused."""
     status, printed, told, written = answer
     before, line, behind = told.rpartition(b'pdp8: memory: NoMemory\n')
     if status != 4 or not line or written and '--punch' not in words:
@@ -85,7 +85,7 @@ def is_told(answer, words, whole):
 
 
 def in_turn(pdp8, words, folder, shim):
-    """How many requests a command makes, how many refusals changed nothing, and the first answer that is none of these."""
+    """How many requests a command makes, how many refusals changed nothing, and the first answer that is not allowed."""
     told = os.path.join(folder, 'told')
     whole = run(pdp8, words, folder, {})
     spared = 0

@@ -1,6 +1,6 @@
-"""What a page of `report` is to be, worked out by the Python in reference/ as its text is: tests/reports.py compares the two.
+"""The page that `report` should write, computed by the Python in reference/ like its text; tests/reports.py compares the two.
 
-How the page looks is read from the program's source: the one text that stands there as it stands in the page.
+The styles of the page are taken from the source of the program, where they are one text, spelled as in the page.
 """
 import datetime
 import itertools
@@ -23,7 +23,7 @@ def constant(name):
 
 
 def sum_and_date(path):
-    """What is said of a file: its name, the sum of its bytes, and the day of its last change."""
+    """What is said about a file: its name, the sum of its bytes, and the day of its last change."""
     day = datetime.datetime.fromtimestamp(path.stat().st_mtime, datetime.timezone.utc).date()
     return f"{path}, sum {sum(path.read_bytes()) % 65536:06o}, changed {day}"
 
@@ -47,7 +47,7 @@ def point(text, members):
 
 
 def asserted(said):
-    """The point of what is declared to hold: somewhere, or when a routine returns."""
+    """The line about something that is declared to hold: at an address, or when a routine returns."""
     words = (f"{min(said.words)}" if said.subject == "link" else shown(sets.of(said.words)))
     what = {"ac": "AC", "mq": "MQ", "link": "the link"}.get(said.subject) or "the cell " + ADDRESS.format(said.subject)
     by = "" if said.offsets is None or len(said.offsets) == 64 else " by " + ",".join(f"{it:o}" for it in sorted(said.offsets))
@@ -63,8 +63,10 @@ class Page(Report):
         line, why = front.partition("\n")[::2]
         self.rows = set(self.lines())
         said = ("yes", self.yes()) if self.refused is None else ("no", self.no(why))
-        parts = [constant("HEAD"), line, f"\n</h1>\n<p class={said[0]}>", said[1]]
-        parts.append(f"<p>{files[0].stem}. Files: " + escaped("; ".join(map(sum_and_date, files))) + escaped(
+        name = escaped(files[0].stem)
+        parts = [constant("FRONT"), name, constant("STYLE"), f"{name}</p>\n<h1>", line]
+        parts += [f"\n</h1>\n<p class={said[0]}>", said[1]]
+        parts.append("<p>Files: " + escaped("; ".join(map(sum_and_date, files))) + escaped(
             ". A sum is that of the file's bytes, in octal, modulo 200000; a date is that of its last change, in UTC.") + "</p>\n")
         parts.append("<p>A declaration says where the program starts and may halt, which cells are its instructions, which it may "
                      "write, and which routines it has. A certificate says what holds before each instruction, so that compliance "
@@ -142,7 +144,7 @@ class Page(Report):
         return "".join(parts)
 
     def rows_of_map(self):
-        """The upper edge of each row that is drawn, the runs of empty pages with the edge of their row, and the height of all."""
+        """The upper edge of each row that is drawn, the runs of empty pages with the edge of their row, and the height of the whole."""
         full = {at >> 7 for at in range(4096) if self.kind(at)[0] != "unset" or self.is_refused_at(at)}
         tops, empty, top = {}, [], 14
         for page, runs in itertools.groupby(range(32), lambda page: page if page in full else -1):

@@ -1,9 +1,9 @@
 #!/usr/bin/env python3
-"""Makes pictures of reports by headless Chromium (Debian's package), wide and narrow, and prints them, for a look. No gate runs it.
+"""Makes pictures of reports with headless Chromium (Debian's package), wide and narrow, and prints them to PDF, so that people can look at them. No gate runs it.
 
-usage: tests/report_pictures.py PDP8 FOLDER [NAME..]    of these examples, hello, punch and hello-broken without names; FOLDER gets
-                                                         NAME.html, NAME-wide.png, NAME-narrow.png and NAME.pdf,
-                                                         and of hello report.png, which is docs/report.png
+usage: tests/report_pictures.py PDP8 FOLDER [NAME..]    of these examples, or without names of hello, punch and hello-broken. It
+                                                         makes NAME.html, NAME-wide.png, NAME-narrow.png and NAME.pdf in FOLDER,
+                                                         and for hello also report.png, which is docs/report.png
 """
 import os
 import subprocess
@@ -17,7 +17,7 @@ SIZES = {"wide": (1080, 2780), "narrow": (420, 4600)}
 
 
 def browse(*words):
-    """Chromium as root wants --no-sandbox: the pages are our own and have no scripts."""
+    """As root, Chromium needs --no-sandbox; the pages are our own and have no scripts."""
     words = ["chromium", "--headless=new", "--no-sandbox", "--disable-gpu", "--hide-scrollbars", *map(str, words)]
     subprocess.run(words, stdout=subprocess.DEVNULL, stderr=subprocess.DEVNULL, check=True, timeout=120)
 

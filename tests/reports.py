@@ -1,13 +1,13 @@
 #!/usr/bin/env python3
 """Compares what `report` writes with what the Python in reference/ makes of the same certificate. The gate runs it.
 
-usage: tests/reports.py PDP8 [NAME..]             compares the examples, and their broken variants: text and page
-       tests/reports.py PDP8 --pages FILE NAME..  writes the wanted pages of these examples as cases to FILE, without their
-                                                  heads and the numbers beside the map
+usage: tests/reports.py PDP8 [NAME..]             compares text and page for the examples and their broken variants
+       tests/reports.py PDP8 --pages FILE NAME..  writes the expected pages of these examples to FILE as cases, without their
+                                                  heads and the numbers next to the map
        tests/reports.py PDP8 TAPE DECLARATION CERTIFICATE  compares the report of these three files
 
-What is known, read, written, called and returned to is worked out by reference/. Of the program only the names of words
-are taken, from `dump`, and what stands above the listing, from `check` and `check --why`.
+The Python in reference/ computes what is known, and what is read, written, called and returned to. From the program come only the names
+of words (from `dump`), and the lines above the listing (from `check` and `check --why`).
 """
 import re
 import subprocess
@@ -27,7 +27,7 @@ from facts import AC, possible, targets  # noqa: E402
 from machine import named_cell  # noqa: E402
 
 MOST_RUNS = 16
-# An address that leads to its line in a page stands between these two.
+# An address that links to its line in a page is between these two.
 BEGIN, END = "\1", "\2"
 ADDRESS = BEGIN + "{:04o}" + END
 
@@ -43,7 +43,7 @@ def runs_of(members):
 
 
 def shown(members, address="{:04o}"):
-    """A set by its first runs, and how many words more there are. `address` says how the first word of a run is written."""
+    """A set as its first ranges, and how many more words there are. `address` says how the first word of a range is written."""
     runs = runs_of(members)
     text = ",".join(address.format(a) + ("" if a == b else f"-{b:04o}") for a, b in runs[:MOST_RUNS]) or "-"
     more = sum(b - a + 1 for a, b in runs[MOST_RUNS:])
@@ -66,7 +66,7 @@ def name_of(name):
 
 
 def equation_items(fact, above):
-    """The equations of a fact, each with the words that they and the sets leave to the name on its left."""
+    """The equations of a fact, each with the words that the equations and the sets leave for the name on its left."""
     for x, y, k in sorted(fact.equations):
         left = fact.narrowed(x)
         same = above is not None and (x, y, k) in above.equations and above.narrowed(x) == left
@@ -74,7 +74,7 @@ def equation_items(fact, above):
 
 
 def all_of_fact(fact, above, offsets=True):
-    """What a fact says, item by item, and of each item whether the fact above says the same."""
+    """What a fact says, item by item, and for each item whether the fact above says the same."""
     near = above is not None
     items = [("AC " + holds(fact.ac), near and fact.ac == above.ac)]
     if fact.mq != sets.ALL or near and above.mq != sets.ALL:
@@ -95,7 +95,7 @@ def all_of_fact(fact, above, offsets=True):
 
 
 def of_fact(fact, above, offsets=True):
-    """What a fact says that the one above it doesn't, item by item."""
+    """What a fact says that the one above it does not say, item by item."""
     return [item for item, same in all_of_fact(fact, above, offsets) if not same]
 
 
@@ -156,7 +156,7 @@ class Report:
             did["jumps to"] |= reached
 
     def items(self, at):
-        """All that is told of an address."""
+        """Everything that is said about an address."""
         declared, facts = self.declared, self.certificate.facts
         marks = (("start", at == declared.start), ("stop", at in declared.stops), ("pause", at in declared.pauses),
                  ("entry", at in declared.routines))
@@ -173,12 +173,12 @@ class Report:
     of_fact = staticmethod(of_fact)
 
     def above(self, at):
-        """The fact on the line above, if it is of the same body."""
+        """The fact on the line above, if it is in the same body."""
         near = at > 0 and self.kind(at - 1) == self.kind(at)
         return self.certificate.facts.get(at - 1) if near else None
 
     def mark(self, at):
-        """The mark of the place of a no."""
+        """The mark at the address of a no."""
         return [f"HERE {self.refused[0]} FAILS"] if self.is_refused_at(at) else []
 
     def variable(self, cell):
@@ -242,12 +242,12 @@ def ran(*words):
 
 
 def may_write(line):
-    """What a routine may write, by its line."""
+    """What a routine may write according to its line."""
     return {0: "nothing", sets.ALL: "any cell"}.get(line.writes) or shown(line.writes, ADDRESS)
 
 
 def wanted(pdp8, tape, declaration, certificate, kind=None):
-    """What a report is to say as plain text, or as a page."""
+    """What a report should say, as plain text or as a page."""
     image = second_reader.words(tape.read_bytes())
     declared = watch.declaration(declaration.read_bytes())
     claims = check.parse(certificate.read_text("ascii"))
@@ -265,7 +265,7 @@ def wanted(pdp8, tape, declaration, certificate, kind=None):
 
 
 def differs(name, want, found):
-    """Names the first line in which a report isn't what it is to be."""
+    """Names the first line in which a report differs from what it should be."""
     if found == want:
         return 0
     pairs = zip(want.splitlines() + ["(end)"], found.splitlines() + ["(end)"])
@@ -279,11 +279,11 @@ def faults_of_page(page):
     if len(set(places)) < len(places) or set(names) - set(places):
         yield f"links: {sorted(set(names) - set(places))}, twice {sorted(it for it in set(places) if places.count(it) > 1)}"
     if re.search(r"<script|<link|<img|src=|https?:", page):
-        yield "it isn't by itself"
+        yield "it is not complete by itself"
 
 
 def examples(pdp8, names, room):
-    """Each example and its variant: a name, the tape, the declaration and the certificate, which is of version 1 or 2."""
+    """Each example and its variant: a name, the tape, the declaration and the certificate, which has version 1 or 2."""
     for source in sorted((ROOT / "examples").glob("*.pal")):
         of = source.stem.removesuffix("-broken")
         certificate, declaration = (ROOT / "examples" / f"{of}.{kind}" for kind in ("certificate", "declaration"))
@@ -317,7 +317,7 @@ def cases_of(pdp8, loads):
 
 
 def compared(pdp8, loads):
-    """Compares reports with what they are to be, and says how many are wrong."""
+    """Compares reports with what they should be, and says how many are wrong."""
     from report_pages import Page
     count = wrong = 0
     for name, tape, declaration, certificate in loads:

@@ -1,7 +1,7 @@
 """A second reader of BIN tapes, written from the loader's description alone.
 
-usage: second_reader.py TAPE, which prints address and word of each word on the tape, rising, as the
-first two columns of `pdp8 dump` have them; a tape that it refuses ends with status 1.
+usage: second_reader.py TAPE, which prints address and word of each word on the tape, by ascending address, like the
+first two columns of `pdp8 dump`. If it refuses the tape, the status is 1.
 """
 import sys
 

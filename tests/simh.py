@@ -1,6 +1,6 @@
-"""Runs the same tapes on SIMH's pdp8 and on this repository's program, and compares what they say.
+"""Runs the same tapes on SIMH's pdp8 and on the program of this repository, and compares what they print.
 
-usage: simh.py SIMH PROGRAM FOLDER, where FOLDER has the tape fullest.bin and takes the others.
+usage: simh.py SIMH PROGRAM FOLDER, where FOLDER has the tape fullest.bin, and the other tapes are made there.
 """
 import random
 import re
@@ -33,7 +33,7 @@ GROUP_3 = [0o7421, 0o7501, 0o7521, 0o7621, 0o7701, 0o7721]
 
 
 def tape(parts):
-    """The Binary Loader's tape of some words at addresses."""
+    """The tape of some words at their addresses, in the format of the Binary Loader."""
     frames = b""
     for at, words in parts.items():
         frames += bytes([0o100 + (at >> 6), at & 0o77])
@@ -44,7 +44,7 @@ def tape(parts):
 
 
 def straight(numbers, index):
-    """A program of operate words by chance, which all go on to a HLT."""
+    """A program of random operate words, all of which lead on to a HLT."""
     words = [0o7300, 0o1374, 0o7421, 0o1375]
     words += [numbers.choice(numbers.choice([GROUP_1, GROUP_2, GROUP_3])) for _ in range(90)]
     data = [numbers.randrange(4096), numbers.randrange(4096)]
@@ -52,14 +52,14 @@ def straight(numbers, index):
 
 
 def commands(folder, name):
-    """What SIMH is told to do with a tape."""
+    """The commands for SIMH that run a tape."""
     clear = ["deposit 0-7777 0"] + [f"deposit {register} 0" for register in ("AC", "L", "MQ", "SR")]
     shown = [f"examine {register}" for register in ("AC", "L", "PC")]
     return [f"echo TAPE {name}", *clear, f"load {folder}/{name}.bin", "run 200", *shown]
 
 
 def simh(program, lines, folder):
-    """What SIMH writes when it is told these lines."""
+    """What SIMH prints when it is given these lines."""
     script = folder / "script.ini"
     script.write_text("\n".join(["set tto 8b", *lines, "quit"]) + "\n")
     ran = subprocess.run([program, str(script)], stdin=subprocess.DEVNULL, capture_output=True, timeout=300)
@@ -78,7 +78,7 @@ def registers_of_simh(text):
 
 
 def registers_of_run(program, profile, path):
-    """What `pdp8 run` says of a tape, and the bytes that it printed."""
+    """What `pdp8 run` says about a tape, and the bytes that it printed."""
     ran = subprocess.run([program, "run", "--profile", profile, path], capture_output=True, text=True, timeout=60)
     end = re.match(r"(\w+) \d+ AC=(\d+) L=(\d) PC=(\d+)", ran.stdout)
     printed = re.search(r"^PRINTED (.*)", ran.stdout, re.M)
@@ -88,7 +88,7 @@ def registers_of_run(program, profile, path):
 
 
 def compare_runs(program, simulator, folder):
-    """Compares the ends of all programs; gives how many there are and which differ."""
+    """Compares how all programs end; returns how many there are and which differ."""
     numbers = random.Random(8)
     listed = [(name, profile, {at: [int(word, 8) for word in words.split()] for at, words in parts.items()})
               for name, profile, parts in PROGRAMS]
@@ -100,7 +100,7 @@ def compare_runs(program, simulator, folder):
     differ = []
     for name, profile, _ in listed:
         ours, printed = registers_of_run(program, profile, folder / f"{name}.bin")
-        # SIMH stops at the HLT with the last byte still under way to its printer.
+        # SIMH stops at the HLT before its printer has finished the last byte.
         if ours != theirs[name] or not ours[0] or printed[:-1].decode("latin-1") not in text:
             differ.append(f"{name}: ours {ours} SIMH {theirs[name]}")
     return len(listed), differ

@@ -1,4 +1,4 @@
-"""Cases by chance of facts as version 3 of certificates has them, for facts.py: what the program prints of a word at a fact."""
+"""Random cases with facts of version 3 of certificates, for facts.py: what the program prints about a word at a fact."""
 import sys
 from pathlib import Path
 
@@ -13,7 +13,7 @@ from version3_facts import AT, DECLARED, ENTRY, TABLE, VARIABLES  # noqa: E402
 
 
 class Case:
-    """One word with its place and facts."""
+    """One word with its address and facts."""
 
     def __init__(self, seed):
         chance = by_chance.Chance(seed)
@@ -38,7 +38,7 @@ class Case:
         self.first, self.second = self.others(chance, known)
 
     def others(self, chance, known):
-        """Two facts among which a fact may land: weaker ones, often apart by the words of a name."""
+        """Two facts among which a fact may land: weaker ones, which often have different words for one name."""
         r = chance.r
         first, second = by_chance.weaker(chance, known), by_chance.weaker(chance, known)
         kind = r.random()
@@ -54,7 +54,7 @@ class Case:
         return first, second
 
     def breaks(self):
-        """The first condition on the word that is broken."""
+        """The first condition on the word that fails."""
         if not is_supported(self.word, DECLARED.profile):
             return 3
         certificate = check3.Certificate()
@@ -63,7 +63,7 @@ class Case:
         return next((number for number in (5, 14, 6, 13) if not judge.holds(number, self.narrow, self.at, self.word, self.place)), None)
 
     def outcomes(self):
-        """The outcomes as a way, the next addresses and a fact."""
+        """The outcomes, each as a kind, the next addresses and a fact."""
         if self.narrow is None or self.breaks():
             return []
         if self.word < 0o6000:

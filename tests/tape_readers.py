@@ -1,7 +1,7 @@
-"""Runs programs with a tape in the reader on SIMH's pdp8 and on this repository's program, and compares what they say
-and what they punch.
+"""Runs programs with a tape in the reader on SIMH's pdp8 and on the program of this repository, and compares what they
+print and what they punch.
 
-usage: tape_readers.py SIMH PROGRAM FOLDER, where FOLDER takes the tapes.
+usage: tape_readers.py SIMH PROGRAM FOLDER, where the tapes are made in FOLDER.
 """
 import random
 import re
@@ -12,12 +12,12 @@ from pathlib import Path
 LEADER = bytes([0o200] * 16)
 RIM = "6014 6011 5357 6016 7106 7006 7510 5374 7006 6011 5367 6016 7420 3776 3376 5357 0000"
 COPIER = "7300 6014 6011 5202 6012 6026 6021 5206 1217 7650 5215 6014 5202 7402 5200 7401"
-# Prints a character from 0000 on, and halts; and the jump over the loader's last word that goes there.
+# A program at 0000 that prints a character and halts, and the jump to it that replaces the last word of the loader.
 CARD = {at: word for at, word in enumerate([0o7300, 0o1006, 0o6046, 0o6041, 0o5003, 0o7402, 0o301])} | {0o7775: 0o5776}
 
 
 def tape(at, text):
-    """The Binary Loader's tape of words from an address on."""
+    """The tape of words from an address on, in the format of the Binary Loader."""
     words = [int(word, 8) for word in text.split()]
     frames = bytes([0o100 + (at >> 6), at & 0o77])
     frames += b"".join(bytes([word >> 6, word & 0o77]) for word in words)
@@ -32,7 +32,7 @@ def rim(cells):
 
 
 def case(folder, name, start, program, frames):
-    """Puts the tapes of a case into the folder."""
+    """Writes the tapes of a case to the folder."""
     (folder / f"{name}.bin").write_bytes(tape(start, program))
     (folder / f"{name}.frames").write_bytes(frames)
     return name, start
@@ -52,7 +52,7 @@ def by_simh(simh, folder, name, start):
 
 
 def by_program(program, folder, name, start):
-    """The same on this repository's program."""
+    """The same on the program of this repository."""
     punched = folder / f"{name}.punched"
     words = [program, "run", folder / f"{name}.bin", "--start", f"{start:o}", "--steps", "1000000",
              "--reader", folder / f"{name}.frames", "--punch", punched]

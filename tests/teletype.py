@@ -1,12 +1,12 @@
 #!/usr/bin/env python3
-"""Sits at the teletype as a person does: starts `pdp8 teletype` in a terminal of tmux, sends keys and reads the screen; and at a
-pseudo-terminal as the other end of a line, by socat, where it is installed.
+"""Uses the teletype as a person does: starts `pdp8 teletype` in a terminal of tmux, sends keys and reads the screen. If socat is
+installed, it also uses a pseudo-terminal as the other end of a line.
 
-usage: tests/teletype.py PDP8    PDP8 is the built program; names what went otherwise, exit status 1 where anything did
+usage: tests/teletype.py PDP8    PDP8 is the built program; names what differs from what is expected; exit status 1 if anything does
 
-The programs are those of tests/cases/teletype.md: the game `guess`, which answers each line, and the line editor `edit`, which
-takes a key back at a rubout; and examples/echo, which is also stopped, interrupted and run from its source. `pdp8` alone says that it waits for a
-tape. No gate runs this: it wants tmux, and waits for screens.
+The programs are those of tests/cases/teletype.md (the game `guess`, which answers each line, and the line editor `edit`, which deletes
+a character at a rubout) and examples/echo, which is also stopped, interrupted and run from its source. It is also checked that `pdp8`
+alone says that it waits for a tape. No gate runs this, because it needs tmux and waits for screens.
 """
 import contextlib
 import os
@@ -22,7 +22,7 @@ SECONDS = 20
 
 
 def programs(pdp8, folder):
-    """Assembles the programs into the folder."""
+    """Assembles the programs in the folder."""
     with open(os.path.join(TOP, 'tests', 'cases', 'teletype.md'), encoding='utf-8') as file:
         sources = {block.name: '\n'.join(block.lines) + '\n' for block in blocks_of(file.read()) if block.kind == 'file'}
     with open(os.path.join(TOP, 'examples', 'echo.pal'), encoding='utf-8') as file:
@@ -35,7 +35,7 @@ def programs(pdp8, folder):
 
 
 class Terminal:
-    """A terminal of tmux in which a command of the shell runs, and then says that it is over."""
+    """A terminal of tmux in which a shell command runs, after which it says that this is over."""
 
     def __init__(self, folder, command):
         self.socket = os.path.join(tempfile.mkdtemp(dir=folder), 'tmux')
@@ -45,14 +45,14 @@ class Terminal:
         return subprocess.run(['tmux', '-S', self.socket, *words], stdout=subprocess.PIPE, check=True, text=True).stdout
 
     def screen(self):
-        """The lines of the screen, up to the last that isn't empty."""
+        """The lines of the screen, up to the last one that is not empty."""
         return self.tmux('capture-pane', '-p').rstrip('\n').split('\n')
 
     def send(self, *keys):
         self.tmux('send-keys', *keys)
 
     def shows(self, lines):
-        """Waits until the screen begins with these lines, and says what it shows if it never does."""
+        """Waits until the screen begins with these lines; says what it shows if this never happens."""
         until = time.monotonic() + SECONDS
         while time.monotonic() < until:
             if self.screen()[:len(lines)] == lines:
@@ -66,7 +66,7 @@ class Terminal:
 
 
 def play(folder, pdp8, command, script):
-    """Sends keys to a command, each of which the screen has to answer before the next is sent; names the first that it doesn't."""
+    """Sends keys to a command; the screen has to respond to each before the next one is sent. Names the first key without the expected response."""
     terminal = Terminal(folder, command.replace('pdp8', pdp8))
     try:
         shown = []
@@ -82,14 +82,14 @@ def play(folder, pdp8, command, script):
     return None
 
 
-# The terminal gives a line at a time, and shows what is typed; the program types it again.
+# The terminal delivers a line at a time, and shows what is typed; the program types it again.
 GUESSING = [
     ((), ['GUESS?']),
     (('100', 'Enter'), ['GUESS? 100', '100', 'HIGH', 'GUESS?']),
     (('17', 'Enter'), ['GUESS? 100', '100', 'HIGH', 'GUESS? 17', '17', 'LOW', 'GUESS?']),
     (('42', 'Enter'), ['GUESS? 100', '100', 'HIGH', 'GUESS? 17', '17', 'LOW', 'GUESS? 42', '42', 'RIGHT', 'OVER']),
 ]
-# The terminal gives each key, and shows none.
+# The terminal delivers each key, and shows none.
 EDITING = [
     (('H',), ['H']),
     (('E',), ['HE']),
@@ -104,7 +104,7 @@ ECHOING = [
     (('A',), ['A']),
     (('B', 'C'), ['ABC']),
 ]
-# ^E is the key that interrupts, which is said first.
+# ^E is the key that interrupts, and a line says so first.
 TOLD = '^E ends the session when the program asks for a key'
 INTERRUPTING = [
     ((), [TOLD]),
@@ -116,8 +116,8 @@ TELLING = [
     ((), ['^X ends the session when the program asks for a key']),
     (('C-x',), ['^X ends the session when the program asks for a key', '', 'INTERRUPTED 0203 AC=0000 L=0 PC=0203 STEPS=3', 'OVER']),
 ]
-# A session of a source is stopped where the routine that types is reached for the second time: the second key isn't typed. The lines of the last
-# instructions begin on a line of their own.
+# A session of a source is stopped when the routine that types is reached for the second time, so the second key is not typed. The lines of
+        # the last instructions begin on a line of their own.
 STOPPING = [
     ((), [TOLD]),
     (('H',), [TOLD, 'H']),
@@ -132,14 +132,14 @@ PUNCHING = [
 
 
 def left_by(key):
-    """A session that ends by a key, behind which the terminal delivers lines and shows keys again."""
+    """A session that a key ends; after it the terminal delivers lines and shows keys again."""
     return [((), [TOLD]), (('A',), [TOLD, 'A']), ((key,), ['icanon', 'echo', 'OVER'])]
 
 
-# What docs/TELETYPE.md says to type, and then how the terminal is set. The shell of the test itself survives ^C.
+# The command of docs/TELETYPE.md, and then one that shows the settings of the terminal. The shell of the test itself survives ^C.
 SET_AND_PUT_BACK = ("trap : 2; (trap 'stty sane' 0 1 2 3 15; stty -icanon -echo; pdp8 teletype echo.bin; :); clear; "
                     "stty -a | tr ' ;' '\\n\\n' | grep -x -e icanon -e echo")
-# Nothing is asked for, and the end of standard input is no tape.
+# No command is given, and an empty standard input is not a tape.
 WAITING = ['pdp8 waits for a tape on standard input; pdp8 help lists the commands']
 ALONE = [
     ((), WAITING),
@@ -148,7 +148,7 @@ ALONE = [
 
 
 def once_ready(script):
-    """The same keys and screens behind a line that says that the terminal shows no keys of its own any more."""
+    """The same keys and screens after a line that says that the terminal no longer shows keys by itself."""
     return [((), ['READY']), *[(keys, ['READY', *lines]) for keys, lines in script]]
 
 
@@ -168,7 +168,7 @@ def at_a_terminal(folder, pdp8):
 
 
 def read_until(line, wanted):
-    """What comes of a line, up to as many bytes as are wanted or until nothing comes."""
+    """What a line delivers, until there are as many bytes as requested or nothing more comes."""
     found = b''
     until = time.monotonic() + SECONDS
     while len(found) < len(wanted) and time.monotonic() < until:

@@ -1,11 +1,11 @@
 #!/usr/bin/env python3
 """Times the first look, the first run and the gate in a fresh clone, with nothing kept from earlier runs.
 
-The toolchain keeps what it proved in a folder beside its own, each entry under a sum of all that it rests on. That folder is
-moved away before, and its entries are put beside the new ones after, whatever happens. Nothing else should run on the machine.
-A time is by the clock; the processor's minutes are those of all that ran.
+The toolchain keeps what it proved in a folder next to its own, each entry under a checksum of everything on which it depends. That
+folder is moved away first, and in the end its entries are put back next to the new ones, whatever happens. Nothing else should run on
+the machine. Times are by the clock; the minutes of processor time are those of all processes that ran.
 
-usage: tests/time.py try|run|test [PROCESSORS]    PROCESSORS is how many are used; without it all
+usage: tests/time.py try|run|test [PROCESSORS]    PROCESSORS is how many are used; without it, all of them
 """
 import os
 import resource
@@ -26,7 +26,7 @@ def kept_folder():
 
 
 def put_back(aside, kept):
-    """Moves the entries of a folder that was moved away to those that the run kept."""
+    """Moves the entries of a folder that was moved away back, next to those that the run kept."""
     for name in os.listdir(aside):
         old, new = os.path.join(aside, name), os.path.join(kept, name)
         if os.path.isdir(old) and os.path.isdir(new) and name == 'edits':

@@ -1,11 +1,10 @@
 """Compares the verdicts of `pdp8 check` with those of the checkers in reference on the programs of examples/ or tests/version3
-with something changed: a line of the certificate left out, a set with a word more or less, another digit, rank, site, offset,
-link, equation or coefficient, another version, another word on the tape, another declaration. The line of a yes or a no must
-be the same, and what is no certificate or declaration for the one may not be one for the other. What is accepted is watched
-in a run by events of chance from a start of chance: no rule may be broken.
+with a change: a line of the certificate left out, a set with one word more or less, another digit, rank, site, offset, link, equation
+or coefficient, another version, another word on the tape, or another declaration. The line of a yes or a no must be the same, and what
+one of them refuses as a certificate or a declaration the other must refuse, too. If a case is accepted, a run with random events from
+a random start is watched: it may not violate a rule.
 
-usage: verdicts.py PROGRAM EXAMPLES FOLDER COUNT SEED, where FOLDER takes what is made. Cases on which the two differ
-stay there.
+usage: verdicts.py PROGRAM EXAMPLES FOLDER COUNT SEED. Files are made in FOLDER, and cases on which the two differ stay there.
 """
 import collections
 import random
@@ -28,8 +27,8 @@ DIGIT = re.compile(r"[0-7]")
 
 
 def is_sound(certificate):
-    """The lines are of their form: no set of AC, MQ or a cell is empty, the link is 0 or 1, an equation's first name comes
-    before its second, no two are of the same names, and nothing is past its limit."""
+    """The lines have their form: no set of AC, MQ or a cell is empty, the link is 0 or 1, the first name of an equation comes
+    before the second, no two equations have the same names, and no number is above its limit."""
     facts = [*certificate.facts.values(), *certificate.exits.values()]
     pairs = [[(x, y) for x, y, _ in fact.equations] for fact in facts]
     return (certificate.version in (1, 2) and len(certificate.routines) <= 64 and
@@ -38,12 +37,12 @@ def is_sound(certificate):
 
 
 def is_third(text):
-    """A text says that it is of version 3."""
+    """A text says that it has version 3."""
     return text.startswith("PDP8-CERTIFICATE 3\n")
 
 
 def certificate_of(text):
-    """The certificate that a text spells, or None where it spells none."""
+    """The certificate that a text spells, or None if it spells none."""
     if is_third(text):
         try:
             return check3.read(text)
@@ -66,7 +65,7 @@ def declaration_of(text):
 
 
 class Changes:
-    """Changes by chance: each takes and gives the tape's words, the declaration's text and the certificate's."""
+    """Random changes: each takes and returns the words of the tape, the text of the declaration and that of the certificate."""
 
     def __init__(self, seed):
         self.numbers = random.Random(seed)
@@ -84,7 +83,7 @@ class Changes:
         return text[:place] + str(self.numbers.randrange(8)) + text[place + 1:]
 
     def with_a_set(self, text):
-        """A set with one word more or less, most often beside a word that it has."""
+        """A set with one word more or less, usually next to a word that it has."""
         found = self.one(SET.finditer(text))
         members = judge.set_of(found.group())
         near = [word % 4096 for run in re.findall(r"\d{4}", found.group()) for word in (int(run, 8), int(run, 8) + 1)]
@@ -92,7 +91,7 @@ class Changes:
         return text[:found.start()] + judge.set_text(members ^ sets.one(word)) + text[found.end():]
 
     def in_a_line(self, text, pattern, new):
-        """The text with something new in place of one match of a pattern, if there is one."""
+        """The text with one match of a pattern replaced, if there is a match."""
         found = list(re.finditer(pattern, text, re.M))
         if not found:
             return text
@@ -114,7 +113,7 @@ class Changes:
         return self.in_a_line(text, r"^equal \S+ \d+ (\d+)", lambda old: f"{(int(old, 8) + self.one([1, 7777])) % 4096:04o}")
 
     def with_a_coefficient(self, text):
-        """Another coefficient in a sum, where there is one."""
+        """Another coefficient in a sum, if there is a sum."""
         return self.in_a_line(text, r"^sum \S+ (\S+) ", lambda old: self.one(["+", "-", "0002", "7776", "0012"]))
 
     def in_another_version(self, text):
@@ -138,7 +137,7 @@ class Changes:
         return image | {at: self.one([image[at] ^ 1 << self.numbers.randrange(12), self.numbers.randrange(4096)])}
 
     def further_line(self, text):
-        """A line on how a routine returns or on what is to hold, of the declaration's own entries and of places near its start."""
+        """A line about how a routine returns or about what must hold, with entries of the declaration and addresses near its start."""
         entries = re.findall(r"^sub (\S+)", text, re.M) or ["0300"]
         start = int(re.search(r"^start (\S+)", text, re.M).group(1), 8)
         entry, place = self.one(entries), f"{start + self.one([0, 0, 1, 2, 3, self.numbers.randrange(32)]):04o}"
@@ -167,12 +166,12 @@ class Changes:
         return image, declaration, certificate
 
     def start(self):
-        """A start: any words in the registers and in all cells, over which the tape is laid."""
+        """A start: any words in the registers and in all cells, except that the cells on the tape have their words."""
         return {"ac": self.numbers.randrange(4096), "link": self.numbers.randrange(2),
                 "mq": self.numbers.randrange(4096), "memory": [self.numbers.randrange(4096) for _ in range(4096)]}
 
     def events(self):
-        """A list of events, steps above all."""
+        """A list of events, most of them steps."""
         others = [("printer",), ("punch",), ("continue",)]
         found = []
         for _ in range(self.numbers.randrange(40)):
@@ -189,7 +188,7 @@ def event_text(event):
 
 
 def verdict(image, declaration, certificate):
-    """What must be said: the line of a verdict, or which part is refused."""
+    """What the program must say: the line of a verdict, or which part is refused."""
     declared = declaration_of(declaration)
     if declared is None:
         return "declaration"
@@ -201,7 +200,7 @@ def verdict(image, declaration, certificate):
 
 
 def said(program, words):
-    """What `pdp8` says: its line, or of which kind its fault is."""
+    """What `pdp8` says: its line, or the kind of its fault."""
     ran = subprocess.run([program, *words], capture_output=True, text=True, timeout=120)
     return ran.stdout.rstrip("\n") if ran.stdout else ran.stderr.removeprefix("pdp8: ").split(":")[0]
 
@@ -223,8 +222,8 @@ class Case:
 
 
 def program_of(certificate):
-    """The tape's words and the declaration of the program that a file has a certificate of; it stands in a file of its own or in
-    comments of the source."""
+    """The words of the tape and the declaration of the program for which a file has a certificate; the declaration is in a file of its
+    own or in comments of the source."""
     source, declared = (certificate.with_suffix(kind) for kind in (".pal", ".declaration"))
     if not declared.exists():
         return labels.program(source.read_bytes())
@@ -233,7 +232,7 @@ def program_of(certificate):
 
 
 def programs(examples):
-    """The examples that have a certificate: the tape's words, the declaration and the certificate."""
+    """The examples that have a certificate: the words of the tape, the declaration and the certificate."""
     return [(certificate.stem, *program_of(certificate), certificate.read_text()) for certificate in sorted(examples.glob("*.certificate"))]
 
 
@@ -255,7 +254,7 @@ def main():
             if watch.watch(image, declaration_of(declaration), happening, **changes.start())[0] is None:
                 clean += 1
             else:
-                differences.append(f"{case.tape.stem}: accepted, and a rule is broken from some start")
+                differences.append(f"{case.tape.stem}: accepted, and a run from some start violates a rule")
         kinds[re.split(" at |: .* cells", wanted)[0]] += 1
         if got != expected:
             differences.append(f"{case.tape.stem}: {got} where {expected} is wanted")

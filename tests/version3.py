@@ -1,5 +1,5 @@
-"""Tries version 3 of the certificates in reference/: the programs of version3/ with their certificates, their twins of
-one changed word, certificates in which one line is changed, and texts with their faults. Says nothing where all is well.
+"""Tries version 3 of certificates in reference/: the programs of version3/ with their certificates, their variants with one
+changed word, certificates in which one line is changed, and texts with their faults. Prints nothing if all is well.
 """
 import sys
 from pathlib import Path
@@ -10,12 +10,12 @@ import check3  # noqa: E402
 import labels  # noqa: E402
 import watch  # noqa: E402
 
-# What the certificate of each program says of the twin with one other word.
+# The verdict on the certificate of each program for the variant with one other word.
 TWINS = {"command": "V4 at 0207", "line": "V4 at 0215", "lookup": "V4 at 0210", "modes": "V4 at 0222",
          "moves": "V4 at 0222", "number": "V4 at 0210", "packed": "V4 at 0214", "puts": "V4 at 0221", "ring": "V4 at 0224", "shift": "V4 at 0201",
          "states": "V4 at 0225", "tell": "V4 at 0214", "tens": "V4 at 0206"}
 
-# A program, what stands in its certificate, what is put in its place, and what is said then.
+# A program, a text in its certificate, the text that replaces it, and the verdict then.
 CHANGES = [
     ("tell", "routine 0213 rank 01 sites 0202,0206 writes 0225,0233\n", "", "V7 at 0202"),
     ("tell", "0213 rank 01", "0213 rank 00", "V7 at 0220"),

@@ -1,5 +1,5 @@
-"""Tries the rules of version 3 in reference/facts3.py on machines by chance: a fact is made that holds of a state by
-chance, a word is executed by the second machine, and what the rules conclude must hold of the state after it.
+"""Tries the rules of version 3 in reference/facts3.py on random machines: a fact is made that holds of a random state, the machine
+in reference/ executes a word, and what the rules conclude must hold of the state after it.
 
 usage: version3_facts.py COUNT SEED, which prints how many cases of each kind there were, and what went wrong.
 """
@@ -25,7 +25,7 @@ DECLARED = Declaration(0o200, "8e", set(range(0o200, 0o210)),
 
 
 class Chance:
-    """What is chosen by chance."""
+    """What is chosen at random."""
 
     def __init__(self, seed):
         self.r = random.Random(seed)
@@ -140,7 +140,7 @@ def holds(fact, world, start, site, offset, place):
 
 
 def weaker(chance, a):
-    """A fact with less, or by chance something else."""
+    """A fact that says less, or sometimes something else."""
     r = chance.r
 
     def some(relations):
@@ -167,7 +167,7 @@ def alone(fact, like):
 
 
 def case(chance, counts):
-    """What went wrong in a case by chance, or None."""
+    """What went wrong in a random case, or None."""
     r, at = chance.r, AT
     image = {cell: chance.word() for cell in [*TABLE, 0o270, 0o271, 0o300, 0o10]}
     word = image[at] = chance.instruction()
@@ -226,7 +226,7 @@ def case(chance, counts):
 
 
 def returned(chance, call, state):
-    """What is known after a return holds where the callee's written set has all that it wrote."""
+    """What is known after a return holds if the written set of the callee has everything that it wrote."""
     world, start, site, offset, place = state
     written, world = chance.r.sample(VARIABLES, chance.r.randrange(4)), copy.copy(world)
     world.memory, world.ac, world.mq, world.link = list(world.memory), chance.word(), chance.word(), chance.r.randrange(2)

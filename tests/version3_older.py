@@ -1,8 +1,8 @@
-"""Compares versions 1 and 2 with version 3 on the cases by chance of tests/equation_facts.py: the outcomes, the entailments and the
-returns of reference/facts.py are those of reference/facts3.py, where this does less as points 1 to 7 of "Versions 1 and 2" in
-docs/TRANSFER.md say, and of 8 and 9 what is said of outcomes and returns; and each single fact that version 1 or 2
-entails is entailed by the narrowed fact in version 3. Conditions, landing and whole certificates aren't compared, nor facts
-with two equations of one pair of names.
+"""Compares versions 1 and 2 with version 3 on the random cases of tests/equation_facts.py. The outcomes, the entailments and the returns of
+reference/facts.py must be those of reference/facts3.py, if the latter is restricted as points 1 to 7 of "Versions 1 and 2" in
+docs/TRANSFER.md say, and as points 8 and 9 say about outcomes and returns. Each single fact that version 1 or 2 entails must be entailed
+by the narrowed fact in version 3. Conditions, landing and whole certificates are not compared, and neither are facts with two equations
+for one pair of names.
 
 usage: version3_older.py COUNT SEED
 """
@@ -42,14 +42,14 @@ def names_sets(fact):
 
 
 def equations_alone(fact):
-    """A fact with those relations alone that versions 1 and 2 know."""
+    """A fact with only those relations that versions 1 and 2 have."""
     kept = {form: s for form, s in sums(fact).items() if len(form) == 2 and form[1][1] == facts3.MINUS and
             not isinstance(form[1][0], tuple) and sets.only(s) is not None}
     return replace(fact, relations=names_sets(fact) | kept, chains={})
 
 
 def said(fact, nexts=()):
-    """What a fact says, in a form to compare; of either kind."""
+    """What a fact of either kind says, in a form that can be compared."""
     if isinstance(fact, facts3.Fact):
         equations = {(form[0][0], form[1][0], sets.only(s)) for form, s in sums(fact).items()}
         cells, ac = {name: s for ((name, _),), s in names_sets(fact).items()}, fact.set_of(AC)
@@ -131,7 +131,7 @@ def older_sums(fact, known, y, cells, place):
 
 
 def stays(before, after, y, several, word):
-    """What a row does not name is as it was before narrowing, and equations alone are kept."""
+    """What a row does not name is as it was before narrowing, and only equations are kept."""
     after, operation = equations_alone(after), word >> 9
     names_ac = operation in (0, 1, 3, 7) or word in (0o6012, 0o6016, 0o6034, 0o6032, 0o6036)
     ac = after.set_of(AC) if names_ac else before.set_of(AC)
@@ -142,7 +142,7 @@ def stays(before, after, y, several, word):
 
 
 def older_entails(a, b, place):
-    """The entailment of versions 1 and 2: an equation is one of a's own, or both sides have one word and fulfil it."""
+    """The entailment of versions 1 and 2: an equation is one that a has itself, or both sides have one word and satisfy it."""
     known = facts3.met_once(a, place)
     bare = replace(b, relations=names_sets(b), sites=a.sites)
     if not facts3.entails(replace(known, link=a.link), bare, place):
@@ -161,13 +161,13 @@ def pairs_once(fact):
 
 
 def older_joined(call, exit_fact, written):
-    """The return of versions 1 and 2: of cells outside the written set the exit says nothing."""
+    """The return of versions 1 and 2: the exit says nothing about cells outside the written set."""
     relations = {form: s for form, s in exit_fact.relations.items() if len(form) > 1 or form[0][0] == AC or written >> form[0][0] & 1}
     return facts3.joined(call, replace(exit_fact, relations=relations), written)
 
 
 def tried(case, counts):
-    """Tries one case by chance; yields what differs."""
+    """Tries one random case; yields what differs."""
     place, fact, word = facts3.Place(case.image, case.declared, case.entry), newer(case.fact, case.sites), case.word
     returns = word >> 9 == 5 and word & 0o400 and named_cell(word, case.at) in case.declared.routines
     if is_supported(word, case.declared.profile) and word >> 9 != 4 and not returns:

@@ -1,5 +1,5 @@
-"""Tries that the cases by chance of version3_facts.py find wrong rules: each edit of reference/facts3.py below makes a rule
-wrong, and some case must show that.
+"""Checks that the random cases of version3_facts.py find wrong rules: each edit of reference/facts3.py below makes a rule
+wrong, and some case must show this.
 
 usage: version3_wrong.py COUNT SEED [FIRST [LAST]], which prints for each edit the first case that shows it, among COUNT
 """
@@ -13,7 +13,7 @@ HERE = Path(__file__).parent
 REFERENCE = HERE.parent / "reference"
 sys.path.insert(0, str(REFERENCE))
 
-# What is wrong, what stands in facts3.py, and what is put in its place.
+# What is wrong, a text in facts3.py, and the text that replaces it.
 WRONG = [
     ("a coefficient moves a sum without its sign", "members = sets.added(members, sets.times(c, by))",
      "members = sets.added(members, sets.times(1 if c == MINUS else c, by))"),
@@ -24,14 +24,14 @@ WRONG = [
      "term = cell, (term[1] - next(sets.words(by), 0)) % 4096"),
     ("TAD: the coefficient goes up", "terms | {added: c - 1}", "terms | {added: c + 1}"),
     ("TAD: signs stay where a term is put in for another", "term: c * factor for", "term: factor for"),
-    ("TAD: the set of AC isn't added", "sets.added(fact.set_of(AC), sets.times(c, s))", "sets.times(c, s)"),
-    ("TAD: the word isn't added to AC's sums", "sets.added(s, members) if AC in terms else s", "s"),
+    ("TAD: the set of AC is not added", "sets.added(fact.set_of(AC), sets.times(c, s))", "sets.times(c, s)"),
+    ("TAD: the word is not added to the sums of AC", "sets.added(s, members) if AC in terms else s", "s"),
     ("TAD: [x+0] where the cell has changed", "pointer is not None and not cells & place.changing", "pointer is not None"),
     ("TAD: carries the other way round", "(low if link in fact.link else 0) | (high if 1 - link", "(high if link in fact.link else 0) | (low if 1 - link"),
     ("a difference compares numbers", "sets.added(found, known(fact, rest, place))", "sets.totals(found, known(fact, rest, place))[0]"),
     ("narrowing adds the rest", "confine(found, fact, first, sets.subtracted(s, known", "confine(found, fact, first, sets.added(s, known"),
     ("narrowing by a chain: AC less x the wrong way", "sets.of((ac - word) % 4096 for", "sets.of((word - ac) % 4096 for"),
-    ("a cell that isn't on the tape begins with 0", "cells & ~self.on_tape | sets.of", "sets.of"),
+    ("a cell that is not on the tape begins with 0", "cells & ~self.on_tape | sets.of", "sets.of"),
     ("CMA without the 1", "sets.complement(s)", "sets.negated(s)"),
     ("CMA: the other signs stay", "{term: -c for term, c in form[1:]}", "dict(form[1:])"),
     ("IAC moves no sum", "sets.shift(s, 1) if AC in terms and word & 1 else s", "s"),
@@ -44,13 +44,13 @@ WRONG = [
     ("what a fact says of a sum forgets the rest", "sets.added(found, known(fact, rest, place)) if rest", "found if rest"),
     ("a chain is entailed by another", "        if not allowed <= results(chain, word):", "        if not allowed & results(chain, word):"),
     ("a word of a name is covered where a fact says nothing of it", "covered |= members if met is None or", "covered |= members if met is not None or"),
-    ("after a call the caller's sums are kept, if one cell wasn't written",
+    ("after a call the sums of the caller are kept, if one cell was not written",
      "if not any(name == AC or written >> name & 1 for name in names(form)):", "if not all(name == AC or written >> name & 1 for name in names(form)):"),
 ]
 
 
 def edited(old, new):
-    """version3_facts.py with facts3.py after an edit."""
+    """The module version3_facts.py with facts3.py after an edit."""
     text = (REFERENCE / "facts3.py").read_text()
     if text.count(old) != 1:
         sys.exit(f"{text.count(old)} times in facts3.py: {old}")

@@ -1,6 +1,6 @@
-"""Watches the programs of a folder for which `pdp8 verify --source` says yes, each in many runs by events of chance from a start
-of chance, with the watcher in reference/: no rule may be broken. Keys, frames and switches are often words that stand on the tape, so
-that comparisons hold now and then.
+"""Watches the programs of a folder for which `pdp8 verify --source` says yes, each in many runs with random events from a random start,
+with the watcher in reference/: no run may violate a rule. Keys, frames and switches are often words of the tape, so that comparisons
+hold now and then.
 
 usage: watched.py PROGRAM FOLDER RUNS STEPS SEED
 """
@@ -15,7 +15,7 @@ import watch  # noqa: E402
 
 
 class Chance:
-    """What is chosen by chance for a program."""
+    """What is chosen at random for a program."""
 
     def __init__(self, image, seed):
         self.numbers = random.Random(seed)
@@ -35,7 +35,7 @@ class Chance:
         return self.word() % 256
 
     def event(self, eager):
-        """An event; the more eager, the more often something is struck or read."""
+        """An event; the larger `eager` is, the more often a key is struck or a frame is read."""
         share = self.numbers.random()
         if share >= eager:
             return ("step",)
@@ -52,14 +52,14 @@ class Chance:
         return [self.event(eager) for _ in range(steps)]
 
     def start(self):
-        """The registers and the cells at the start; those on the tape get its words."""
+        """The registers and the cells at the start; cells on the tape get its words."""
         fill = self.numbers.choice([0, 0o7777, None])
         words = [fill] * 4096 if fill is not None else self.numbers.choices(range(4096), k=4096)
         return {"ac": self.numbers.randrange(4096), "link": self.numbers.randrange(2), "mq": self.numbers.randrange(4096), "memory": words}
 
 
 def broken(image, declared, runs, steps, seed):
-    """The number of the first run that breaks a rule, with the event and the rule, or None."""
+    """The number of the first run that violates a rule, with the event and the rule, or None."""
     chance = Chance(image, seed)
     for run in range(runs):
         found, _ = watch.watch(image, declared, chance.events(steps), **chance.start())

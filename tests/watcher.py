@@ -1,7 +1,7 @@
-"""Compares `pdp8 watch` with the watcher in reference on programs, declarations and events by chance: what is
-printed and what is said at fault must be the same to the byte.
+"""Compares `pdp8 watch` with the watcher in reference on random programs, declarations and events: what they
+print, and what they say about a fault, must be the same to the byte.
 
-usage: watcher.py PROGRAM FOLDER COUNT SEED, where FOLDER takes what is made. Cases on which they differ stay there.
+usage: watcher.py PROGRAM FOLDER COUNT SEED. Files are made in FOLDER, and cases on which the two differ stay there.
 """
 import random
 import subprocess
@@ -16,7 +16,7 @@ import watch  # noqa: E402
 # Main, two routines with a second page for one of them, variables and a table of constants.
 MAIN, FIRST, SECOND = range(0o200, 0o212), range(0o221, 0o226), range(0o231, 0o236)
 ENTRIES, VARIABLES, CONSTANTS = [0o220, 0o230], [0o10, 0o11, 0o240, 0o241, 0o242], [0o250, 0o251, 0o252, 0o253]
-# Places of main to which a routine may jump.
+# Addresses of main to which a routine may jump.
 LEFT_FOR = [0o200, 0o204]
 OPERATES = [0o7000, 0o7200, 0o7300, 0o7001, 0o7040, 0o7041, 0o7240, 0o7650, 0o7640, 0o7440, 0o7410, 0o7604, 0o7402,
             0o7421, 0o7501, 0o7521, 0o7701, 0o7002, 0o7010, 0o7004, 0o7016, 0o7401]
@@ -35,7 +35,7 @@ def reference(operation, cell, indirect=False):
 
 
 class Chance:
-    """What is chosen by chance."""
+    """What is chosen at random."""
 
     def __init__(self, seed):
         self.numbers = random.Random(seed)
@@ -47,7 +47,7 @@ class Chance:
         return self.numbers.random() < share
 
     def word(self, body, entry):
-        """A word that most often keeps to the declaration."""
+        """A word that usually complies with the declaration."""
         kind = self.numbers.randrange(20)
         if kind < 4:
             return reference(1, self.one(VARIABLES + CONSTANTS))
@@ -66,7 +66,7 @@ class Chance:
         return self.one(OPERATES[:12] if self.share(0.85) else OPERATES + DEVICES)
 
     def leaving(self, body, entry):
-        """A word of a body; in a routine now and then a jump straight to a place of main that may be declared for it."""
+        """A word of a body; in a routine now and then a direct jump to an address of main for which an `abandon` line may allow it."""
         if entry and self.share(0.15):
             return reference(5, self.one(LEFT_FOR))
         return self.word(body, entry)
@@ -78,7 +78,7 @@ class Chance:
         return {MAIN[1]: reference(4, ENTRIES[0]), MAIN[0]: 0o7000, VARIABLES[2]: ENTRIES[0], FIRST[4]: reference(5, ENTRIES[0], True)} | dict(zip(FIRST, words))
 
     def leaving_from_two(self):
-        """A call of the first routine, which calls the second one, which jumps to a place of main."""
+        """A call of the first routine, which calls the second one, which jumps to an address of main."""
         return {MAIN[1]: reference(4, ENTRIES[0]), MAIN[0]: 0o7000, FIRST[0]: reference(4, ENTRIES[1]), SECOND[0]: self.one(OPERATES[:8]),
                 SECOND[1]: reference(5, self.one(LEFT_FOR), self.share(0.1))}
 
@@ -112,12 +112,12 @@ class Chance:
         return self.joined(self.spoiled(lines))
 
     def subject(self):
-        """What an assertion says: most often what holds in most runs."""
+        """What an assertion says: usually something that holds in most runs."""
         return self.one(["link 0", "link 1", "ac 0-3777", "ac 0-6000 7000-7777", "ac 0", "mq 0", "mq 0-7777", "cell 240 0-7776",
                          "cell 0010 0-777", "cell 250 237-253 5", "cell 220 0-3777", "cell 241 0"])
 
     def further_lines(self):
-        """Lines on how routines return and on what is to hold, each of which may be left out."""
+        """Lines about how routines return and about what must hold, each of which may be left out."""
         places = [f"{self.one([*MAIN, *FIRST, *SECOND]):04o}" for _ in range(self.one([1, 1, 2]))]
         offsets = self.one(["", "", " 0", " 0 1", " 77"])
         return [f"skips {self.one(ENTRIES):o} {self.one(['1', '1-3', '4 6', '10', '7-20', '0-77'])}",
@@ -164,7 +164,7 @@ class Chance:
 
 
 def expected(image, declaration, events):
-    """What is printed and what is said at fault."""
+    """What is printed, and what is said about a fault."""
     try:
         declared = watch.declaration(declaration)
         broken, _ = watch.watch(image, declared, machine.events(events))

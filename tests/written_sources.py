@@ -1,13 +1,14 @@
 #!/usr/bin/env python3
 """Has pdp8 write sources of random tapes and of those of examples/, and assembles each again.
 
-A tape is written here, of an image by chance: sparse, dense, full, of code alone, of characters, or of an example with words changed. What
-`pdp8 source` writes of it must be read back by `pdp8 assemble` to that tape, to the byte; no line of it has more than 80 columns. A
-palbart must read the same words, where one is installed. It has no CAM, which is defined for it.
+This script writes a tape of a random image, which is sparse, dense or full, consists of code or of characters only, or is that of an
+example with words changed. From the source that `pdp8 source` writes for it, `pdp8 assemble` must make that tape again, to the byte; no
+line of the source may have more than 80 columns. If palbart is installed, it must read the same words. It has no CAM, which is
+therefore defined for it.
 
-usage: tests/written_sources.py [PDP8 [COUNT [SEED]]]    PDP8 is the built program, without it what the variable PDP8 names; PALBART
-                                                         names a palbart, else /usr/bin/palbart is tried; exit status 1 where
-                                                         anything differs
+usage: tests/written_sources.py [PDP8 [COUNT [SEED]]]    PDP8 is the built program, or else the one that the variable PDP8
+                                                         names; PALBART names a palbart, otherwise /usr/bin/palbart is tried;
+                                                         exit status 1 if anything differs
 """
 import os
 import random
@@ -26,7 +27,7 @@ DEVICES = [0o6011, 0o6012, 0o6014, 0o6016, 0o6021, 0o6022, 0o6024, 0o6026, 0o603
 
 
 def tape_of(image):
-    """The tape of an image, as docs/FORMATS.md says that it is written."""
+    """The tape of an image, written as docs/FORMATS.md says."""
     frames = bytearray()
     for at in sorted(image):
         if at == 0 or at - 1 not in image:
@@ -37,7 +38,7 @@ def tape_of(image):
 
 
 def code_word(chance):
-    """A word of an instruction that is likely in a program."""
+    """An instruction that is likely in a program, as a word."""
     kind = chance.random()
     if kind < 0.6:
         return chance.randrange(0o6000)
@@ -45,7 +46,7 @@ def code_word(chance):
 
 
 def image_of(chance, examples):
-    """An image by chance, and the address at which its program is said to start."""
+    """A random image, and the address that is given as the start of its program."""
     kind = chance.choice(['sparse', 'dense', 'full', 'code', 'characters', 'example', 'example', 'runs'])
     if kind == 'example':
         image = dict(chance.choice(examples))
@@ -70,7 +71,7 @@ def columns(line):
 
 
 def words_of_palbart(palbart_at, source, profile):
-    """The words that palbart reads in a source, or None where it refuses it."""
+    """The words that palbart reads in a source, or None if it refuses the source."""
     copy = source.with_name('palbart.pal')
     copy.write_text(('CAM=7621\n' if profile == '8e' else '') + source.read_text())
     return palbart.of_palbart(palbart_at, copy)

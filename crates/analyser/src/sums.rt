@@ -18,7 +18,7 @@ use word12::Word;
 use wordset::WordSet;
 
 /// The most turns of one try.
-const MOST_TURNS: u32 = 20_000;
+const MOST_TURNS: u32 = 15_000;
 
 /// So many tries at most are made with facts distinguished by calls: with none, with those of routines that look at their
 /// return word, and with those of one routine more in each.

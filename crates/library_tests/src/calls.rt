@@ -131,11 +131,11 @@ fn proposed_within(heap: Global, limit: u32) -> Option<(bool, usize, u32)> {
 
 #[test]
 fn what_is_shown_stays_where_turns_run_out(rt: HostRuntime) {
-    // Each of the five words takes a turn, first with all variables but 0206, then with 0207 and 0300. Where
-    // no turn is left for the first ones it is seen which two cells the program writes.
+    // Each of the five words takes a turn, first with all variables but 0206, then with 0207 and 0300. If too few
+    // turns are left for these two, they are shown to be enough by the certificate for all.
     assert_eq!(rt; proposed_within(rt.alloc(), 10), Some((true, 2, 10)));
-    assert_eq!(rt; proposed_within(rt.alloc(), 9), Some((true, 4090, 9)));
-    assert_eq!(rt; proposed_within(rt.alloc(), 5), Some((true, 4090, 5)));
+    assert_eq!(rt; proposed_within(rt.alloc(), 9), Some((true, 2, 9)));
+    assert_eq!(rt; proposed_within(rt.alloc(), 5), Some((true, 2, 5)));
     assert_eq!(rt; proposed_within(rt.alloc(), 4), Some((false, 2, 4)));
 }
 

@@ -12,7 +12,7 @@ use Rattle.certificate.specs.Exact.{AreLines}
 use Rattle.judge.specs.Conditions.{IsValid}
 use Rattle.judge.specs.Judged.{judged}
 use Rattle.declaration.specs.declared.DeclarationFault.TheVariants as declaration_fault
-use Rattle.proposer.specs.Needed.{ReadsAreNeeded}
+use Rattle.proposer.specs.Needed.{ReadsAreNeeded, VariablesAreWritten}
 use Rattle.turns.specs.Counts.{Count}
 use Rattle.analyser.specs.Versions.{IsVersionFor}
 use Rattle.proposer.specs.declared.Proposal.{Proposal}
@@ -62,3 +62,8 @@ IsListed d _ = (meaning d).reads ≡ None
 abbrev pub AreNeeded : {A : Type 0} → List (Option ℕ) → Kept → Verdict A → Type 0
 AreNeeded image d (Safe c) = ReadsAreNeeded (judged image d (certified.claims c))
 AreNeeded image d _ = ⊤
+
+-- By the facts of the certificate that is found, some word may write each variable.
+abbrev pub AreWritten : {A : Type 0} → List (Option ℕ) → Kept → Verdict A → Type 0
+AreWritten image d (Safe c) = VariablesAreWritten (judged image d (certified.claims c))
+AreWritten image d _ = ⊤

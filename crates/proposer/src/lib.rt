@@ -1,7 +1,7 @@
 //! Proposes declarations: what a program may do, from its tape and its start alone.
 #![tactic(auto)]
 
-ghost use Rattle.std.specs.Prelude.{ℕ, ◌≡◌, ◌≢◌, ◌≤◌, List, Option, IfOk, IfErr, None, is_some, true};
+ghost use Rattle.std.specs.Prelude.{ℕ, ◌≡◌, ◌≢◌, ◌≤◌, List, Option, IfOk, IfErr, None, is_some, false, true};
 ghost use Rattle.analyser.specs.Versions.{IsVersionFor};
 ghost use Rattle.turns.specs.declared.GuessFault.TheVariants as guess_fault;
 ghost use Rattle.certificate_lines.specs.CertificateInCode as certified;
@@ -9,9 +9,9 @@ ghost use Rattle.certificate.specs.Exact.{AreLines};
 ghost use Rattle.declaration.specs.DeclarationInCode.{Kept, meaning, routines_of};
 ghost use Rattle.declaration.specs.Text.{Declares, ListsRoutines};
 ghost use Rattle.judge.specs.Judged.{judged};
-ghost use Rattle.proposer.specs.Needed.{ReadsAreNeeded};
+ghost use Rattle.proposer.specs.Needed.{ReadsAreNeeded, VariablesAreWritten};
 ghost use Rattle.proposer.specs.declared.Verdict.TheVariants.{TurnsSpent};
-ghost use Rattle.proposer.specs.Proposals.{AreNeeded, Fits, IsListed, IsShown, IsSpentUp, IsTold, is_safe};
+ghost use Rattle.proposer.specs.Proposals.{AreNeeded, AreWritten, Fits, IsListed, IsShown, IsSpentUp, IsTold, is_safe};
 
 mod evidence;
 mod learning;
@@ -21,7 +21,7 @@ mod variables;
 mod widening;
 mod width;
 
-use crate::variables::{lists_needed, read, written};
+use crate::variables::{fewer_variables, lists_needed, read, variables_written};
 use analyser::guess_within;
 use bin_tape::Image;
 use certificate::Certificate;
@@ -75,13 +75,13 @@ pub struct Proposal<A: Allocator> {
 /// JMP I through its own entry returns, by as much as ISZ counted the entry up on the way. A HLT is a pause where what
 /// comes after it is code, else a stop. A pointer that no instruction stores in is taken to keep its word; another may
 /// hold each word of a table behind which there is code. The variables are first the cells that instructions store in
-/// by name, or all that may be data; and then, where a certificate is found, fewer as far as one is found for these
-/// too. No clause says how few.
+/// by name, or all that may be data; and then, where a certificate is found, only those that some step may write by the
+/// facts of a certificate.
 ///
 /// # Errors
 ///
 /// `Undeclarable` where what was found violates a limit or a rule of declarations, as one of more than 64 routines;
-/// `Mismatch` where it is not what was asked; and `NoMemory`. That no certificate is found is no error: the verdict
+/// `Mismatch` where it is not what was asked, or no certificate shows that fewer variables are enough; and `NoMemory`. That no certificate is found is no error: the verdict
 /// tells it.
 pub fn propose<A: Allocator + Copy>(
     alloc: A,
@@ -92,6 +92,8 @@ pub fn propose<A: Allocator + Copy>(
 ) -> Result<Proposal<A>, ProposeFault>
     ensures fits { IfOk result (Fits start profile) }
     ensures shown { IfOk result (λ p. IsShown image.now p.declaration p.verdict) }
+    // Where a certificate is found, by its facts some word may write each variable.
+    ensures written { IfOk result (λ p. AreWritten image.now p.declaration p.verdict) }
     ensures unlisted { IfOk result (λ p. (meaning p.declaration).reads ≡ None) }
     ensures spent { IfOk result (λ p. IsSpentUp turns.new p.verdict) }
     ensures faults { IfErr result IsTold }
@@ -127,10 +129,12 @@ fn by_runs<'x, A: Allocator + Copy>(
 ) -> Result<Proposal<A>, ProposeFault>
     requires fits { Fits found.now.map.start found.now.map.profile proposal }
     requires shown { IsShown image.now proposal.declaration proposal.verdict }
+    requires written { AreWritten image.now proposal.declaration proposal.verdict }
     requires unlisted { (meaning proposal.declaration).reads ≡ None }
     requires spent { IsSpentUp turns.old proposal.verdict }
     ensures fits { IfOk result (Fits found.now.map.start found.now.map.profile) }
     ensures shown { IfOk result (λ p. IsShown image.now p.declaration p.verdict) }
+    ensures written { IfOk result (λ p. AreWritten image.now p.declaration p.verdict) }
     ensures unlisted { IfOk result (λ p. (meaning p.declaration).reads ≡ None) }
     ensures spent { IfOk result (λ p. IsSpentUp turns.new p.verdict) }
     ensures faults { IfErr result IsTold }
@@ -167,6 +171,7 @@ pub fn propose_with_reads<A: Allocator + Copy>(
     ensures listed { IfOk result (λ p. IsListed p.declaration p.verdict) }
     // By its facts some step may read each cell that is listed.
     ensures needed { IfOk result (λ p. AreNeeded image.now p.declaration p.verdict) }
+    ensures written { IfOk result (λ p. AreWritten image.now p.declaration p.verdict) }
     ensures spent { IfOk result (λ p. IsSpentUp turns.new p.verdict) }
     ensures faults { IfErr result IsTold }
     ensures limit { turns.new.limit ≡ turns.old.limit }
@@ -187,6 +192,9 @@ pub fn propose_with_reads<A: Allocator + Copy>(
             let listing = relisted(alloc, &mut text, &cells, start, profile)?;
             listing.is_declared();
             if !lists_needed(image, &listing, &certificate) {
+                return Err(ProposeFault::Mismatch);
+            }
+            if !variables_written(image, &listing, &certificate) {
                 return Err(ProposeFault::Mismatch);
             }
             let verdict = accepted(alloc, image, &listing, certificate)?;
@@ -267,8 +275,8 @@ fn broadened<A: Allocator + Copy>(
     attempt(alloc, tape, map, &cells, turns)
 }
 
-/// A proposal with fewer variables, as far as its certificate and those that are found then show that
-/// they are enough.
+/// A proposal with only those variables that some step may write by the facts of its certificate: of one that is found for
+/// them or, if none is found, of the one that there is.
 fn cut_down<A: Allocator + Copy>(
     alloc: A,
     tape: &Tape<'_>,
@@ -284,6 +292,7 @@ fn cut_down<A: Allocator + Copy>(
     ensures shown { IfOk result (λ p. IsShown tape.now.image.now p.declaration p.verdict) }
     // Of a proposal with a certificate one with a certificate is made, also where turns run out.
     ensures safe { IfOk result (λ p. is_safe proposal.verdict ≡ true → is_safe p.verdict ≡ true) }
+    ensures written { IfOk result (λ p. AreWritten tape.now.image.now p.declaration p.verdict) }
     ensures unlisted { IfOk result (λ p. (meaning p.declaration).reads ≡ None) }
     ensures spent { IfOk result (λ p. IsSpentUp turns.new p.verdict) }
     ensures faults { IfErr result IsTold }
@@ -298,12 +307,94 @@ fn cut_down<A: Allocator + Copy>(
             return Ok(proposal);
         };
         let tighter = attempt(alloc, tape, map, &cells, turns)?;
-        if !tighter.is_safe() {
-            return Ok(proposal);
+        if tighter.is_safe() {
+            proposal = tighter;
+        } else {
+            proposal = narrowed(alloc, tape, map, &cells, proposal)?;
         }
-        proposal = tighter;
     }
-    Ok(proposal)
+    match proposal.spare(tape.image) {
+        None => Ok(proposal),
+        Some(_) => Err(ProposeFault::Mismatch),
+    }
+}
+
+/// The proposal with these variables and with the certificate of another one, which the judge has to accept for it.
+fn narrowed<A: Allocator + Copy>(
+    alloc: A,
+    tape: &Tape<'_>,
+    map: &Map,
+    variables: &WordSet,
+    given: Proposal<A>,
+) -> Result<Proposal<A>, ProposeFault>
+    requires profile { (meaning given.declaration).profile ≡ map.now.profile }
+    requires shown { IsShown tape.now.image.now given.declaration given.verdict }
+    ensures fits { IfOk result (Fits map.now.start map.now.profile) }
+    ensures shown { IfOk result (λ p. IsShown tape.now.image.now p.declaration p.verdict) }
+    ensures safe { IfOk result (λ p. is_safe p.verdict ≡ true) }
+    ensures unlisted { IfOk result (λ p. (meaning p.declaration).reads ≡ None) }
+    ensures spent { IfOk result (λ p. p.verdict ≢ TurnsSpent) }
+    ensures faults { IfErr result IsTold }
+{
+    let Ok(text) = map.text(alloc, tape, variables) else {
+        return Err(ProposeFault::NoMemory);
+    };
+    let declaration = declared_by(alloc, &text, map)?;
+    declaration.is_declared();
+    let verdict = verdict_by(alloc, tape.image, &declaration, given)?;
+    Ok(Proposal {
+        declaration,
+        text,
+        unfollowed: map.unfollowed(),
+        seen: tape.seen(),
+        verdict,
+    })
+}
+
+/// What a text declares that was written for a map.
+fn declared_by<A: Allocator + Copy>(
+    alloc: A,
+    text: &[u8],
+    map: &Map,
+) -> Result<Declaration<A>, ProposeFault>
+    ensures start { IfOk result (λ d. (meaning d).start ≡ map.now.start) }
+    ensures profile { IfOk result (λ d. (meaning d).profile ≡ map.now.profile) }
+    ensures text { IfOk result (λ d. Declares text.now (meaning d)) }
+    ensures routines { IfOk result (λ d. ListsRoutines text.now (routines_of d)) }
+    ensures unlisted { IfOk result (λ d. (meaning d).reads ≡ None) }
+    ensures faults { IfErr result IsTold }
+{
+    match Declaration::parse(alloc, text) {
+        Ok(declaration) => {
+            if !is_asked(&declaration, map.start, map.profile) || declaration.reads_listed() {
+                return Err(ProposeFault::Mismatch);
+            }
+            Ok(declaration)
+        }
+        Err(fault) => Err(refused(fault)),
+    }
+}
+
+/// The verdict with the certificate of a proposal for the same machine, if it has one, where the judge accepts it for this
+/// declaration.
+fn verdict_by<A: Allocator + Copy>(
+    alloc: A,
+    image: &Image,
+    declaration: &Declaration<A>,
+    given: Proposal<A>,
+) -> Result<Verdict<A>, ProposeFault>
+    requires profile { (meaning given.declaration).profile ≡ (meaning declaration.now).profile }
+    requires shown { IsShown image.now given.declaration given.verdict }
+    ensures shown { IfOk result (IsShown image.now declaration.now) }
+    ensures safe { IfOk result (λ v. is_safe v ≡ true) }
+    ensures spent { IfOk result (λ v. v ≢ TurnsSpent) }
+    ensures faults { IfErr result IsTold }
+{
+    let Proposal { verdict, .. } = given;
+    match verdict {
+        Verdict::Safe(certificate) => accepted(alloc, image, declaration, certificate),
+        Verdict::Stuck(_) | Verdict::TurnsSpent => Err(ProposeFault::Mismatch),
+    }
 }
 
 /// The proposal with these variables.
@@ -421,6 +512,10 @@ fn accepted<A: Allocator + Copy>(
     ensures needed { ReadsAreNeeded
         (judged image.now declaration.now (certified.claims certificate)) →
         IfOk result (AreNeeded image.now declaration.now) }
+    ensures written { VariablesAreWritten
+        (judged image.now declaration.now (certified.claims certificate)) →
+        IfOk result (AreWritten image.now declaration.now) }
+    ensures safe { IfOk result (λ v. is_safe v ≡ true) }
     ensures spent { IfOk result (λ v. v ≢ TurnsSpent) }
     ensures faults { IfErr result IsTold }
 {
@@ -449,7 +544,9 @@ fn unfound<A: Allocator>(fault: GuessFault) -> Result<Verdict<A>, ProposeFault>
 impl<A: Allocator> Proposal<A> {
     /// Whether a certificate is found that the judge accepts.
     fn is_safe(&self) -> bool
-        ensures { result ≡ is_safe self.now.verdict }
+        ensures safe { result ≡ is_safe self.now.verdict }
+        ensures open { (image : List (Option ℕ)) → result ≡ false →
+            AreWritten image self.now.declaration self.now.verdict }
     {
         matches!(&self.verdict, Verdict::Safe(_))
     }
@@ -459,15 +556,13 @@ impl<A: Allocator> Proposal<A> {
         matches!(&self.verdict, Verdict::Stuck(_))
     }
 
-    /// Fewer variables that are enough by the certificate, if there are fewer.
-    fn spare(&self, image: &Image) -> Option<WordSet> {
-        let Verdict::Safe(certificate) = &self.verdict else {
-            return None;
-        };
-        let cells = written(image, &self.declaration, certificate);
-        if cells == *self.declaration.variables() {
-            return None;
+    /// The variables that some step may write by the facts of the certificate, if there is one and those are not all.
+    fn spare(&self, image: &Image) -> Option<WordSet>
+        ensures { result ≡ None → AreWritten image.now self.now.declaration self.now.verdict }
+    {
+        match &self.verdict {
+            Verdict::Safe(certificate) => fewer_variables(image, &self.declaration, certificate),
+            Verdict::Stuck(_) | Verdict::TurnsSpent => None,
         }
-        Some(cells)
     }
 }

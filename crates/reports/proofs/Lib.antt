@@ -1,2 +1,3 @@
+pub mod HtmlLemmas
 pub mod ReachedLemmas
 pub mod ShownLemmas

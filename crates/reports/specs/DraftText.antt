@@ -9,8 +9,8 @@ use Rattle.reports.specs.Head.{head_of, stuck_opening}
 abbrev pub stuck_line : ℕ → List ℕ
 stuck_line at = (codes "not known: stuck at " ++ octal_text at) ++ codes "\n"
 
--- The page is what comes before the line in its form, then the line of a search that is stuck at this address, then that
+-- The page is what comes before the line in its form, of a program of this name, then the line of a search that is stuck at this address, then that
 -- nothing is shown, and then more.
-pub record IsDraftPage (form : ReportForm) (at : ℕ) (page : List ℕ) : Type 0 where
+pub record IsDraftPage (form : ReportForm) (name : List ℕ) (at : ℕ) (page : List ℕ) : Type 0 where
   pub rest : List ℕ
-  pub page_is : page ≡ head_of form ++ (stuck_line at ++ (stuck_opening form ++ rest))
+  pub page_is : page ≡ head_of form name ++ (stuck_line at ++ (stuck_opening form ++ rest))

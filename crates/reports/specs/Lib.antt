@@ -1,4 +1,5 @@
 pub mod Head
+pub mod Html
 pub mod Kinds
 pub mod Laws
 pub mod DraftText

@@ -7,11 +7,11 @@ use Rattle.reports.specs.declared.writer.ReportForm.{ReportForm}
 use Rattle.reports.specs.Head.{head_of, opening}
 use Rattle.diagnostics.specs.CheckText.{IsVerdictOf}
 
--- The page is what comes before the verdict in its form, then the line of the verdict on the image, the declaration and the
+-- The page is what comes before the verdict in its form, of a program of this name, then the line of the verdict on the image, the declaration and the
 -- certificate's lines, as `check` writes it, then what stands right behind that verdict, and then more; and the status is that
 -- of the verdict.
-pub record IsReportOf (form : ReportForm) (image : List (Option ℕ)) (declaration : Declaration) (lines : Text) (status : Status) (page : List ℕ) : Type 0 where
+pub record IsReportOf (form : ReportForm) (name : List ℕ) (image : List (Option ℕ)) (declaration : Declaration) (lines : Text) (status : Status) (page : List ℕ) : Type 0 where
   pub line : List ℕ
   pub checked : IsVerdictOf image declaration lines status line
   pub rest : List ℕ
-  pub page_is : page ≡ head_of form ++ (line ++ (opening form checked.verdict ++ rest))
+  pub page_is : page ≡ head_of form name ++ (line ++ (opening form checked.verdict ++ rest))

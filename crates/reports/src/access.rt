@@ -39,7 +39,7 @@ pub(crate) fn writes_through<B: Allocator, D: Allocator, C: Allocator>(
 }
 
 /// Writes an item with addresses, if there are any.
-fn write_places<A: Allocator>(writer: &mut ReportWriter<A>, name: &[u8], set: &WordSet) {
+fn write_places<A: Allocator>(writer: &mut ReportWriter<'_, A>, name: &[u8], set: &WordSet) {
     if set.is_empty() {
         return;
     }
@@ -184,7 +184,7 @@ fn access_of<D: Allocator>(
 }
 
 /// Writes what an instruction may do, beside what its name says.
-fn write_each<A: Allocator>(writer: &mut ReportWriter<A>, access: &Access) {
+fn write_each<A: Allocator>(writer: &mut ReportWriter<'_, A>, access: &Access) {
     write_places(writer, b"reads ", &access.reads);
     write_places(writer, b"writes ", &access.writes);
     write_places(writer, b"calls ", &access.calls);
@@ -194,7 +194,7 @@ fn write_each<A: Allocator>(writer: &mut ReportWriter<A>, access: &Access) {
 
 /// Writes what the word of the tape does by an indirect reference at an address where no other may stand.
 fn write_indirect<A: Allocator, D: Allocator>(
-    writer: &mut ReportWriter<A>,
+    writer: &mut ReportWriter<'_, A>,
     place: &Place<'_, D>,
     known: &KnownFact,
     at: Word,
@@ -210,7 +210,7 @@ fn write_indirect<A: Allocator, D: Allocator>(
 
 /// Writes which words may stand at an address, and what they do, unless they are many.
 fn write_varying<A: Allocator, D: Allocator>(
-    writer: &mut ReportWriter<A>,
+    writer: &mut ReportWriter<'_, A>,
     place: &Place<'_, D>,
     known: &KnownFact,
     at: Word,
@@ -239,7 +239,7 @@ fn fixed_word<B: Allocator, D: Allocator, C: Allocator>(
 
 /// Writes the cell that the word of the tape writes by a direct reference, whatever is known.
 pub(crate) fn write_direct<A: Allocator, B: Allocator, D: Allocator, C: Allocator>(
-    writer: &mut ReportWriter<A>,
+    writer: &mut ReportWriter<'_, A>,
     report: &Report<'_, B, D, C>,
     at: Word,
 ) {
@@ -254,7 +254,7 @@ pub(crate) fn write_direct<A: Allocator, B: Allocator, D: Allocator, C: Allocato
 /// Writes what the words at an address may do by what is known: the cells that they write, and where they go and what they
 /// read by indirect references.
 pub(crate) fn write_access<A: Allocator, B: Allocator, D: Allocator, C: Allocator>(
-    writer: &mut ReportWriter<A>,
+    writer: &mut ReportWriter<'_, A>,
     report: &Report<'_, B, D, C>,
     kind: &CellKind,
     known: &KnownFact,

@@ -5,7 +5,8 @@ ghost use Rattle.reports.specs.Head.{head_of, stuck_opening};
 ghost use Rattle.reports.specs.DraftText.{IsDraftPage, stuck_line};
 
 use crate::reporting::below_lines;
-use crate::{Finding, PageNames, Report, ReportForm, SourceNotes, head_of, stuck_opening};
+use crate::style::push_head;
+use crate::{Finding, PageNames, Report, ReportForm, SourceNotes, stuck_opening};
 use bin_tape::Image;
 use certificate::Certificate;
 use command_parts::text::push_place;
@@ -87,14 +88,15 @@ fn below_stuck<A: Allocator + Copy, D: Allocator, C: Allocator>(
 fn joined<A: Allocator>(
     alloc: A,
     form: ReportForm,
+    name: &[u8],
     at: Word,
     rest: &[u8],
 ) -> Result<Vec<u8, A>, AllocError>
     ensures { IfOk result (λ page. page.items ≡
-        head_of form ++ (stuck_line at ++ (stuck_opening form ++ rest.now))) }
+        head_of form name.now ++ (stuck_line at ++ (stuck_opening form ++ rest.now))) }
 {
     let mut page = Vec::new(alloc);
-    page.extend_from_slice(head_of(form))?;
+    push_head(&mut page, form, name)?;
     push_place(&mut page, b"not known: stuck at ", at)?;
     page.extend_from_slice(b"\n")?;
     page.extend_from_slice(stuck_opening(form))?;
@@ -118,7 +120,7 @@ pub fn draft_page<A: Allocator + Copy, D: Allocator, C: Allocator>(
     notes: Option<&SourceNotes<A>>,
     given: Option<&[u8]>,
 ) -> Result<Vec<u8, A>, AllocError>
-    ensures { IfOk result (λ page. IsDraftPage form at page.items) }
+    ensures { IfOk result (λ page. IsDraftPage form names.program.now at page.items) }
 {
     let rest = below_stuck(
         alloc,
@@ -131,6 +133,6 @@ pub fn draft_page<A: Allocator + Copy, D: Allocator, C: Allocator>(
         notes,
         given,
     )?;
-    let page = joined(alloc, form, at, &rest)?;
+    let page = joined(alloc, form, names.program, at, &rest)?;
     Ok(page)
 }

@@ -25,9 +25,8 @@ pub(crate) struct FactContext<'a> {
     pub(crate) sites: WordSet,
 }
 
-/// Writes which words a register or a cell may hold.
-pub(crate) fn write_holds<A: Allocator>(writer: &mut ReportWriter<A>, name: &[u8], set: &WordSet) {
-    writer.put(name);
+/// Writes which words a register or a cell may hold, after its name.
+fn write_held<A: Allocator>(writer: &mut ReportWriter<'_, A>, set: &WordSet) {
     if set.is_all() {
         return writer.put(b" any");
     }
@@ -39,10 +38,30 @@ pub(crate) fn write_holds<A: Allocator>(writer: &mut ReportWriter<A>, name: &[u8
     writer.words(set);
 }
 
-/// Writes an item on a register or a cell: which words it may hold.
-fn write_item<A: Allocator>(writer: &mut ReportWriter<A>, name: &[u8], set: &WordSet, same: bool) {
+/// Writes an item on a register: which words it may hold.
+fn write_item<A: Allocator>(
+    writer: &mut ReportWriter<'_, A>,
+    name: &[u8],
+    set: &WordSet,
+    same: bool,
+) {
     if writer.begin_item(same) {
-        write_holds(writer, name, set);
+        writer.put(name);
+        write_held(writer, set);
+        writer.end_item(same);
+    }
+}
+
+/// Writes an item on a cell: which words it may hold.
+fn write_cell_item<A: Allocator>(
+    writer: &mut ReportWriter<'_, A>,
+    cell: Word,
+    set: &WordSet,
+    same: bool,
+) {
+    if writer.begin_item(same) {
+        writer.cell(cell);
+        write_held(writer, set);
         writer.end_item(same);
     }
 }
@@ -61,7 +80,7 @@ pub(crate) fn link_text(links: Links) -> &'static [u8]
 
 /// Writes the item on AC.
 fn write_accumulator<A: Allocator>(
-    writer: &mut ReportWriter<A>,
+    writer: &mut ReportWriter<'_, A>,
     known: &KnownFact,
     above: Option<&KnownFact>,
 ) {
@@ -75,7 +94,7 @@ fn write_accumulator<A: Allocator>(
 
 /// Writes the item on MQ, where something is known about it or was above.
 fn write_mq<A: Allocator>(
-    writer: &mut ReportWriter<A>,
+    writer: &mut ReportWriter<'_, A>,
     known: &KnownFact,
     above: Option<&KnownFact>,
 ) {
@@ -91,7 +110,7 @@ fn write_mq<A: Allocator>(
 
 /// Writes the item on the link.
 fn write_link<A: Allocator>(
-    writer: &mut ReportWriter<A>,
+    writer: &mut ReportWriter<'_, A>,
     known: &KnownFact,
     above: Option<&KnownFact>,
 ) {
@@ -107,7 +126,7 @@ fn write_link<A: Allocator>(
 
 /// Writes the items on AC, MQ and the link, except for those by which facts are distinguished.
 fn write_registers<A: Allocator>(
-    writer: &mut ReportWriter<A>,
+    writer: &mut ReportWriter<'_, A>,
     known: &KnownFact,
     above: Option<&KnownFact>,
     apart: &FactDifferences,
@@ -123,7 +142,7 @@ fn write_registers<A: Allocator>(
 
 /// Writes the items on cells; one of which nothing is said above may hold any word there.
 fn write_cells<A: Allocator>(
-    writer: &mut ReportWriter<A>,
+    writer: &mut ReportWriter<'_, A>,
     known: &KnownFact,
     above: Option<&KnownFact>,
     apart: &FactDifferences,
@@ -136,20 +155,20 @@ fn write_cells<A: Allocator>(
             None => false,
         };
         if !apart.is_by(&name) {
-            write_item(writer, &cell.to_octal(), &set, same);
+            write_cell_item(writer, cell, &set, same);
         }
     }
 }
 
 /// Writes an item on each cell of which nothing is known any more.
 fn write_lost_cells<A: Allocator>(
-    writer: &mut ReportWriter<A>,
+    writer: &mut ReportWriter<'_, A>,
     known: &KnownFact,
     above: &KnownFact,
 ) {
     for cell in above.cells.minus(&known.cells).iter() {
         if !above.set_of(&Location::Cell(cell)).is_all() {
-            write_item(writer, &cell.to_octal(), &WordSet::all(), false);
+            write_cell_item(writer, cell, &WordSet::all(), false);
         }
     }
 }
@@ -192,7 +211,7 @@ fn equation_of(relation: &Relation) -> Option<(Location, Location, Word)> {
 
 /// Writes the item of an equation, with the words that all that is known leaves to the name on its left.
 fn write_equation<A: Allocator>(
-    writer: &mut ReportWriter<A>,
+    writer: &mut ReportWriter<'_, A>,
     setting: &FactContext<'_>,
     known: &KnownFact,
     above: Option<&KnownFact>,
@@ -226,7 +245,7 @@ fn write_equation<A: Allocator>(
 
 /// Writes the item of a relation.
 fn write_sum<A: Allocator>(
-    writer: &mut ReportWriter<A>,
+    writer: &mut ReportWriter<'_, A>,
     above: Option<&KnownFact>,
     relation: &Relation,
 ) {
@@ -242,7 +261,7 @@ fn write_sum<A: Allocator>(
 
 /// Writes the items of relations.
 fn write_relations<A: Allocator>(
-    writer: &mut ReportWriter<A>,
+    writer: &mut ReportWriter<'_, A>,
     setting: &FactContext<'_>,
     known: &KnownFact,
     above: Option<&KnownFact>,
@@ -257,7 +276,7 @@ fn write_relations<A: Allocator>(
 
 /// Writes an item on each sum of which nothing is known any more.
 fn write_lost_relations<A: Allocator>(
-    writer: &mut ReportWriter<A>,
+    writer: &mut ReportWriter<'_, A>,
     known: &KnownFact,
     above: &KnownFact,
 ) {
@@ -308,7 +327,7 @@ fn begins_at(chains: &[Chain], cell: Word) -> bool {
 
 /// Writes the items of chains.
 fn write_chains<A: Allocator>(
-    writer: &mut ReportWriter<A>,
+    writer: &mut ReportWriter<'_, A>,
     setting: &FactContext<'_>,
     known: &KnownFact,
     above: Option<&KnownFact>,
@@ -327,7 +346,7 @@ fn write_chains<A: Allocator>(
 
 /// Writes an item on each cell from which AC does not come any more.
 fn write_lost_chains<A: Allocator>(
-    writer: &mut ReportWriter<A>,
+    writer: &mut ReportWriter<'_, A>,
     known: &KnownFact,
     above: &KnownFact,
 ) {
@@ -340,7 +359,10 @@ fn write_lost_chains<A: Allocator>(
 }
 
 /// Writes by how much a return word may have been incremented.
-pub(crate) fn write_offsets<A: Allocator>(writer: &mut ReportWriter<A>, offsets: ReturnOffsets) {
+pub(crate) fn write_offsets<A: Allocator>(
+    writer: &mut ReportWriter<'_, A>,
+    offsets: ReturnOffsets,
+) {
     let mut some = false;
     for offset in 0..64usize {
         if offsets.contains(offset) {
@@ -365,7 +387,7 @@ fn is_uncounted(offsets: ReturnOffsets) -> bool {
 
 /// Writes the item on how far the return word was incremented, where it may have been or was above.
 fn write_counted<A: Allocator>(
-    writer: &mut ReportWriter<A>,
+    writer: &mut ReportWriter<'_, A>,
     known: &KnownFact,
     above: Option<&KnownFact>,
 ) {
@@ -386,7 +408,7 @@ fn write_counted<A: Allocator>(
 
 /// Writes the item on the sites from which the routine was called, where they are not all of its sites or were not above.
 fn write_sites<A: Allocator>(
-    writer: &mut ReportWriter<A>,
+    writer: &mut ReportWriter<'_, A>,
     setting: &FactContext<'_>,
     known: &KnownFact,
     above: Option<&KnownFact>,
@@ -405,7 +427,7 @@ fn write_sites<A: Allocator>(
 
 /// Writes what a fact no longer says that the one above it says.
 fn write_all_lost<A: Allocator>(
-    writer: &mut ReportWriter<A>,
+    writer: &mut ReportWriter<'_, A>,
     known: &KnownFact,
     above: Option<&KnownFact>,
 ) {
@@ -418,7 +440,7 @@ fn write_all_lost<A: Allocator>(
 /// Writes what a fact says as items, except for that by which it is distinguished from others: where one above is
 /// near, what differs from it, and in a page also what does not.
 pub(crate) fn write_fact<A: Allocator>(
-    writer: &mut ReportWriter<A>,
+    writer: &mut ReportWriter<'_, A>,
     setting: &FactContext<'_>,
     known: &KnownFact,
     above: Option<&KnownFact>,
@@ -442,7 +464,7 @@ pub(crate) fn write_fact<A: Allocator>(
 
 /// Writes what holds after a return, in which the return word is not spoken of.
 pub(crate) fn write_exit<A: Allocator>(
-    writer: &mut ReportWriter<A>,
+    writer: &mut ReportWriter<'_, A>,
     setting: &FactContext<'_>,
     exit: &KnownFact,
 ) {
@@ -455,7 +477,7 @@ pub(crate) fn write_exit<A: Allocator>(
 }
 
 /// Begins a part of what distinguishes a fact from others.
-fn begin_part<A: Allocator>(writer: &mut ReportWriter<A>, is_first: &mut bool) {
+fn begin_part<A: Allocator>(writer: &mut ReportWriter<'_, A>, is_first: &mut bool) {
     if !*is_first {
         writer.put(b", ");
     }
@@ -464,19 +486,25 @@ fn begin_part<A: Allocator>(writer: &mut ReportWriter<A>, is_first: &mut bool) {
 
 /// Writes the words of the name by which facts are distinguished.
 fn write_name_apart<A: Allocator>(
-    writer: &mut ReportWriter<A>,
+    writer: &mut ReportWriter<'_, A>,
     known: &KnownFact,
     name: &Location,
 ) {
     match name {
-        Location::Accumulator => write_holds(writer, b"AC", known.fact.accumulator()),
-        Location::Cell(cell) => write_holds(writer, &cell.to_octal(), &known.set_of(name)),
+        Location::Accumulator => {
+            writer.put(b"AC");
+            write_held(writer, known.fact.accumulator());
+        }
+        Location::Cell(cell) => {
+            writer.cell(*cell);
+            write_held(writer, &known.set_of(name));
+        }
     }
 }
 
 /// Writes what distinguishes a fact from others.
 pub(crate) fn write_apart<A: Allocator>(
-    writer: &mut ReportWriter<A>,
+    writer: &mut ReportWriter<'_, A>,
     known: &KnownFact,
     apart: &FactDifferences,
 ) {

@@ -109,7 +109,11 @@ fn is_called_from(body: &WordSet, sites: &WordSet) -> bool
 }
 
 /// Writes a line from a caller's box to a callee's.
-fn write_line<A: Allocator>(writer: &mut ReportWriter<A>, caller: &BoxPlace, callee: &BoxPlace) {
+fn write_line<A: Allocator>(
+    writer: &mut ReportWriter<'_, A>,
+    caller: &BoxPlace,
+    callee: &BoxPlace,
+) {
     writer.numbered(b"<path class=l d=\"M", caller.middle());
     writer.numbered(b" ", caller.top().saturating_add(40));
     writer.numbered(b"L", callee.middle());
@@ -119,7 +123,7 @@ fn write_line<A: Allocator>(writer: &mut ReportWriter<A>, caller: &BoxPlace, cal
 
 /// Writes the lines from the callers of a routine to it.
 fn write_lines<A: Allocator, B: Allocator, D: Allocator, C: Allocator>(
-    writer: &mut ReportWriter<A>,
+    writer: &mut ReportWriter<'_, A>,
     report: &Report<'_, B, D, C>,
     box_places: &[BoxPlace],
     place: usize,
@@ -139,7 +143,7 @@ fn write_lines<A: Allocator, B: Allocator, D: Allocator, C: Allocator>(
 
 /// Writes a box with a name, and with a label after it, if there is one.
 fn write_box<A: Allocator>(
-    writer: &mut ReportWriter<A>,
+    writer: &mut ReportWriter<'_, A>,
     box_place: &BoxPlace,
     class: &[u8],
     name: &[u8],
@@ -162,7 +166,7 @@ fn write_box<A: Allocator>(
 
 /// Writes the box of a routine, which leads to its line.
 fn write_routine_box<A: Allocator>(
-    writer: &mut ReportWriter<A>,
+    writer: &mut ReportWriter<'_, A>,
     box_place: &BoxPlace,
     place: usize,
     entry: Word,
@@ -181,12 +185,12 @@ fn write_routine_box<A: Allocator>(
 
 /// Writes the row of a routine in the table.
 fn write_row<A: Allocator, B: Allocator, D: Allocator, C: Allocator>(
-    writer: &mut ReportWriter<A>,
+    writer: &mut ReportWriter<'_, A>,
     report: &Report<'_, B, D, C>,
     routine: &Routine,
 ) {
     writer.put(b"<tr><td>");
-    writer.place(routine.entry());
+    writer.linked(routine.entry());
     writer.label(report.label_at(routine.entry()));
     match report.certificate.routine(routine.entry()) {
         None => writer.put(b"<td colspan=3>nothing is claimed about it"),
@@ -215,7 +219,7 @@ fn corner(box_places: &[BoxPlace]) -> BoxPlace {
 
 /// Writes the drawing: the lines, and above them the boxes.
 fn write_drawing<A: Allocator, B: Allocator, D: Allocator, C: Allocator>(
-    writer: &mut ReportWriter<A>,
+    writer: &mut ReportWriter<'_, A>,
     report: &Report<'_, B, D, C>,
     box_places: &[BoxPlace],
 ) {
@@ -236,7 +240,7 @@ fn write_drawing<A: Allocator, B: Allocator, D: Allocator, C: Allocator>(
 
 /// Writes the boxes of the routines.
 fn write_boxes<A: Allocator, B: Allocator, D: Allocator, C: Allocator>(
-    writer: &mut ReportWriter<A>,
+    writer: &mut ReportWriter<'_, A>,
     report: &Report<'_, B, D, C>,
     box_places: &[BoxPlace],
 ) {
@@ -268,7 +272,7 @@ fn ranks_text(finding: Finding) -> &'static [u8] {
 
 /// Writes the routines: a drawing of who calls whom, and a table.
 pub(crate) fn write_graph<A: Allocator, S: Allocator, B: Allocator, D: Allocator, C: Allocator>(
-    writer: &mut ReportWriter<A>,
+    writer: &mut ReportWriter<'_, A>,
     alloc: S,
     report: &Report<'_, B, D, C>,
 ) -> Result<(), AllocError> {

@@ -3,6 +3,7 @@
 
 mod access;
 mod cases;
+mod escaping;
 mod fact_context;
 mod graph;
 mod known_fact;
@@ -25,7 +26,7 @@ pub use page::page_below;
 pub use report::{Finding, Report};
 pub use source_notes::{LinePlace, SourceNote, SourceNotes};
 use std::alloc::{AllocError, Allocator};
-pub use style::{head_of, opening, stuck_opening};
+pub use style::{opening, stuck_opening};
 pub use writer::ReportForm;
 use writer::ReportWriter;
 
@@ -38,7 +39,7 @@ pub fn listing_below<A: Allocator + Copy, D: Allocator, C: Allocator>(
     alloc: A,
     report: &Report<'_, A, D, C>,
 ) -> Result<Vec<u8, A>, AllocError> {
-    let mut writer = ReportWriter::new(alloc, ReportForm::Text, &report.lines());
+    let mut writer = ReportWriter::new(alloc, ReportForm::Text, &report.lines(), report.notes);
     let mut cache = ClaimCache::boxed(alloc)?;
     push_listing(&mut writer, report, &mut cache);
     writer.into_bytes()

@@ -36,7 +36,7 @@ const WITHOUT: usize = 25;
 
 /// Writes the name of a word; that of a direct memory reference leads to the line of its cell.
 fn write_name<A: Allocator, B: Allocator, D: Allocator, C: Allocator>(
-    writer: &mut ReportWriter<A>,
+    writer: &mut ReportWriter<'_, A>,
     report: &Report<'_, B, D, C>,
     at: Word,
     word: Word,
@@ -58,7 +58,7 @@ fn write_name<A: Allocator, B: Allocator, D: Allocator, C: Allocator>(
 
 /// Writes address and word, and the name of an instruction.
 fn write_word<A: Allocator, B: Allocator, D: Allocator, C: Allocator>(
-    writer: &mut ReportWriter<A>,
+    writer: &mut ReportWriter<'_, A>,
     report: &Report<'_, B, D, C>,
     at: Word,
 ) {
@@ -88,7 +88,7 @@ fn write_word<A: Allocator, B: Allocator, D: Allocator, C: Allocator>(
 
 /// Writes what is declared of an address.
 fn write_declared<A: Allocator, B: Allocator, D: Allocator, C: Allocator>(
-    writer: &mut ReportWriter<A>,
+    writer: &mut ReportWriter<'_, A>,
     report: &Report<'_, B, D, C>,
     at: Word,
 ) {
@@ -109,7 +109,7 @@ fn write_declared<A: Allocator, B: Allocator, D: Allocator, C: Allocator>(
 
 /// Writes which words a variable may hold, and where nothing is known about it.
 pub(crate) fn write_variable<A: Allocator, B: Allocator, D: Allocator, C: Allocator>(
-    writer: &mut ReportWriter<A>,
+    writer: &mut ReportWriter<'_, A>,
     report: &Report<'_, B, D, C>,
     cell: Word,
 ) {
@@ -159,7 +159,7 @@ fn unknown_at<B: Allocator, D: Allocator, C: Allocator>(
 
 /// Writes what is said about an address without a fact. It is said of no other address that it is never reached.
 fn write_unknown<A: Allocator, B: Allocator, D: Allocator, C: Allocator>(
-    writer: &mut ReportWriter<A>,
+    writer: &mut ReportWriter<'_, A>,
     report: &Report<'_, B, D, C>,
     kind: &CellKind,
     at: Word,
@@ -177,7 +177,7 @@ fn write_unknown<A: Allocator, B: Allocator, D: Allocator, C: Allocator>(
 
 /// Writes the mark of the address at which the verdict is no or the search is stuck.
 fn write_mark<A: Allocator, B: Allocator, D: Allocator, C: Allocator>(
-    writer: &mut ReportWriter<A>,
+    writer: &mut ReportWriter<'_, A>,
     report: &Report<'_, B, D, C>,
     at: Word,
 ) {
@@ -285,7 +285,7 @@ impl ClaimCache {
 /// Writes what is known and done at an address with one fact, which this one shows. `claimed` is what is claimed of the
 /// routine in whose body the address is.
 fn write_shown<A: Allocator, B: Allocator, D: Allocator, C: Allocator>(
-    writer: &mut ReportWriter<A>,
+    writer: &mut ReportWriter<'_, A>,
     report: &Report<'_, B, D, C>,
     claimed: &RoutineClaim,
     kind: &CellKind,
@@ -311,7 +311,7 @@ fn write_shown<A: Allocator, B: Allocator, D: Allocator, C: Allocator>(
 
 /// Writes what is known and done at an address with one fact.
 fn write_only_fact<A: Allocator, B: Allocator, D: Allocator, C: Allocator>(
-    writer: &mut ReportWriter<A>,
+    writer: &mut ReportWriter<'_, A>,
     report: &Report<'_, B, D, C>,
     cache: &mut ClaimCache,
     kind: &CellKind,
@@ -334,7 +334,7 @@ fn write_only_fact<A: Allocator, B: Allocator, D: Allocator, C: Allocator>(
 /// Writes what is known and done at an address, or how many facts there are if there are several.
 #[tactic(auto, using(crate::proofs::ShownLemmas::no_facts))]
 fn write_known<A: Allocator, B: Allocator, D: Allocator, C: Allocator>(
-    writer: &mut ReportWriter<A>,
+    writer: &mut ReportWriter<'_, A>,
     report: &Report<'_, B, D, C>,
     cache: &mut ClaimCache,
     at: Word,
@@ -359,7 +359,7 @@ fn write_known<A: Allocator, B: Allocator, D: Allocator, C: Allocator>(
 
 /// Writes what tells a case apart from the others: its number, if nothing else does.
 fn write_case_head<A: Allocator>(
-    writer: &mut ReportWriter<A>,
+    writer: &mut ReportWriter<'_, A>,
     known: &KnownFact,
     apart: &FactDifferences,
     index: usize,
@@ -379,7 +379,7 @@ fn write_case_head<A: Allocator>(
 
 /// Writes the line of one of several facts at an address.
 fn write_case<A: Allocator, B: Allocator, D: Allocator, C: Allocator>(
-    writer: &mut ReportWriter<A>,
+    writer: &mut ReportWriter<'_, A>,
     report: &Report<'_, B, D, C>,
     cache: &ClaimCache,
     apart: &FactDifferences,
@@ -405,7 +405,7 @@ fn write_case<A: Allocator, B: Allocator, D: Allocator, C: Allocator>(
 
 /// Writes a line for each of several facts at an address.
 fn write_cases<A: Allocator, B: Allocator, D: Allocator, C: Allocator>(
-    writer: &mut ReportWriter<A>,
+    writer: &mut ReportWriter<'_, A>,
     report: &Report<'_, B, D, C>,
     cache: &mut ClaimCache,
     at: Word,
@@ -433,7 +433,7 @@ fn write_cases<A: Allocator, B: Allocator, D: Allocator, C: Allocator>(
 }
 
 /// Writes what the source says about an address, if it says something: in a page in a further column.
-fn write_note<A: Allocator>(writer: &mut ReportWriter<A>, note: Option<SourceNote<'_>>) {
+fn write_note<A: Allocator>(writer: &mut ReportWriter<'_, A>, note: Option<SourceNote<'_>>) {
     let Some(note) = note else {
         return;
     };
@@ -449,7 +449,7 @@ fn write_note<A: Allocator>(writer: &mut ReportWriter<A>, note: Option<SourceNot
 
 /// Writes the line of an address.
 fn write_line<A: Allocator, B: Allocator, D: Allocator, C: Allocator>(
-    writer: &mut ReportWriter<A>,
+    writer: &mut ReportWriter<'_, A>,
     report: &Report<'_, B, D, C>,
     cache: &mut ClaimCache,
     at: Word,
@@ -485,7 +485,7 @@ fn last_quiet<B: Allocator, D: Allocator, C: Allocator>(
 
 /// Writes the line of a row of variables of which nothing is said.
 fn write_quiet<A: Allocator, B: Allocator, D: Allocator, C: Allocator>(
-    writer: &mut ReportWriter<A>,
+    writer: &mut ReportWriter<'_, A>,
     report: &Report<'_, B, D, C>,
     first: Word,
 ) {
@@ -493,7 +493,7 @@ fn write_quiet<A: Allocator, B: Allocator, D: Allocator, C: Allocator>(
     writer.mark(&first.to_octal());
     writer.mark(b"><td colspan=3>");
     let last = last_quiet(report, first);
-    writer.run(first, last, false);
+    writer.cell_run(first, last);
     writer.mark(b"<td>");
     writer.begin_items(if first == last { ALONE } else { SHORT });
     writer.item(b"any word\n");
@@ -501,7 +501,7 @@ fn write_quiet<A: Allocator, B: Allocator, D: Allocator, C: Allocator>(
 
 /// Writes the heading of lines of a kind; that of a routine with what is claimed about it.
 fn write_heading<A: Allocator, B: Allocator, D: Allocator, C: Allocator>(
-    writer: &mut ReportWriter<A>,
+    writer: &mut ReportWriter<'_, A>,
     report: &Report<'_, B, D, C>,
     cache: &mut ClaimCache,
     at: Word,
@@ -554,7 +554,7 @@ fn needs_heading<B: Allocator, D: Allocator, C: Allocator>(
 
 /// Writes the listing.
 pub(crate) fn push_listing<A: Allocator, B: Allocator, D: Allocator, C: Allocator>(
-    writer: &mut ReportWriter<A>,
+    writer: &mut ReportWriter<'_, A>,
     report: &Report<'_, B, D, C>,
     cache: &mut ClaimCache,
 ) {

@@ -160,14 +160,14 @@ fn class_of<D: Allocator>(declaration: &Declaration<D>, kind: &CellKind) -> &'st
 }
 
 /// Writes a text beside the row that begins at an address.
-fn begin_row_text<A: Allocator>(writer: &mut ReportWriter<A>, rows: &MapRows, first: Word) {
+fn begin_row_text<A: Allocator>(writer: &mut ReportWriter<'_, A>, rows: &MapRows, first: Word) {
     writer.numbered(b"<text x=4 y=", rows.top_of(first).saturating_add(8));
     writer.put(b">");
     writer.word(first);
 }
 
 /// Writes the numbers at the side.
-fn write_row_numbers<A: Allocator>(writer: &mut ReportWriter<A>, rows: &MapRows) {
+fn write_row_numbers<A: Allocator>(writer: &mut ReportWriter<'_, A>, rows: &MapRows) {
     for row in 0..64usize {
         let first = Word::from_index(64 * row);
         if !rows.empty.contains(first) {
@@ -178,7 +178,7 @@ fn write_row_numbers<A: Allocator>(writer: &mut ReportWriter<A>, rows: &MapRows)
 }
 
 /// Writes beside each row of pages in which nothing stands which these are.
-fn write_empty_rows<A: Allocator>(writer: &mut ReportWriter<A>, rows: &MapRows) {
+fn write_empty_rows<A: Allocator>(writer: &mut ReportWriter<'_, A>, rows: &MapRows) {
     for (first, last) in rows.empty.ranges() {
         begin_row_text(writer, rows, first);
         writer.put(b"-");
@@ -188,7 +188,7 @@ fn write_empty_rows<A: Allocator>(writer: &mut ReportWriter<A>, rows: &MapRows) 
 }
 
 /// Writes the numbers above.
-fn write_column_numbers<A: Allocator>(writer: &mut ReportWriter<A>) {
+fn write_column_numbers<A: Allocator>(writer: &mut ReportWriter<'_, A>) {
     for column in 0..8usize {
         writer.numbered(b"<text x=", LEFT + 8 * STEP * column);
         writer.numbered(b" y=10>+", 10 * column);
@@ -198,7 +198,7 @@ fn write_column_numbers<A: Allocator>(writer: &mut ReportWriter<A>) {
 
 /// Writes a circle or a dot in the middle of a cell.
 fn write_dot<A: Allocator>(
-    writer: &mut ReportWriter<A>,
+    writer: &mut ReportWriter<'_, A>,
     rows: &MapRows,
     at: Word,
     class: &[u8],
@@ -215,7 +215,7 @@ fn write_dot<A: Allocator>(
 
 /// Writes the square of a cell.
 fn write_square<A: Allocator>(
-    writer: &mut ReportWriter<A>,
+    writer: &mut ReportWriter<'_, A>,
     rows: &MapRows,
     at: Word,
     class: &[u8],
@@ -229,7 +229,7 @@ fn write_square<A: Allocator>(
 
 /// Writes the marks of a cell: a variable in a body, a halt, the start, the place of a no.
 fn write_marks<A: Allocator, B: Allocator, D: Allocator, C: Allocator>(
-    writer: &mut ReportWriter<A>,
+    writer: &mut ReportWriter<'_, A>,
     report: &Report<'_, B, D, C>,
     rows: &MapRows,
     at: Word,
@@ -266,7 +266,7 @@ fn kind_text(kind: &CellKind) -> &'static [u8]
 
 /// Writes the name of a word that is told as an instruction.
 fn write_title_name<A: Allocator, B: Allocator, D: Allocator, C: Allocator>(
-    writer: &mut ReportWriter<A>,
+    writer: &mut ReportWriter<'_, A>,
     report: &Report<'_, B, D, C>,
     at: Word,
     word: Word,
@@ -279,7 +279,7 @@ fn write_title_name<A: Allocator, B: Allocator, D: Allocator, C: Allocator>(
 
 /// Writes what is shown where a pointer rests on a cell.
 fn write_title<A: Allocator, B: Allocator, D: Allocator, C: Allocator>(
-    writer: &mut ReportWriter<A>,
+    writer: &mut ReportWriter<'_, A>,
     report: &Report<'_, B, D, C>,
     at: Word,
     kind: &CellKind,
@@ -289,7 +289,7 @@ fn write_title<A: Allocator, B: Allocator, D: Allocator, C: Allocator>(
     writer.label(report.label_at(at));
     writer.put(kind_text(kind));
     if let CellKind::Routine(entry) = kind {
-        writer.word(*entry);
+        writer.cell(*entry);
     }
     if let Some(word) = report.image.get(at) {
         writer.put(b": ");
@@ -301,7 +301,7 @@ fn write_title<A: Allocator, B: Allocator, D: Allocator, C: Allocator>(
 
 /// Writes a cell, which leads to its line.
 fn write_cell<A: Allocator, B: Allocator, D: Allocator, C: Allocator>(
-    writer: &mut ReportWriter<A>,
+    writer: &mut ReportWriter<'_, A>,
     report: &Report<'_, B, D, C>,
     rows: &MapRows,
     at: Word,
@@ -317,7 +317,7 @@ fn write_cell<A: Allocator, B: Allocator, D: Allocator, C: Allocator>(
 
 /// Writes the cells at which something stands.
 fn write_cells<A: Allocator, B: Allocator, D: Allocator, C: Allocator>(
-    writer: &mut ReportWriter<A>,
+    writer: &mut ReportWriter<'_, A>,
     report: &Report<'_, B, D, C>,
     rows: &MapRows,
 ) {
@@ -335,7 +335,7 @@ fn write_cells<A: Allocator, B: Allocator, D: Allocator, C: Allocator>(
 
 /// Writes what the colours and marks mean.
 fn write_legend<A: Allocator, B: Allocator, D: Allocator, C: Allocator>(
-    writer: &mut ReportWriter<A>,
+    writer: &mut ReportWriter<'_, A>,
     report: &Report<'_, B, D, C>,
 ) {
     writer.put(b"<p><span class=\"k m\"></span>main\n");
@@ -343,7 +343,7 @@ fn write_legend<A: Allocator, B: Allocator, D: Allocator, C: Allocator>(
         writer.put(b"<span class=\"k ");
         writer.put(colour_of(place));
         writer.put(b"\"></span>routine ");
-        writer.place(routine.entry());
+        writer.linked(routine.entry());
         writer.label(report.label_at(routine.entry()));
         writer.put(b"\n");
     }
@@ -352,7 +352,7 @@ fn write_legend<A: Allocator, B: Allocator, D: Allocator, C: Allocator>(
 
 /// Writes memory as a map.
 pub(crate) fn write_map<A: Allocator, B: Allocator, D: Allocator, C: Allocator>(
-    writer: &mut ReportWriter<A>,
+    writer: &mut ReportWriter<'_, A>,
     report: &Report<'_, B, D, C>,
 ) {
     let rows = MapRows::of(report);

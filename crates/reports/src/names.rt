@@ -3,6 +3,8 @@
 /// What a page says about a program and its files.
 #[derive(Clone, Copy)]
 pub struct PageNames<'a> {
-    /// A line with the name of the program and its files.
+    /// The name of the program.
+    pub program: &'a [u8],
+    /// A line on its files.
     pub files: &'a [u8],
 }

@@ -111,7 +111,7 @@ fn entries_of<D: Allocator>(declaration: &Declaration<D>) -> WordSet {
 }
 
 /// Writes a point of a list: a text and cells.
-fn write_point<A: Allocator>(writer: &mut ReportWriter<A>, text: &[u8], cells: &WordSet) {
+fn write_point<A: Allocator>(writer: &mut ReportWriter<'_, A>, text: &[u8], cells: &WordSet) {
     writer.put(b"<li>");
     writer.put(text);
     if cells.is_empty() {
@@ -124,7 +124,7 @@ fn write_point<A: Allocator>(writer: &mut ReportWriter<A>, text: &[u8], cells: &
 
 /// Writes the parts of what a yes says.
 fn write_points<A: Allocator, D: Allocator>(
-    writer: &mut ReportWriter<A>,
+    writer: &mut ReportWriter<'_, A>,
     declaration: &Declaration<D>,
 ) {
     write_point(
@@ -167,7 +167,7 @@ fn write_points<A: Allocator, D: Allocator>(
 
 /// Writes the rest of what a yes says, and what it does not.
 fn write_yes<A: Allocator, D: Allocator>(
-    writer: &mut ReportWriter<A>,
+    writer: &mut ReportWriter<'_, A>,
     declaration: &Declaration<D>,
 ) {
     writer.put(match declaration.profile() {
@@ -182,7 +182,7 @@ fn write_yes<A: Allocator, D: Allocator>(
 
 /// Writes why nothing is shown: what fails, at which address, what that means, and the reason as it is told.
 fn write_reason<A: Allocator>(
-    writer: &mut ReportWriter<A>,
+    writer: &mut ReportWriter<'_, A>,
     fails: &[u8],
     at: Word,
     means: &[u8],
@@ -196,7 +196,7 @@ fn write_reason<A: Allocator>(
 }
 
 /// Writes from which files the program was read, if they have names.
-fn write_files<A: Allocator>(writer: &mut ReportWriter<A>, files: &[u8]) {
+fn write_files<A: Allocator>(writer: &mut ReportWriter<'_, A>, files: &[u8]) {
     if !files.is_empty() {
         writer.put(b"<p>");
         writer.say(files);
@@ -206,7 +206,7 @@ fn write_files<A: Allocator>(writer: &mut ReportWriter<A>, files: &[u8]) {
 
 /// Writes the verdict's meaning, after what it opens with, and the files of the program.
 fn write_verdict<A: Allocator, B: Allocator, D: Allocator, C: Allocator>(
-    writer: &mut ReportWriter<A>,
+    writer: &mut ReportWriter<'_, A>,
     report: &Report<'_, B, D, C>,
     why: &[u8],
 ) {
@@ -229,12 +229,12 @@ fn write_verdict<A: Allocator, B: Allocator, D: Allocator, C: Allocator>(
 
 /// Writes the row of a variable.
 fn write_row<A: Allocator, B: Allocator, D: Allocator, C: Allocator>(
-    writer: &mut ReportWriter<A>,
+    writer: &mut ReportWriter<'_, A>,
     report: &Report<'_, B, D, C>,
     cell: Word,
 ) {
     writer.put(b"<tr><td>");
-    writer.place(cell);
+    writer.linked(cell);
     writer.label(report.label_at(cell));
     writer.put(b"<td>");
     match report.image.get(cell) {
@@ -249,7 +249,7 @@ fn write_row<A: Allocator, B: Allocator, D: Allocator, C: Allocator>(
 
 /// Writes the variables of which something is known, each with the words that it may hold anywhere.
 fn write_variables<A: Allocator, B: Allocator, D: Allocator, C: Allocator>(
-    writer: &mut ReportWriter<A>,
+    writer: &mut ReportWriter<'_, A>,
     report: &Report<'_, B, D, C>,
 ) {
     writer.put(b"<h2 id=variables>Variables, in octal</h2>\n<p>The declared variables: ");
@@ -279,7 +279,7 @@ fn listed_text(finding: Finding) -> &'static [u8] {
 
 /// Writes how the items of the listing are read.
 fn write_items<A: Allocator, B: Allocator, D: Allocator, C: Allocator>(
-    writer: &mut ReportWriter<A>,
+    writer: &mut ReportWriter<'_, A>,
     report: &Report<'_, B, D, C>,
 ) {
     writer.put(ITEMS);
@@ -305,7 +305,7 @@ pub fn page_below<A: Allocator + Copy, D: Allocator, C: Allocator>(
     report: &Report<'_, A, D, C>,
     why: &[u8],
 ) -> Result<Vec<u8, A>, AllocError> {
-    let mut writer = ReportWriter::new(alloc, ReportForm::Page, &report.lines());
+    let mut writer = ReportWriter::new(alloc, ReportForm::Page, &report.lines(), report.notes);
     write_verdict(&mut writer, report, why);
     write_map(&mut writer, report);
     write_graph(&mut writer, alloc, report)?;

@@ -10,7 +10,7 @@ use wordset::WordSet;
 const OFFSETS: usize = 64;
 
 /// Writes what an assertion is about.
-fn write_subject<A: Allocator>(writer: &mut ReportWriter<A>, subject: &Subject) {
+fn write_subject<A: Allocator>(writer: &mut ReportWriter<'_, A>, subject: &Subject) {
     match subject {
         Subject::Accumulator => writer.put(b"AC"),
         Subject::Link => writer.put(b"the link"),
@@ -23,7 +23,7 @@ fn write_subject<A: Allocator>(writer: &mut ReportWriter<A>, subject: &Subject) 
 }
 
 /// Writes the words of an assertion: a link has one digit.
-fn write_words<A: Allocator>(writer: &mut ReportWriter<A>, subject: &Subject, words: &WordSet) {
+fn write_words<A: Allocator>(writer: &mut ReportWriter<'_, A>, subject: &Subject, words: &WordSet) {
     match (subject, words.only()) {
         (Subject::Link, Some(word)) => {
             writer.put(b" is ");
@@ -41,13 +41,13 @@ fn write_words<A: Allocator>(writer: &mut ReportWriter<A>, subject: &Subject, wo
 }
 
 /// Writes an assertion.
-fn write_assertion<A: Allocator>(writer: &mut ReportWriter<A>, assertion: &Assertion) {
+fn write_assertion<A: Allocator>(writer: &mut ReportWriter<'_, A>, assertion: &Assertion) {
     write_subject(writer, assertion.subject());
     write_words(writer, assertion.subject(), assertion.words());
 }
 
 /// Writes what holds whenever control is at some places.
-fn write_place_assertion<A: Allocator>(writer: &mut ReportWriter<A>, holding: &PlaceAssertion) {
+fn write_place_assertion<A: Allocator>(writer: &mut ReportWriter<'_, A>, holding: &PlaceAssertion) {
     writer.put(b"<li>whenever control is at ");
     writer.places(holding.places());
     writer.put(b", ");
@@ -56,7 +56,7 @@ fn write_place_assertion<A: Allocator>(writer: &mut ReportWriter<A>, holding: &P
 }
 
 /// Writes some offsets, in octal digits, with commas between them.
-fn write_offsets<A: Allocator>(writer: &mut ReportWriter<A>, offsets: &WordSet) {
+fn write_offsets<A: Allocator>(writer: &mut ReportWriter<'_, A>, offsets: &WordSet) {
     let mut some = false;
     for offset in 0..OFFSETS {
         if offsets.contains(Word::from_index(offset)) {
@@ -70,7 +70,10 @@ fn write_offsets<A: Allocator>(writer: &mut ReportWriter<A>, offsets: &WordSet) 
 }
 
 /// Writes what holds whenever a routine returns, by some offsets or by any.
-fn write_return_assertion<A: Allocator>(writer: &mut ReportWriter<A>, returning: &ReturnAssertion) {
+fn write_return_assertion<A: Allocator>(
+    writer: &mut ReportWriter<'_, A>,
+    returning: &ReturnAssertion,
+) {
     writer.put(b"<li>whenever the routine ");
     writer.place(returning.entry());
     writer.put(b" returns");
@@ -85,7 +88,7 @@ fn write_return_assertion<A: Allocator>(writer: &mut ReportWriter<A>, returning:
 
 /// Writes what is declared to hold, a point for each line of the declaration.
 pub(crate) fn write_assertions<A: Allocator, D: Allocator>(
-    writer: &mut ReportWriter<A>,
+    writer: &mut ReportWriter<'_, A>,
     declaration: &Declaration<D>,
 ) {
     for holding in declaration.holds() {
@@ -98,7 +101,7 @@ pub(crate) fn write_assertions<A: Allocator, D: Allocator>(
 
 /// Writes which routines may store their return word, if there are such.
 pub(crate) fn write_moves<A: Allocator, D: Allocator>(
-    writer: &mut ReportWriter<A>,
+    writer: &mut ReportWriter<'_, A>,
     declaration: &Declaration<D>,
 ) {
     if declaration.moves().is_empty() {
@@ -111,7 +114,7 @@ pub(crate) fn write_moves<A: Allocator, D: Allocator>(
 
 /// Writes where returns lead, and for which places all calls may be abandoned, if there are such.
 pub(crate) fn write_returns<A: Allocator, D: Allocator>(
-    writer: &mut ReportWriter<A>,
+    writer: &mut ReportWriter<'_, A>,
     declaration: &Declaration<D>,
 ) {
     if declaration.abandons().is_empty() {

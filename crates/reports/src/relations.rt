@@ -30,7 +30,7 @@ enum Distance {
 }
 
 /// Writes AC, or the address of a cell in brackets, for the word in it.
-pub(crate) fn write_name<A: Allocator>(writer: &mut ReportWriter<A>, name: &Location) {
+pub(crate) fn write_name<A: Allocator>(writer: &mut ReportWriter<'_, A>, name: &Location) {
     match name {
         Location::Accumulator => writer.put(b"AC"),
         Location::Cell(cell) => write_bracketed(writer, *cell),
@@ -38,14 +38,14 @@ pub(crate) fn write_name<A: Allocator>(writer: &mut ReportWriter<A>, name: &Loca
 }
 
 /// Writes the address of a cell in brackets, for the word in it.
-fn write_bracketed<A: Allocator>(writer: &mut ReportWriter<A>, cell: Word) {
+fn write_bracketed<A: Allocator>(writer: &mut ReportWriter<'_, A>, cell: Word) {
     writer.put(b"[");
-    writer.word(cell);
+    writer.cell(cell);
     writer.put(b"]");
 }
 
 /// Writes a number that is added to a word, or taken away from it, and nothing for 0.
-fn write_added<A: Allocator>(writer: &mut ReportWriter<A>, more: Word) {
+fn write_added<A: Allocator>(writer: &mut ReportWriter<'_, A>, more: Word) {
     if more == Word::ZERO {
         return;
     }
@@ -58,7 +58,7 @@ fn write_added<A: Allocator>(writer: &mut ReportWriter<A>, more: Word) {
 }
 
 /// Writes a term: a name, or the word that stood at the start at an address.
-fn write_term<A: Allocator>(writer: &mut ReportWriter<A>, term: &Term) {
+fn write_term<A: Allocator>(writer: &mut ReportWriter<'_, A>, term: &Term) {
     match term {
         Term::Holding(name) => write_name(writer, name),
         Term::Behind { cell, more } => {
@@ -70,7 +70,11 @@ fn write_term<A: Allocator>(writer: &mut ReportWriter<A>, term: &Term) {
 }
 
 /// Writes a term of a sum with its coefficient; behind another one a sign stands before it.
-fn write_summand<A: Allocator>(writer: &mut ReportWriter<A>, summand: &Summand, is_first: bool) {
+fn write_summand<A: Allocator>(
+    writer: &mut ReportWriter<'_, A>,
+    summand: &Summand,
+    is_first: bool,
+) {
     let is_minus = summand.coefficient == Word::ZERO.complement();
     writer.put(match (is_first, is_minus) {
         (true, true) => b"-",
@@ -86,7 +90,7 @@ fn write_summand<A: Allocator>(writer: &mut ReportWriter<A>, summand: &Summand, 
 }
 
 /// Writes a sum.
-fn write_sum<A: Allocator>(writer: &mut ReportWriter<A>, sum: &Sum) {
+fn write_sum<A: Allocator>(writer: &mut ReportWriter<'_, A>, sum: &Sum) {
     for (place, summand) in sum.summands().iter().enumerate() {
         write_summand(writer, summand, place == 0);
     }
@@ -140,7 +144,7 @@ fn distance_of(set: &WordSet) -> Distance {
 }
 
 /// Writes by how much a term is more or less than another.
-fn write_amount<A: Allocator>(writer: &mut ReportWriter<A>, set: &WordSet) {
+fn write_amount<A: Allocator>(writer: &mut ReportWriter<'_, A>, set: &WordSet) {
     if let (Some(first), Some(last)) = (set.least(), set.greatest()) {
         if first != last && *set == WordSet::range(first, last) {
             writer.word(first);
@@ -152,7 +156,7 @@ fn write_amount<A: Allocator>(writer: &mut ReportWriter<A>, set: &WordSet) {
 }
 
 /// Writes what stands between two terms of which the one is so far from the other; tells whether there are words for it.
-fn write_distance<A: Allocator>(writer: &mut ReportWriter<A>, distance: &Distance) -> bool {
+fn write_distance<A: Allocator>(writer: &mut ReportWriter<'_, A>, distance: &Distance) -> bool {
     match distance {
         Distance::Scattered => return false,
         Distance::Same => writer.put(b" = "),
@@ -178,7 +182,7 @@ fn write_distance<A: Allocator>(writer: &mut ReportWriter<A>, distance: &Distanc
 }
 
 /// Writes that a sum is one of some words.
-fn write_sum_in<A: Allocator>(writer: &mut ReportWriter<A>, sum: &Sum, set: &WordSet) {
+fn write_sum_in<A: Allocator>(writer: &mut ReportWriter<'_, A>, sum: &Sum, set: &WordSet) {
     write_sum(writer, sum);
     writer.put(if set.only().is_some() {
         b" is "
@@ -189,7 +193,11 @@ fn write_sum_in<A: Allocator>(writer: &mut ReportWriter<A>, sum: &Sum, set: &Wor
 }
 
 /// Writes a relation: of a difference by how much the one term is more or less than the other.
-pub(crate) fn write_relation<A: Allocator>(writer: &mut ReportWriter<A>, sum: &Sum, set: &WordSet) {
+pub(crate) fn write_relation<A: Allocator>(
+    writer: &mut ReportWriter<'_, A>,
+    sum: &Sum,
+    set: &WordSet,
+) {
     let Some((first, second)) = difference_of(sum) else {
         return write_sum_in(writer, sum, set);
     };
@@ -203,7 +211,7 @@ pub(crate) fn write_relation<A: Allocator>(writer: &mut ReportWriter<A>, sum: &S
 }
 
 /// Writes that nothing is known about a sum any more.
-pub(crate) fn write_lost<A: Allocator>(writer: &mut ReportWriter<A>, sum: &Sum) {
+pub(crate) fn write_lost<A: Allocator>(writer: &mut ReportWriter<'_, A>, sum: &Sum) {
     match difference_of(sum) {
         None => {
             write_sum(writer, sum);
@@ -241,7 +249,7 @@ fn begun_with(links: Links) -> &'static [u8]
 }
 
 /// Writes a step of a chain.
-fn write_step<A: Allocator>(writer: &mut ReportWriter<A>, profile: Profile, step: &Step) {
+fn write_step<A: Allocator>(writer: &mut ReportWriter<'_, A>, profile: Profile, step: &Step) {
     match step {
         Step::Operates(word) => writer.say(name(*word, profile).as_str().as_bytes()),
         Step::Ands(word) => {
@@ -257,7 +265,7 @@ fn write_step<A: Allocator>(writer: &mut ReportWriter<A>, profile: Profile, step
 
 /// Writes a chain: from which word the accumulator comes, by which steps.
 pub(crate) fn write_chain<A: Allocator>(
-    writer: &mut ReportWriter<A>,
+    writer: &mut ReportWriter<'_, A>,
     profile: Profile,
     chain: &Chain,
 ) {
@@ -279,7 +287,7 @@ pub(crate) fn write_chain<A: Allocator>(
 }
 
 /// Writes that the accumulator does not come from a cell any more.
-pub(crate) fn write_lost_chain<A: Allocator>(writer: &mut ReportWriter<A>, cell: Word) {
+pub(crate) fn write_lost_chain<A: Allocator>(writer: &mut ReportWriter<'_, A>, cell: Word) {
     writer.put(b"AC no longer comes from ");
     write_bracketed(writer, cell);
 }

@@ -59,7 +59,7 @@ pub struct Report<'a, A: Allocator, D: Allocator, C: Allocator> {
     /// What is said about the files of the program, or nothing.
     pub(crate) files: &'a [u8],
     /// What the source says about addresses, where one is known.
-    notes: Option<&'a SourceNotes<A>>,
+    pub(crate) notes: Option<&'a SourceNotes<A>>,
     /// The addresses with a fact.
     pub(crate) facts: WordSet,
     /// What is known about variables.

@@ -8,7 +8,8 @@ ghost use Rattle.command_parts.specs.Faults.{fails_to_write};
 ghost use Rattle.reports.specs.Head.{head_of, opening};
 ghost use Rattle.reports.specs.ReportText.{IsReportOf};
 
-use crate::{Finding, Report, head_of, listing_below, opening, page_below};
+use crate::style::push_head;
+use crate::{Finding, Report, listing_below, opening, page_below};
 pub use crate::{LinePlace, PageNames, ReportForm, SourceNote, SourceNotes};
 use bin_tape::Image;
 use certificate::Certificate;
@@ -116,15 +117,16 @@ fn below<A: Allocator + Copy, D: Allocator, C: Allocator>(
 fn joined<A: Allocator>(
     alloc: A,
     form: ReportForm,
+    name: &[u8],
     verdict: &Result<(), Refusal>,
     line: &[u8],
     rest: &[u8],
 ) -> Result<Vec<u8, A>, AllocError>
     ensures { IfOk result (λ page. page.items ≡
-        head_of form ++ (line.now ++ (opening form verdict.now ++ rest.now))) }
+        head_of form name.now ++ (line.now ++ (opening form verdict.now ++ rest.now))) }
 {
     let mut page = Vec::new(alloc);
-    page.extend_from_slice(head_of(form))?;
+    push_head(&mut page, form, name)?;
     page.extend_from_slice(line)?;
     page.extend_from_slice(opening(form, verdict))?;
     page.extend_from_slice(rest)?;
@@ -143,7 +145,7 @@ pub fn report_of<A: Allocator + Copy>(
     names: PageNames<'_>,
     notes: Option<&SourceNotes<A>>,
 ) -> Result<CommandResult<A>, Fault>
-    ensures page { IfOk result (λ page. IsReportOf form certified.now.program.image
+    ensures page { IfOk result (λ page. IsReportOf form names.program.now certified.now.program.image
         (meaning certified.now.program.declaration) (text_of certified.now.certificate)
         page.status page.text.items) }
     ensures faults { IfErr result IsMemoryFault }
@@ -164,7 +166,7 @@ pub fn report_of<A: Allocator + Copy>(
         names.files,
         notes,
     )?;
-    let text = joined(alloc, form, &verdict, &line, &rest)?;
+    let text = joined(alloc, form, names.program, &verdict, &line, &rest)?;
     let status = verdict_status(&verdict);
     Ok(CommandResult { text, status })
 }

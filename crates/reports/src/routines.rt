@@ -18,7 +18,7 @@ use wordset::WordSet;
 
 /// Writes the declared offsets of a routine, in octal digits.
 pub(crate) fn write_offsets<A: Allocator, D: Allocator>(
-    writer: &mut ReportWriter<A>,
+    writer: &mut ReportWriter<'_, A>,
     declaration: &Declaration<D>,
     routine: &Routine,
 ) {
@@ -38,7 +38,7 @@ pub(crate) fn write_offsets<A: Allocator, D: Allocator>(
 }
 
 /// Writes the cells that a routine may write.
-pub(crate) fn write_written<A: Allocator>(writer: &mut ReportWriter<A>, cells: &WordSet) {
+pub(crate) fn write_written<A: Allocator>(writer: &mut ReportWriter<'_, A>, cells: &WordSet) {
     if cells.is_empty() {
         writer.put(b"nothing");
     } else if cells.is_all() {
@@ -49,7 +49,7 @@ pub(crate) fn write_written<A: Allocator>(writer: &mut ReportWriter<A>, cells: &
 }
 
 /// Writes what is claimed about a routine.
-fn write_claimed<A: Allocator>(writer: &mut ReportWriter<A>, claimed: &Claimed) {
+fn write_claimed<A: Allocator>(writer: &mut ReportWriter<'_, A>, claimed: &Claimed) {
     writer.item(b"rank ");
     writer.number(claimed.rank);
     writer.item(b"called from ");
@@ -60,7 +60,7 @@ fn write_claimed<A: Allocator>(writer: &mut ReportWriter<A>, claimed: &Claimed) 
 
 /// Writes a routine in a line: its entry, its rank, from where it is called, what it may write, and how it returns.
 pub(crate) fn write_routine<A: Allocator, B: Allocator, D: Allocator, C: Allocator>(
-    writer: &mut ReportWriter<A>,
+    writer: &mut ReportWriter<'_, A>,
     report: &Report<'_, B, D, C>,
     routine: &Routine,
 ) {
@@ -78,7 +78,7 @@ pub(crate) fn write_routine<A: Allocator, B: Allocator, D: Allocator, C: Allocat
 
 /// Writes the line of an exit: what holds when the routine returns by that offset.
 fn write_exit_line<A: Allocator, B: Allocator, D: Allocator, C: Allocator>(
-    writer: &mut ReportWriter<A>,
+    writer: &mut ReportWriter<'_, A>,
     report: &Report<'_, B, D, C>,
     claimed: &Claimed,
     offset: usize,
@@ -101,7 +101,7 @@ fn write_exit_line<A: Allocator, B: Allocator, D: Allocator, C: Allocator>(
 
 /// Writes a line for each exit of a routine that is claimed. One fact is lent.
 pub(crate) fn write_exits<A: Allocator, B: Allocator, D: Allocator, C: Allocator>(
-    writer: &mut ReportWriter<A>,
+    writer: &mut ReportWriter<'_, A>,
     report: &Report<'_, B, D, C>,
     entry: Word,
     exit: &mut KnownFact,

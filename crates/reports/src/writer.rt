@@ -1,5 +1,7 @@
 //! What writes: words, numbers, sets and items, as plain text or as HTML.
 
+use crate::escaping::push_escaped;
+use crate::source_notes::SourceNotes;
 use itoa::Buffer;
 use std::alloc::{AllocError, Allocator};
 use word12::Word;
@@ -22,13 +24,15 @@ pub enum ReportForm {
 
 /// The bytes of a report as far as they are written.
 #[derive(Drop)]
-pub(crate) struct ReportWriter<A: Allocator> {
+pub(crate) struct ReportWriter<'a, A: Allocator> {
     bytes: Vec<u8, A>,
     /// Whether memory was refused; from there on nothing more is written.
     written: Result<(), AllocError>,
     is_page: bool,
     /// The addresses that have a line of the listing, to which links may lead.
     lines: WordSet,
+    /// What the source says about addresses, where one is known.
+    notes: Option<&'a SourceNotes<A>>,
     /// How many blanks stand before the first item of the line.
     indent: usize,
     /// Whether the line has an item.
@@ -37,26 +41,20 @@ pub(crate) struct ReportWriter<A: Allocator> {
     same: usize,
 }
 
-/// What a byte is in HTML, if it has a meaning there.
-fn escaped(byte: u8) -> Option<&'static [u8]> {
-    match byte {
-        b'<' => Some(b"&lt;"),
-        b'>' => Some(b"&gt;"),
-        b'&' => Some(b"&amp;"),
-        b'"' => Some(b"&quot;"),
-        b'\'' => Some(b"&#39;"),
-        _ => None,
-    }
-}
-
-impl<A: Allocator> ReportWriter<A> {
-    /// A writer that has written nothing, for a listing with lines at these addresses.
-    pub(crate) fn new(alloc: A, form: ReportForm, lines: &WordSet) -> ReportWriter<A> {
+impl<'a, A: Allocator> ReportWriter<'a, A> {
+    /// A writer that has written nothing, for a listing with lines at these addresses, of a program about which a source says this.
+    pub(crate) fn new(
+        alloc: A,
+        form: ReportForm,
+        lines: &WordSet,
+        notes: Option<&'a SourceNotes<A>>,
+    ) -> ReportWriter<'a, A> {
         ReportWriter {
             bytes: Vec::new(alloc),
             written: Ok(()),
             is_page: matches!(form, ReportForm::Page),
             lines: *lines,
+            notes,
             indent: 0,
             has_item: false,
             same: 0,
@@ -96,11 +94,8 @@ impl<A: Allocator> ReportWriter<A> {
         if !self.is_page {
             return self.put(text);
         }
-        for byte in text {
-            match escaped(*byte) {
-                Some(name) => self.put(name),
-                None => self.put(&[*byte]),
-            }
+        if self.written.is_ok() {
+            self.written = push_escaped(&mut self.bytes, text);
         }
     }
 
@@ -137,13 +132,46 @@ impl<A: Allocator> ReportWriter<A> {
     }
 
     /// Writes an address, in a page with a link to its line, if it has one.
-    pub(crate) fn place(&mut self, at: Word) {
+    pub(crate) fn linked(&mut self, at: Word) {
         if !self.has_line(at) {
             return self.word(at);
         }
         self.link(at);
         self.word(at);
         self.mark(b"</a>");
+    }
+
+    /// The label of an address; empty where the source says none.
+    fn label_of(&self, at: Word) -> &'a [u8] {
+        let Some(notes) = self.notes else {
+            return b"";
+        };
+        match notes.at(at) {
+            Some(note) => note.label,
+            None => b"",
+        }
+    }
+
+    /// Writes in a page the label of an address in parentheses, if there is one.
+    fn label_in_text(&mut self, at: Word) {
+        let label = self.label_of(at);
+        if self.is_page && !label.is_empty() {
+            self.put(b" (");
+            self.say(label);
+            self.put(b")");
+        }
+    }
+
+    /// Writes an address in a text, in a page with a link to its line, if it has one, and with its label.
+    pub(crate) fn place(&mut self, at: Word) {
+        self.linked(at);
+        self.label_in_text(at);
+    }
+
+    /// Writes the address of a cell of which something is said, in a page with its label.
+    pub(crate) fn cell(&mut self, at: Word) {
+        self.word(at);
+        self.label_in_text(at);
     }
 
     /// Writes in a page a label after its address, if there is one.
@@ -163,20 +191,43 @@ impl<A: Allocator> ReportWriter<A> {
     }
 
     /// Writes the words from one to another, both of them.
-    pub(crate) fn run(&mut self, first: Word, last: Word, linked: bool) {
-        if linked {
-            self.place(first);
-        } else {
-            self.word(first);
-        }
+    fn word_run(&mut self, first: Word, last: Word) {
+        self.word(first);
         if first != last {
             self.put(b"-");
             self.word(last);
         }
     }
 
+    /// Writes the addresses from one to another, both of them, in a page with their labels.
+    pub(crate) fn cell_run(&mut self, first: Word, last: Word) {
+        self.cell(first);
+        if first != last {
+            self.put(b"-");
+            self.cell(last);
+        }
+    }
+
+    /// Writes the addresses from one to another, both of them, in a page with their labels and with a link to the line of the first.
+    fn place_run(&mut self, first: Word, last: Word) {
+        self.place(first);
+        if first != last {
+            self.put(b"-");
+            self.cell(last);
+        }
+    }
+
+    /// Writes a run of words, or of addresses.
+    fn run(&mut self, first: Word, last: Word, are_places: bool) {
+        if are_places {
+            self.place_run(first, last);
+        } else {
+            self.word_run(first, last);
+        }
+    }
+
     /// Writes the words of a set by their runs, at most some of them; `-` if there is none.
-    fn runs(&mut self, set: &WordSet, linked: bool) {
+    fn runs(&mut self, set: &WordSet, are_places: bool) {
         if set.is_empty() {
             self.put(b"-");
         }
@@ -189,7 +240,7 @@ impl<A: Allocator> ReportWriter<A> {
             if count > 0 {
                 self.put(b",");
             }
-            self.run(first, last, linked);
+            self.run(first, last, are_places);
             rest = rest.minus(&WordSet::range(first, last));
         }
         self.rest(rest.count());
@@ -208,7 +259,7 @@ impl<A: Allocator> ReportWriter<A> {
         self.runs(set, false);
     }
 
-    /// Writes the addresses of a set, in a page with links to the lines that there are.
+    /// Writes the addresses of a set, in a page with their labels and with links to the lines that there are.
     pub(crate) fn places(&mut self, set: &WordSet) {
         self.runs(set, true);
     }

@@ -148,7 +148,7 @@ fn takes_source(command: &str) -> bool {
 
 /// Whether a command writes its result to a file, which is named behind its inputs.
 fn writes_result(command: &str) -> bool {
-    ["declare", "guess", "refute", "report"]
+    ["declare", "guess", "refute", "report", "source"]
         .iter()
         .any(|name| *name == command)
 }
@@ -158,6 +158,22 @@ fn takes_declaration(command: &str) -> bool {
     ["verify", "check", "report", "guess", "refute", "watch"]
         .iter()
         .any(|name| *name == command)
+}
+
+/// Whether a command takes a certificate behind a declaration.
+fn takes_certificate(command: &str) -> bool {
+    command == "check" || command == "report"
+}
+
+/// What stands before the name of a declaration behind a tape: nothing where it is an operand; none if the command takes
+/// no declaration.
+fn option_of_declaration(command: &str) -> Option<&'static str> {
+    match command {
+        "declare" => Some("--from "),
+        "source" => Some("--declaration "),
+        _ if takes_declaration(command) => Some(""),
+        _ => None,
+    }
 }
 
 impl CommandContext<'_, '_> {
@@ -171,7 +187,12 @@ impl CommandContext<'_, '_> {
             let _ = write!(text, " --source {part}");
         }
         if self.parts.is_empty() {
-            let _ = text.push_str(" --source SOURCE");
+            let missing = if self.is_sourced {
+                " --source SOURCE"
+            } else {
+                " TAPE"
+            };
+            let _ = text.push_str(missing);
         }
     }
 
@@ -188,7 +209,11 @@ impl CommandContext<'_, '_> {
         } else {
             None
         };
-        for name in [names.declaration, names.certificate, events] {
+        if let Some(declaration) = names.declaration {
+            let option = option_of_declaration(self.command).unwrap_or("");
+            let _ = write!(text, " {option}{declaration}");
+        }
+        for name in [names.certificate, events] {
             if let Some(name) = name {
                 let _ = write!(text, " {name}");
             }
@@ -224,13 +249,15 @@ impl CommandContext<'_, '_> {
 
     /// Adds what to do with a declaration that was given as a tape.
     fn push_declaration_as_tape(&self, text: &mut String, name: &str) {
-        let _ = write!(
-            text,
-            "{name} is a declaration, not a tape: the tape comes before it"
-        );
+        let command = self.command;
+        let _ = write!(text, "{name} is a declaration, not a tape: ");
+        let Some(option) = option_of_declaration(command) else {
+            let _ = write!(text, "pdp8 {command} takes a tape, and no declaration");
+            return;
+        };
+        let _ = text.push_str("the tape comes before it");
         if let Some(other) = self.names.declaration {
-            let command = self.command;
-            let _ = write!(text, ", as in pdp8 {command} {other} {name}");
+            let _ = write!(text, ", as in pdp8 {command} {other} {option}{name}");
             self.push_output(text);
         }
     }
@@ -241,14 +268,20 @@ impl CommandContext<'_, '_> {
             Kind::Tape | Kind::OtherBytes => {}
             Kind::Source | Kind::OtherText => self.push_text_as_tape(text, name),
             Kind::Declaration => self.push_declaration_as_tape(text, name),
-            Kind::Certificate => {
-                let _ = write!(
-                    text,
-                    "{name} is a certificate, not a tape: it comes after the tape and the declaration"
-                );
-            }
+            Kind::Certificate => self.push_certificate_as_tape(text, name),
             Kind::Events => self.push_events_as_tape(text, name),
         }
+    }
+
+    /// Adds what to do with a certificate that was given as a tape.
+    fn push_certificate_as_tape(&self, text: &mut String, name: &str) {
+        let _ = write!(text, "{name} is a certificate, not a tape: ");
+        if takes_certificate(self.command) {
+            let _ = text.push_str("it comes after the tape and the declaration");
+            return;
+        }
+        let declaration = self.names.declaration.unwrap_or("DECLARATION");
+        let _ = write!(text, "pdp8 check TAPE {declaration} {name} judges it");
     }
 
     /// Adds what to do with a list of events that was given as a tape.
@@ -262,9 +295,11 @@ impl CommandContext<'_, '_> {
         let _ = write!(text, "pdp8 run {tape} --events {name} runs a tape by it");
     }
 
-    /// Where a tape is given.
+    /// Where a tape is given, if one is.
     fn place_of_tape(&self) -> &'static str {
-        if self.is_sourced {
+        if self.command == "migrate" || self.command == "place" {
+            "this command takes no tape"
+        } else if self.is_sourced {
             "--source takes the place of the tape"
         } else {
             "the tape comes before the declaration"
@@ -299,17 +334,24 @@ impl CommandContext<'_, '_> {
                 let place = self.place_of_tape();
                 let _ = write!(text, "{name} is a tape, not a declaration: {place}");
             }
-            Kind::Certificate => {
-                let _ = write!(
-                    text,
-                    "{name} is a certificate, not a declaration: it comes after the declaration"
-                );
-            }
+            Kind::Certificate => self.push_certificate_as_declaration(text, name),
             Kind::Events => {
                 let _ = write!(text, "{name} is a list of events, not a declaration: ");
                 self.push_watch_by(text, self.names.events.unwrap_or("DECLARATION"), name);
             }
         }
+    }
+
+    /// Adds what to do with a certificate that was given as a declaration.
+    fn push_certificate_as_declaration(&self, text: &mut String, name: &str) {
+        let _ = write!(text, "{name} is a certificate, not a declaration: ");
+        if takes_certificate(self.command) {
+            let _ = text.push_str("it comes after the declaration");
+            return;
+        }
+        let _ = text.push_str("pdp8 check");
+        self.push_program(text);
+        let _ = write!(text, " DECLARATION {name} judges it");
     }
 
     /// Adds the command that watches the program by a list of events, with this declaration.
@@ -363,6 +405,18 @@ impl CommandContext<'_, '_> {
         }
     }
 
+    /// Adds what to do with a source that was given as a certificate.
+    fn push_source_as_certificate(&self, text: &mut String, name: &str) {
+        let _ = write!(
+            text,
+            "{name} is a source, not a certificate: pdp8 guess --source {name}"
+        );
+        if let Some(declaration) = self.names.declaration {
+            let _ = write!(text, " {declaration}");
+        }
+        let _ = text.push_str(" -o new.certificate searches for one");
+    }
+
     /// Adds what to do with a declaration that was given as a certificate.
     fn push_declaration_as_certificate(&self, text: &mut String, name: &str) {
         let _ = write!(
@@ -381,12 +435,7 @@ impl CommandContext<'_, '_> {
                 let place = self.place_of_tape();
                 let _ = write!(text, "{name} is a tape, not a certificate: {place}");
             }
-            Kind::Source => {
-                let _ = write!(
-                    text,
-                    "{name} is a source, not a certificate: pdp8 guess --source {name} -o new.certificate searches for one"
-                );
-            }
+            Kind::Source => self.push_source_as_certificate(text, name),
             Kind::Declaration => self.push_declaration_as_certificate(text, name),
             Kind::Events => {
                 let _ = write!(text, "{name} is a list of events, not a certificate: ");

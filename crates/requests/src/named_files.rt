@@ -90,6 +90,7 @@ fn title_of(name: &str) -> &str {
 /// What a page says about a program and its files.
 #[derive(Drop)]
 pub(crate) struct NamedFiles {
+    program: String,
     files: String,
 }
 
@@ -106,9 +107,9 @@ impl NamedFiles {
         certificate: Option<&str>,
     ) -> Result<NamedFiles, AllocError> {
         let first = first_of(&asked.program);
+        let program = visible_text(alloc, title_of(first))?;
         let mut files = String::new(alloc);
-        files.push_str(&visible_text(alloc, title_of(first))?)?;
-        files.push_str(". Files: ")?;
+        files.push_str("Files: ")?;
         push_file(rt, alloc, &mut files, first)?;
         for part in asked.program.parts().iter().skip(1) {
             push_further(rt, alloc, &mut files, Some(part))?;
@@ -116,12 +117,13 @@ impl NamedFiles {
         push_further(rt, alloc, &mut files, asked.declaration)?;
         push_further(rt, alloc, &mut files, certificate)?;
         files.push_str(UNITS)?;
-        Ok(NamedFiles { files })
+        Ok(NamedFiles { program, files })
     }
 
     /// The names for a page.
     pub(crate) fn names(&self) -> PageNames<'_> {
         PageNames {
+            program: self.program.as_bytes(),
             files: self.files.as_bytes(),
         }
     }

@@ -3,3 +3,4 @@ pub mod CompleteLemmas
 mod AgreeLemmas
 pub mod WidenedLemmas
 mod KeepingLemmas
+pub mod RefiningLemmas

@@ -8,7 +8,7 @@ use Rattle.policy.specs.Runs.{IsSafe}
 use Rattle.certificate.specs.Exact.{AreLines}
 use Rattle.certificate_lines.specs.Reading.{Text, certificate_of}
 use Rattle.judge.specs.Conditions.{IsValid}
-use Rattle.proposer.specs.Needed.{ReadsAreNeeded}
+use Rattle.proposer.specs.Needed.{ReadsAreNeeded, VariablesAreWritten}
 use Rattle.diagnostics.specs.CheckText.{checked_case}
 use Rattle.command_parts.specs.declared.options.DeclareOptions.{DeclareOptions}
 use Rattle.command_parts.specs.declared.status.Status.{Status}
@@ -36,12 +36,22 @@ pub record ListsNeeded (image : List (Option ℕ)) (d : Declaration) : Type 0 wh
   pub valid : IsValid (checked_case image d lines)
   pub needed : ReadsAreNeeded (checked_case image d lines)
 
--- The text is such a declaration; where the command is done, no run of the program with these words breaks it, and if a list of
--- reads was requested it has one, whose cells are needed. Else it has none, and the command is refused.
+-- Every condition holds of some certificate, in the version of the declared machine or in version 3; and by its facts
+-- some possible word may write each variable.
+pub record WritesVariables (image : List (Option ℕ)) (d : Declaration) : Type 0 where
+  pub lines : Text
+  pub lines_are : AreLines lines
+  pub version_is : IsVersionFor d.profile lines.version
+  pub valid : IsValid (checked_case image d lines)
+  pub written : VariablesAreWritten (checked_case image d lines)
+
+-- The text is such a declaration; where the command is done, no run of the program with these words breaks it, each variable may be
+-- written, and if a list of reads was requested it has one, whose cells are needed. Else it has none, and the command is refused.
 pub record IsProposalOf (options : DeclareOptions) (image : List (Option ℕ)) (status : Status) (text : List ℕ) : Type 0 where
   pub is : IsDeclarationFor options text
   pub ends : (status ≡ Done) ⊎ (status ≡ Refused)
   pub safe : status ≡ Done → IsSafe (image_of image) is.declaration
+  pub written : status ≡ Done → WritesVariables image is.declaration
   pub unlisted : options.reads ≡ false → is.declaration.reads ≡ None
   pub bare : status ≡ Refused → is.declaration.reads ≡ None
   pub listed : status ≡ Done → options.reads ≡ true → is_some is.declaration.reads ≡ true

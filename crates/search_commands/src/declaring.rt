@@ -8,7 +8,7 @@ ghost use Rattle.search_commands.specs.DeclareText.{IsBare, IsProposal, IsPropos
 ghost use Rattle.search_commands.specs.SearchFaults.{IsProposeFault};
 ghost use Rattle.declaration.specs.DeclarationInCode.{meaning};
 ghost use Rattle.declaration.specs.Text.{Declares};
-ghost use Rattle.proposer.specs.Proposals.{AreNeeded, Fits, IsListed, IsShown, IsTold};
+ghost use Rattle.proposer.specs.Proposals.{AreNeeded, AreWritten, Fits, IsListed, IsShown, IsTold};
 
 use crate::verifying::InconclusiveReason;
 use bin_tape::Image;
@@ -98,6 +98,7 @@ pub(crate) fn proposal_for<A: Allocator + Copy>(
         IfOk result (λ p. IsListed p.declaration p.verdict) }
     ensures needed { options.now.reads ≡ true →
         IfOk result (λ p. AreNeeded image.now p.declaration p.verdict) }
+    ensures written { IfOk result (λ p. AreWritten image.now p.declaration p.verdict) }
     ensures unlisted { options.now.reads ≡ false →
         IfOk result (λ p. (meaning p.declaration).reads ≡ None) }
     ensures faults { IfErr result IsTold }
@@ -225,8 +226,9 @@ pub fn declare<A: Allocator + Copy, R: ByteSource, W: ByteSink>(
     requires readable { R.mark tape.old ≡ false }
     requires writable { W.mark out.old ≡ false }
     // What is written declares a program from that start, on that machine; and where the command is
-    // done the tape's program is safe, and there is a list of reads if one was requested, of cells that
-    // by the facts of a certificate some possible word may read. Else there is no list.
+    // done the tape's program is safe, its variables are cells that by the facts of a certificate some
+    // possible word may write, and there is a list of reads if one was requested, of cells that some
+    // possible word may read. Else there is no list.
     ensures declared { WritesAnswer (IsProposal options (R.remaining tape.old))
         (output (W.mark out.new) (W.taken out.old) (W.taken out.new)) result }
     // The tape is read; after a good one what was found may be undeclarable, or a write fail.

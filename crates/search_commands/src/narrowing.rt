@@ -1,9 +1,10 @@
 //! The text of a declaration without what a certificate shows to be needless.
 
 use crate::merging::{parted, push_offsets, push_ranges, routine_of, set_of};
+use crate::returning::push_digits;
 use bin_tape::Image;
 use certificate::Certificate;
-use control_flow::{push_range, push_skips};
+use control_flow::push_range;
 use declaration::{Declaration, Routine};
 use std::alloc::{AllocError, Allocator};
 use streams::text::{Words, is, octal_word};
@@ -104,6 +105,22 @@ fn cells_of(rest: Words<'_>) -> WordSet {
 fn push_each<A: Allocator>(text: &mut Vec<u8, A>, cells: &WordSet) -> Result<(), AllocError> {
     for at in cells.iter() {
         push_range(text, at, at)?;
+    }
+    Ok(())
+}
+
+/// Adds offsets as ranges, each after a space.
+fn push_offset_ranges<A: Allocator>(
+    text: &mut Vec<u8, A>,
+    offsets: &WordSet,
+) -> Result<(), AllocError> {
+    for (first, last) in offsets.ranges() {
+        text.extend_from_slice(b" ")?;
+        push_digits(text, first)?;
+        if first != last {
+            text.extend_from_slice(b"-")?;
+            push_digits(text, last)?;
+        }
     }
     Ok(())
 }
@@ -262,7 +279,9 @@ impl<'a, D: Allocator, C: Allocator> Needless<'a, D, C> {
             return push_whole(text, line);
         }
         let (_, comment) = parted(line);
-        push_skips(text, entry, &kept)?;
+        text.extend_from_slice(b"skips")?;
+        push_range(text, entry, entry)?;
+        push_offset_ranges(text, &kept)?;
         push_whole(text, comment)
     }
 

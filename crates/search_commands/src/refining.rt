@@ -1,12 +1,12 @@
 //! What `declare` makes of a declaration for which a certificate is found: it leaves out what is needless, and adds with what routines
 //! return.
 
-ghost use Rattle.std.specs.Prelude.{◌≡◌, true, is_some, IfOk, IfErr, IfSome};
+ghost use Rattle.std.specs.Prelude.{ℕ, ◌≡◌, true, is_some, length, take, List, Option, IfOk, IfErr, IfSome};
 ghost use Rattle.command_parts.specs.Answers.{IsMemoryFault};
 ghost use Rattle.declaration.specs.DeclarationInCode.{meaning};
 ghost use Rattle.declaration.specs.Text.{Declares};
 ghost use Rattle.search_commands.specs.Keeping.{KeepsLines};
-ghost use Rattle.search_commands.specs.Refining.{IsNoWider, IsRefined, IsShownNoWider};
+ghost use Rattle.search_commands.specs.Refining.{IsNoWider, IsRefined};
 
 use crate::adding::adds_only;
 use crate::completing::{end_text, lack_in};
@@ -62,9 +62,27 @@ pub struct Refinement<A: Allocator> {
     pub told: Message<A>,
 }
 
-/// Whether a declaration is no wider than another one.
-fn is_no_wider<A: Allocator, B: Allocator>(given: &Declaration<A>, less: &Declaration<B>) -> bool
-    ensures { result ≡ true → IsNoWider (meaning given.now) (meaning less.now) }
+/// Whether the same is to hold at places in two declarations.
+fn holds_alike<A: Allocator, B: Allocator>(given: &Declaration<A>, less: &Declaration<B>) -> bool
+    ensures { result ≡ true → (meaning less.now).holds ≡ (meaning given.now).holds }
+{
+    less.holds() == given.holds()
+}
+
+/// Whether what is to hold at returns in a declaration comes first in what is to hold there in another one.
+fn keeps_returns<A: Allocator, B: Allocator>(given: &Declaration<A>, less: &Declaration<B>) -> bool
+    ensures { result ≡ true →
+        take (length (meaning given.now).returns) (meaning less.now).returns ≡ (meaning given.now).returns }
+{
+    less.returns().starts_with(given.returns())
+}
+
+/// Whether a declaration has the start and the machine of another one, and lists reads where it does.
+fn is_alike<A: Allocator, B: Allocator>(given: &Declaration<A>, less: &Declaration<B>) -> bool
+    ensures start { result ≡ true → (meaning less.now).start ≡ (meaning given.now).start }
+    ensures profile { result ≡ true → (meaning less.now).profile ≡ (meaning given.now).profile }
+    ensures listed { result ≡ true →
+        is_some (meaning less.now).reads ≡ is_some (meaning given.now).reads }
 {
     if less.start() != given.start() {
         return false;
@@ -72,35 +90,68 @@ fn is_no_wider<A: Allocator, B: Allocator>(given: &Declaration<A>, less: &Declar
     if less.profile() != given.profile() {
         return false;
     }
-    if less.reads_listed() != given.reads_listed() {
+    less.reads_listed() == given.reads_listed()
+}
+
+/// Whether a declaration is no wider than another one.
+fn is_no_wider<A: Allocator, B: Allocator>(given: &Declaration<A>, less: &Declaration<B>) -> bool
+    ensures { result ≡ true → IsNoWider (meaning given.now) (meaning less.now) }
+{
+    if !is_alike(given, less) {
         return false;
     }
-    if less.holds() != given.holds() {
+    if !holds_alike(given, less) {
+        return false;
+    }
+    if !keeps_returns(given, less) {
         return false;
     }
     adds_only(given, given, less)
 }
 
-/// What a text declares, if that is no wider than a declaration, and a certificate is found for it.
+/// Whether what a text declares is no wider than what a given text declares, and a certificate is found for it.
+#[tactic(auto, using(crate::proofs::RefiningLemmas::shown_change))]
+fn is_shown_change<A: Allocator + Copy, D: Allocator>(
+    alloc: A,
+    image: &Image,
+    text: &[u8],
+    given: &Declaration<D>,
+    written: &[u8],
+    less: &Declaration<A>,
+) -> Result<bool, Fault>
+    requires given { Declares text.now (meaning given.now) }
+    requires less { Declares written.now (meaning less.now) }
+    ensures refined { IfOk result (λ yes. yes ≡ true → IsRefined image.now text.now written.now) }
+    ensures faults { IfErr result IsMemoryFault }
+{
+    if !is_no_wider(given, less) {
+        return Ok(false);
+    }
+    match lack_in(alloc, image, less)? {
+        None => Ok(true),
+        Some(_) => Ok(false),
+    }
+}
+
+/// What a text declares, if that is no wider than what a given text declares, and a certificate is found for it.
 fn shown_no_wider<A: Allocator + Copy, D: Allocator>(
     alloc: A,
     image: &Image,
-    given: &Declaration<D>,
     text: &[u8],
+    given: &Declaration<D>,
+    written: &[u8],
 ) -> Result<Option<Declaration<A>>, Fault>
-    ensures shown { IfOk result (λ found. IfSome found (λ less.
-        IsShownNoWider image.now (meaning given.now) text.now)) }
+    requires { Declares text.now (meaning given.now) }
+    ensures refined { IfOk result (λ found. IfSome found (λ less.
+        IsRefined image.now text.now written.now)) }
     ensures faults { IfErr result IsMemoryFault }
 {
-    match Declaration::parse(alloc, text) {
+    match Declaration::parse(alloc, written) {
         Ok(less) => {
-            if !is_no_wider(given, &less) {
+            if !is_shown_change(alloc, image, text, given, written, &less)? {
                 return Ok(None);
             }
-            match lack_in(alloc, image, &less)? {
-                None => Ok(Some(less)),
-                Some(_) => Ok(None),
-            }
+            Ok(Some(less))
         }
         Err(DeclarationFault::NoMemory) => Err(Fault::NoMemory),
         Err(_) => Ok(None),
@@ -125,8 +176,11 @@ fn certificate_for<A: Allocator + Copy, D: Allocator>(
 }
 
 /// The text that is given, and why it is not changed.
+#[tactic(auto, using(crate::proofs::RefiningLemmas::same_text_is_refined, crate::proofs::RefiningLemmas::same_text_keeps))]
 fn unchanged<A: Allocator + Copy>(alloc: A, text: &[u8], why: &[u8]) -> Result<Refinement<A>, Fault>
-    ensures same { IfOk result (λ refined. refined.text.items ≡ text.now) }
+    ensures refined { (image : List (Option ℕ)) →
+        IfOk result (λ refined. IsRefined image text.now refined.text.items) }
+    ensures keeps { IfOk result (λ refined. KeepsLines text.now refined.text.items) }
     ensures faults { IfErr result IsMemoryFault }
 {
     let text = copy_of(alloc, text)?;
@@ -283,7 +337,7 @@ pub fn tightened<A: Allocator + Copy>(
         return unchanged(alloc, text, NOT_SHOWN);
     };
     let less = narrowed(alloc, text, image, &given, &certificate)?;
-    let Some(left) = shown_no_wider(alloc, image, &given, &less)? else {
+    let Some(left) = shown_no_wider(alloc, image, text, &given, &less)? else {
         return unchanged(alloc, text, NOT_SHOWN_NARROWER);
     };
     let told = told_of(alloc, &given, &left)?;
@@ -330,7 +384,7 @@ pub fn with_returns<A: Allocator + Copy>(
     if !keeps_lines(text, &more) {
         return unchanged(alloc, text, TOO_MANY_RETURNS);
     }
-    match shown_no_wider(alloc, image, &given, &more)? {
+    match shown_no_wider(alloc, image, text, &given, &more)? {
         None => unchanged(alloc, text, TOO_MANY_RETURNS),
         Some(_) => Ok(Refinement {
             text: more,

@@ -60,15 +60,23 @@ impl RegisterAtReturn {
     }
 }
 
-/// Adds a space and a digit, or two of them.
-fn push_digits<A: Allocator>(text: &mut Vec<u8, A>, word: Word) -> Result<(), AllocError> {
+/// Adds an offset or a link: one digit, or two of them.
+pub(crate) fn push_digits<A: Allocator>(
+    text: &mut Vec<u8, A>,
+    word: Word,
+) -> Result<(), AllocError> {
     let digits = word.to_octal();
-    text.extend_from_slice(b" ")?;
     if word.index() < 8 {
         text.extend_from_slice(&digits[3..])
     } else {
         text.extend_from_slice(&digits[2..])
     }
+}
+
+/// Adds a space and an offset or a link.
+fn push_spaced_digits<A: Allocator>(text: &mut Vec<u8, A>, word: Word) -> Result<(), AllocError> {
+    text.extend_from_slice(b" ")?;
+    push_digits(text, word)
 }
 
 /// Adds the words that a register holds: the link as a digit.
@@ -80,7 +88,7 @@ fn push_words<A: Allocator>(
     for (first, last) in words.ranges() {
         match register {
             Register::Accumulator => push_range(text, first, last)?,
-            Register::Link => push_digits(text, first)?,
+            Register::Link => push_spaced_digits(text, first)?,
         }
     }
     Ok(())
@@ -124,7 +132,7 @@ impl<D: Allocator, C: Allocator> Shown<'_, D, C> {
         }
         text.extend_from_slice(b"returns")?;
         push_range(text, place.entry, place.entry)?;
-        push_digits(text, place.offset)?;
+        push_spaced_digits(text, place.offset)?;
         text.extend_from_slice(place.name())?;
         push_words(text, place.register, &words)?;
         end_line(text)

@@ -26,7 +26,7 @@ use wordset::WordSet;
 const MOST_SWEEPS: usize = 4;
 
 /// The most turns of all tries together.
-const MOST_TURNS: u32 = 100_000;
+const MOST_TURNS: u32 = 40_000;
 
 /// The most words that may be possible at one address.
 pub(crate) const MOST_WORDS: usize = 64;

@@ -4,7 +4,7 @@
 use crate::files::{ResultSink, finish, open_output};
 use crate::of_programs::open::OpenProgram;
 use crate::of_sources::assembled::AssembledSource;
-use crate::of_sources::source_lines::lines_of;
+use crate::of_sources::source_lines::{labelled, lines_of};
 use crate::standard_error::{report_to, tell_to};
 use crate::stuck::{StuckSearch, stuck_message};
 use crate::stuck_reports::report_stuck;
@@ -215,9 +215,13 @@ impl Proposal {
         source: Option<&AssembledSource>,
     ) -> Result<(), Fault> {
         let Refinement { text, told } = refined;
-        self.told
-            .extend_from_slice(&lines_of(alloc, source, &told)?)?;
         self.text = text;
+        match source {
+            Some(source) => self
+                .told
+                .extend_from_slice(&labelled(alloc, source, &told)?)?,
+            None => self.told.extend_from_slice(told.as_bytes())?,
+        }
         Ok(())
     }
 

@@ -19,8 +19,8 @@ use crate::place_options::{OctalAddresses, PlaceOptions, StopOptions, places_of}
 use crate::program_command::{ProgramCommand, command_of};
 use crate::sources::source_names;
 use crate::values::{
-    declare_options, is_given, is_start_named, operand_of, read_standard_input_once, refinements_of,
-    refute_options, verify_options,
+    declare_options, is_given, is_start_named, operand_of, read_standard_input_once,
+    refinements_of, refute_options, verify_options,
 };
 use certificate_lines::Version;
 use clap::ArgMatches;

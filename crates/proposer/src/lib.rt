@@ -306,17 +306,41 @@ fn cut_down<A: Allocator + Copy>(
         let Some(cells) = proposal.spare(tape.image) else {
             return Ok(proposal);
         };
-        let tighter = attempt(alloc, tape, map, &cells, turns)?;
-        if tighter.is_safe() {
-            proposal = tighter;
-        } else {
-            proposal = narrowed(alloc, tape, map, &cells, proposal)?;
-        }
+        proposal = tightened(alloc, tape, map, &cells, proposal, turns)?;
     }
     match proposal.spare(tape.image) {
         None => Ok(proposal),
         Some(_) => Err(ProposeFault::Mismatch),
     }
+}
+
+/// The proposal with these variables: with a certificate that is found for them or, if none is found, with that of another
+/// proposal.
+fn tightened<A: Allocator + Copy>(
+    alloc: A,
+    tape: &Tape<'_>,
+    map: &Map,
+    variables: &WordSet,
+    given: Proposal<A>,
+    turns: &mut Turns,
+) -> Result<Proposal<A>, ProposeFault>
+    requires profile { (meaning given.declaration).profile ≡ map.now.profile }
+    requires shown { IsShown tape.now.image.now given.declaration given.verdict }
+    ensures fits { IfOk result (Fits map.now.start map.now.profile) }
+    ensures shown { IfOk result (λ p. IsShown tape.now.image.now p.declaration p.verdict) }
+    ensures safe { IfOk result (λ p. is_safe p.verdict ≡ true) }
+    ensures unlisted { IfOk result (λ p. (meaning p.declaration).reads ≡ None) }
+    ensures spent { IfOk result (λ p. IsSpentUp turns.new p.verdict) }
+    ensures faults { IfErr result IsTold }
+    ensures limit { turns.new.limit ≡ turns.old.limit }
+    ensures rises { turns.old.spent ≤ turns.new.spent }
+    ensures within { turns.new.spent ≤ turns.new.limit }
+{
+    let tighter = attempt(alloc, tape, map, variables, turns)?;
+    if tighter.is_safe() {
+        return Ok(tighter);
+    }
+    narrowed(alloc, tape, map, variables, given)
 }
 
 /// The proposal with these variables and with the certificate of another one, which the judge has to accept for it.

@@ -282,7 +282,7 @@ fn push_return<L: MessageWriter, D: Allocator>(
 }
 
 /// Whether an instruction is a JMP, and no return: a return ends one call, whatever is declared.
-fn is_jump<D: Allocator>(declaration: &Declaration<D>, last: Option<ExecutedInstruction>) -> bool {
+fn is_jump<D: Allocator>(declaration: &Declaration<D>, last: &Option<ExecutedInstruction>) -> bool {
     let Some(executed) = last else {
         return false;
     };
@@ -298,7 +298,7 @@ fn push_outside<L: MessageWriter, D: Allocator>(
     declaration: &Declaration<D>,
     calls: &[Call],
     at: Word,
-    last: Option<ExecutedInstruction>,
+    last: &Option<ExecutedInstruction>,
 ) -> Result<(), AllocError> {
     text.push_address(at)?;
     text.push_text(b" is not in the running routine's body")?;
@@ -376,7 +376,7 @@ fn push_stray<L: MessageWriter, D: Allocator>(
     declaration: &Declaration<D>,
     calls: &[Call],
     cpu: &Cpu,
-    last: Option<ExecutedInstruction>,
+    last: &Option<ExecutedInstruction>,
 ) -> Result<(), AllocError> {
     let inside = match calls.last() {
         None => declaration.in_main(cpu.pc),
@@ -503,7 +503,7 @@ fn push_act<L: MessageWriter, D: Allocator>(
     calls: &[Call],
     cpu: &Cpu,
     rule: Rule,
-    last: Option<ExecutedInstruction>,
+    last: &Option<ExecutedInstruction>,
 ) -> Result<(), AllocError> {
     match rule {
         Rule::StaysInBody => push_stray(text, declaration, calls, cpu, last),
@@ -547,7 +547,7 @@ fn push_origin<L: MessageWriter>(
     text: &mut L,
     profile: Profile,
     rule: Rule,
-    last: Option<ExecutedInstruction>,
+    last: &Option<ExecutedInstruction>,
 ) -> Result<(), AllocError> {
     let Some(executed) = last else {
         return Ok(());
@@ -574,8 +574,8 @@ fn lines_of<A: Allocator + Copy, D: Allocator, C: Allocator>(
     let mut text = Message::new(alloc);
     text.push_instruction(cpu.pc, Some(word), declaration.profile())?;
     push_asked(&mut text, rule)?;
-    push_act(&mut text, declaration, calls, cpu, rule, last)?;
-    push_origin(&mut text, declaration.profile(), rule, last)?;
+    push_act(&mut text, declaration, calls, cpu, rule, &last)?;
+    push_origin(&mut text, declaration.profile(), rule, &last)?;
     push_running(&mut text, calls)?;
     Ok(text)
 }

@@ -120,7 +120,7 @@ pub fn draft_page<A: Allocator + Copy, D: Allocator, C: Allocator>(
     notes: Option<&SourceNotes<A>>,
     given: Option<&[u8]>,
 ) -> Result<Vec<u8, A>, AllocError>
-    ensures { IfOk result (λ page. IsDraftPage form names.program.now at page.items) }
+    ensures { IfOk result (λ page. IsDraftPage form names.entry.program.now at page.items) }
 {
     let rest = below_stuck(
         alloc,

@@ -145,7 +145,7 @@ pub fn report_of<A: Allocator + Copy>(
     names: PageNames<'_>,
     notes: Option<&SourceNotes<A>>,
 ) -> Result<CommandResult<A>, Fault>
-    ensures page { IfOk result (λ page. IsReportOf form names.program.now certified.now.program.image
+    ensures page { IfOk result (λ page. IsReportOf form names.entry.program.now certified.now.program.image
         (meaning certified.now.program.declaration) (text_of certified.now.certificate)
         page.status page.text.items) }
     ensures faults { IfErr result IsMemoryFault }

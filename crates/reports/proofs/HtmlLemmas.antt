@@ -11,15 +11,18 @@ unfolding escaped_text
 none_escaped old = sym (append-nil old)
 
 -- One byte more.
-pub one_escaped : (old now new bytes : List ℕ) (i b : ℕ) → i < length bytes → b ≡ get_or bytes i b → now ≡ old ++ escaped_text (take i bytes) →
-    new ≡ now ++ escaped_byte b → new ≡ old ++ escaped_text (take (i + 1) bytes)
+pub one_escaped : (old now new bytes : List ℕ) (i : ℕ) → i < length bytes → now ≡ old ++ escaped_text (take i bytes) →
+    new ≡ now ++ escaped_byte (get_or bytes i 0) → new ≡ old ++ escaped_text (take (i + 1) bytes)
 unfolding escaped_text
-one_escaped old now new bytes i b inside at before more =
+one_escaped old now new bytes i inside before more =
     more ∙ ap (λ (t : List ℕ). t ++ escaped_byte b) before ∙ append_assoc old (escaped_text (take i bytes)) (escaped_byte b) ∙ ap (λ (t : List ℕ). old ++ t) (sym grown)
   where
+    b : ℕ
+    b = get_or bytes i 0
+
     grown : escaped_text (take (i + 1) bytes) ≡ escaped_text (take i bytes) ++ escaped_byte b
     grown =
-        ap escaped_text (take_more bytes i b inside ∙ ap (λ (x : ℕ). take i bytes ++ x ∷ []) (sym at)) ∙
+        ap escaped_text (take_more bytes i 0 inside) ∙
         (flat_map-append escaped_byte (take i bytes) (b ∷ []) ∙ ap (λ (t : List ℕ). escaped_text (take i bytes) ++ t) (append-nil (escaped_byte b)))
 
 -- All bytes.

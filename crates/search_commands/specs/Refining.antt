@@ -1,5 +1,5 @@
 -- What `declare` makes of a declaration for which a certificate is found.
-use Rattle.std.specs.Prelude.{ℕ, ◌≡◌, ◌⊎◌, List, Option, is_some, length, take}
+use Rattle.std.specs.Prelude.{ℕ, ◌≡◌, ◌⊎◌, List, Option, is_some}
 use Rattle.peripherals.specs.Loading.{image_of}
 use Rattle.declaration.specs.Declaration.{Declaration}
 use Rattle.declaration.specs.Text.{Declares}
@@ -7,15 +7,12 @@ use Rattle.policy.specs.Runs.{IsSafe}
 use Rattle.search_commands.specs.Adding.{AddsOnly}
 
 -- The second declaration is no wider than the first: start and machine are the same, it allows nothing that the first does not, and
--- it lists reads exactly where the first does. What is to hold at places is the same, and what is to hold at returns comes first in
--- what is to hold at returns of the second.
+-- it lists reads exactly where the first does. Nothing is said here of what is to hold.
 pub record IsNoWider (given less : Declaration) : Type 0 where
   pub start_is : less.start ≡ given.start
   pub profile_is : less.profile ≡ given.profile
   pub adds : AddsOnly given given less
   pub listed : is_some less.reads ≡ is_some given.reads
-  pub holds : less.holds ≡ given.holds
-  pub returns : take (length given.returns) less.returns ≡ given.returns
 
 -- The text declares something that is no wider than a declaration, and no run of the program with these words breaks it.
 pub record IsShownNoWider (image : List (Option ℕ)) (given : Declaration) (text : List ℕ) : Type 0 where

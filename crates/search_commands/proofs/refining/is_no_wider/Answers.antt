@@ -6,6 +6,4 @@ returns g c = λ yes. record {
   profile_is = c.is_alike.ensures.profile c.if-not-is_alike.false;
   adds = c.adds_only.ensures yes;
   listed = c.is_alike.ensures.listed c.if-not-is_alike.false;
-  holds = c.holds_alike.ensures c.if-not-holds_alike.false;
-  returns = c.keeps_returns.ensures c.if-not-keeps_returns.false;
 }

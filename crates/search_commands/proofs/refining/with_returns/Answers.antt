@@ -1,0 +1,13 @@
+use Rattle.search_commands.proofs.refining.with_returns.Goals as goal
+
+pub returns-in_default-clause-refined : goal.returns-in_default-clause-refined
+returns-in_default-clause-refined g c = c.unchanged.ensures.refined c.args.image.now
+
+pub returns-then-len-saturating_add-clause-refined : goal.returns-then-len-saturating_add-clause-refined
+returns-then-len-saturating_add-clause-refined g c = c.unchanged-then-len-saturating_add.ensures.refined c.args.image.now
+
+pub returns-then-not-keeps_lines-clause-refined : goal.returns-then-not-keeps_lines-clause-refined
+returns-then-not-keeps_lines-clause-refined g c = c.unchanged-then-not-keeps_lines.ensures.refined c.args.image.now
+
+pub returns-in-None-clause-refined : goal.returns-in-None-clause-refined
+returns-in-None-clause-refined g c = c.unchanged-in-None.ensures.refined c.args.image.now

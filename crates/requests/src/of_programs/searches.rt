@@ -225,7 +225,7 @@ impl Proposal {
         Ok(())
     }
 
-    /// Refines it as is asked for.
+    /// Refines it as requested.
     fn refine(
         &mut self,
         alloc: Global,
@@ -270,8 +270,13 @@ fn proposal_for<I: Read + Drop>(
     Ok(proposal)
 }
 
-/// Writes a declaration that is proposed for a program, or its own completed, as it is refined. Says what goes, and if no reads are
-/// added to it that should be.
+/// Writes what is told of a refinement to standard error, if it takes it.
+fn tell_refinement<R: Eprint>(rt: &R, told: &[u8]) {
+    let _ = put(&mut tell_to(rt), told);
+}
+
+/// Writes a declaration that is proposed for a program, or its own completed, as it is refined. Says what is left out, and if no reads
+/// are added to it that should be.
 #[inline(never)]
 pub(crate) fn declared<R: Files + Print + Eprint, I: Read + Drop>(
     rt: &R,
@@ -286,7 +291,7 @@ pub(crate) fn declared<R: Files + Print + Eprint, I: Read + Drop>(
     let found = proposal_for(alloc, opened, options, refinements)?;
     put(&mut StdWriter::new(&mut file), &found.text)?;
     let status = finish(&mut file, found.status)?;
-    let _ = put(&mut tell_to(rt), &found.told);
+    tell_refinement(rt, &found.told);
     if is_completed && options.reads && !lists_reads(&found.text) {
         tell_lines(rt, NO_LIST);
     }

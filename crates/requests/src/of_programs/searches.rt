@@ -270,30 +270,32 @@ fn proposal_for<I: Read + Drop>(
     Ok(proposal)
 }
 
-/// Writes what is told of a refinement to standard error, if it takes it.
-fn tell_refinement<R: Eprint>(rt: &R, told: &[u8]) {
-    let _ = put(&mut tell_to(rt), told);
+/// Says on standard error, if it takes it, how a declaration was refined, and that no reads are added to it, if that is so.
+fn tell_of<R: Eprint>(rt: &R, found: &Proposal, lacks_list: bool) {
+    let _ = put(&mut tell_to(rt), &found.told);
+    if lacks_list {
+        tell_lines(rt, NO_LIST);
+    }
 }
 
 /// Writes a declaration that is proposed for a program, or its own completed, as it is refined. Says what is left out, and if no reads
 /// are added to it that should be.
 #[inline(never)]
-pub(crate) fn declared<R: Files + Print + Eprint, I: Read + Drop>(
-    rt: &R,
+pub(crate) fn declared<'r, R: Files + Print + Eprint, I: Read + Drop>(
+    rt: &'r R,
     alloc: Global,
     opened: &mut OpenProgram<'_, I>,
-    out: Destination<'_>,
+    out: Destination<'r>,
     options: DeclareOptions,
     refinements: Refinements,
 ) -> Result<Status, Fault> {
     let mut file = open_output(rt, alloc, out)?;
     let is_completed = opened.is_declared;
+    let adds_reads = options.reads;
     let found = proposal_for(alloc, opened, options, refinements)?;
     put(&mut StdWriter::new(&mut file), &found.text)?;
     let status = finish(&mut file, found.status)?;
-    tell_refinement(rt, &found.told);
-    if is_completed && options.reads && !lists_reads(&found.text) {
-        tell_lines(rt, NO_LIST);
-    }
+    let lacks_list = is_completed && adds_reads && !lists_reads(&found.text);
+    tell_of(rt, &found, lacks_list);
     Ok(status)
 }

@@ -185,24 +185,32 @@ struct Proposal {
 }
 
 impl Proposal {
-    /// Leaves out what is needless.
-    fn tighten(
+    /// Leaves out what is needless, if that is requested.
+    fn tighten_if(
         &mut self,
+        is_requested: bool,
         alloc: Global,
         image: &Image,
         source: Option<&AssembledSource>,
     ) -> Result<(), Fault> {
+        if !is_requested {
+            return Ok(());
+        }
         let refined = tightened(alloc, image, &self.text)?;
         self.replace(alloc, refined, source)
     }
 
-    /// Adds with what routines return.
-    fn add_returns(
+    /// Adds with what routines return, if that is requested.
+    fn add_returns_if(
         &mut self,
+        is_requested: bool,
         alloc: Global,
         image: &Image,
         source: Option<&AssembledSource>,
     ) -> Result<(), Fault> {
+        if !is_requested {
+            return Ok(());
+        }
         let refined = with_returns(alloc, image, &self.text)?;
         self.replace(alloc, refined, source)
     }
@@ -229,22 +237,32 @@ impl Proposal {
     fn refine(
         &mut self,
         alloc: Global,
-        tape: &[u8],
+        image: &Image,
         refinements: Refinements,
         source: Option<&AssembledSource>,
     ) -> Result<(), Fault> {
-        if !refinements.tight && !refinements.exits {
-            return Ok(());
+        match self.tighten_if(refinements.tight, alloc, image, source) {
+            Ok(()) => self.add_returns_if(refinements.exits, alloc, image, source),
+            Err(fault) => Err(fault),
         }
-        let image = tape_from(&mut StdReader::new(tape))?;
-        if refinements.tight {
-            self.tighten(alloc, &image, source)?;
-        }
-        if refinements.exits {
-            self.add_returns(alloc, &image, source)?;
-        }
-        Ok(())
     }
+}
+
+/// A proposal for the program of a tape, as it is refined.
+fn refined(
+    alloc: Global,
+    given: Proposal,
+    tape: &[u8],
+    refinements: Refinements,
+    source: Option<&AssembledSource>,
+) -> Result<Proposal, Fault> {
+    if !refinements.tight && !refinements.exits {
+        return Ok(given);
+    }
+    let image = tape_from(&mut StdReader::new(tape))?;
+    let mut proposal = given;
+    proposal.refine(alloc, &image, refinements, source)?;
+    Ok(proposal)
 }
 
 /// A declaration that is proposed for a program, or its own completed, as it is refined; of a source with its symbols.
@@ -258,12 +276,12 @@ fn proposal_for<I: Read + Drop>(
     let tape = read_at_most(alloc, &mut StdReader::new(&mut opened.frames), MOST_FRAMES)?;
     let mut text = Vec::new(alloc);
     let status = push_proposal(alloc, opened, &tape, options, &mut text)?;
-    let mut proposal = Proposal {
+    let given = Proposal {
         text,
         status,
         told: Vec::new(alloc),
     };
-    proposal.refine(alloc, &tape, refinements, source)?;
+    let mut proposal = refined(alloc, given, &tape, refinements, source)?;
     if let Some(source) = source {
         proposal.text = source.with_symbols(alloc, &proposal.text)?;
     }

@@ -168,13 +168,15 @@ pub fn with_source_lines(
     Ok(text)
 }
 
-/// A text of its own with these bytes.
-fn copy_of(alloc: Global, bytes: &[u8]) -> Result<Vec<u8>, AllocError>
-    ensures { IfOk result (λ copy. copy.items ≡ bytes.now) }
+/// A text for people as it is, which begins with its first line.
+#[tactic(auto, using(crate::proofs::MessageLemmas::begins_with_line))]
+fn plain_text(alloc: Global, told: &Message<Global>) -> Result<Vec<u8>, AllocError>
+    ensures whole { IfOk result (λ text. text.items ≡ plain told.now) }
+    ensures front { IfOk result (λ text. BeginsWith (first_line (plain told.now)) text.items) }
 {
-    let mut copy = Vec::new(alloc);
-    copy.extend_from_slice(bytes)?;
-    Ok(copy)
+    let mut text = Vec::new(alloc);
+    text.extend_from_slice(told.as_bytes())?;
+    Ok(text)
 }
 
 /// A text for people, with what a source says about its addresses if there is one. Its first line, which is that of an answer, comes
@@ -194,6 +196,6 @@ pub fn lines_of(
 {
     match source {
         Some(source) => with_source_lines(alloc, source, told),
-        None => copy_of(alloc, told.as_bytes()),
+        None => plain_text(alloc, told),
     }
 }

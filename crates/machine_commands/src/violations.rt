@@ -8,7 +8,7 @@ use command_parts::message::{
     Message, MessageWriter, push_text_and_address, push_text_and_advised, push_text_and_word,
 };
 use declaration::{Assertion, Declaration, Owner, Subject};
-use instruct::{Operation, Profile, refers_indirectly, target};
+use instruct::{Instruction, Operation, Profile, decode, refers_indirectly, target};
 use itoa::Buffer;
 use peripherals::{Event, NoMemory, Start};
 use policy::{Call, Rule, Watched, Watcher};
@@ -288,7 +288,8 @@ fn is_jump<D: Allocator>(declaration: &Declaration<D>, last: &Option<ExecutedIns
     };
     let is_return = refers_indirectly(executed.word)
         && declaration.is_entry(target(executed.word, executed.at));
-    matches!(Operation::of(executed.word), Operation::Jmp) && !is_return
+    let is_reference = decode(executed.word, declaration.profile()) == Instruction::Memory;
+    is_reference && Operation::of(executed.word) == Operation::Jmp && !is_return
 }
 
 /// Adds the line of an address that is not in the running routine's body, to which this instruction led: what it is, or what

@@ -4,7 +4,7 @@ import os, subprocess, sys, tempfile
 tree, out = os.path.abspath(sys.argv[1]), os.path.abspath(sys.argv[2])
 crate = sys.argv[3] if len(sys.argv) > 3 else "pdp8"
 with tempfile.TemporaryDirectory(prefix="fast-") as keep:
-    run = subprocess.run(["/tmp/w/fast/bin/rt", "try", "--steps", "1"], cwd=f"{tree}/crates/{crate}", env={**os.environ, "FAST_KEEP": keep},
+    run = subprocess.run(["/work/fast/bin/rt", "try", "--steps", "1"], cwd=f"{tree}/crates/{crate}", env={**os.environ, "FAST_KEEP": keep},
                          stdout=subprocess.PIPE, stderr=subprocess.STDOUT, stdin=subprocess.DEVNULL, text=True)
     if not os.path.exists(f"{keep}/module.bc"):
         sys.exit(run.stdout[-6000:] + "\nbuild.py: no program was made")

@@ -1,11 +1,11 @@
 #!/usr/bin/env python3
-"""chk.py TREE CRATE FLAGS..: checks TREE's crate CRATE over built libraries of the pools (POOLS, default /tmp/w/pool); a library
+"""chk.py TREE CRATE FLAGS..: checks TREE's crate CRATE over built libraries of the pools (POOLS, default /work/pool); a library
 that is in no pool, or that SRC names (SRC="facts domain"), is passed as source, so its own proofs aren't needed.
 Flags as --only NAME (functions' names, repeatable), --test. JOBS=1. Work is kept in TREE/crates/CRATE/out/incremental.
 INC=other folder for that."""
 import os, re, sys, subprocess
 tree = os.path.abspath(sys.argv[1]); crate, *flags = sys.argv[2:]
-pools = os.environ.get('POOLS', '/tmp/w/pool').split(':')
+pools = os.environ.get('POOLS', '/work/pool').split(':')
 R = '/opt/rattle/rlibs'
 uses = {}
 for l in open(f'{tree}/crates.txt'):

@@ -1,7 +1,7 @@
 #!/usr/bin/env python3
-"""plant.py TREE CRATE FLAGS..: rt plant over the proved libraries of /tmp/w/pool2 (work is kept in the crate's out/incremental)."""
+"""plant.py TREE CRATE FLAGS..: rt plant over the proved libraries of /work/pool (work is kept in the crate's out/incremental)."""
 import importlib.machinery, os, sys, types, subprocess
-POOL = os.environ.get('POOL', '/tmp/w/pool2')
+POOL = os.environ.get('POOL', '/work/pool')
 tree, name, *flags = sys.argv[1:]
 os.chdir(f'{os.path.abspath(tree)}/crates/{name}')
 m = types.ModuleType('rt_plant'); m.__file__ = '/opt/rattle/bin/rt-plant'
@@ -19,7 +19,7 @@ def check(*words):
     args = [rt.RATTLE, 'check', *crate.words([]), *rt.KEPT]
     ran = subprocess.run(args, stdout=subprocess.PIPE, stderr=subprocess.STDOUT, text=True)
     print(ran.stdout)
-    open('/tmp/w/logs/plant-%s.check' % crate.name, 'w').write(' '.join(args) + '\n' + ran.stdout)
+    open('/work/log/plant-%s.check' % crate.name, 'w').write(' '.join(args) + '\n' + ran.stdout)
     return ran.returncode
 rt.main = check
 sys.exit(m.main(*flags))

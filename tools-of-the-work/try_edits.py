@@ -28,6 +28,6 @@ for name in names:
             s=s.replace(old,new)
         if bad: continue
         open(f,'w').write(s)
-        r=subprocess.run([sys.executable,'/work/tools/chk.py',room,crate,'--only',fn],stdout=subprocess.PIPE,stderr=subprocess.STDOUT,text=True,env={**os.environ,'POOLS':'/work/pool','INC':inc,'JOBS':'1'})
+        r=subprocess.run([sys.executable,'/work/tools/chk.py',room,crate,'--only',fn],stdout=subprocess.PIPE,stderr=subprocess.STDOUT,text=True,env={**os.environ,'POOLS':'/work/pool2','INC':inc,'JOBS':'1'})
         out=[l for l in r.stdout.splitlines() if (l.startswith('fn') and ('not proved' in l or 'no proof' in l)) or 'error' in l]
         print(crate,name,fn,'REFUSED' if r.returncode==1 and any(l.startswith('fn') for l in out) else f'STATUS {r.returncode}',(out or r.stdout.splitlines()[-1:])[0][:170],flush=True)

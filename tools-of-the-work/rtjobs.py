@@ -4,7 +4,7 @@ import importlib.machinery, sys, types
 sys.dont_write_bytecode = True
 m = types.ModuleType('rt'); m.__file__ = '/opt/rattle/bin/rt'
 importlib.machinery.SourceFileLoader('rt', m.__file__).exec_module(m)
-JOBS = {'facts': 3, 'fixpoint': 4, 'analyser': 3, 'proposer': 4, 'search_commands': 4, 'requests': 4, 'judge': 2, 'transfer': 3, 'workbench': 2, 'pdp8': 2, 'machine_commands': 2, 'diagnostics': 2, 'control_flow': 2, 'command_line': 2, 'reports': 2}
+JOBS = {'facts': 3, 'fixpoint': 4, 'analyser': 3, 'proposer': 4, 'search_commands': 4, 'requests': 4, 'judge': 2, 'transfer': 3, 'workbench': 2, 'pdp8': 2, 'machine_commands': 2, 'diagnostics': 2, 'control_flow': 2, 'command_line': 2, 'reports': 4}
 Crate = m.Crate if hasattr(m, 'Crate') else m.rtlib.Crate
 ci = Crate.ci
 def patched(self, flags, tests):

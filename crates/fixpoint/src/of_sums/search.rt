@@ -25,8 +25,8 @@ use wordset::WordSet;
 /// How many sweeps go back at most.
 const MOST_SWEEPS: usize = 4;
 
-/// The most turns of all tries together.
-const MOST_TURNS: u32 = 40_000;
+/// The most turns of all tries together. A turn counts as several where it takes long.
+const MOST_TURNS: usize = 40_000;
 
 /// The most words that may be possible at one address.
 pub(crate) const MOST_WORDS: usize = 64;
@@ -56,7 +56,7 @@ pub struct SumSearch<A: Allocator> {
     pub(crate) needs: Option<Needs<A>>,
     pub(crate) waiting: WordSet,
     left: u32,
-    left_in_all: u32,
+    left_in_all: usize,
 }
 
 impl<A: Allocator + Copy> SumSearch<A> {
@@ -355,8 +355,13 @@ impl<A: Allocator + Copy> SumSearch<A> {
         Ok(())
     }
 
-    /// Takes a turn, if one is left for this try.
-    pub(crate) fn take_turn(&mut self, at: Word, turns: &mut Turns) -> Result<(), GuessFault>
+    /// Takes a turn, if one is left for this try. Of the turns of all tries together it takes so many.
+    pub(crate) fn take_turn(
+        &mut self,
+        at: Word,
+        cost: usize,
+        turns: &mut Turns,
+    ) -> Result<(), GuessFault>
         ensures limit { turns.new.limit ≡ turns.old.limit }
         ensures rises { turns.old.spent ≤ turns.new.spent }
         ensures within { turns.new.spent ≤ turns.new.limit }
@@ -367,7 +372,7 @@ impl<A: Allocator + Copy> SumSearch<A> {
             return Err(GuessFault::Stuck(at));
         }
         self.left -= 1;
-        self.left_in_all -= 1;
+        self.left_in_all = self.left_in_all.saturating_sub(cost);
         turns.take()
     }
 }

@@ -28,6 +28,20 @@ pub(crate) struct MergeTarget {
     pub(crate) exit: Option<usize>,
 }
 
+/// So many words of a cell of which a chain speaks take as long as another turn: the chain is followed from each of them.
+const WORDS_OF_A_TURN: usize = 512;
+
+/// As how many turns one at this fact counts.
+fn turn_cost(fact: &NarrowedFact) -> usize {
+    let mut cost = 1usize;
+    let mut words = WordSet::empty();
+    for chain in fact.chains() {
+        fact.cells().put_set_of(chain.cell(), &mut words);
+        cost = cost.saturating_add(words.count() / WORDS_OF_A_TURN);
+    }
+    cost
+}
+
 impl<A: Allocator + Copy> SumSearch<A> {
     /// Goes on from a fact at an address.
     pub(crate) fn visit<D: Allocator>(
@@ -78,7 +92,7 @@ impl<A: Allocator + Copy> SumSearch<A> {
         ensures within { turns.new.spent ≤ turns.new.limit }
         ensures spent { IfErr result (IsSpentUp turns.new) }
     {
-        self.take_turn(at, turns)?;
+        self.take_turn(at, turn_cost(&room.calls.fact), turns)?;
         if !program.may_be_met(place, at, word) {
             return Ok(());
         }

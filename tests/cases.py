@@ -35,7 +35,7 @@ TOP = os.path.join(os.path.dirname(os.path.abspath(__file__)), '..')
 EXAMPLES = os.path.join(TOP, 'examples')
 FENCE = re.compile(r'^```(?:(\S+) (file|tape|bytes)( rows)?|(console|table)|\S*)\s*$')
 STATUS = re.compile(r'^(?:(.*)\s)?\[(\d+)\]$', re.S)
-SECONDS = 240
+SECONDS = 60
 
 
 @dataclass

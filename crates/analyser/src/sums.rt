@@ -134,8 +134,65 @@ fn tried_by_cells<A: Allocator + Copy, D: Allocator>(
     Err(GuessFault::Stuck(stuck))
 }
 
+/// The same, with facts distinguished by the link, and by the calls of those routines too that are called from the body in which
+/// a try was stuck, if there are any of which they are not yet.
+fn tried_by_inner_calls<A: Allocator + Copy, D: Allocator>(
+    search: &mut SumSearch<A>,
+    program: &SumProgram<'_, D>,
+    split: &Split,
+    stuck: Word,
+    turns: &mut Turns,
+) -> Result<Certificate<A>, GuessFault>
+    ensures lines { IfOk result (λ c. AreLines (meaning c)) }
+    ensures version { IfOk result (λ c. (meaning c).version ≡ Three) }
+    ensures accepted { IfOk result (IsAccepted program.now.base.image.now program.now.base.declaration.now) }
+    ensures limit { turns.new.limit ≡ turns.old.limit }
+    ensures rises { turns.old.spent ≤ turns.new.spent }
+    ensures within { turns.new.spent ≤ turns.new.limit }
+    ensures spent { IfErr result (IsSpentUp turns.new) }
+{
+    turns.are_within();
+    let called = program.called_in(&program.owner(stuck));
+    if called.is_subset(split.called()) {
+        return Err(GuessFault::Stuck(stuck));
+    }
+    let apart = split.by_calls(&called).by_links(&WordSet::all());
+    tried(search, program, &apart, turns)
+}
+
+/// The same, where tries by calls are stuck: with facts distinguished by the link too, then by the words of a cell and where a
+/// skip may test it by the link, and at last by the link and by more calls.
+fn tried_apart<A: Allocator + Copy, D: Allocator>(
+    search: &mut SumSearch<A>,
+    program: &SumProgram<'_, D>,
+    split: &Split,
+    stuck: Word,
+    turns: &mut Turns,
+) -> Result<Certificate<A>, GuessFault>
+    ensures lines { IfOk result (λ c. AreLines (meaning c)) }
+    ensures version { IfOk result (λ c. (meaning c).version ≡ Three) }
+    ensures accepted { IfOk result (IsAccepted program.now.base.image.now program.now.base.declaration.now) }
+    ensures limit { turns.new.limit ≡ turns.old.limit }
+    ensures rises { turns.old.spent ≤ turns.new.spent }
+    ensures within { turns.new.spent ≤ turns.new.limit }
+    ensures spent { IfErr result (IsSpentUp turns.new) }
+{
+    turns.are_within();
+    let cells = search.distinguishing_variables(program);
+    let found = tried(search, program, &split.by_links(&WordSet::all()), turns);
+    let Err(GuessFault::Stuck(_)) = &found else {
+        return found;
+    };
+    let apart = split.by_links(program.tested_links());
+    let found = tried_by_cells(search, program, &apart, &cells, stuck, turns);
+    let Err(GuessFault::Stuck(_)) = &found else {
+        return found;
+    };
+    tried_by_inner_calls(search, program, split, stuck, turns)
+}
+
 /// Looks for a certificate of version 3: with one fact at an address, and where that is stuck with facts that are distinguished by
-/// the call, then by the link, then by the words of a cell and where a skip may test it by the link.
+/// the call, then by the link, by the words of a cell, and by more calls.
 pub(crate) fn found_by_sums<A: Allocator + Copy, D: Allocator>(
     alloc: A,
     image: &Image,
@@ -158,16 +215,5 @@ pub(crate) fn found_by_sums<A: Allocator + Copy, D: Allocator>(
     let Err(GuessFault::Stuck(at)) = &found else {
         return found;
     };
-    let cells = search.distinguishing_variables(&program);
-    let found = tried(
-        &mut search,
-        &program,
-        &split.by_links(&WordSet::all()),
-        turns,
-    );
-    let Err(GuessFault::Stuck(_)) = &found else {
-        return found;
-    };
-    let apart = split.by_links(program.tested_links());
-    tried_by_cells(&mut search, &program, &apart, &cells, *at, turns)
+    tried_apart(&mut search, &program, &split, *at, turns)
 }

@@ -24,3 +24,4 @@ pub mod AddingLemmas
 pub mod KnowingLemmas
 pub mod NarrowingLemmas
 pub mod MoveLemmas
+pub mod LinkLemmas

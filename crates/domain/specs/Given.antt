@@ -19,6 +19,14 @@ gives_allowed_from ac links c k v w l = ac w && (links l && gives_from c k v w l
 abbrev pub gives_allowed : Words → Words → Chain → ℕ → ℕ → ℕ → Bool
 gives_allowed ac links c v w l = ac w && (links l && gives c v w l)
 
+-- A chain gives the link l of the cell's word v, where it begins with the link k, with an accumulator of a set.
+abbrev pub gives_link_from : Words → Chain → ℕ → ℕ → ℕ → Bool
+gives_link_from ac c k v l = some_below 4096 (λ w. ac w && gives_from c k v w l)
+
+-- The same, whichever link it begins with.
+abbrev pub gives_link : Words → Chain → ℕ → ℕ → Bool
+gives_link ac c v l = some_below 4096 (λ w. ac w && gives c v w l)
+
 -- There is not a word and no link.
 pub record IsEmpty (c : ChainWords) : Type 0 where
   pub cells : words c.cells ≡ nothing

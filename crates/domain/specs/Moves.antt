@@ -18,6 +18,10 @@ free_of names relations = filter (λ r. not (speaks_of names r.sum)) relations
 abbrev pub chains_free_of : (Location → Bool) → List Chain → List Chain
 chains_free_of names chains = if names Ac then [] else filter (λ c. not (names (Cell c.cell))) chains
 
+-- The chains on some cells.
+abbrev pub chains_on : Words → List Chain → List Chain
+chains_on cells chains = filter (λ c. cells c.cell) chains
+
 -- The fact without what it says of these names beside their sets: their relations and chains go.
 abbrev pub without_relations : (Location → Bool) → Fact → Fact
 without_relations names f =

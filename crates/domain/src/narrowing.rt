@@ -17,7 +17,8 @@ ghost use Rattle.domain.specs.Brief.{brief_words};
 ghost use Rattle.domain.specs.CellsInCode.{cell_sets_of};
 ghost use Rattle.domain.specs.RelationsInCode.{relations_of, relation_of};
 ghost use Rattle.domain.specs.ChainsInCode.{chain_of};
-ghost use Rattle.domain.specs.Given.{IsEmpty, is_allowed_pair, gives_allowed_from, gives_allowed, AddsGiven, AddsAllGiven};
+ghost use Rattle.domain.specs.Given.{IsEmpty, is_allowed_pair, gives_allowed_from, gives_allowed, gives_link_from, gives_link, AddsGiven, AddsAllGiven};
+ghost use Rattle.domain.specs.Locations.{Cell};
 ghost use Rattle.domain.specs.Terms.{Behind, sum_of_name};
 ghost use Rattle.domain.specs.LocationsInCode.{location_of};
 ghost use Rattle.domain.specs.FactInCode.{fact_in_code, all_parts, all_parts_of_chains};
@@ -114,6 +115,39 @@ fn add_all_given(chain: &Chain, set: &WordSet, ac: &WordSet, links: Links, found
     for word in set.iter() {
         add_given(chain, word, ac, links, found);
     }
+}
+
+/// Whether a chain gives a link of one word of its cell and of one link, with an accumulator that a fact allows.
+fn gives_link_from(chain: &Chain, word: Word, first: Link, ac: &WordSet, link: Link) -> bool
+    ensures { result ≡ gives_link_from (words ac.now) (chain_of chain.now) first word link }
+{
+    if !chain.links().contains(first) {
+        return false;
+    }
+    let (made, after) = chain.after_steps(word.add(chain.more()), first);
+    // The proof needs the accumulator to be a word.
+    let _made = made.index();
+    after == link && ac.contains(made)
+}
+
+/// Whether a chain gives a link of one word of its cell, with an accumulator that a fact allows.
+fn gives_link_of(chain: &Chain, word: Word, ac: &WordSet, link: Link) -> bool
+    ensures { result ≡ gives_link (words ac.now) (chain_of chain.now) word link }
+{
+    gives_link_from(chain, word, Link::SET, ac, link)
+        || gives_link_from(chain, word, Link::CLEAR, ac, link)
+}
+
+/// Whether a chain gives a link of some word of a set, with an accumulator that a fact allows.
+fn gives_link(chain: &Chain, set: &WordSet, ac: &WordSet, link: Link) -> bool
+    ensures { result ≡ some_below 4096 (λ x. words set.now x && gives_link (words ac.now) (chain_of chain.now) x link) }
+{
+    for word in set.iter() {
+        if gives_link_of(chain, word, ac, link) {
+            return true;
+        }
+    }
+    false
 }
 
 /// Whether both are so.
@@ -282,19 +316,32 @@ impl<const C: usize, const R: usize> SumFact<C, R> {
         found
     }
 
+    /// Whether a chain and the fact's sets allow a link.
+    fn allows_link(&self, chain: &Chain, set: &WordSet, link: Link) -> bool
+        ensures { words set.now ≡ (fact_in_code self.now).set (Cell (chain_of chain.now).cell)
+            → result ≡ links_of_chain (fact_in_code self.now) (chain_of chain.now) link }
+    {
+        self.link().contains(link) && gives_link(chain, set, self.accumulator(), link)
+    }
+
+    /// The links that a chain and the fact's sets allow.
+    fn links_given(&self, chain: &Chain) -> Links
+        ensures { (l : ℕ) → l < 2 → links_of result l ≡ links_of_chain (fact_in_code self.now) (chain_of chain.now) l }
+    {
+        let mut words = WordSet::all();
+        self.put_set_of(&Location::Cell(chain.cell()), &mut words);
+        let clear = self.allows_link(chain, &words, Link::CLEAR);
+        let set = self.allows_link(chain, &words, Link::SET);
+        Links { clear, set }
+    }
+
     /// Keeps those links that a chain of the fact allows.
     fn keep_links_of_chain(&self, chain: &Chain, links: &mut Links)
         ensures { (l : ℕ) → links_of links.new l ≡
             (links_of links.old l && links_of_chain (fact_in_code self.now) (chain_of chain.now) l) }
     {
-        let found = self.words_of_chain(chain);
-        *links = met_links(*links, found.links);
-        let ChainWords {
-            cells: _,
-            accumulators: _,
-            differences: _,
-            links: _,
-        } = found;
+        let given = self.links_given(chain);
+        *links = met_links(*links, given);
     }
 
     /// Keeps those links that each of some chains of the fact allows.

@@ -4,7 +4,7 @@ ghost use Rattle.std.specs.Prelude.{◌≡◌, ◌<◌, ◌≤◌, ◌+◌, ◌+
 ghost use Rattle.wordset.specs.Words.{one, shifted, mirrored};
 ghost use Rattle.wordset.specs.Lanes.{words};
 ghost use Rattle.domain.specs.Adding.{is_equation, is_kept};
-ghost use Rattle.domain.specs.Moves.{free_of};
+ghost use Rattle.domain.specs.Moves.{free_of, chains_on};
 ghost use Rattle.domain.specs.InCode.{sum_of};
 ghost use Rattle.domain.specs.Brief.{brief_words};
 ghost use Rattle.domain.specs.RelationsInCode.{relations_of, relation_of};
@@ -18,6 +18,7 @@ use crate::names::Names;
 use crate::relations::Relation;
 use crate::sum_fact::{Rules, SumFact};
 use crate::terms::{Sum, Term};
+use arrayvec::ArrayVec;
 use word12::Word;
 use wordset::WordSet;
 
@@ -100,6 +101,20 @@ impl Relation {
     }
 }
 
+/// Lists those chains that are on one of some cells.
+fn list_chains_on(chains: &[Chain], cells: &WordSet, list: &mut ArrayVec<Chain, 72>)
+    requires { length chains.now ≤ 72 }
+    ensures list { map chain_of list.new.items ≡ chains_on (words cells.now) (map chain_of chains.now) }
+    ensures fewer { length list.new.items ≤ length chains.now }
+{
+    list.clear();
+    for chain in chains {
+        if cells.contains(chain.cell()) {
+            list.push(*chain);
+        }
+    }
+}
+
 impl<const C: usize, const R: usize> SumFact<C, R> {
     /// Takes all chains away.
     pub fn clear_chains(&mut self)
@@ -109,6 +124,20 @@ impl<const C: usize, const R: usize> SumFact<C, R> {
         ensures few { length self.new.chains.items ≡ 0 }
     {
         self.chains.clear();
+    }
+
+    /// Takes away the chains that are on none of some cells.
+    pub fn keep_chains_on(&mut self, cells: &WordSet)
+        ensures fact { fact_in_code self.new ≡ record (fact_in_code self.old) {
+          chains = chains_on (words cells.now) (fact_in_code self.old).chains;
+        } }
+        ensures cells { self.new.cells ≡ self.old.cells }
+        ensures relations { self.new.relations ≡ self.old.relations }
+        ensures fewer { length self.new.chains.items ≤ length self.old.chains.items }
+    {
+        let mut kept = ArrayVec::new();
+        list_chains_on(self.chains.as_slice(), cells, &mut kept);
+        self.chains = kept;
     }
 
     /// Adds a chain.

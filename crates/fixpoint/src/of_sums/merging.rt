@@ -135,6 +135,16 @@ fn put_by_parts(fact: &Fact, image: &Image, sum: &Sum, place: &mut WordSet) {
     }
 }
 
+/// Whether a fact has a relation of a sum.
+fn has_relation(fact: &Fact, sum: &Sum) -> bool {
+    for relation in fact.relations().as_slice() {
+        if relation.sum.is_same(sum) {
+            return true;
+        }
+    }
+    false
+}
+
 /// Joins the words that a cell may hold to those of its line; tells whether they are others.
 fn grow<A: Allocator + Copy, F: KnownFact>(
     line: &mut CellInvariant,
@@ -301,7 +311,8 @@ impl<A: Allocator + Copy> SumInvariant<A> {
         self.relate(sum, &wide, growths, merge, sides.after)
     }
 
-    /// Adds what both sides say of a sum of tracked cells, if there is no relation of it and it says something.
+    /// Adds what both sides say of a sum of tracked cells, if there is no relation of it and it says something. A relation that was
+    /// kept before and is not kept any more was widened until it said nothing, and does not begin anew.
     pub(crate) fn add_sum<F: KnownFact>(
         &mut self,
         sum: &Sum,
@@ -310,6 +321,9 @@ impl<A: Allocator + Copy> SumInvariant<A> {
         sides: &mut Sides<'_>,
     ) -> Result<(), SearchFault> {
         if !speaks_only_of(&merge.tracked, sum) || self.relates(sum) {
+            return Ok(());
+        }
+        if has_relation(sides.before, sum) {
             return Ok(());
         }
         let mut set = WordSet::all();

@@ -191,6 +191,63 @@ impl<'a, D: Allocator> SumProgram<'a, D> {
         }
     }
 
+    /// Whether the return word of a routine was incremented so often, if it is known how often, that the routine cannot return
+    /// any more as it is declared to. It may go on to a halt, so it must be more often by two than for the last of its returns;
+    /// and where calls may be abandoned it may go on in any case.
+    pub(crate) fn is_past_returns(&self, routine: &Option<Word>, offset: Option<usize>) -> bool {
+        let (Some(entry), Some(offset)) = (routine, offset) else {
+            return false;
+        };
+        if !self.base.declaration.abandons().is_empty() {
+            return false;
+        }
+        match self.last_offset(*entry) {
+            None => false,
+            Some(last) => offset > last.saturating_add(1),
+        }
+    }
+
+    /// The greatest offset by which a routine is declared to return.
+    fn last_offset(&self, entry: Word) -> Option<usize> {
+        let mut last = None;
+        for offset in 0..64usize {
+            if self
+                .base
+                .declaration
+                .has_offset(entry, Word::from_index(offset))
+            {
+                last = Some(offset);
+            }
+        }
+        last
+    }
+
+    /// The entry that the word at an address calls, if it calls one.
+    fn entry_called_at(&self, at: Word) -> Option<Word> {
+        let word = self.base.fixed_word(at)?;
+        if !is_reference(word) {
+            return None;
+        }
+        let Operation::Jms = Operation::of(word) else {
+            return None;
+        };
+        self.base.place_named(word, target(word, at))
+    }
+
+    /// The entries that the words in the body of a routine, or of main, call.
+    pub fn called_in(&self, routine: &Option<Word>) -> WordSet {
+        let mut found = WordSet::empty();
+        for index in 0..4096usize {
+            let at = Word::from_index(index);
+            if self.has(routine, at) {
+                if let Some(entry) = self.entry_called_at(at) {
+                    found.insert(entry);
+                }
+            }
+        }
+        found
+    }
+
     /// The routines that look at their return word.
     pub fn readers(&self) -> &WordSet
         ensures { result.now ≡ self.now.readers }

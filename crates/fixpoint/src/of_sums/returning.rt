@@ -120,6 +120,8 @@ impl<A: Allocator + Copy> SumSearch<A> {
         room: &mut SumWorkspace<A>,
     ) -> Result<(), SearchFault> {
         let SumWorkspace { calls, parts, .. } = room;
+        let cells = self.chained_cells(&calls.next, &self.tracked_for(goal));
+        calls.next.keep_chains_on(&cells);
         self.land(program, goal, &mut calls.next, parts)
     }
 

@@ -10,6 +10,7 @@ use crate::of_sums::invariants::SumInvariant;
 use crate::of_sums::merging::Merge;
 use crate::of_sums::program::SumProgram;
 use crate::of_sums::splits::Split;
+use crate::of_sums::steps::MergeTarget;
 use crate::of_sums::table::{InvariantMap, Table};
 use crate::of_sums::widening::WideningDelays;
 use crate::of_sums::workspace::SumWorkspace;
@@ -28,6 +29,9 @@ const MOST_SWEEPS: usize = 4;
 /// The most turns of all tries together.
 const MOST_TURNS: u32 = 40_000;
 
+/// How often a try keeps a chain on a cell that may hold many words: each costs a millisecond or two.
+const MOST_WIDE_CHAINS: usize = 300;
+
 /// The most words that may be possible at one address.
 pub(crate) const MOST_WORDS: usize = 64;
 
@@ -43,7 +47,8 @@ pub(crate) enum SearchPhase {
 }
 
 /// What is known, what is gathered in a sweep, which way the search goes, how facts are distinguished, which cells they speak
-/// of, the addresses from which to go on, and how many turns this try may take yet, and all tries together.
+/// of, the addresses from which to go on, how many turns this try may take yet, and all tries together, and how often this try may
+/// yet keep a chain on a cell that may hold many words.
 #[derive(Drop)]
 pub struct SumSearch<A: Allocator> {
     pub(crate) alloc: A,
@@ -57,6 +62,7 @@ pub struct SumSearch<A: Allocator> {
     pub(crate) waiting: WordSet,
     left: u32,
     left_in_all: u32,
+    pub(crate) wide_chains_left: usize,
 }
 
 impl<A: Allocator + Copy> SumSearch<A> {
@@ -78,6 +84,7 @@ impl<A: Allocator + Copy> SumSearch<A> {
             waiting: WordSet::empty(),
             left: 0,
             left_in_all: MOST_TURNS,
+            wide_chains_left: MOST_WIDE_CHAINS,
         }
     }
 
@@ -127,6 +134,7 @@ impl<A: Allocator + Copy> SumSearch<A> {
         let partners = program.pointers.union(&program.base.limits.counted);
         self.needs = Some(Needs::of(self.alloc, &program.base, &partners, &program.base.named)?);
         self.waiting = WordSet::empty();
+        self.wide_chains_left = MOST_WIDE_CHAINS;
         self.start(program)?;
         SumWorkspace::new(self.alloc)
     }
@@ -153,6 +161,23 @@ impl<A: Allocator + Copy> SumSearch<A> {
         match self.split.cell {
             None => cells,
             Some(cell) => cells.union(&WordSet::one(cell)),
+        }
+    }
+
+    /// The cells that facts at one of some addresses speak of.
+    pub(crate) fn tracked_at_some(&self, addresses: &WordSet) -> WordSet {
+        let mut cells = WordSet::empty();
+        for at in addresses.iter() {
+            cells = cells.union(&self.tracked_at(at));
+        }
+        cells
+    }
+
+    /// The cells of which the facts speak that are kept where facts go.
+    pub(crate) fn tracked_for(&self, goal: &MergeTarget) -> WordSet {
+        match (goal.exit, goal.routine) {
+            (Some(_), Some(entry)) => self.tracked_at(entry),
+            _ => self.tracked_at(goal.to),
         }
     }
 

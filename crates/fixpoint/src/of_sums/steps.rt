@@ -19,6 +19,9 @@ use turns::{GuessFault, Turns};
 use word12::{Link, Word};
 use wordset::WordSet;
 
+/// The most words of a cell for which each chain on it is kept.
+const MOST_CHAINED_WORDS: usize = 256;
+
 /// Where facts go to be kept: from which address to which, and for what is joined there, in the body of which routine.
 #[derive(Clone, Copy)]
 pub(crate) struct MergeTarget {
@@ -153,6 +156,7 @@ impl<A: Allocator + Copy> SumSearch<A> {
         let mut addresses = WordSet::empty();
         outcome.targets.put(&mut addresses);
         let fact = &mut outcome.fact;
+        fact.keep_chains_on(&self.chained_cells(&*fact, &self.tracked_at_some(&addresses)));
         self.land_at_each(
             program,
             &place.routine,
@@ -164,6 +168,30 @@ impl<A: Allocator + Copy> SumSearch<A> {
         fact.set_sites(&WordSet::empty());
         fact.set_offsets(ReturnOffsets::none());
         self.land_at_each(program, &None, &addresses.meet(beyond), at, fact, rooms)
+    }
+
+    /// Those of some cells on which a fact has a chain that is kept: each that may hold few words, and as many others as this try
+    /// may keep yet, since narrowing goes through all words of the cell.
+    pub(crate) fn chained_cells<F: KnownFact>(&mut self, fact: &F, cells: &WordSet) -> WordSet {
+        let mut found = WordSet::empty();
+        for chain in fact.chains() {
+            if cells.contains(chain.cell()) && self.keeps_chain_on(fact, chain.cell()) {
+                found.insert(chain.cell());
+            }
+        }
+        found
+    }
+
+    /// Whether a chain on a cell of a fact is kept.
+    fn keeps_chain_on<F: KnownFact>(&mut self, fact: &F, cell: Word) -> bool {
+        if has_words_to_try(fact, cell) {
+            return true;
+        }
+        if self.wide_chains_left == 0 {
+            return false;
+        }
+        self.wide_chains_left -= 1;
+        true
     }
 
     /// Lets a fact be known at each of some addresses that are in a routine's body, to which a word at an address goes.
@@ -282,6 +310,9 @@ impl<A: Allocator + Copy> SumSearch<A> {
         match goal.exit {
             None => {
                 let case = self.split.case_of(goal.to, &goal.routine, known);
+                if program.is_past_returns(&goal.routine, case.offset) {
+                    return Ok(());
+                }
                 self.reach_fact(program, goal, &case, known, before, after)
             }
             Some(offset) => {
@@ -330,6 +361,13 @@ fn abandoned_by<D: Allocator>(place: &Place<'_, D>, word: Word) -> WordSet {
         return WordSet::empty();
     }
     *place.declaration.abandons()
+}
+
+/// Whether a cell may hold few enough words to go through each of them again and again.
+fn has_words_to_try<F: KnownFact>(fact: &F, cell: Word) -> bool {
+    let mut set = WordSet::all();
+    fact.put_set_of(&Location::Cell(cell), &mut set);
+    set.count() <= MOST_CHAINED_WORDS
 }
 
 /// Whether a set has more than one word, and few.

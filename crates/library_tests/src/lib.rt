@@ -1,8 +1,5 @@
 //! What the libraries answer where memory, a read or a write fails: each request, each read and each write in turn. And
 //! their calls that no command makes, once.
-//!
-//! The calls on sets have a second body, one word at a time, in `plain`. Both promise the same words, and both are
-//! proved; what is compared here is what was built of them.
 #![tactic(auto)]
 
 #[cfg(test)]
@@ -11,7 +8,6 @@ mod calls;
 mod fixtures;
 #[cfg(test)]
 mod interrupts;
-pub mod plain;
 #[cfg(test)]
 mod readers;
 #[cfg(test)]

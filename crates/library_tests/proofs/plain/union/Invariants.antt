@@ -1,7 +1,0 @@
-use Rattle.wordset.specs.Words.{SameWords, union}
-use Rattle.wordset.specs.Lanes.{words}
-use Rattle.library_tests.proofs.PlainLemmas.{those_below}
-use Rattle.library_tests.proofs.plain.union.Given as goal
-
-abbrev pub invariant-loop-v : goal.invariant-loop-v
-invariant-loop-v l = SameWords (words l.found) (those_below l.v (union (words l.a) (words l.b)))

@@ -3,3 +3,4 @@ pub mod Machines
 pub mod Outputs
 pub mod Options
 pub mod Requests
+pub mod Sources

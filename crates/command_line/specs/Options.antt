@@ -18,6 +18,7 @@ use Rattle.command_parts.specs.declared.options.SessionOptions.{SessionOptions}
 use Rattle.command_parts.specs.declared.options.TeletypeOptions.{TeletypeOptions}
 use Rattle.command_parts.specs.declared.options.VerifyOptions.{VerifyOptions}
 use Rattle.command_line.specs.declared.place_options.PlaceOptions.{PlaceOptions}
+use Rattle.command_line.specs.declared.place_options.StopOptions.{StopOptions}
 
 -- The value of an operand or of an option, if it is given.
 abbrev pub value : ArgMatches → List ℕ → Option (List ℕ)
@@ -148,3 +149,13 @@ pub record ArePlacesGiven (found : ArgMatches) (places : PlaceOptions) : Type 0 
   pub written : map (λ text. text.now) places.written.items ≡ values found (codes "until-write")
   pub read : map (λ text. text.now) places.read.items ≡ values found (codes "until-read")
   pub last : IsNumberNamed 1 1000000 (value found (codes "last")) places.last
+
+-- A run is followed as the options ask: it is stopped at a place exactly if one is named, and shows so many last instructions.
+pub record IsFollowedBy (places : PlaceOptions) (stopping : StopOptions) : Type 0 where
+  pub place : is_some stopping.stops.place ≡ is_some places.until
+  pub last : stopping.last ≡ places.last
+
+-- It is not followed only if no place and no number of last instructions is named.
+abbrev pub IsFollowed : PlaceOptions → Option StopOptions → Type 0
+IsFollowed places None = (is_some places.last ≡ false) × (is_some places.until ≡ false)
+IsFollowed places (Some stopping) = IsFollowedBy places stopping

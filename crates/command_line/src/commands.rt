@@ -19,11 +19,11 @@ const VERSION: &str = "1.1";
 const STATUSES: &str = "Exit status:
   0  done
   1  an input was refused, a run violated a rule or reached an unsupported word, a condition failed, no certificate was found, or the answer of verify is no or not known
-  2  the command line is wrong
+  2  the command line is wrong, or a file would be replaced without --force
   3  a file or a stream failed
   4  memory was refused
 
-Files are opened in the order of the operands. The operand - stands for standard input or, as OUT, for standard output.
+Files are opened in the order of the operands; an OUT that is given by -o is created when there is a result. The operand - stands for standard input or, as OUT, for standard output.
 
 Example:
   pdp8 assemble -o hello.bin hello.pal && pdp8 run hello.bin";
@@ -46,14 +46,14 @@ const SESSION: Entry = Entry {
     name: "teletype",
     usage: "pdp8 teletype [OPTIONS] <TAPE>",
     about: "Runs a tape with you at the teletype: what it prints appears at once, and it gets a key when it asks for one",
-    after_help: "Keys come from standard input, what is printed goes to standard output, and the summary goes to standard error. The session ends at a halt and at an unsupported word. It also ends when the program asks for a key and none is left, or the key of --interrupt is struck.\n\nExample:\n  pdp8 teletype echo.bin",
+    after_help: "Keys come from standard input, what is printed goes to standard output, and the summary goes to standard error. The session ends at a halt and at an unsupported word. It also ends when the program asks for a key, if none is left or if the next one is the key of --interrupt.\n\nExample:\n  pdp8 teletype echo.bin",
 };
 
 const DUMP: Entry = Entry {
     name: "dump",
     usage: "pdp8 dump [OPTIONS] <TAPE>",
-    about: "Writes the address, the word and its name for each word on a tape",
-    after_help: "With --source, each line ends with the place of the word in the source, as a tag such as LOOP or LOOP+2, and with its line there.\n\nExamples:\n  pdp8 dump hello.bin\n  pdp8 dump --source hello.pal",
+    about: "Writes each word on a tape, with its address and its name",
+    after_help: "With --source, each line ends with the place of the word in the source, such as LOOP or LOOP+2, and, if the word is the first one of its line in the source, with that line.\n\nExamples:\n  pdp8 dump hello.bin\n  pdp8 dump --source hello.pal",
 };
 
 const ASSEMBLE: Entry = Entry {
@@ -74,7 +74,7 @@ const SOURCE_OF_TAPE: Entry = Entry {
     name: "source",
     usage: "pdp8 source [OPTIONS] <TAPE> [-o] <OUT>",
     about: "Writes a PAL III source for a tape; assemble makes the same words from it",
-    after_help: "A file stays as it was if there is nothing to write, and so does a source that this command did not write, unless --force is given. Without a declaration, the code is found by following the control flow from the start. With one, the declaration says what is code, where the program starts and which machine it is for.\n\nExample:\n  pdp8 source hello.bin -o found.pal",
+    after_help: "OUT stays as it was if there is nothing to write. Without --force, it also stays as it was if it is a source that this command did not write. Without a declaration, the code is found by following the control flow from the start. With one, the declaration says what is code, where the program starts and which machine it is for.\n\nExample:\n  pdp8 source hello.bin -o found.pal",
 };
 
 const WATCH: Entry = Entry {
@@ -109,14 +109,14 @@ const GUESS: Entry = Entry {
     name: "guess",
     usage: "pdp8 guess [OPTIONS] <TAPE> <DECLARATION> [-o] <OUT>",
     about: "Searches for a certificate showing that no run violates a declaration",
-    after_help: "The operand OUT is emptied before an input is read, or with --source after the source and the declaration are read. It stays empty if nothing is found. With --source and without DECLARATION, OUT is given by -o. A certificate that is found shows the program to be safe: this is proved.\n\nExamples:\n  pdp8 guess hello.bin hello.declaration -o new.certificate\n  pdp8 guess --source hello.pal hello.declaration -o new.certificate",
+    after_help: "Without --source, the operand OUT is emptied before an input is read; with --source, it is emptied after the source and the declaration are read. It stays empty if nothing is found. With --source and without DECLARATION, OUT is given by -o. If a certificate is found, no run violates the declaration: this is proved.\n\nExamples:\n  pdp8 guess hello.bin hello.declaration -o new.certificate\n  pdp8 guess --source hello.pal hello.declaration -o new.certificate",
 };
 
 const REFUTE: Entry = Entry {
     name: "refute",
     usage: "pdp8 refute [OPTIONS] <TAPE> <DECLARATION> [-o] <OUT>",
     about: "Searches for a run that violates a declaration, and writes its events",
-    after_help: "A file stays as it was if nothing is found. With --source and without DECLARATION, OUT is given by -o. The same seed gives the same answer.\n\nExamples:\n  pdp8 refute hello.bin hello.declaration -o found.events --why\n  pdp8 refute --source hello.pal hello.declaration -o found.events --why",
+    after_help: "A file stays as it was if nothing is found. With --source and without DECLARATION, OUT is given by -o. With the same inputs and options, the same seed gives the same answer.\n\nExamples:\n  pdp8 refute hello.bin hello.declaration -o found.events --why\n  pdp8 refute --source hello.pal hello.declaration -o found.events --why",
 };
 
 const PLACE: Entry = Entry {
@@ -130,7 +130,7 @@ const MIGRATE: Entry = Entry {
     name: "migrate",
     usage: "pdp8 migrate [OPTIONS] <CERTIFICATE> [-o] <OUT>",
     about: "Converts a certificate to version 2, which says what MQ may hold, or to version 3",
-    after_help: "The operand OUT is emptied before the certificate is read, even if the certificate is then refused. In version 3, each fact in a routine also names the calls of this routine for which it holds. A certificate of a later version stays as it is.\n\nExamples:\n  pdp8 migrate hello.certificate -o hello-2.certificate\n  pdp8 migrate --certificate 3 --declaration hello.declaration hello.certificate -o hello-3.certificate",
+    after_help: "The operand OUT is emptied before the certificate is read, even if the certificate is then refused. In version 3, each fact in a routine also names the calls of this routine for which it holds. A certificate of a later version than the one asked for is written unchanged.\n\nExamples:\n  pdp8 migrate hello.certificate -o hello-2.certificate\n  pdp8 migrate --certificate 3 --declaration hello.declaration hello.certificate -o hello-3.certificate",
 };
 
 const EXPLAIN: Entry = Entry {

@@ -1,4 +1,4 @@
-//! What is said about each condition, rule and fault, which are named by codes: what it asks or means, and what to do.
+//! What is said about each condition, rule and fault, which are named by codes: what it requires or means, and what to do.
 //! `tests/explanations.py` makes the texts from the pages. Nothing is proved of them.
 
 mod conditions;
@@ -29,7 +29,7 @@ pub(crate) struct Explanation {
     pub(crate) code: &'static str,
     /// What it stands for.
     pub(crate) subject: Subject,
-    /// What it asks, or what the fault means.
+    /// What it requires, or what the fault means.
     pub(crate) meaning: &'static str,
     /// What to do.
     pub(crate) advice: &'static str,
@@ -43,7 +43,7 @@ impl Explanation {
                 text.push_str(self.code)?;
                 text.push_str(": ")?;
                 text.push_str(name)?;
-                text.push_str("\nasked: ")
+                text.push_str("\nrequired: ")
             }
             Subject::Fault(line) => {
                 text.push_str(line)?;
@@ -171,7 +171,7 @@ pub fn push_advice<A: Allocator>(text: &mut String<A>, code: &str) -> Result<(),
 /// `AllocError` if memory was refused.
 pub fn push_codes<A: Allocator>(text: &mut String<A>) -> Result<(), AllocError> {
     text.push_str(
-        "pdp8 explain CODE says what a code asks or means, and what to do. The codes:\n",
+        "pdp8 explain CODE says what a condition or a rule requires, or what a fault means, and what to do. The codes:\n",
     )?;
     push_table(text, conditions())?;
     push_table(text, rules())?;

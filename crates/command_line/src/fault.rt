@@ -128,7 +128,7 @@ impl Misuse {
             Misuse::Show =>
                 "bad value for '--show': expected octal addresses and ranges, such as 0324 0400-0417",
             Misuse::Until =>
-                "bad value for '--until': expected an octal address such as 0233, or with a number from 1 to 1000000, such as 0233,4",
+                "bad value for '--until': expected an octal address such as 0233; a comma and a number from 1 to 1000000 may follow it, as in 0233,4",
             Misuse::UntilWrite =>
                 "bad value for '--until-write': expected octal addresses and ranges, such as 0324 0400-0417",
             Misuse::UntilRead =>
@@ -136,7 +136,7 @@ impl Misuse {
             Misuse::ShowOfSource =>
                 "bad value for '--show': expected addresses and ranges, in octal or by symbols that the source defines, such as COUNT LIST-LIST+17",
             Misuse::UntilOfSource =>
-                "bad value for '--until': expected an address, in octal or by a symbol that the source defines, such as LOOP+2, or with a number from 1 to 1000000, such as LOOP+2,4",
+                "bad value for '--until': expected an address, in octal or by a symbol that the source defines, such as LOOP+2; a comma and a number from 1 to 1000000 may follow it, as in LOOP+2,4",
             Misuse::UntilWriteOfSource =>
                 "bad value for '--until-write': expected addresses and ranges, in octal or by symbols that the source defines, such as COUNT LIST-LIST+17",
             Misuse::UntilReadOfSource =>
@@ -170,9 +170,9 @@ impl Misuse {
                 "'--certificate 3' needs '--declaration FILE', and no other version does",
             Misuse::TapeAndSource => "'--source' takes the place of TAPE: too many operands",
             Misuse::NoOutput =>
-                "'-o OUT' is missing: with '--source', each operand here is taken for an input",
+                "'-o OUT' is missing: with '--source', each operand here is treated as an input",
             Misuse::NoEvents =>
-                "EVENTS is missing, or an option that takes its place, such as '--steps 1000'",
+                "EVENTS is missing: give it, or an option that takes its place, such as '--steps 1000'",
             Misuse::BothStandardInput => "'-' can stand for standard input in only one place",
             Misuse::ReportOfStandardInput =>
                 "'-' cannot be read twice: with '--report', the inputs must be files",
@@ -185,9 +185,9 @@ impl Misuse {
         Some(match self {
             Misuse::OutputIsInput => "OUT is also an input: the result needs a file of its own",
             Misuse::OutputIsSource =>
-                "OUT is named like a source: it receives the tape, and comes before the sources",
+                "OUT is named like a source: the tape goes to OUT, which comes before the sources",
             Misuse::PlacedIsSource =>
-                "OUT is named like a source: it receives the declaration, and comes before the sources",
+                "OUT is named like a source: the declaration goes to OUT, which comes before the sources",
             Misuse::ResultIsSource =>
                 "OUT is named like a source: the result needs a file name with another ending",
             Misuse::SourceIsKept =>
@@ -209,7 +209,7 @@ impl Misuse {
             Misuse::PunchIsSource =>
                 "the file of '--punch' is named like a source: what is punched needs a file name with another ending",
             Misuse::SaveIsFolder =>
-                "'--save NAME' needs a file name: the names of the files begin with NAME, such as found",
+                "'--save NAME' needs a NAME such as 'found', with which the names of the files begin",
             Misuse::SaveIsTaken => "'--save NAME' would replace an input: give another NAME",
             _ => return None,
         })

@@ -1,6 +1,7 @@
 //! Where the result of a command goes.
 
 ghost use Rattle.std.specs.Prelude.{◌≡◌, ◌&&◌, IfOk, not, codes, false, option_map};
+ghost use Rattle.std.specs.Option.{ForSome};
 ghost use Rattle.std.specs.List.{list_any};
 ghost use Rattle.std.specs.Str.{bytes_eq};
 ghost use Rattle.command_line.specs.Options.{has_value, operand, value};
@@ -95,8 +96,10 @@ pub fn report_of<'a>(
     others: &[&str],
     out: &Destination<'_>,
 ) -> Result<Option<&'a str>, CommandLineFault>
-    ensures { IfOk result (λ name. option_map (λ it. it.now) name ≡
+    ensures named { IfOk result (λ name. option_map (λ it. it.now) name ≡
         value found.now (codes "report")) }
+    ensures free { IfOk result (λ name. ForSome name (λ it. (not (bytes_eq it.now (codes "-")) &&
+        list_any (λ other. is_same_file other.now it.now) others.now) ≡ false)) }
 {
     let Some(name) = found.get_str("report") else {
         return Ok(None);
@@ -115,8 +118,10 @@ pub fn punch_of<'a>(
     found: &ArgMatches<'a>,
     inputs: &[&str],
 ) -> Result<Option<&'a str>, CommandLineFault>
-    ensures { IfOk result (λ name. option_map (λ it. it.now) name ≡
+    ensures named { IfOk result (λ name. option_map (λ it. it.now) name ≡
         value found.now (codes "punch")) }
+    ensures free { IfOk result (λ name. ForSome name (λ it. (not (bytes_eq it.now (codes "-")) &&
+        list_any (λ other. is_same_file other.now it.now) inputs.now) ≡ false)) }
 {
     let Some(name) = found.get_str("punch") else {
         return Ok(None);

@@ -1,8 +1,8 @@
 //! The cells and the places that options name.
 
-ghost use Rattle.std.specs.Prelude.{◌≡◌, ◌==◌, IfOk, codes, map};
+ghost use Rattle.std.specs.Prelude.{◌≡◌, ◌==◌, IfOk, IsTrue, codes, is_some, map};
 ghost use Rattle.std.specs.List.{position};
-ghost use Rattle.command_line.specs.Options.{ArePlacesGiven, IsNumberNamed, value, values};
+ghost use Rattle.command_line.specs.Options.{ArePlacesGiven, IsFollowed, IsNumberNamed, value, values};
 
 use crate::fault::{CommandLineFault, Misuse};
 use crate::operands::copied;
@@ -106,7 +106,7 @@ pub struct PlaceOptions<'a> {
 }
 
 /// The values of an option that may be given several times.
-fn values_of<'a>(
+pub(crate) fn values_of<'a>(
     alloc: Global,
     found: &ArgMatches<'a>,
     option: &str,
@@ -156,7 +156,9 @@ impl PlaceOptions<'_> {
     /// # Errors
     ///
     /// What is wrong with a value.
-    pub fn stops<C: AddressReader>(&self, reader: &C) -> Result<Stops, Misuse> {
+    pub fn stops<C: AddressReader>(&self, reader: &C) -> Result<Stops, Misuse>
+        ensures { IfOk result (λ stops. is_some stops.place ≡ is_some self.now.until) }
+    {
         let stops = Stops {
             place: None,
             times: 1,
@@ -181,19 +183,22 @@ impl PlaceOptions<'_> {
     /// # Errors
     ///
     /// What is wrong with a value.
-    pub fn stopping<C: AddressReader>(&self, reader: &C) -> Result<Option<StopOptions>, Misuse> {
-        if self.last.is_none() && !self.has_stops() {
+    pub fn stopping<C: AddressReader>(&self, reader: &C) -> Result<Option<StopOptions>, Misuse>
+        ensures { IfOk result (IsFollowed self.now) }
+    {
+        if self.last.is_none() && self.until.is_none() && !self.names_cells() {
             return Ok(None);
         }
+        let stops = self.stops(reader)?;
         Ok(Some(StopOptions {
-            stops: self.stops(reader)?,
+            stops,
             last: self.last,
         }))
     }
 
-    /// Whether a run may be stopped.
-    fn has_stops(&self) -> bool {
-        self.until.is_some() || !self.written.is_empty() || !self.read.is_empty()
+    /// Whether a run may be stopped before a step that writes or reads a cell.
+    fn names_cells(&self) -> bool {
+        !self.written.is_empty() || !self.read.is_empty()
     }
 }
 
@@ -264,7 +269,9 @@ pub(crate) fn shown_on(
 pub(crate) fn stopping_on(
     tape: Option<&str>,
     places: &PlaceOptions<'_>,
-) -> Result<Option<StopOptions>, CommandLineFault> {
+) -> Result<Option<StopOptions>, CommandLineFault>
+    ensures { IfOk result (λ stopping. IsTrue (is_some tape.entry) → IsFollowed places.now stopping) }
+{
     match tape {
         None => Ok(None),
         Some(_) => Ok(places.stopping(&OctalAddresses)?),

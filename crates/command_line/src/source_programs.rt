@@ -1,12 +1,16 @@
 //! What may be requested with a source in place of a tape, without a declaration.
 
+ghost use Rattle.std.specs.Prelude.{◌≡◌, IfOk};
+ghost use Rattle.command_line.specs.Sources.{IsMachineGiven, IsMachineTaskGiven};
+
 use crate::fault::CommandLineFault;
 use crate::names::FileNames;
+use crate::operands::copied;
 use crate::operator::{Session, TeletypeSession, has_operator, session_of, teletype_of};
 use crate::place_options::{PlaceOptions, places_of};
 use crate::requests::Request;
 use crate::tapes::{DumpRequest, RunRequest, dump_request, run_request};
-use crate::values::read_standard_input_once;
+use crate::values::{is_given, read_standard_input_once};
 use clap::ArgMatches;
 use instruct::Profile;
 use std::alloc::{AllocError, Global};
@@ -73,7 +77,9 @@ fn tape_request<'a>(
     command: &str,
     found: &ArgMatches<'a>,
     places: &PlaceOptions<'a>,
-) -> Result<Request<'a>, CommandLineFault> {
+) -> Result<Request<'a>, CommandLineFault>
+    ensures { IfOk result (IsMachineGiven found.now) }
+{
     Ok(match command {
         "dump" => Request::Dump(dump_request(found)?),
         "teletype" => Request::Teletype(teletype_of(found, places)?),
@@ -87,7 +93,9 @@ fn task_of<'a>(
     command: &str,
     found: &ArgMatches<'a>,
     places: &PlaceOptions<'a>,
-) -> Result<MachineTask<'a>, CommandLineFault> {
+) -> Result<MachineTask<'a>, CommandLineFault>
+    ensures { IfOk result (IsMachineTaskGiven found.now) }
+{
     Ok(match command {
         "dump" => MachineTask::Dump(dump_request(found)?),
         "teletype" => MachineTask::Teletype(teletype_of(found, places)?),
@@ -118,19 +126,20 @@ pub(crate) fn machine_request<'a>(
     alloc: Global,
     command: &str,
     found: &ArgMatches<'a>,
-) -> Result<Request<'a>, CommandLineFault> {
+) -> Result<Request<'a>, CommandLineFault>
+    ensures { IfOk result (IsMachineGiven found.now) }
+{
     let places = places_of(alloc, found)?;
     let Some(names) = found.get_strs("source") else {
         return tape_request(command, found, &places);
     };
     let task = task_of(command, found, &places)?;
-    let mut parts = Vec::new(alloc);
-    parts.extend_from_slice(names)?;
+    let parts = copied(alloc, names)?;
     read_standard_input_once(&inputs_of(alloc, &task, &parts)?)?;
     Ok(Request::Sourced(SourceProgramRequest {
         parts,
         places,
         task,
-        explained: found.get_flag("why"),
+        explained: is_given(found, "why"),
     }))
 }

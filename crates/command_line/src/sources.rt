@@ -1,12 +1,17 @@
 //! What may be requested with a source that is assembled.
 
+ghost use Rattle.std.specs.Prelude.{◌≡◌, ◌++◌, IfOk, [], codes, if◌then◌else◌, map};
+ghost use Rattle.command_line.specs.Options.{has_value, values};
+ghost use Rattle.command_line.specs.Sources.{IsAssembleGiven, IsListGiven, source_operands};
+
 use crate::fault::{CommandLineFault, Misuse};
 use crate::names::FileNames;
 use crate::outputs::{Destination, emptied_destination, has_output, is_source_name, no_input};
-use crate::values::{profile_of, read_standard_input_once};
+use crate::place_options::values_of;
+use crate::values::{is_given, profile_of, read_standard_input_once};
 use clap::ArgMatches;
 use instruct::Profile;
-use std::alloc::Global;
+use std::alloc::{AllocError, Global};
 
 /// To assemble a source.
 #[derive(Drop)]
@@ -43,17 +48,38 @@ pub struct ListRequest<'a> {
     pub crossed: bool,
 }
 
+/// The first operand, if it is a part of the source too: with `-o` it is.
+fn first_parts<'a>(alloc: Global, found: &ArgMatches<'a>) -> Result<Vec<&'a str>, AllocError>
+    ensures { IfOk result (λ names. map (λ name. name.now) names.items ≡
+        (if has_value found.now (codes "output") then values found.now (codes "OUT") else [])) }
+{
+    if has_output(found) {
+        values_of(alloc, found, "OUT")
+    } else {
+        Ok(Vec::new(alloc))
+    }
+}
+
+/// Names and those that come after them.
+fn joined<'a>(mut names: Vec<&'a str>, rest: &[&'a str]) -> Result<Vec<&'a str>, AllocError>
+    ensures { IfOk result (λ all. map (λ name. name.now) all.items ≡
+        map (λ name. name.now) names.entry.items ++ map (λ name. name.now) rest.now) }
+{
+    names.extend_from_slice(rest)?;
+    Ok(names)
+}
+
 /// The names of a source's parts, of which there is one at least.
 pub(crate) fn source_names<'a>(
     alloc: Global,
     found: &ArgMatches<'a>,
-) -> Result<Vec<&'a str>, CommandLineFault> {
-    let mut names = Vec::new(alloc);
-    // With -o the first operand is a part of the source too.
-    if has_output(found) {
-        names.extend_from_slice(found.get_strs("OUT").unwrap_or(&[]))?;
-    }
-    names.extend_from_slice(found.get_strs("SOURCE").unwrap_or(&[]))?;
+) -> Result<Vec<&'a str>, CommandLineFault>
+    ensures { IfOk result (λ names. map (λ name. name.now) names.items ≡
+        source_operands found.now) }
+{
+    let first = first_parts(alloc, found)?;
+    let rest = values_of(alloc, found, "SOURCE")?;
+    let names = joined(first, &rest)?;
     if names.is_empty() {
         return Err(CommandLineFault::NoOperand("SOURCE"));
     }
@@ -66,17 +92,20 @@ pub(crate) fn source_names<'a>(
 pub(crate) fn assemble_request<'a>(
     alloc: Global,
     found: &ArgMatches<'a>,
-) -> Result<AssembleRequest<'a>, CommandLineFault> {
+) -> Result<AssembleRequest<'a>, CommandLineFault>
+    ensures { IfOk result (IsAssembleGiven found.now) }
+{
     let sources = source_names(alloc, found)?;
     let out = no_input(emptied_destination(found), &sources)?;
     if is_source_name(out.name()) {
         return Err(CommandLineFault::Misuse(Misuse::OutputIsSource));
     }
+    let profile = profile_of(found)?;
     Ok(AssembleRequest {
         out,
         sources,
-        profile: profile_of(found)?,
-        explained: found.get_flag("why"),
+        profile,
+        explained: is_given(found, "why"),
     })
 }
 
@@ -84,11 +113,17 @@ pub(crate) fn assemble_request<'a>(
 pub(crate) fn list_request<'a>(
     alloc: Global,
     found: &ArgMatches<'a>,
-) -> Result<ListRequest<'a>, CommandLineFault> {
+) -> Result<ListRequest<'a>, CommandLineFault>
+    ensures { IfOk result (IsListGiven found.now) }
+{
+    let sources = source_names(alloc, found)?;
+    let profile = profile_of(found)?;
+    let explained = is_given(found, "why");
+    let crossed = is_given(found, "cross");
     Ok(ListRequest {
-        sources: source_names(alloc, found)?,
-        profile: profile_of(found)?,
-        explained: found.get_flag("why"),
-        crossed: found.get_flag("cross"),
+        sources,
+        profile,
+        explained,
+        crossed,
     })
 }

@@ -1,3 +1,4 @@
 pub mod HtmlLemmas
 pub mod ReachedLemmas
 pub mod ShownLemmas
+pub mod WritingLemmas

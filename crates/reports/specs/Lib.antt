@@ -7,3 +7,4 @@ pub mod ReportText
 pub mod Rows
 pub mod Shown
 pub mod Drawings
+pub mod Writing

@@ -1,5 +1,11 @@
 //! What writes: words, numbers, sets and items, as plain text or as HTML.
 
+ghost use Rattle.std.specs.Prelude.{◌≡◌, ◌++◌, [], codes, decimal, IfOk, IsOk, OnOk};
+ghost use Rattle.word12.specs.Words.{octal_text};
+ghost use Rattle.wordset.specs.Lanes.{words};
+ghost use Rattle.reports.specs.Html.{escaped_text};
+ghost use Rattle.reports.specs.Writing.{Writes, in_page, link_text, linked_text, offset_text, run_text, said_in};
+
 use crate::escaping::push_escaped;
 use crate::source_notes::SourceNotes;
 use itoa::Buffer;
@@ -48,7 +54,10 @@ impl<'a, A: Allocator> ReportWriter<'a, A> {
         form: ReportForm,
         lines: &WordSet,
         notes: Option<&'a SourceNotes<A>>,
-    ) -> ReportWriter<'a, A> {
+    ) -> ReportWriter<'a, A>
+        ensures nothing { result.bytes.items ≡ [] }
+        ensures given { IsOk result.written }
+    {
         ReportWriter {
             bytes: Vec::new(alloc),
             written: Ok(()),
@@ -62,7 +71,10 @@ impl<'a, A: Allocator> ReportWriter<'a, A> {
     }
 
     /// What was written, unless memory was refused.
-    pub(crate) fn into_bytes(self) -> Result<Vec<u8, A>, AllocError> {
+    pub(crate) fn into_bytes(self) -> Result<Vec<u8, A>, AllocError>
+        ensures given { OnOk result (IsOk self.entry.written) }
+        ensures bytes { IfOk result (λ bytes. bytes.items ≡ self.entry.bytes.items) }
+    {
         let ReportWriter { bytes, written, .. } = self;
         match written {
             Ok(()) => Ok(bytes),
@@ -71,42 +83,62 @@ impl<'a, A: Allocator> ReportWriter<'a, A> {
     }
 
     /// Whether an address has a line of the listing.
-    pub(crate) fn has_line(&self, at: Word) -> bool {
+    pub(crate) fn has_line(&self, at: Word) -> bool
+        ensures { result ≡ words self.now.lines at }
+    {
         self.lines.contains(at)
     }
 
     /// Writes bytes as they are.
-    pub(crate) fn put(&mut self, bytes: &[u8]) {
+    pub(crate) fn put(&mut self, bytes: &[u8])
+        ensures { Writes self.old self.new bytes.now }
+    {
         if self.written.is_ok() {
             self.written = self.bytes.extend_from_slice(bytes);
         }
     }
 
     /// Writes markup, in a page alone.
-    pub(crate) fn mark(&mut self, markup: &[u8]) {
+    pub(crate) fn mark(&mut self, markup: &[u8])
+        ensures { Writes self.old self.new (in_page self.old.is_page markup.now) }
+    {
         if self.is_page {
             self.put(markup);
         }
     }
 
     /// Writes a text that is not markup.
-    pub(crate) fn say(&mut self, text: &[u8]) {
-        if !self.is_page {
-            return self.put(text);
+    pub(crate) fn say(&mut self, text: &[u8])
+        ensures { Writes self.old self.new (said_in self.old.is_page text.now) }
+    {
+        if self.is_page {
+            self.put_escaped(text);
+        } else {
+            self.put(text);
         }
+    }
+
+    /// Writes a text that is not markup in a page.
+    fn put_escaped(&mut self, text: &[u8])
+        ensures { Writes self.old self.new (escaped_text text.now) }
+    {
         if self.written.is_ok() {
             self.written = push_escaped(&mut self.bytes, text);
         }
     }
 
     /// Writes a number in decimal digits.
-    pub(crate) fn number(&mut self, number: usize) {
+    pub(crate) fn number(&mut self, number: usize)
+        ensures { Writes self.old self.new (decimal number) }
+    {
         let mut digits = Buffer::new();
         self.put(digits.format(number).as_bytes());
     }
 
     /// Writes by how much a return word is incremented, in octal digits.
-    pub(crate) fn offset(&mut self, offset: usize) {
+    pub(crate) fn offset(&mut self, offset: usize)
+        ensures { Writes self.old self.new (offset_text offset) }
+    {
         if offset >= 8 {
             self.number(offset / 8);
         }
@@ -114,28 +146,54 @@ impl<'a, A: Allocator> ReportWriter<'a, A> {
     }
 
     /// Writes a text, and after it a number in decimal digits.
-    pub(crate) fn numbered(&mut self, text: &[u8], number: usize) {
+    pub(crate) fn numbered(&mut self, text: &[u8], number: usize)
+        ensures { Writes self.old self.new (text.now ++ decimal number) }
+    {
         self.put(text);
         self.number(number);
     }
 
     /// Writes the four octal digits of a word.
-    pub(crate) fn word(&mut self, word: Word) {
+    pub(crate) fn word(&mut self, word: Word)
+        ensures { Writes self.old self.new (octal_text word) }
+    {
         self.put(&word.to_octal());
     }
 
     /// Writes in a page the beginning of a link to the line of an address.
-    pub(crate) fn link(&mut self, at: Word) {
-        self.mark(b"<a href=#a");
-        self.mark(&at.to_octal());
-        self.mark(b">");
+    pub(crate) fn link(&mut self, at: Word)
+        ensures { Writes self.old self.new (in_page self.old.is_page (link_text at)) }
+    {
+        if self.is_page {
+            self.put_link(at);
+        }
+    }
+
+    /// Writes the beginning of a link to the line of an address.
+    fn put_link(&mut self, at: Word)
+        ensures { Writes self.old self.new (link_text at) }
+    {
+        self.put(b"<a href=#a");
+        self.word(at);
+        self.put(b">");
     }
 
     /// Writes an address, in a page with a link to its line, if it has one.
-    pub(crate) fn linked(&mut self, at: Word) {
-        if !self.has_line(at) {
-            return self.word(at);
+    pub(crate) fn linked(&mut self, at: Word)
+        ensures { Writes self.old self.new (linked_text self.old.is_page (words self.old.lines at) at) }
+    {
+        if self.has_line(at) {
+            self.put_linked(at);
+        } else {
+            self.word(at);
         }
+    }
+
+    /// Writes an address that has a line, in a page with a link to it.
+    fn put_linked(&mut self, at: Word)
+        ensures { Writes self.old self.new (in_page self.old.is_page (link_text at) ++
+            octal_text at ++ in_page self.old.is_page (codes "</a>")) }
+    {
         self.link(at);
         self.word(at);
         self.mark(b"</a>");
@@ -191,7 +249,9 @@ impl<'a, A: Allocator> ReportWriter<'a, A> {
     }
 
     /// Writes the words from one to another, both of them.
-    fn word_run(&mut self, first: Word, last: Word) {
+    fn word_run(&mut self, first: Word, last: Word)
+        ensures { Writes self.old self.new (run_text first last) }
+    {
         self.word(first);
         if first != last {
             self.put(b"-");

@@ -17,7 +17,7 @@ use turns::{GuessFault, ProposeFault};
 
 /// What is said about a run that ends at a word that the machine does not have.
 pub(crate) const UNSUPPORTED: &str =
-    "the machine does not implement the word there\nwhat to do: look at it with `pdp8 dump`; a word of the PDP-8/E needs --profile 8e; otherwise execution ran into data\n";
+    "the machine does not implement the word there\nwhat to do: look at it with `pdp8 dump`; a word of the PDP-8/E needs --profile 8e; otherwise the word is one that no machine here supports, or execution ran into data\n";
 
 /// What is said about an output after its name.
 const UNWRITTEN: &str = "cannot be created or written";
@@ -130,6 +130,15 @@ fn line_of(alloc: Global, name: Option<&str>, said: &str) -> String {
     text
 }
 
+/// The line on two outputs, by their names, of which one cannot be created or written.
+fn pair_line(alloc: Global, names: &str) -> String {
+    let mut text = String::new(alloc);
+    if let Ok(shown) = visible_text(alloc, names) {
+        let _ = writeln!(text, "one of these cannot be created or written: {shown}");
+    }
+    text
+}
+
 /// The line on an output that cannot be created or written; where there are two it is one of them.
 fn unwritten_line(alloc: Global, names: &FileNames<'_>) -> String {
     let Some(output) = names.output else {
@@ -140,8 +149,8 @@ fn unwritten_line(alloc: Global, names: &FileNames<'_>) -> String {
         Some(other) if other != output => {
             let second = told_name(output_name(other));
             let mut both = String::new(alloc);
-            let _ = write!(both, "{first} or {second}");
-            line_of(alloc, Some(&both), UNWRITTEN)
+            let _ = write!(both, "{first}, {second}");
+            pair_line(alloc, &both)
         }
         _ => line_of(alloc, Some(first), UNWRITTEN),
     }

@@ -292,7 +292,10 @@ impl CommandContext<'_, '_> {
             return;
         }
         let tape = self.names.events.unwrap_or("TAPE");
-        let _ = write!(text, "pdp8 run {tape} --events {name} runs a tape by it");
+        let _ = write!(
+            text,
+            "pdp8 run {tape} --events {name} runs a tape with these events"
+        );
     }
 
     /// Where a tape is given, if one is.
@@ -310,17 +313,17 @@ impl CommandContext<'_, '_> {
     fn push_source_as_declaration(&self, text: &mut String, name: &str) {
         let _ = write!(text, "{name} is a source, not a declaration: ");
         if self.is_sourced && self.takes_source {
-            let _ = text.push_str("each part of the source has a --source of its own");
+            let _ = text.push_str("give each part of the source its own --source");
         } else if self.is_sourced {
-            let _ = text.push_str("the parts of the source stand without an option");
+            let _ = text.push_str("give the parts of the source as operands, without an option");
         } else if self.takes_source {
             self.push_with_source(text, name);
             self.push_output(text);
-            let _ = text.push_str(" takes its /: lines for the declaration");
+            let _ = text.push_str(" uses its /: lines as the declaration");
         } else {
             let _ = write!(
                 text,
-                "pdp8 place -o new.declaration {name} makes one of its /: lines"
+                "pdp8 place -o new.declaration {name} makes a declaration from its /: lines"
             );
         }
     }
@@ -358,7 +361,7 @@ impl CommandContext<'_, '_> {
     fn push_watch_by(&self, text: &mut String, declaration: &str, name: &str) {
         let _ = text.push_str("pdp8 watch");
         self.push_program(text);
-        let _ = write!(text, " {declaration} {name} watches a run by it");
+        let _ = write!(text, " {declaration} {name} watches a run of these events");
     }
 
     /// Adds what to do with a tape that was given as a source.
@@ -372,7 +375,10 @@ impl CommandContext<'_, '_> {
             let _ = write!(text, ": use pdp8 {command} {name}");
             self.push_operands(text);
         } else {
-            let _ = write!(text, ": pdp8 source {name} -o new.pal makes a source of it");
+            let _ = write!(
+                text,
+                ": pdp8 source {name} -o new.pal makes a source from it"
+            );
         }
     }
 
@@ -414,7 +420,7 @@ impl CommandContext<'_, '_> {
         if let Some(declaration) = self.names.declaration {
             let _ = write!(text, " {declaration}");
         }
-        let _ = text.push_str(" -o new.certificate searches for one");
+        let _ = text.push_str(" -o new.certificate searches for a certificate");
     }
 
     /// Adds what to do with a declaration that was given as a certificate.
@@ -424,7 +430,10 @@ impl CommandContext<'_, '_> {
             "{name} is a declaration, not a certificate: pdp8 guess"
         );
         self.push_program(text);
-        let _ = write!(text, " {name} -o new.certificate searches for one");
+        let _ = write!(
+            text,
+            " {name} -o new.certificate searches for a certificate"
+        );
     }
 
     /// Adds what to do with a file that was given as a certificate, if it is none.
@@ -451,7 +460,7 @@ impl CommandContext<'_, '_> {
         if let Some(declaration) = declaration {
             let _ = write!(text, " {declaration}");
         }
-        let _ = text.push_str(" --steps 100000 watches a run without one");
+        let _ = text.push_str(" --steps 100000 watches a run without a list of events");
     }
 
     /// Adds the command that judges a certificate.
@@ -481,10 +490,10 @@ impl CommandContext<'_, '_> {
             _ if self.command == "watch" => self.push_watch_without(text, self.names.declaration),
             Kind::Source => {
                 self.push_with_source(text, name);
-                let _ = text.push_str(" runs it without one");
+                let _ = text.push_str(" runs it without a list of events");
             }
             _ => {
-                let _ = write!(text, "pdp8 run {name} runs it without one");
+                let _ = write!(text, "pdp8 run {name} runs it without a list of events");
             }
         }
     }

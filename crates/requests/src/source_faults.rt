@@ -9,7 +9,7 @@ use pal_diagnostics::push_faults;
 use std::alloc::{AllocError, Global};
 
 /// What is said about a source that is assembled to no word.
-pub const NO_WORD: &str = "the source generates no code: list shows what it contains\n";
+pub const NO_WORD: &str = "the source generates no word: list shows what it contains\n";
 
 /// Names of files as they are shown to people.
 ///

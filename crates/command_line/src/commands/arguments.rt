@@ -53,7 +53,7 @@ const PLACED_OUT: Argument = Argument {
     name: "OUT",
     short: None,
     form: Form::OutBeforeSources,
-    help: "where the declaration goes, or - for standard output. With -o, OUT is not an operand, and the first part of the source stands here",
+    help: "where the declaration goes, or - for standard output. With -o, OUT is not an operand, and the first operand is the first part of the source",
 };
 
 const DECLARATION_WITH_SYMBOLS: Argument = Argument {
@@ -109,14 +109,14 @@ const OPTIONAL_DECLARATION: Argument = Argument {
     name: "DECLARATION",
     short: None,
     form: Form::OptionalOperand,
-    help: "the declaration, or - for standard input; by default the /: lines of the source, or if there are none, a declaration that is proposed",
+    help: "the declaration, or - for standard input; by default the /: lines of the source, or if there are none, a declaration that pdp8 proposes",
 };
 
 const TAPE_OUT: Argument = Argument {
     name: "OUT",
     short: None,
     form: Form::OutBeforeSources,
-    help: "where the tape goes, or - for standard output; the file is emptied first. With -o, OUT is not an operand, and the first part of the source stands here",
+    help: "where the tape goes, or - for standard output; the file is emptied first. With -o, OUT is not an operand, and the first operand is the first part of the source",
 };
 
 const OTHER_SOURCES: Argument = Argument {
@@ -137,7 +137,7 @@ const FROM: Argument = Argument {
     name: "from",
     short: None,
     form: Form::Value("FILE"),
-    help: "a declaration, or - for standard input: its lines are kept, what they lack is added, and its start and machine are used",
+    help: "a declaration, or - for standard input: its lines are kept (but see --tight), what is missing is added, and its start and machine are used",
 };
 
 const SOURCE_OUT: Argument = Argument {
@@ -165,7 +165,7 @@ const GUESSED_OUT: Argument = Argument {
     name: "OUT",
     short: None,
     form: Form::ResultOrSource,
-    help: "where the certificate goes, or - for standard output; the file is emptied first, or with --source once the source is read",
+    help: "where the certificate goes, or - for standard output; the file is emptied first; with --source, it is emptied after the source and the declaration are read",
 };
 
 const REPORT_OUT: Argument = Argument {
@@ -249,7 +249,7 @@ const EVENTS_FILE: Argument = Argument {
     name: "events",
     short: None,
     form: Form::Value("FILE"),
-    help: "a file of events, or - for standard input: these are the whole run, and there are no rounds",
+    help: "a file of events, or - for standard input: these events are the whole run, and there are no rounds",
 };
 
 const TRACE: Argument = Argument {
@@ -277,11 +277,11 @@ const READER: Argument = Argument {
     name: "reader",
     short: None,
     form: Form::Value("FILE"),
-    help: "the frames in the reader, or - for standard input",
+    help: "the frames in the high-speed reader, or - for standard input",
 };
 
 const READER_BESIDE_KEYS: Argument = Argument {
-    help: "the frames in the reader; standard input is the keyboard",
+    help: "the frames in the high-speed reader; standard input is the keyboard",
     ..READER
 };
 
@@ -317,14 +317,14 @@ const RAW: Argument = Argument {
     name: "raw",
     short: None,
     form: Form::Flag,
-    help: "strikes the bytes of keys as they come: a line feed does not become a carriage return, and channel 8 is not set",
+    help: "strikes each byte as it is: a line feed does not become a carriage return, and channel 8 is not set",
 };
 
 const INTERRUPT: Argument = Argument {
     name: "interrupt",
     short: None,
     form: Form::Value("K"),
-    help: "the key that ends the session when the program asks for one: an octal number, such as 5 for ^E, or off for none. If the option is not given, it is ^E at a terminal without --raw, and otherwise none",
+    help: "the key that ends the session if it comes when the program asks for a key: an octal number, such as 5 for ^E, or off for none. If the option is not given, it is ^E at a terminal without --raw, and otherwise none",
 };
 
 const SWITCHES: Argument = Argument {
@@ -385,14 +385,14 @@ const TIGHT: Argument = Argument {
     name: "tight",
     short: None,
     form: Form::Flag,
-    help: "leaves out what a certificate shows to be needless, and says on standard error what goes",
+    help: "leaves out what a certificate shows to be unnecessary, and says on standard error what was left out",
 };
 
 const EXITS: Argument = Argument {
     name: "exits",
     short: None,
     form: Form::Flag,
-    help: "adds for each routine what AC and the link are shown to be when it returns",
+    help: "adds, for each routine, what AC and the link are shown to be when it returns",
 };
 
 const READS: Argument = Argument {
@@ -441,21 +441,21 @@ const WHY_VERIFY: Argument = Argument {
     name: "why",
     short: Some('w'),
     form: Form::Flag,
-    help: "also says why; after a yes, says what the declaration lists although it is not needed",
+    help: "also says why; after a yes, says what the declaration lists but the certificate does not need",
 };
 
 const WHY_CHECK: Argument = Argument {
     name: "why",
     short: Some('w'),
     form: Form::Flag,
-    help: "also says what violates the condition; after a yes, says what the declaration lists although it is not needed",
+    help: "also says what violates the condition; after a yes, says what the declaration lists but the certificate does not need",
 };
 
 const WHY_GUESS: Argument = Argument {
     name: "why",
     short: Some('w'),
     form: Form::Flag,
-    help: "if the search is stuck, writes what the condition asks and what violates it",
+    help: "if the search is stuck, writes what the condition requires and what violates it, if such a reason is found",
 };
 
 const WHY_BROKEN: Argument = Argument {

@@ -13,8 +13,8 @@ static RULES: [Explanation; 8] = [
     Explanation {
         code: "rule2",
         subject: Subject::Asked("writes"),
-        meaning: "Each cell that the step writes is a variable or the running routine's\nown entry. An ISZ may write that entry; a DCA may, if it names the entry itself\nand a `moves` line names it too; no other step may.\nfor example: a pointer in 0010 to 0017 is incremented before it is used, so it\nmust begin one lower",
-        advice: "add a `var` line for what is meant to change, including such a\npointer; otherwise as for V5 and V14",
+        meaning: "Each cell that the step writes, except the cell in which a JMS stores\nits return address, is a variable or the running routine's own entry. Only an\nISZ may write that entry, and, if a `moves` line names the entry, a DCA that\nnames it directly and not through a pointer.\nfor example: a pointer in 0010 to 0017 is incremented before it is used, so it\nmust begin one lower",
+        advice: "add a `var` line for what is meant to change, including such a\npointer; for other cells see V5 and V14",
     },
     Explanation {
         code: "rule3",
@@ -25,7 +25,7 @@ static RULES: [Explanation; 8] = [
     Explanation {
         code: "rule4",
         subject: Subject::Asked("returns"),
-        meaning: "If a JMP I goes through an entry, the last call was to this entry, and\nthe JMP I goes to that call's return address plus a declared offset.\nfor example: `JMP I TYPE` in a routine other than TYPE",
+        meaning: "If a JMP I goes through an entry, the last call was to this entry,\nand the JMP I goes to that call's return address plus a declared offset.\nfor example: `JMP I TYPE` in a routine other than TYPE",
         advice: "return through the routine's own entry; declare each offset, above\n7 in a `skips` line; do not call a routine again before it has returned",
     },
     Explanation {
@@ -37,20 +37,20 @@ static RULES: [Explanation; 8] = [
     Explanation {
         code: "rule6",
         subject: Subject::Asked("fixed code"),
-        meaning: "Each cell of a body that is on the tape and is not a variable holds the\ntape's word.",
+        meaning: "Each cell of a body that is on the tape and is not a variable holds\nthe tape's word.",
         advice: "a run violates this rule only after it has violated another; if a\ncell of a body is meant to change, declare it as a `var` too",
     },
     Explanation {
         code: "rule7",
         subject: Subject::Asked("reads"),
-        meaning: "If reads are listed, each cell that the step reads is on the list or is\nthe running routine's own entry.\nfor example: the count is one too large, and the word after the table is read",
-        advice: "add a `read` line, or a bound as for V5",
+        meaning: "If reads are listed, each cell that the step reads is on the list or\nis the running routine's own entry.\nfor example: the count is one too large, and the word after the table is read",
+        advice: "add a `read` line, or bound the pointer as for V5",
     },
     Explanation {
         code: "rule8",
         subject: Subject::Asked("assertions"),
-        meaning: "Before the step, every `holds` line about its address holds. If the step\nis a JMP I through the entry of the last call, every `returns` line about this\nentry and this offset holds too, where the offset is the distance from the\ncall's return address to the word in the entry.\nfor example: a routine that is to return with AC 0 returns with what it read",
-        advice: "correct the program, or declare the other words too",
+        meaning: "Before the step, every `holds` line about its address is true. Before\na JMP I through the entry of the last call, every `returns` line about this\nentry and the offset of this return is also true. The offset is the distance\nfrom the return address of this call to the word in the entry.\nfor example: a routine that is to return with AC 0 returns with what it read",
+        advice: "correct the program, or let the line name the words that were found\nas well",
     },
 ];
 

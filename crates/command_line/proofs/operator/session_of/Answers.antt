@@ -5,7 +5,7 @@ returns c = record {
   tape = c.in_ok-tape.ensures;
   reader = c.get_str-reader.ensures;
   keys = c.get_str-keys.ensures;
-  punch = c.in_ok-punch.ensures;
+  punch = c.in_ok-punch.ensures.named;
   teletype = c.is_given-teletype.ensures;
   options = c.in_ok-options.ensures;
 }

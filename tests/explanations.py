@@ -6,7 +6,7 @@ usage: tests/explanations.py            names each file that is out of date; exi
 
 The files are conditions.rt, rules.rt and faults.rt in crates/command_line/src/explanations, in the layout that `rt fmt` leaves.
 
-The text about a condition is below its heading in docs/NO.md: what the condition requires is the line `V5 asks: ..` of a session there,
+The text about a condition is below its heading in docs/NO.md: what the condition requires is the line `V5 requires: ..` of a session there,
 and what to do is the text outside blocks. A rule has a row in the table of rules of docs/NO.md, which also has an example; what the
 rule requires is in the list of rules of docs/DECLARATIONS.md. What a fault means is in the table of faults of docs/COMMANDS.md, and what
 to do is in the table of docs/NO.md. A link is replaced by its text, followed by the page to which it leads unless that is the same page.
@@ -86,8 +86,8 @@ def section_of(page, heading):
 def conditions(page):
     """Code, subject, what is required and what to do, for each condition."""
     for code, name, text in re.findall(r"^### (V\d+): (.*)\n((?:(?!### ).*\n)*)", section_of(page, "The sixteen conditions") + "\n", re.M):
-        asked = re.search(rf"^{code} asks: (.*)$", text, re.M)[1]
-        yield code, f"Asked({quoted(plain(name))})", in_lines("asked: ", asked), re.sub(r"```.*?```", "", text, flags=re.S)
+        required = re.search(rf"^{code} requires: (.*)$", text, re.M)[1]
+        yield code, f"Asked({quoted(plain(name))})", in_lines("required: ", required), re.sub(r"```.*?```", "", text, flags=re.S)
 
 
 def rules(page, declarations):
@@ -95,9 +95,9 @@ def rules(page, declarations):
     listed = re.findall(r"^(\d)\. (.*(?:\n   .*)*)", section_of(declarations, "The eight rules"), re.M)
     for name, example, change in rows_of(page, "Rule"):
         number, _, name = name.partition(": ")
-        asked = in_lines("asked: ", dict(listed)[number])
+        required = in_lines("required: ", dict(listed)[number])
         wrong = f"\n{in_lines('', f'for example: {example}')}" if example != "-" else ""
-        yield f"rule{number}", f"Asked({quoted(plain(name))})", asked + wrong, change
+        yield f"rule{number}", f"Asked({quoted(plain(name))})", required + wrong, change
 
 
 def changes(page):
@@ -105,8 +105,8 @@ def changes(page):
     found = {}
     for names, change in [row for row in rows_of(page, "Fault") if len(row) == 2]:
         kind = re.match(r"`(\w+): ", names)[1]
-        qualifier = re.search(r"` (of .*)$", names)
-        for name in re.findall(r"`(?:\w+: )?(\w+)[^`]*`", names.partition(" of ")[0]):
+        qualifier = re.search(r"` (for .*)$", names)
+        for name in re.findall(r"`(?:\w+: )?(\w+)[^`]*`", names.partition(" for ")[0]):
             found.setdefault((kind, name), []).append(f"{qualifier[1]}: {change}" if qualifier else change)
     return found
 

@@ -16,7 +16,7 @@ meant_as image d at named o p is means = let P : Operation → Type 0 = λ q. Me
 
 -- A heading more.
 pub heading_told : (image : List (Option ℕ)) (d : Declaration) (before old new : List ℕ) → SaysOmissions image d before old
-    → new ≡ old ++ codes "no certificate can fix these, if a run reaches them:\n" → SaysOmissions image d before new
+    → new ≡ old ++ codes "no certificate is possible if a run reaches any of these:\n" → SaysOmissions image d before new
 heading_told image d before old new says is =
     let P : List ℕ → Type 0 = λ t. SaysOmissions image d before t in subst P (sym is) (heading before old says)
 

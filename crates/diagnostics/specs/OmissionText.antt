@@ -126,7 +126,7 @@ before_place before at = before ++ octal_text at
 abbrev pub act_text : ℕ → Omission → List ℕ
 act_text at omission.NoWord = octal_text at
 act_text at omission.Unsupported = codes "the machine does not implement this word"
-act_text at omission.OfThe8e = codes "only the PDP-8/E implements this word"
+act_text at omission.OfThe8e = codes "of the two machines modelled, only the PDP-8/E implements this word"
 act_text at (omission.Stores cell) = before_place (codes "it stores into ") cell
 act_text at (omission.StoresInEntry cell) = before_place (codes "it stores into ") cell
 act_text at (omission.StoresInOwn cell) = before_place (codes "it stores into ") cell
@@ -178,18 +178,18 @@ remedy_text at omission.NoWord = codes "remove it from the body, or end the prog
 remedy_text at omission.Unsupported = codes "if it is data, remove it from the body"
 remedy_text at omission.OfThe8e = codes "add `profile 8e` if the program is for one"
 remedy_text at (omission.Stores cell) = around_place (codes "add `var ") cell (codes "`")
-remedy_text at (omission.StoresInEntry cell) = codes "let only a JMS, or an ISZ of the routine itself, write there"
+remedy_text at (omission.StoresInEntry cell) = codes "only these may write there: a JMS that calls the routine, an ISZ of the routine itself and, with a `moves` line, a DCA of it"
 remedy_text at (omission.StoresInOwn entry) = around_place (codes "add `moves ") entry (codes "`")
 remedy_text at (omission.Steps cell) = around_place (codes "add `var ") cell (codes "`")
 remedy_text at (omission.Calls entry) = around_place (codes "add `sub ") entry (codes " body .. returns ..`")
 remedy_text at (omission.CallsIntoBody entry) =
-    around_place (codes "add `sub ") entry (codes " body .. returns ..`, and remove it from the body and the variables")
+    around_place (codes "add `sub ") entry (codes " body .. returns ..`, and remove the entry from the body and the variables")
 remedy_text at (omission.CallsAutoIndex entry) = codes "no routine can begin in 0010 to 0017"
-remedy_text at (omission.Jumps place) = codes "add it there"
+remedy_text at (omission.Jumps place) = codes "add that address to the body"
 remedy_text at (omission.JumpsAcross place) = codes "call a routine with a JMS, and leave it with a return"
 remedy_text at (omission.JumpsToMain place) = around_place (codes "leave the routine with a return, or add `abandon ") place (codes "`")
 remedy_text at omission.Halts = halt_remedy at
-remedy_text at (omission.GoesOn next) = stop_for_pause (codes "add it there, or declare `stop ") at
+remedy_text at (omission.GoesOn next) = stop_for_pause (codes "add that address to the body, or declare `stop ") at
 remedy_text at (omission.GoesAcross next) = stop_for_pause (codes "declare `stop ") at
 
 -- The line of what is omitted at an address, and what to do about it.
@@ -228,7 +228,7 @@ omission_lines image d at o = dump_line d.profile at (word_at image at) ++ omiss
 -- omitted is so; which of them are told, and in which order, is only tested.
 pub data SaysOmissions (image : List (Option ℕ)) (d : Declaration) : List ℕ → List ℕ → Type 0 where
   nothing : (text : List ℕ) → SaysOmissions image d text text
-  heading : (old new : List ℕ) → SaysOmissions image d old new → SaysOmissions image d old (new ++ codes "no certificate can fix these, if a run reaches them:\n")
+  heading : (old new : List ℕ) → SaysOmissions image d old new → SaysOmissions image d old (new ++ codes "no certificate is possible if a run reaches any of these:\n")
   omitted : (old new : List ℕ) (at : ℕ) (o : Omission) → SaysOmissions image d old new → IsOmitted image d at o
       → SaysOmissions image d old (new ++ omission_lines image d at o)
   others : (old new : List ℕ) → SaysOmissions image d old new → SaysOmissions image d old (new ++ codes "and more\n")

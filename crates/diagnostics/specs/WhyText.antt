@@ -1,4 +1,4 @@
--- What `check --why` writes after the verdict: the word that violates the condition, what the condition asks, and why it
+-- What `check --why` writes after the verdict: the word that violates the condition, what the condition requires, and why it
 -- fails. Of the rules of equations, by which certificates of versions 1 and 2 are judged, some of it reads otherwise.
 use Rattle.std.specs.Prelude.{ℕ, ◌≡◌, ◌+◌, ◌/◌, ◌%◌, ◌==◌, nat_lt, ◌&&◌, if◌then◌else◌, Bool, ◌++◌, codes, decimal, true, List, [], ◌∷◌, flat_map, length, min, false, Option, Some, None, is_some, IfSome, Result, Ok, Err}
 use Rattle.word12.specs.Words.{octal_text}
@@ -43,34 +43,34 @@ use Rattle.diagnostics.specs.declared.verdicts.reason_context.Distinction.{Disti
 use Rattle.diagnostics.specs.declared.verdicts.reason_context.Distinction.TheVariants as mark
 use Rattle.diagnostics.specs.declared.verdicts.reason_context.ReasonContext.{ReasonContext}
 
--- What each condition asks by the rules of equations.
+-- What each condition requires by the rules of equations.
 abbrev pub asked_text : Condition → List ℕ
-asked_text condition.V1 = codes "there is a fact at the start, and it holds for every start"
-asked_text condition.V2 = codes "a fact is in a body, and has offsets only in a routine; routine and exit lines are at entries"
-asked_text condition.V3 = codes "at most 64 words are possible, and each is supported"
-asked_text condition.V4 = codes "at each address where the run may continue there is a fact in the same body, which allows all that is possible"
-asked_text condition.V5 = codes "each cell that a word may write, except the cell in which a JMS stores, is a variable or an entry"
-asked_text condition.V6 = codes "each cell that a word may write, except the cell in which a JMS stores, is in the routine's written set or is its entry"
-asked_text condition.V7 = codes "a JMS calls listed entries of lower rank, and not through an auto-index cell"
-asked_text condition.V8 = codes "the caller's written set contains the callee's entry and all that the callee may write, and the callee's written set does not contain the caller's entry"
-asked_text condition.V9 = codes "a JMS is at a listed site of its callee, at an address of at most 7767"
-asked_text condition.V10 = codes "the fact at the callee's first address allows what is possible"
-asked_text condition.V11 = codes "the fact at each return address allows what is possible"
-asked_text condition.V12 = codes "a return is through the routine's own entry, by declared offsets, and the exit lines allow what is possible"
-asked_text condition.V13 = codes "a HLT is at a declared halt"
-asked_text condition.V14 = codes "no instruction writes an entry, except that a JMS stores its return address there, an ISZ may increment its own routine's entry, and a DCA may store in its own routine's entry if a `moves` line names it"
-asked_text condition.V15 = codes "each cell that a word may read is on the list of reads or is the routine's entry"
-asked_text condition.V16 = codes "what is declared to hold here, or when the routine of this entry returns, holds"
+asked_text condition.V1 = codes "there is a fact at the start, and it allows every state in which a run may start"
+asked_text condition.V2 = codes "each fact is at an address in a body, with offsets if the body is a routine's and without offsets if it is main's; each routine line and each exit line names an entry"
+asked_text condition.V3 = codes "at most 64 words are possible in the cell, and the machine implements each of them"
+asked_text condition.V4 = codes "at each address where the run may continue, there is a fact in the same body (in main's body if all calls are abandoned), and it allows every possible state"
+asked_text condition.V5 = codes "each cell that the instruction may write, except the cell in which a JMS stores its return address, is a variable or an entry"
+asked_text condition.V6 = codes "each cell that the instruction may write, except the cell in which a JMS stores its return address, is in the routine's written set or is the routine's entry"
+asked_text condition.V7 = codes "a JMS calls only entries that have a routine line, and never through an auto-index cell; in a routine, it calls only entries of lower rank"
+asked_text condition.V8 = codes "the caller's written set contains the callee's entry and every cell of the callee's written set; the callee's written set does not contain the caller's entry"
+asked_text condition.V9 = codes "the callee's routine line lists the address of the JMS as a site, and this address is at most 7767"
+asked_text condition.V10 = codes "the fact at the callee's first instruction allows every possible state"
+asked_text condition.V11 = codes "the fact at each return address allows every possible state"
+asked_text condition.V12 = codes "a routine returns only through its own entry and only by declared offsets, and its exit lines allow every possible state"
+asked_text condition.V13 = codes "a HLT is at an address in a `stop` or `pause` line"
+asked_text condition.V14 = codes "no instruction writes an entry, with three exceptions: a JMS stores its return address there, an ISZ may increment the entry of its own routine, and a DCA may store in the entry of its own routine if a `moves` line names this entry"
+asked_text condition.V15 = codes "if reads are listed, each cell that the instruction may read is on the list or is the routine's own entry"
+asked_text condition.V16 = codes "every `holds` line about the address is true, and so is every `returns` line about the routine whose entry is there"
 
--- What each condition asks by the rules of sums, by which several facts may stand at an address. Most ask the same as by those of
+-- What each condition requires by the rules of sums, by which several facts may stand at an address. Most require the same as by those of
 -- equations.
 abbrev pub sums_asked_text : Condition → List ℕ
-sums_asked_text condition.V1 = codes "the facts at the start allow every start"
-sums_asked_text condition.V2 = codes "each fact is in a body, and has sites and offsets only in a routine; routine and exit lines are at entries"
-sums_asked_text condition.V4 = codes "at each address where the run may continue there are facts in the same body, which allow all that is possible"
-sums_asked_text condition.V9 = codes "a JMS is at a listed site of its callee, at an address of at most 7776"
-sums_asked_text condition.V10 = codes "the facts at the callee's first address allow what is possible"
-sums_asked_text condition.V11 = codes "the facts at each return address allow what is possible"
+sums_asked_text condition.V1 = codes "the facts at the start allow every state in which a run may start"
+sums_asked_text condition.V2 = codes "each fact is at an address in a body, with sites and offsets if the body is a routine's and without them if it is main's; each routine line and each exit line names an entry"
+sums_asked_text condition.V4 = codes "at each address where the run may continue, there are facts in the same body (in main's body if all calls are abandoned), and they allow every possible state"
+sums_asked_text condition.V9 = codes "the callee's routine line lists the address of the JMS as a site, and this address is at most 7776"
+sums_asked_text condition.V10 = codes "the facts at the callee's first instruction allow every possible state"
+sums_asked_text condition.V11 = codes "the facts at each return address allow every possible state"
 sums_asked_text condition.V3 = asked_text condition.V3
 sums_asked_text condition.V5 = asked_text condition.V5
 sums_asked_text condition.V6 = asked_text condition.V6
@@ -82,7 +82,7 @@ sums_asked_text condition.V14 = asked_text condition.V14
 sums_asked_text condition.V15 = asked_text condition.V15
 sums_asked_text condition.V16 = asked_text condition.V16
 
--- What each condition asks, by the rules.
+-- What each condition requires, by the rules.
 abbrev pub asked_by : Rules → Condition → List ℕ
 asked_by OfEquations c = asked_text c
 asked_by OfSums c = sums_asked_text c
@@ -103,12 +103,16 @@ offset_text o = (if nat_lt o 8 then [] else decimal (o / 8)) ++ decimal (o % 8)
 abbrev pub around_offset : List ℕ → ℕ → List ℕ → List ℕ
 around_offset before o after = before ++ offset_text o ++ after
 
--- AC, or the address of a cell.
+-- What a cell holds: its address in brackets.
+abbrev pub content_text : ℕ → List ℕ
+content_text a = around (codes "[") a (codes "]")
+
+-- AC, or what a cell holds.
 abbrev pub name_text : Location → List ℕ
 name_text Ac = codes "AC"
-name_text (Cell a) = octal_text a
+name_text (Cell a) = content_text a
 
--- A number that is added to an address, or taken away from it, and nothing for 0.
+-- A number that is added, or the one that is taken away in its place, and nothing for 0.
 abbrev pub added_text : ℕ → List ℕ
 added_text k =
     if k == 0 then [] else (if nat_lt k 2048 then codes " + " ++ octal_text k else codes " - " ++ octal_text (minus 0 k))
@@ -116,7 +120,7 @@ added_text k =
 -- A term: AC, a cell, or the word of the start at the address that a cell holds, or at one that is a number more.
 abbrev pub term_text : Term → List ℕ
 term_text (Holding n) = name_text n
-term_text (Behind x k) = (codes "the word at " ++ octal_text x) ++ added_text k
+term_text (Behind x k) = around (codes "the word at [") x (codes "]") ++ added_text k
 
 -- What comes before a term: its sign, or a coefficient. Of the first term a plus sign is left out.
 abbrev pub coefficient_text : Bool → ℕ → List ℕ
@@ -162,7 +166,7 @@ sum_may_be sum w =
 
 -- That a term is a word more than another one.
 abbrev pub equation_text : Term → Term → ℕ → List ℕ
-equation_text s t w = term_text s ++ (codes " = " ++ term_text t) ++ (codes " + " ++ octal_text w)
+equation_text s t w = term_text s ++ (codes " = " ++ term_text t) ++ added_text w
 
 -- That a sum is this word. Of a difference it is said what its first term is.
 abbrev pub sum_is : Sum → ℕ → List ℕ
@@ -175,19 +179,55 @@ abbrev pub word_told : Sum → Option ℕ → List ℕ
 word_told sum None = sum_text sum
 word_told sum (Some w) = sum_is sum w
 
--- What may be, as far as is known, though the fact or the exit line that is looked at excludes it.
+-- What may be, as far as is known, though the fact or the exit line that is looked at excludes it; of an equation, what it says.
 abbrev pub gap_text : Counterexample → List ℕ
 gap_text (gap.Accumulator w) = codes "AC may be " ++ octal_text w
 gap_text (gap.Mq w) = codes "MQ may be " ++ octal_text w
 gap_text (gap.Link l) = codes "the link may be " ++ link_text l
 gap_text (gap.Site a) = codes "the routine may have been called from " ++ octal_text a
-gap_text (gap.Offset o) = around_offset (codes "the return word may have been incremented by ") o (codes "")
+gap_text (gap.Offset o) = around_offset (codes "the return word may be the return address plus ") o (codes "")
 gap_text (gap.Cell c w) = (codes "the cell " ++ octal_text c) ++ (codes " may hold " ++ octal_text w)
 gap_text (gap.Sum s w) = sum_may_be (sum_of s) w
-gap_text (gap.Equation s w) = word_told (sum_of s) w ++ codes " may be false"
+gap_text (gap.Equation s w) = word_told (sum_of s) w
 gap_text (gap.Chain c v w l) =
     (codes "while the cell " ++ octal_text c) ++ (codes " holds " ++ octal_text v) ++ (codes ", AC may be " ++ octal_text w) ++
     (codes " with the link " ++ link_text l)
+
+-- What is said before what may be: of an equation, what requires it.
+abbrev pub required_text : Counterexample → List ℕ → List ℕ
+required_text (gap.Accumulator w) required = []
+required_text (gap.Mq w) required = []
+required_text (gap.Link l) required = []
+required_text (gap.Site a) required = []
+required_text (gap.Offset o) required = []
+required_text (gap.Cell c w) required = []
+required_text (gap.Sum s w) required = []
+required_text (gap.Equation s w) required = required
+required_text (gap.Chain c v w l) required = []
+
+-- What is said after what may be: what excludes it, or of an equation, that it may be false.
+abbrev pub excluded_text : Counterexample → List ℕ → List ℕ
+excluded_text (gap.Accumulator w) excluded = excluded
+excluded_text (gap.Mq w) excluded = excluded
+excluded_text (gap.Link l) excluded = excluded
+excluded_text (gap.Site a) excluded = excluded
+excluded_text (gap.Offset o) excluded = excluded
+excluded_text (gap.Cell c w) excluded = excluded
+excluded_text (gap.Sum s w) excluded = excluded
+excluded_text (gap.Equation s w) excluded = codes ", and this may be false"
+excluded_text (gap.Chain c v w l) excluded = excluded
+
+-- What may be, with the texts that say what requires an equation, or what excludes anything else.
+abbrev pub told_gap : Counterexample → List ℕ → List ℕ → List ℕ
+told_gap g required excluded = (required_text g required ++ gap_text g) ++ excluded_text g excluded
+
+-- What may be though the fact at an address excludes it.
+abbrev pub gap_of_fact : Counterexample → List ℕ
+gap_of_fact g = told_gap g (codes "the fact there requires ") (codes ", which the fact there excludes")
+
+-- What may be though an exit line excludes it.
+abbrev pub gap_of_exit : Counterexample → List ℕ
+gap_of_exit g = told_gap g (codes "the exit line requires ") (codes ", which the exit line excludes")
 
 -- The link with which something is possible, before what is.
 abbrev pub with_link_text : ℕ → List ℕ
@@ -204,10 +244,10 @@ left_text l n w = with_link_text l ++ name_may_hold n w
 
 -- Why a run does not land.
 abbrev pub landing_text : LandingFailure → List ℕ
-landing_text landing.NoFact = codes "there is no fact at that address"
-landing_text landing.OtherBody = codes "that address is not in the body"
-landing_text (landing.Excluded g) = gap_text g ++ codes ", which the fact there excludes"
-landing_text (landing.ExcludedUnder l g) = with_link_text l ++ (gap_text g ++ codes ", which the fact there excludes")
+landing_text landing.NoFact = codes "there is no fact at the address reached"
+landing_text landing.OtherBody = codes "the address reached is not in the body"
+landing_text (landing.Excluded g) = gap_of_fact g
+landing_text (landing.ExcludedUnder l g) = with_link_text l ++ gap_of_fact g
 landing_text (landing.NotTaken l n w) = left_text l (location_of n) w ++ codes ", which none of the facts there allows"
 landing_text landing.NotEntailed = codes "none of the facts there allows all that is possible"
 
@@ -215,8 +255,8 @@ landing_text landing.NotEntailed = codes "none of the facts there allows all tha
 abbrev pub exit_text : LandingFailure → List ℕ
 exit_text landing.NoFact = codes ", which has no exit line"
 exit_text landing.OtherBody = codes ", which is not in the body"
-exit_text (landing.Excluded g) = codes ": " ++ (gap_text g ++ codes ", which the exit line excludes")
-exit_text (landing.ExcludedUnder l g) = (codes ": " ++ with_link_text l) ++ (gap_text g ++ codes ", which the exit line excludes")
+exit_text (landing.Excluded g) = codes ": " ++ gap_of_exit g
+exit_text (landing.ExcludedUnder l g) = (codes ": " ++ with_link_text l) ++ gap_of_exit g
 exit_text (landing.NotTaken l n w) = codes ": " ++ (left_text l (location_of n) w ++ codes ", which none of the exit lines allows")
 exit_text landing.NotEntailed = codes ": none of the exit lines allows all that is possible"
 
@@ -232,7 +272,7 @@ is_without_fact landing.NotEntailed = false
 -- Why the facts at the start do not allow every start.
 abbrev pub start_text : LandingFailure → List ℕ
 start_text l =
-    if is_without_fact l then codes "there is no fact at this address" else codes "at a start " ++ landing_text l
+    if is_without_fact l then codes "there is no fact at this address" else codes "at the start, " ++ landing_text l
 
 -- A call from an address past the last that may be a site, by the rules.
 abbrev pub too_high_text : Rules → List ℕ
@@ -246,18 +286,18 @@ from_one i = min (i + 1) 18446744073709551615
 -- By which offset a callee returns, and by the rules of sums, by which several exit lines may stand for an offset, which of them.
 abbrev pub returned_text : Rules → ℕ → ℕ → List ℕ
 returned_text OfEquations o i = around_offset (codes ", which returns with offset ") o (codes ": ")
-returned_text OfSums o i = around_offset (codes ", which returns with offset ") o (codes " by exit ") ++ around_number (codes "") (from_one i) (codes ": ")
+returned_text OfSums o i = around_offset (codes ", which returns with offset ") o (codes " by exit line ") ++ around_number (codes "") (from_one i) (codes ": ")
 
 -- What a call violates.
 abbrev pub call_text : Rules → CallViolation → List ℕ
 call_text rules call.NoEntry = codes ", which is not an entry"
 call_text rules call.NotListed = codes ", which has no routine line"
 call_text rules (call.NotLower rank own) =
-    around_number (codes " of rank ") rank (codes ", which is not below the caller's rank, ") ++ decimal own
+    around_number (codes ", whose rank ") rank (codes " is not below the caller's rank ") ++ decimal own
 call_text rules (call.Writes c) = around (codes ", which may write ") c (codes ", but the caller's written set does not contain it")
 call_text rules call.EntryNotWritten = codes ", which the caller's written set does not contain"
 call_text rules call.WritesCaller = codes ", which may write the caller's entry"
-call_text rules call.NoSite = codes ", but this address is not one of its sites"
+call_text rules call.NoSite = codes ", whose routine line does not list this address as a site"
 call_text rules call.TooHigh = too_high_text rules
 call_text rules (call.Enters l) = codes " and continues after the entry: " ++ landing_text l
 call_text rules (call.Returns o i l) = returned_text rules o i ++ landing_text l
@@ -292,13 +332,13 @@ denied_text s w line = subject_text s ++ (codes " may be " ++ (subject_word s w 
 
 -- How far an ISZ may increment the return word in its routine's own entry, by the rules.
 abbrev pub counting_text : Rules → List ℕ
-counting_text OfEquations = codes ", the routine's own entry, past offset 7, the most in certificates of versions 1 and 2"
+counting_text OfEquations = codes ", the routine's own entry, past offset 7"
 counting_text OfSums = codes ", the routine's own entry, past offset 77 or past 7777"
 
 -- That a DCA may store a word in its routine's own entry that is out of reach of a return address.
 abbrev pub moving_text : ℕ → ℕ → ℕ → List ℕ
 moving_text e w s =
-    (codes "it may store " ++ octal_text w) ++ (around (codes " in ") e (codes "") ++
+    (codes "it may store the word " ++ octal_text w) ++ (around (codes " in ") e (codes "") ++
     around (codes ": this word is not 0 to 77 past the return address of the call at ") s (codes ""))
 
 -- An address, and after it that a line with it is to be added, up to its end.
@@ -307,7 +347,7 @@ advised_text before at line = (before ++ octal_text at) ++ ((line ++ octal_text 
 
 -- What a word violates.
 abbrev pub breach_text : Rules → Violation → List ℕ
-breach_text rules breach.NotSupported = codes "this word is not supported"
+breach_text rules breach.NotSupported = codes "the machine does not implement this word"
 breach_text rules (breach.WritesUndeclared c) = around (codes "it may write ") c (codes ", which is neither a variable nor an entry")
 breach_text rules (breach.WritesEntry c) = around (codes "it may write ") c (codes ", which is an entry")
 breach_text rules (breach.CountsTooFar c) = around (codes "it may increment ") c (counting_text rules)
@@ -329,7 +369,7 @@ mark_text (mark.CalledFrom a) = codes ", called from " ++ octal_text a
 mark_text mark.LinkClear = codes ", link 0"
 mark_text mark.LinkSet = codes ", link 1"
 mark_text (mark.Accumulator w) = codes ", AC = " ++ octal_text w
-mark_text (mark.Cell c w) = (codes ", " ++ octal_text c) ++ (codes " = " ++ octal_text w)
+mark_text (mark.Cell c w) = around (codes ", [") c (codes "]") ++ (codes " = " ++ octal_text w)
 
 -- The same, if something tells it.
 abbrev pub told_mark : Option Distinction → List ℕ
@@ -345,12 +385,12 @@ abbrev pub which_text : ReasonContext → Option ℕ → List ℕ
 which_text t None = []
 which_text t (Some i) =
     if nat_lt t.count 2 then []
-    else (around_number (codes "fact ") (from_one i) (codes " of ") ++ around_number (codes "") t.count (codes " there")) ++ (marks_text t ++ codes ": ")
+    else (around_number (codes "fact ") (from_one i) (codes " of ") ++ around_number (codes "") t.count (codes " at this address")) ++ (marks_text t ++ codes ": ")
 
 -- By which offset a routine returns, and by the rules of sums by which of its exit lines.
 abbrev pub exit_named : Rules → ℕ → ℕ → List ℕ
 exit_named OfEquations o i = around_offset (codes "when it returns with offset ") o (codes ", ")
-exit_named OfSums o i = around_offset (codes "when it returns with offset ") o (codes " by exit ") ++ around_number (codes "") (from_one i) (codes ", ")
+exit_named OfSums o i = around_offset (codes "when it returns with offset ") o (codes " by exit line ") ++ around_number (codes "") (from_one i) (codes ", ")
 
 -- Why the condition fails.
 abbrev pub reason_text : Rules → Reason → List ℕ
@@ -359,9 +399,9 @@ reason_text rules reason.LineAtNoEntry = codes "a routine or exit line names the
 reason_text rules reason.InNoBody = codes "there is a fact at this address, which is not in any body"
 reason_text rules (reason.OffsetInMain i o) = around_offset (codes "the fact is in main's body but has the offset ") o (codes "")
 reason_text rules (reason.SitesInMain i) = codes "the fact is in main's body but has sites"
-reason_text rules (reason.NoOffset i e) = around (codes "the fact is in the body of ") e (codes " but has no offset")
-reason_text rules (reason.NoSites i e) = around (codes "the fact is in the body of ") e (codes " but has no sites")
-reason_text rules (reason.RoutineNotListed e) = around (codes "the fact is in the body of ") e (codes ", which has no routine line")
+reason_text rules (reason.NoOffset i e) = around (codes "the fact is in the body of the routine ") e (codes " but has no offset")
+reason_text rules (reason.NoSites i e) = around (codes "the fact is in the body of the routine ") e (codes " but has no sites")
+reason_text rules (reason.RoutineNotListed e) = around (codes "the fact is in the body of the routine ") e (codes ", which has no routine line")
 reason_text rules (reason.TooManyWords i n) = around_number (codes "") n (codes " words are possible")
 reason_text rules (reason.ByWord i w b) = breach_text rules b
 reason_text rules (reason.ExitDeniesAssertion o i s w) = exit_named rules o i ++ denied_text s w (codes "returns")
@@ -376,12 +416,12 @@ abbrev pub reason_line : ReasonContext → Option Reason → List ℕ
 reason_line t None = []
 reason_line t (Some r) = (which_text t t.place ++ reason_text t.rules r) ++ codes "\n"
 
--- The address with its word and its name, what the condition asks, and why it fails. After a yes there is nothing.
+-- The address with its word and its name, what the condition requires, and why it fails. After a yes there is nothing.
 abbrev pub why_text : Profile → List (Option ℕ) → Result (Unit {0}) Refusal → Option Reason → ReasonContext → List ℕ
 why_text profile image (Ok _) reason t = []
 why_text profile image (Err r) reason t =
     dump_line profile r.address (word_shown image r.address reason) ++
-    (condition_text r.condition ++ codes " asks: " ++ asked_by t.rules r.condition ++ codes "\n") ++ reason_line t reason
+    (condition_text r.condition ++ codes " requires: " ++ asked_by t.rules r.condition ++ codes "\n") ++ reason_line t reason
 
 -- The place of the fact that is shown, of so many at an address: the one of the reason, or else the only one there.
 abbrev pub place_shown : Option ℕ → ℕ → Option ℕ

@@ -155,7 +155,7 @@ fn push_sufficient<L: MessageWriter, D: Allocator>(
     if sufficient.is_empty() || words.is_subset(&sufficient) {
         return Ok(());
     }
-    text.push_text(b"for this instruction it would be enough if it held only ")?;
+    text.push_text(b"for this instruction, it would be enough if the pointer held only ")?;
     push_set(text, &sufficient)?;
     text.push_text(b"\n")?;
     push_test(text, image, declaration, at, pointer)
@@ -174,10 +174,12 @@ fn push_test<L: MessageWriter, D: Allocator>(
             push_text_and_address(text, b"the skip at ", test)?;
             text.push_text(b" ")?;
             push_name(text, image, declaration, test)?;
-            text.push_text(b" tests a sum that contains it, and could show this\n")
+            text.push_text(
+                b" tests a sum that contains the pointer, and could show that it holds only these words\n",
+            )
         }
         None => text.push_text(
-            b"no skip in this body tests a sum that contains it; a test or a mask before the instruction could show this\n",
+            b"no skip in this body tests a sum that contains the pointer; a test or a mask before the instruction could show that it holds only these words\n",
         ),
     }
 }
@@ -225,9 +227,9 @@ fn push_relation<L: MessageWriter, D: Allocator>(
     relation: &Relation,
     at: Word,
 ) -> Result<(), AllocError> {
-    push_text_and_address(text, b"", relation.pointer)?;
-    push_text_and_address(text, b" = ", relation.cell)?;
-    text.push_text(b" + ")?;
+    push_text_and_address(text, b"[", relation.pointer)?;
+    push_text_and_address(text, b"] = [", relation.cell)?;
+    text.push_text(b"] + ")?;
     text.push_text(&relation.more.to_octal())?;
     push_text_and_address(text, b" holds until ", at)?;
     text.push_text(b" ")?;

@@ -8,7 +8,7 @@ use command_parts::message::{
     Message, MessageWriter, push_text_and_address, push_text_and_advised, push_text_and_word,
 };
 use declaration::{Assertion, Declaration, Owner, Subject};
-use instruct::{Operation, Profile, refers_indirectly, target};
+use instruct::{Instruction, Operation, Profile, decode, refers_indirectly, target};
 use itoa::Buffer;
 use peripherals::{Event, NoMemory, Start};
 use policy::{Call, Rule, Watched, Watcher};
@@ -21,13 +21,17 @@ fn asked(rule: Rule) -> &'static [u8] {
     match rule {
         Rule::StaysInBody =>
             b"control stays in the running routine's body, at words that are supported",
-        Rule::WritesDeclared => b"only declared variables are written",
+        Rule::WritesDeclared =>
+            b"only declared variables and, as far as allowed, the running routine's own entry are written",
         Rule::CallsEntries => b"a JMS goes to a declared entry",
-        Rule::ReturnsToItsCall => b"a return goes to a declared place after its own call",
+        Rule::ReturnsToItsCall =>
+            b"a return goes to a declared place that follows its own call in memory",
         Rule::HaltsDeclared => b"a HLT is at a declared halt",
         Rule::KeepsCode => b"code stays as it is on the tape",
-        Rule::ReadsListed => b"only cells on the list of reads are read",
-        Rule::AssertionsHold => b"what is declared to hold holds",
+        Rule::ReadsListed =>
+            b"only cells on the list of reads, and the running routine's own entry, are read",
+        Rule::AssertionsHold =>
+            b"each `holds` line and each `returns` line is true where it applies",
     }
 }
 
@@ -85,7 +89,7 @@ fn push_change<L: MessageWriter>(
 ) -> Result<(), AllocError> {
     text.push_address(cell)?;
     push_text_and_word(text, b" holds ", cpu.memory.get(cell))?;
-    push_word_line(text, b", and would hold ", then, b"")
+    push_word_line(text, b", and would hold ", then, b" after the write")
 }
 
 /// Adds what else a cell is that is not a variable, an entry or an instruction, and what to declare if the program
@@ -99,9 +103,14 @@ fn push_variable_advice<L: MessageWriter, D: Allocator>(
         return text.push_text(b" but an entry\n");
     }
     if declaration.owner_of(cell).is_some() {
-        return push_advice(text, b" but code; if it may change, add `var ", cell, b"`");
+        return push_advice(
+            text,
+            b" but code; if this is intended, add `var ",
+            cell,
+            b"`",
+        );
     }
-    push_advice(text, b"; if it may be written, add `var ", cell, b"`")
+    push_advice(text, b"; if this is intended, add `var ", cell, b"`")
 }
 
 /// Adds the line of the pointer from which an address comes, if the reference is indirect.
@@ -147,7 +156,7 @@ fn push_write<L: MessageWriter, D: Allocator>(
     if moves_return(calls, reference) {
         push_advice(
             text,
-            b" but the running routine's own entry; if it may store its return address, add `moves ",
+            b" but the running routine's own entry; if this is intended, add `moves ",
             place,
             b"`",
         )?;
@@ -171,7 +180,7 @@ fn push_held<L: MessageWriter>(text: &mut L, cpu: &Cpu, cell: Word) -> Result<()
 fn push_read_advice<L: MessageWriter>(text: &mut L, cell: Word) -> Result<(), AllocError> {
     push_advice(
         text,
-        b", which is not on the list of reads; if it may be read, add `read ",
+        b", which is not on the list of reads; if this is intended, add `read ",
         cell,
         b"`",
     )
@@ -212,7 +221,7 @@ fn push_returns<L: MessageWriter, D: Allocator>(
                 text.push_text(b" or ")?;
             } else {
                 push_text_and_address(text, b"the routine ", call.entry)?;
-                text.push_text(b" may return to ")?;
+                text.push_text(b" is declared to return to ")?;
             }
             text.push_address(call.after.add(offset))?;
             is_one_told = true;
@@ -241,12 +250,14 @@ fn push_offset_advice<L: MessageWriter>(
     if call.entry != entry || offset > 0o77 {
         return Ok(());
     }
+    push_text_and_address(text, b"if a return to ", to)?;
+    text.push_text(b" is intended, add ")?;
     if offset > 7 {
         return push_skips_advice(text, entry, Word::from_index(usize::from(offset)));
     }
-    text.push_text(b"if it may return there, add ")?;
+    text.push_text(b"the offset ")?;
     text.push_text(Buffer::new().format(offset).as_bytes())?;
-    push_advice(text, b" to the returns of `sub ", entry, b"`")
+    push_advice(text, b" to the line `sub ", entry, b"`")
 }
 
 /// Adds the rest of a line: the `skips` line that lets a routine return by an offset.
@@ -255,7 +266,7 @@ fn push_skips_advice<L: MessageWriter>(
     entry: Word,
     offset: Word,
 ) -> Result<(), AllocError> {
-    push_text_and_advised(text, b"if it may return there, add `skips ", entry)?;
+    push_text_and_advised(text, b"`skips ", entry)?;
     push_word_line(text, b" ", offset, b"`")
 }
 
@@ -269,9 +280,9 @@ fn push_return<L: MessageWriter, D: Allocator>(
     entry: Word,
 ) -> Result<(), AllocError> {
     push_text_and_address(text, b"it goes to ", cpu.memory.get(entry))?;
-    push_text_and_address(text, b" by the word in the entry ", entry)?;
+    push_text_and_address(text, b", which is the word in the entry ", entry)?;
     match calls.last() {
-        None => text.push_text(b"; the call stack is empty\n"),
+        None => text.push_text(b"; no call is open\n"),
         Some(call) => {
             push_text_and_address(text, b"; the last call is to ", call.entry)?;
             push_line(text, b", and the address after it is ", call.after, b"")?;
@@ -288,7 +299,8 @@ fn is_jump<D: Allocator>(declaration: &Declaration<D>, last: &Option<ExecutedIns
     };
     let is_return = refers_indirectly(executed.word)
         && declaration.is_entry(target(executed.word, executed.at));
-    matches!(Operation::of(executed.word), Operation::Jmp) && !is_return
+    let is_reference = decode(executed.word, declaration.profile()) == Instruction::Memory;
+    is_reference && Operation::of(executed.word) == Operation::Jmp && !is_return
 }
 
 /// Adds the line of an address that is not in the running routine's body, to which this instruction led: what it is, or what
@@ -304,7 +316,7 @@ fn push_outside<L: MessageWriter, D: Allocator>(
     text.push_text(b" is not in the running routine's body")?;
     if declaration.is_entry(at) {
         return text.push_text(
-            b": it is an entry, which holds a return address and is never executed\n",
+            b": it is an entry, which holds a return address and must not be executed\n",
         );
     }
     let Some(owner) = declaration.owner_of(at) else {
@@ -313,7 +325,7 @@ fn push_outside<L: MessageWriter, D: Allocator>(
     match owner {
         Owner::Main if is_jump(declaration, last) => push_advice(
             text,
-            b": it is in main's body; if this JMP may end all calls, add `abandon ",
+            b": it is in main's body; if this JMP is meant to end all calls, add `abandon ",
             at,
             b"`",
         ),
@@ -349,7 +361,7 @@ fn push_no_entry<L: MessageWriter, D: Allocator>(
     push_text_and_advised(text, b"if a routine begins there, add `sub ", place)?;
     text.push_text(b" body .. returns ..`")?;
     if declaration.owner_of(place).is_some() || declaration.is_variable(place) {
-        text.push_text(b", and remove it from the body and the variables")?;
+        text.push_text(b", and remove the entry from the body and the variables")?;
     }
     text.push_text(b"\n")
 }
@@ -359,7 +371,7 @@ fn push_no_halt<L: MessageWriter>(text: &mut L, at: Word) -> Result<(), AllocErr
     text.push_address(at)?;
     push_text_and_advised(
         text,
-        b" is not a declared halt; if it may halt there, add `stop ",
+        b" is not a declared halt; if this halt is intended, add `stop ",
         at,
     )?;
     push_advice(

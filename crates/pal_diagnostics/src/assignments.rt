@@ -89,7 +89,7 @@ fn about_direction<A: Allocator + Copy>(
     if count_characters(written(source, occurrence)) > direction.len() {
         write!(
             advice,
-            "only six characters of a symbol count, so it is {direction}: "
+            "only the first six characters of a symbol count, so this one is the same as {direction}: "
         )?;
     }
     advice.push_str("use another symbol")?;

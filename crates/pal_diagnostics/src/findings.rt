@@ -126,7 +126,7 @@ fn about_digits<A: Allocator + Copy>(
         }
         Err(_) => advice.push_str("digits up to 7")?,
     }
-    advice.push_str(", or put that statement before it")?;
+    advice.push_str(", or put a DECIMAL statement before the number")?;
     Ok(Finding {
         start: token.start,
         end: token.end,

@@ -81,7 +81,7 @@ fn about_character(code: u8) -> FaultText {
         },
         b'!' => FaultText {
             wrong: "is not allowed",
-            advice: "for an inclusive or, write a space between two terms",
+            advice: "for an inclusive OR, write a space between two terms",
         },
         _ => FaultText {
             wrong: "is not allowed",

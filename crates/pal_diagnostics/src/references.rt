@@ -179,11 +179,11 @@ fn push_advice<A: Allocator>(
     }
     if reference.is_indirect {
         return text.push_str(
-            "I uses a word on this page or on page zero: write one there that holds the address",
+            "a statement with I uses a word on this page or on page zero: write a word there that holds the address",
         );
     }
     text.push_str(
-        "write a word with that address on this page, with a tag, and refer to it with I, as in ",
+        "on this page, write a word that holds that address, give it a tag, and refer to the tag with I, as in ",
     )?;
     push_characters(text, operation)?;
     text.push_str(" I TAG")

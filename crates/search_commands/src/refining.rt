@@ -35,11 +35,11 @@ const NOT_SHOWN: &[u8] =
 
 /// What is told if nothing is left out since no certificate is found for what would be left.
 const NOT_SHOWN_NARROWER: &[u8] =
-    b"--tight leaves nothing out: no certificate is found for the declaration without what is needless\n";
+    b"--tight leaves nothing out: without the parts that are not needed, no certificate is found for the declaration\n";
 
 /// What is told if nothing is needless but what is declared to hold.
 const ALL_NEEDED: &[u8] =
-    b"--tight leaves nothing out: all that the declaration lists is needed, or something is declared to hold there\n";
+    b"--tight leaves nothing out: the certificate needs everything that the declaration lists, or a `holds` or `returns` line names it\n";
 
 /// What is told if no return is added since no certificate is found.
 const NO_RETURNS_SHOWN: &[u8] =
@@ -47,7 +47,7 @@ const NO_RETURNS_SHOWN: &[u8] =
 
 /// What is told if there is no return to be added.
 const NO_RETURNS: &[u8] =
-    b"--exits adds nothing: no routine is shown to return with certain words in AC or the link that are not declared\n";
+    b"--exits adds nothing: the declaration already says all that is shown about AC and the link when routines return\n";
 
 /// What is told if returns cannot be added.
 const TOO_MANY_RETURNS: &[u8] =
@@ -240,7 +240,7 @@ fn push_lost_offsets<L: MessageWriter, A: Allocator, B: Allocator>(
         let offsets = lost_offsets(given, less, entry);
         push_routine_offsets(
             told,
-            b"Left out, offsets by which the routine ",
+            b"--tight leaves out offsets by which the routine ",
             entry,
             &offsets,
         )?;
@@ -258,17 +258,17 @@ fn push_lost_leave<L: MessageWriter, A: Allocator, B: Allocator>(
     let kept_halts = less.stops().union(less.pauses());
     push_cells(
         told,
-        b"Left out, stops and pauses at which no run halts",
+        b"--tight leaves out stops and pauses at which no run halts",
         &halts.minus(&kept_halts),
     )?;
     push_cells(
         told,
-        b"Left out, places of abandon lines for which no call is abandoned",
+        b"--tight leaves out addresses in `abandon` lines at which no call is abandoned",
         &given.abandons().minus(less.abandons()),
     )?;
     push_cells(
         told,
-        b"Left out, routines of moves lines that do not store their return word",
+        b"--tight leaves out routines in `moves` lines that do not store their return word",
         &given.moves().minus(less.moves()),
     )
 }
@@ -281,23 +281,23 @@ fn push_lost<L: MessageWriter, A: Allocator, B: Allocator>(
 ) -> Result<(), AllocError> {
     push_cells(
         told,
-        b"Left out, body cells that no run reaches",
+        b"--tight leaves out body cells that no run reaches",
         &bodies_of(given).minus(&bodies_of(less)),
     )?;
     push_cells(
         told,
-        b"Left out, routines that are never called",
+        b"--tight leaves out routines that are never called",
         &entries_of(given).minus(&entries_of(less)),
     )?;
     push_lost_offsets(told, given, less)?;
     push_cells(
         told,
-        b"Left out, variables that no instruction writes",
+        b"--tight leaves out variables that no instruction writes",
         &given.variables().minus(less.variables()),
     )?;
     push_cells(
         told,
-        b"Left out, listed reads that are not needed",
+        b"--tight leaves out listed reads that are not needed",
         &reads_of(given).minus(&reads_of(less)),
     )?;
     push_lost_leave(told, given, less)

@@ -27,12 +27,14 @@ impl PrecisionLoss {
     /// What is said about it.
     pub(crate) fn told(self) -> &'static [u8] {
         match self {
-            PrecisionLoss::ClearingSkip => b"a skip that also clears shows nothing about it",
-            PrecisionLoss::Complement => b"a complement before a test loses what is known about it",
-            PrecisionLoss::Call => b"the routine may write it",
-            PrecisionLoss::Store => b"the store through a pointer may reach it",
+            PrecisionLoss::ClearingSkip =>
+                b"a skip that also clears AC shows nothing about this cell",
+            PrecisionLoss::Complement =>
+                b"a complement before a test loses what is known about this cell",
+            PrecisionLoss::Call => b"the routine may write this cell",
+            PrecisionLoss::Store => b"the store through a pointer may reach this cell",
             PrecisionLoss::Meeting =>
-                b"on another path to the next address it may hold other words",
+                b"if the next address is reached on another path, this cell may hold other words",
         }
     }
 }

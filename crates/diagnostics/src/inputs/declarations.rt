@@ -65,7 +65,7 @@ fn push_overlap<A: Allocator>(
     let cell = at.value();
     writeln!(
         text,
-        "{name}: {cell:04o} has two roles that exclude each other: two bodies have it, or it is an entry and also in a body or a variable, or it is both a stop and a pause; remove one of the roles"
+        "{name}: {cell:04o} has two roles that exclude each other: it is in two bodies, or it is an entry and also a variable, in a body, or the entry of another routine, or it is both a stop and a pause; remove one of the roles"
     )
     .map_err(|_| NoMemory)
 }

@@ -361,7 +361,9 @@ fn push_act<L: MessageWriter>(text: &mut L, at: Word, omission: &Omission) -> Re
     match omission {
         Omission::NoWord => text.push_address(at),
         Omission::Unsupported => text.push_text(b"the machine does not implement this word"),
-        Omission::OfThe8e => text.push_text(b"only the PDP-8/E implements this word"),
+        Omission::OfThe8e => {
+            text.push_text(b"of the two machines modelled, only the PDP-8/E implements this word")
+        }
         Omission::Halts => text.push_text(b"it halts, and no halt is declared there"),
         Omission::Stores(cell) | Omission::StoresInEntry(cell) | Omission::StoresInOwn(cell) => {
             push_text_and_address(text, b"it stores into ", *cell)
@@ -430,19 +432,19 @@ fn push_remedy<L: MessageWriter>(
         Omission::Stores(cell) | Omission::Steps(cell) => {
             push_advice(text, b"add `var ", *cell, b"`")
         }
-        Omission::StoresInEntry(_) => {
-            text.push_text(b"let only a JMS, or an ISZ of the routine itself, write there")
-        },
+        Omission::StoresInEntry(_) => text.push_text(
+            b"only these may write there: a JMS that calls the routine, an ISZ of the routine itself and, with a `moves` line, a DCA of it",
+        ),
         Omission::StoresInOwn(entry) => push_advice(text, b"add `moves ", *entry, b"`"),
         Omission::Calls(entry) => push_advice(text, b"add `sub ", *entry, b" body .. returns ..`"),
         Omission::CallsIntoBody(entry) => push_advice(
             text,
             b"add `sub ",
             *entry,
-            b" body .. returns ..`, and remove it from the body and the variables",
+            b" body .. returns ..`, and remove the entry from the body and the variables",
         ),
         Omission::CallsAutoIndex(_) => text.push_text(b"no routine can begin in 0010 to 0017"),
-        Omission::Jumps(_) => text.push_text(b"add it there"),
+        Omission::Jumps(_) => text.push_text(b"add that address to the body"),
         Omission::JumpsAcross(_) => {
             text.push_text(b"call a routine with a JMS, and leave it with a return")
         },
@@ -453,7 +455,9 @@ fn push_remedy<L: MessageWriter>(
             b"`",
         ),
         Omission::Halts => push_halt_remedy(text, at),
-        Omission::GoesOn(_) => { push_stop_for_pause(text, b"add it there, or declare `stop ", at) }
+        Omission::GoesOn(_) => {
+            push_stop_for_pause(text, b"add that address to the body, or declare `stop ", at)
+        }
         Omission::GoesAcross(_) => push_stop_for_pause(text, b"declare `stop ", at),
     }
 }
@@ -566,7 +570,7 @@ fn push_found<L: MessageWriter, D: Allocator>(
         OnOk result (SaysOmissions image.now (meaning declaration.now) before (L.text text.new)) }
 {
     if is_first {
-        text.push_text(b"no certificate can fix these, if a run reaches them:\n")?;
+        text.push_text(b"no certificate is possible if a run reaches any of these:\n")?;
     }
     text.push_instruction(at, image.get(at), declaration.profile())?;
     push_omission(text, at, omission)?;

@@ -33,7 +33,7 @@ pub(crate) fn push_tape<A: Allocator>(
             text,
             file,
             place,
-            "a word begins with a frame from 000 to 177, and its second frame is from 000 to 077; 200 ends the tape, and 300 and 377 may stand between words",
+            "a word begins with a frame from 000 to 177, and its second frame is from 000 to 077; 200 is leader before the first word and ends the tape after it, 300 may stand between words, and frames between two rubouts (377) are skipped",
         ),
         TapeFault::WrongField(place) => push_frame(
             text,
@@ -44,12 +44,12 @@ pub(crate) fn push_tape<A: Allocator>(
         TapeFault::Truncated => push_said(
             text,
             file,
-            "it ends within a word or a rubout, or has no trailer (a frame 200) after the checksum",
+            "it ends within a word, or after a rubout (377) that no second rubout follows, or it has no trailer (a frame 200) after the checksum",
         ),
         TapeFault::NoChecksum => push_said(
             text,
             file,
-            "its last word is an origin, not a checksum; is it a RIM tape, which has no checksum?",
+            "its last word is an origin, not a checksum: is the tape complete?",
         ),
         TapeFault::Checksum(read, counted) => push_checksum(text, file, read, counted),
         TapeFault::ReadFault => Ok(()),
@@ -68,7 +68,7 @@ fn push_checksum<A: Allocator>(
     let counted = counted.value();
     writeln!(
         text,
-        "{name}: its last word, the checksum, is {read:04o}, and the frames of the words before it add up to {counted:04o}: a frame was misread, or it is a RIM tape, which has no checksum"
+        "{name}: its last word, the checksum, is {read:04o}, and the frames of the words before it add up to {counted:04o}: a frame was misread, lost or duplicated, or it is a RIM tape, which has no checksum"
     )
     .map_err(|_| NoMemory)
 }

@@ -52,19 +52,19 @@ fn push_reason<L: MessageWriter>(
         Reason::SitesInMain(_) => text.push_text(b"the fact is in main's body but has sites"),
         Reason::NoOffset(_, entry) => push_around(
             text,
-            b"the fact is in the body of ",
+            b"the fact is in the body of the routine ",
             *entry,
             b" but has no offset",
         ),
         Reason::NoSites(_, entry) => push_around(
             text,
-            b"the fact is in the body of ",
+            b"the fact is in the body of the routine ",
             *entry,
             b" but has no sites",
         ),
         Reason::RoutineNotListed(entry) => push_around(
             text,
-            b"the fact is in the body of ",
+            b"the fact is in the body of the routine ",
             *entry,
             b", which has no routine line",
         ),
@@ -126,10 +126,10 @@ fn push_asked<L: MessageWriter>(
     condition: Condition,
 ) -> Result<(), AllocError>
     ensures { OnOk result (L.text text.new ≡ L.text text.old
-        ++ (condition_text condition ++ codes " asks: " ++ asked_by rules.now condition ++ codes "\n")) }
+        ++ (condition_text condition ++ codes " requires: " ++ asked_by rules.now condition ++ codes "\n")) }
 {
     text.push_text(condition_name(condition).as_bytes())?;
-    text.push_text(b" asks: ")?;
+    text.push_text(b" requires: ")?;
     text.push_text(asked_of(rules, condition))?;
     text.push_text(b"\n")
 }

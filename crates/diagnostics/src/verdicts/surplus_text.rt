@@ -226,12 +226,12 @@ fn push_unused<L: MessageWriter>(text: &mut L, surplus: &Surplus) -> Result<(), 
     push_cells(text, b"Routines that are never called", &surplus.uncalled)?;
     push_cells(
         text,
-        b"Places of abandon lines for which no call is abandoned",
+        b"Addresses in `abandon` lines at which no call is abandoned",
         &surplus.unabandoned,
     )?;
     push_cells(
         text,
-        b"Routines of moves lines that do not store their return word",
+        b"Routines in `moves` lines that do not store their return word",
         &surplus.unmoved,
     )
 }
@@ -255,7 +255,7 @@ fn push_idle_offsets<L: MessageWriter, D: Allocator, C: Allocator>(
     }
     push_routine_offsets(
         text,
-        b"Offsets of returns lines by which the routine ",
+        b"Offsets in `returns` lines by which the routine ",
         entry,
         &shown.asserted_offsets(entry).minus(&found),
     )
@@ -279,9 +279,9 @@ fn push_all_idle_offsets<L: MessageWriter, D: Allocator, C: Allocator>(
 /// Adds what the accumulator may hold.
 fn push_accumulator<L: MessageWriter>(text: &mut L, set: &WordSet) -> Result<(), AllocError> {
     if set.is_all() {
-        return text.push_text(b" with any AC");
+        return text.push_text(b"; AC may be any word");
     }
-    text.push_text(b" with AC")?;
+    text.push_text(b"; AC may be")?;
     push_words(text, set)
 }
 
@@ -290,11 +290,11 @@ fn push_link<L: MessageWriter>(text: &mut L, set: &WordSet) -> Result<(), AllocE
     let is_clear = set.contains(Word::from_index(0));
     let is_set = set.contains(Word::from_index(1));
     if is_clear && is_set {
-        text.push_text(b" and link 0 or 1\n")
+        text.push_text(b", and the link may be 0 or 1\n")
     } else if is_set {
-        text.push_text(b" and link 1\n")
+        text.push_text(b", and the link is 1\n")
     } else {
-        text.push_text(b" and link 0\n")
+        text.push_text(b", and the link is 0\n")
     }
 }
 
@@ -314,7 +314,7 @@ fn push_return<L: MessageWriter, D: Allocator, C: Allocator>(
     let link = shown.returned(Register::Link, entry, offset);
     text.push_text(b"The routine ")?;
     text.push_address(entry)?;
-    text.push_text(b" returns by ")?;
+    text.push_text(b" returns with offset ")?;
     push_offset(text, Word::from_index(offset))?;
     push_accumulator(text, &accumulator)?;
     push_link(text, &link)
@@ -367,13 +367,13 @@ pub fn surplus_message<A: Allocator + Copy, D: Allocator, C: Allocator>(
     push_unused(&mut text, &surplus)?;
     push_cells(
         &mut text,
-        b"Places of holds lines that no run reaches",
+        b"Addresses in `holds` lines that no run reaches",
         &shown.asserted_places().meet(&surplus.unexecuted),
     )?;
     push_all_idle_offsets(&mut text, &shown, &surplus)?;
     push_cells(
         &mut text,
-        b"Routines of returns lines that never return",
+        b"Routines in `returns` lines that never return",
         &shown.asserted_in_vain(),
     )?;
     if text.is_empty() {

@@ -11,32 +11,35 @@ fn asked(condition: Condition) -> &'static [u8]
     ensures { result.now ≡ asked_text condition }
 {
     match condition {
-        Condition::V1 => b"there is a fact at the start, and it holds for every start",
+        Condition::V1 =>
+            b"there is a fact at the start, and it allows every state in which a run may start",
         Condition::V2 =>
-            b"a fact is in a body, and has offsets only in a routine; routine and exit lines are at entries",
-        Condition::V3 => b"at most 64 words are possible, and each is supported",
+            b"each fact is at an address in a body, with offsets if the body is a routine's and without offsets if it is main's; each routine line and each exit line names an entry",
+        Condition::V3 =>
+            b"at most 64 words are possible in the cell, and the machine implements each of them",
         Condition::V4 =>
-            b"at each address where the run may continue there is a fact in the same body, which allows all that is possible",
+            b"at each address where the run may continue, there is a fact in the same body (in main's body if all calls are abandoned), and it allows every possible state",
         Condition::V5 =>
-            b"each cell that a word may write, except the cell in which a JMS stores, is a variable or an entry",
+            b"each cell that the instruction may write, except the cell in which a JMS stores its return address, is a variable or an entry",
         Condition::V6 =>
-            b"each cell that a word may write, except the cell in which a JMS stores, is in the routine's written set or is its entry",
+            b"each cell that the instruction may write, except the cell in which a JMS stores its return address, is in the routine's written set or is the routine's entry",
         Condition::V7 =>
-            b"a JMS calls listed entries of lower rank, and not through an auto-index cell",
+            b"a JMS calls only entries that have a routine line, and never through an auto-index cell; in a routine, it calls only entries of lower rank",
         Condition::V8 =>
-            b"the caller's written set contains the callee's entry and all that the callee may write, and the callee's written set does not contain the caller's entry",
-        Condition::V9 => b"a JMS is at a listed site of its callee, at an address of at most 7767",
-        Condition::V10 => b"the fact at the callee's first address allows what is possible",
-        Condition::V11 => b"the fact at each return address allows what is possible",
+            b"the caller's written set contains the callee's entry and every cell of the callee's written set; the callee's written set does not contain the caller's entry",
+        Condition::V9 =>
+            b"the callee's routine line lists the address of the JMS as a site, and this address is at most 7767",
+        Condition::V10 => b"the fact at the callee's first instruction allows every possible state",
+        Condition::V11 => b"the fact at each return address allows every possible state",
         Condition::V12 =>
-            b"a return is through the routine's own entry, by declared offsets, and the exit lines allow what is possible",
-        Condition::V13 => b"a HLT is at a declared halt",
+            b"a routine returns only through its own entry and only by declared offsets, and its exit lines allow every possible state",
+        Condition::V13 => b"a HLT is at an address in a `stop` or `pause` line",
         Condition::V14 =>
-            b"no instruction writes an entry, except that a JMS stores its return address there, an ISZ may increment its own routine's entry, and a DCA may store in its own routine's entry if a `moves` line names it",
+            b"no instruction writes an entry, with three exceptions: a JMS stores its return address there, an ISZ may increment the entry of its own routine, and a DCA may store in the entry of its own routine if a `moves` line names this entry",
         Condition::V15 =>
-            b"each cell that a word may read is on the list of reads or is the routine's entry",
+            b"if reads are listed, each cell that the instruction may read is on the list or is the routine's own entry",
         Condition::V16 =>
-            b"what is declared to hold here, or when the routine of this entry returns, holds",
+            b"every `holds` line about the address is true, and so is every `returns` line about the routine whose entry is there",
     }
 }
 
@@ -45,14 +48,15 @@ fn sums_asked(condition: Condition) -> &'static [u8]
     ensures { result.now ≡ sums_asked_text condition }
 {
     match condition {
-        Condition::V1 => b"the facts at the start allow every start",
+        Condition::V1 => b"the facts at the start allow every state in which a run may start",
         Condition::V2 =>
-            b"each fact is in a body, and has sites and offsets only in a routine; routine and exit lines are at entries",
+            b"each fact is at an address in a body, with sites and offsets if the body is a routine's and without them if it is main's; each routine line and each exit line names an entry",
         Condition::V4 =>
-            b"at each address where the run may continue there are facts in the same body, which allow all that is possible",
-        Condition::V9 => b"a JMS is at a listed site of its callee, at an address of at most 7776",
-        Condition::V10 => b"the facts at the callee's first address allow what is possible",
-        Condition::V11 => b"the facts at each return address allow what is possible",
+            b"at each address where the run may continue, there are facts in the same body (in main's body if all calls are abandoned), and they allow every possible state",
+        Condition::V9 =>
+            b"the callee's routine line lists the address of the JMS as a site, and this address is at most 7776",
+        Condition::V10 => b"the facts at the callee's first instruction allow every possible state",
+        Condition::V11 => b"the facts at each return address allow every possible state",
         Condition::V3 => asked(Condition::V3),
         Condition::V5 => asked(Condition::V5),
         Condition::V6 => asked(Condition::V6),

@@ -4,7 +4,7 @@ ghost use Rattle.std.specs.Prelude.{◌≡◌, ◌++◌, codes, OnOk};
 ghost use Rattle.word12.specs.Words.{octal_text};
 ghost use Rattle.domain.specs.LocationsInCode.{location_of};
 ghost use Rattle.command_parts.specs.LinkText.{link_text};
-ghost use Rattle.diagnostics.specs.WhyText.{exit_text, gap_text, is_without_fact, landing_text, left_text, name_may_hold, start_text, with_link_text};
+ghost use Rattle.diagnostics.specs.WhyText.{excluded_text, exit_text, gap_text, is_without_fact, landing_text, left_text, name_may_hold, required_text, start_text, told_gap, with_link_text};
 
 use crate::verdicts::reason_text::pieces::push_around_offset;
 use crate::verdicts::reason_text::sums::{push_sum_may_be, push_told};
@@ -61,7 +61,7 @@ fn push_while<L: MessageWriter>(
     Ok(())
 }
 
-/// Adds what is possible.
+/// Adds what is possible, or of an equation, what it says.
 fn push_gap<L: MessageWriter>(text: &mut L, gap: &Counterexample) -> Result<(), AllocError>
     ensures { OnOk result (L.text text.new ≡ L.text text.old ++ gap_text gap.now) }
 {
@@ -76,31 +76,75 @@ fn push_gap<L: MessageWriter>(text: &mut L, gap: &Counterexample) -> Result<(), 
         ),
         Counterexample::Offset(offset) => push_around_offset(
             text,
-            b"the return word may have been incremented by ",
+            b"the return word may be the return address plus ",
             *offset,
             b"",
         ),
         Counterexample::Cell(cell, word) => push_cell(text, *cell, *word),
         Counterexample::Sum(sum, word) => push_sum_may_be(text, sum, *word),
-        Counterexample::Equation(sum, word) => {
-            push_told(text, sum, word)?;
-            text.push_text(b" may be false")?;
-            Ok(())
-        }
+        Counterexample::Equation(sum, word) => push_told(text, sum, word),
         Counterexample::Chain(cell, word, ac, link) => push_while(text, *cell, *word, *ac, *link),
     }
 }
 
-/// Adds what is possible, and a text after it.
+/// Adds a text that says what requires an equation, if an equation may be false.
+fn push_requirement<L: MessageWriter>(
+    text: &mut L,
+    gap: &Counterexample,
+    required: &[u8],
+) -> Result<(), AllocError>
+    ensures { OnOk result (L.text text.new ≡
+        L.text text.old ++ required_text gap.now required.now) }
+{
+    match gap {
+        Counterexample::Equation(_, _) => text.push_text(required),
+        Counterexample::Accumulator(_)
+        | Counterexample::Mq(_)
+        | Counterexample::Link(_)
+        | Counterexample::Site(_)
+        | Counterexample::Offset(_)
+        | Counterexample::Cell(_, _)
+        | Counterexample::Sum(_, _)
+        | Counterexample::Chain(_, _, _, _) => text.push_text(b""),
+    }
+}
+
+/// Adds a text that says what excludes what is possible, or that an equation may be false.
+fn push_exclusion<L: MessageWriter>(
+    text: &mut L,
+    gap: &Counterexample,
+    excluded: &[u8],
+) -> Result<(), AllocError>
+    ensures { OnOk result (L.text text.new ≡
+        L.text text.old ++ excluded_text gap.now excluded.now) }
+{
+    match gap {
+        Counterexample::Equation(_, _) => text.push_text(b", and this may be false"),
+        Counterexample::Accumulator(_)
+        | Counterexample::Mq(_)
+        | Counterexample::Link(_)
+        | Counterexample::Site(_)
+        | Counterexample::Offset(_)
+        | Counterexample::Cell(_, _)
+        | Counterexample::Sum(_, _)
+        | Counterexample::Chain(_, _, _, _) => text.push_text(excluded),
+    }
+}
+
+/// Adds what is possible, and after it a text that says what excludes it; or that an equation may be false, and before it
+/// a text that says what requires it.
 fn push_excluded<L: MessageWriter>(
     text: &mut L,
     gap: &Counterexample,
-    behind: &[u8],
+    required: &[u8],
+    excluded: &[u8],
 ) -> Result<(), AllocError>
-    ensures { OnOk result (L.text text.new ≡ L.text text.old ++ (gap_text gap.now ++ behind.now)) }
+    ensures { OnOk result (L.text text.new ≡
+        L.text text.old ++ told_gap gap.now required.now excluded.now) }
 {
+    push_requirement(text, gap, required)?;
     push_gap(text, gap)?;
-    text.push_text(behind)?;
+    push_exclusion(text, gap, excluded)?;
     Ok(())
 }
 
@@ -168,16 +212,22 @@ pub fn push_landing<L: MessageWriter>(
     ensures { OnOk result (L.text text.new ≡ L.text text.old ++ landing_text landing.now) }
 {
     match landing {
-        LandingFailure::NoFact => text.push_text(b"there is no fact at that address"),
-        LandingFailure::OtherBody => text.push_text(b"that address is not in the body"),
+        LandingFailure::NoFact => text.push_text(b"there is no fact at the address reached"),
+        LandingFailure::OtherBody => text.push_text(b"the address reached is not in the body"),
         LandingFailure::Excluded(gap) => push_excluded(
             text,
             gap,
+            b"the fact there requires ",
             b", which the fact there excludes",
         ),
         LandingFailure::ExcludedUnder(link, gap) => {
             push_with_link(text, *link)?;
-            push_excluded(text, gap, b", which the fact there excludes")?;
+            push_excluded(
+                text,
+                gap,
+                b"the fact there requires ",
+                b", which the fact there excludes",
+            )?;
             Ok(())
         }
         LandingFailure::NotTaken(link, name, word) => push_left_and(
@@ -226,12 +276,22 @@ pub fn push_exit<L: MessageWriter>(text: &mut L, landing: &LandingFailure) -> Re
         LandingFailure::OtherBody => text.push_text(b", which is not in the body"),
         LandingFailure::Excluded(gap) => {
             text.push_text(b": ")?;
-            push_excluded(text, gap, b", which the exit line excludes")?;
+            push_excluded(
+                text,
+                gap,
+                b"the exit line requires ",
+                b", which the exit line excludes",
+            )?;
             Ok(())
         }
         LandingFailure::ExcludedUnder(link, gap) => {
             push_colon_and_link(text, *link)?;
-            push_excluded(text, gap, b", which the exit line excludes")?;
+            push_excluded(
+                text,
+                gap,
+                b"the exit line requires ",
+                b", which the exit line excludes",
+            )?;
             Ok(())
         }
         LandingFailure::NotTaken(link, name, word) => {
@@ -275,5 +335,5 @@ pub fn push_start<L: MessageWriter>(
     if is_without_fact(landing) {
         return text.push_text(b"there is no fact at this address");
     }
-    push_before_landing(text, b"at a start ", landing)
+    push_before_landing(text, b"at the start, ", landing)
 }

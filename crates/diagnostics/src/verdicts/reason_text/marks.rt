@@ -2,10 +2,10 @@
 
 ghost use Rattle.std.specs.Prelude.{◌≡◌, ◌++◌, codes, OnOk};
 ghost use Rattle.word12.specs.Words.{octal_text};
-ghost use Rattle.diagnostics.specs.WhyText.{around_number, from_one, mark_text, marks_text, told_mark, which_text};
+ghost use Rattle.diagnostics.specs.WhyText.{around, around_number, from_one, mark_text, marks_text, told_mark, which_text};
 
 use crate::verdicts::reason_context::{Distinction, ReasonContext};
-use crate::verdicts::reason_text::pieces::push_around_number;
+use crate::verdicts::reason_text::pieces::{push_around, push_around_number};
 use command_parts::message::{MessageWriter, push_text_and_address, push_text_and_word};
 use std::alloc::AllocError;
 use word12::Word;
@@ -13,9 +13,9 @@ use word12::Word;
 /// Adds what a cell holds.
 fn push_held<L: MessageWriter>(text: &mut L, cell: Word, word: Word) -> Result<(), AllocError>
     ensures { OnOk result (L.text text.new ≡ L.text text.old ++
-        ((codes ", " ++ octal_text cell) ++ (codes " = " ++ octal_text word))) }
+        (around (codes ", [") cell (codes "]") ++ (codes " = " ++ octal_text word))) }
 {
-    push_text_and_address(text, b", ", cell)?;
+    push_around(text, b", [", cell, b"]")?;
     push_text_and_word(text, b" = ", word)?;
     Ok(())
 }
@@ -68,15 +68,15 @@ fn push_number<L: MessageWriter>(text: &mut L, index: usize) -> Result<(), Alloc
 /// Adds how many facts there are.
 fn push_count<L: MessageWriter>(text: &mut L, count: usize) -> Result<(), AllocError>
     ensures { OnOk result (L.text text.new ≡
-        L.text text.old ++ around_number (codes "") count (codes " there")) }
+        L.text text.old ++ around_number (codes "") count (codes " at this address")) }
 {
-    push_around_number(text, b"", count, b" there")
+    push_around_number(text, b"", count, b" at this address")
 }
 
 /// Adds the place of a fact among so many.
 fn push_place<L: MessageWriter>(text: &mut L, index: usize, count: usize) -> Result<(), AllocError>
     ensures { OnOk result (L.text text.new ≡ L.text text.old ++
-        (around_number (codes "fact ") (from_one index) (codes " of ") ++ around_number (codes "") count (codes " there"))) }
+        (around_number (codes "fact ") (from_one index) (codes " of ") ++ around_number (codes "") count (codes " at this address"))) }
 {
     push_number(text, index)?;
     push_count(text, count)?;
@@ -103,7 +103,7 @@ fn push_several<L: MessageWriter>(
     index: usize,
 ) -> Result<(), AllocError>
     ensures { OnOk result (L.text text.new ≡ L.text text.old ++
-        ((around_number (codes "fact ") (from_one index) (codes " of ") ++ around_number (codes "") telling.now.count (codes " there"))
+        ((around_number (codes "fact ") (from_one index) (codes " of ") ++ around_number (codes "") telling.now.count (codes " at this address"))
         ++ (marks_text telling.now ++ codes ": "))) }
 {
     push_place(text, index, telling.count)?;

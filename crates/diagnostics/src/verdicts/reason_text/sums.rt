@@ -5,24 +5,32 @@ ghost use Rattle.word12.specs.Words.{octal_text};
 ghost use Rattle.wordset.specs.Words.{minus};
 ghost use Rattle.domain.specs.LocationsInCode.{location_of};
 ghost use Rattle.domain.specs.InCode.{sum_of, summand_of, term_of};
-ghost use Rattle.diagnostics.specs.WhyText.{added_text, coefficient_text, difference_may_be, equation_text, further_text, is_minus, more_text, name_text, sum_is, sum_may_be, sum_text, summand_text, term_text, word_told};
+ghost use Rattle.diagnostics.specs.WhyText.{added_text, around, coefficient_text, content_text, difference_may_be, equation_text, further_text, is_minus, more_text, name_text, sum_is, sum_may_be, sum_text, summand_text, term_text, word_told};
 
-use command_parts::message::{MessageWriter, push_text_and_address, push_text_and_word};
+use crate::verdicts::reason_text::pieces::push_around;
+use command_parts::message::{MessageWriter, push_text_and_word};
 use domain::{Location, Sum, Summand, Term, negated};
 use std::alloc::AllocError;
 use word12::Word;
 
-/// Adds AC, or the address of a cell.
+/// Adds the address of a cell in brackets, which stand for what the cell holds.
+fn push_content<L: MessageWriter>(text: &mut L, cell: Word) -> Result<(), AllocError>
+    ensures { OnOk result (L.text text.new ≡ L.text text.old ++ content_text cell) }
+{
+    push_around(text, b"[", cell, b"]")
+}
+
+/// Adds AC, or a cell.
 fn push_name<L: MessageWriter>(text: &mut L, name: &Location) -> Result<(), AllocError>
     ensures { OnOk result (L.text text.new ≡ L.text text.old ++ name_text (location_of name.now)) }
 {
     match name {
         Location::Accumulator => text.push_text(b"AC"),
-        Location::Cell(cell) => text.push_address(*cell),
+        Location::Cell(cell) => push_content(text, *cell),
     }
 }
 
-/// Adds a number that is added to an address, or taken away from it.
+/// Adds a number that is added, or the one that is taken away in its place, and nothing for 0.
 fn push_added<L: MessageWriter>(text: &mut L, more: Word) -> Result<(), AllocError>
     ensures { OnOk result (L.text text.new ≡ L.text text.old ++ added_text more) }
 {
@@ -35,6 +43,13 @@ fn push_added<L: MessageWriter>(text: &mut L, more: Word) -> Result<(), AllocErr
     push_text_and_word(text, b" - ", negated(more))
 }
 
+/// Adds that a word is the one at the address that a cell holds.
+fn push_word_at<L: MessageWriter>(text: &mut L, cell: Word) -> Result<(), AllocError>
+    ensures { OnOk result (L.text text.new ≡ L.text text.old ++ around (codes "the word at [") cell (codes "]")) }
+{
+    push_around(text, b"the word at [", cell, b"]")
+}
+
 /// Adds a term.
 fn push_term<L: MessageWriter>(text: &mut L, term: &Term) -> Result<(), AllocError>
     ensures { OnOk result (L.text text.new ≡ L.text text.old ++ term_text (term_of term.now)) }
@@ -42,7 +57,7 @@ fn push_term<L: MessageWriter>(text: &mut L, term: &Term) -> Result<(), AllocErr
     match term {
         Term::Holding(name) => push_name(text, name),
         Term::Behind { cell, more } => {
-            push_text_and_address(text, b"the word at ", *cell)?;
+            push_word_at(text, *cell)?;
             push_added(text, *more)?;
             Ok(())
         }
@@ -235,7 +250,7 @@ fn push_equation<L: MessageWriter>(
 {
     push_term(text, first)?;
     push_equals(text, second)?;
-    push_text_and_word(text, b" + ", word)
+    push_added(text, word)
 }
 
 /// Adds that a sum is a word.

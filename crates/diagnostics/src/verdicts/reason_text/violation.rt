@@ -51,7 +51,12 @@ fn push_returned<L: MessageWriter>(
             b": ",
         ),
         Rules::OfSums => {
-            push_around_offset(text, b", which returns with offset ", offset, b" by exit ")?;
+            push_around_offset(
+                text,
+                b", which returns with offset ",
+                offset,
+                b" by exit line ",
+            )?;
             push_number_and_colon(text, index)?;
             Ok(())
         }
@@ -60,17 +65,25 @@ fn push_returned<L: MessageWriter>(
 
 /// Adds that the rank of a callee is not below that of the caller.
 fn push_ranks<L: MessageWriter>(text: &mut L, rank: usize, own: usize) -> Result<(), AllocError>
-    ensures { OnOk result (L.text text.new ≡ L.text text.old ++ (around_number (codes " of rank ") rank
-        (codes ", which is not below the caller's rank, ") ++ decimal own)) }
+    ensures { OnOk result (L.text text.new ≡ L.text text.old ++ (around_number (codes ", whose rank ") rank
+        (codes " is not below the caller's rank ") ++ decimal own)) }
 {
-    let mut digits = Buffer::new();
     push_around_number(
         text,
-        b" of rank ",
+        b", whose rank ",
         rank,
-        b", which is not below the caller's rank, ",
+        b" is not below the caller's rank ",
     )?;
-    text.push_text(digits.format(own).as_bytes())
+    push_decimal(text, own)?;
+    Ok(())
+}
+
+/// Adds a number in decimal.
+fn push_decimal<L: MessageWriter>(text: &mut L, number: usize) -> Result<(), AllocError>
+    ensures { OnOk result (L.text text.new ≡ L.text text.old ++ decimal number) }
+{
+    let mut digits = Buffer::new();
+    text.push_text(digits.format(number).as_bytes())
 }
 
 /// Adds what a call violates.
@@ -95,7 +108,9 @@ fn push_call<L: MessageWriter>(
             text.push_text(b", which the caller's written set does not contain")
         }
         CallViolation::WritesCaller => { text.push_text(b", which may write the caller's entry") }
-        CallViolation::NoSite => { text.push_text(b", but this address is not one of its sites") }
+        CallViolation::NoSite => {
+            text.push_text(b", whose routine line does not list this address as a site")
+        }
         CallViolation::TooHigh => text.push_text(too_high(rules)),
         CallViolation::Enters(landing) => {
             push_before_landing(text, b" and continues after the entry: ", landing)
@@ -221,8 +236,7 @@ fn counting(rules: &Rules) -> &'static [u8]
     ensures { result.now ≡ counting_text rules.now }
 {
     match rules {
-        Rules::OfEquations =>
-            b", the routine's own entry, past offset 7, the most in certificates of versions 1 and 2",
+        Rules::OfEquations => b", the routine's own entry, past offset 7",
         Rules::OfSums => b", the routine's own entry, past offset 77 or past 7777",
     }
 }
@@ -236,7 +250,7 @@ fn push_moving<L: MessageWriter>(
 ) -> Result<(), AllocError>
     ensures { OnOk result (L.text text.new ≡ L.text text.old ++ moving_text entry word site) }
 {
-    push_text_and_word(text, b"it may store ", word)?;
+    push_text_and_word(text, b"it may store the word ", word)?;
     push_around(text, b" in ", entry, b"")?;
     push_around(
         text,
@@ -285,7 +299,12 @@ pub fn push_exit_named<L: MessageWriter>(
             push_around_offset(text, b"when it returns with offset ", offset, b", ")
         }
         Rules::OfSums => {
-            push_around_offset(text, b"when it returns with offset ", offset, b" by exit ")?;
+            push_around_offset(
+                text,
+                b"when it returns with offset ",
+                offset,
+                b" by exit line ",
+            )?;
             push_number_and_comma(text, index)?;
             Ok(())
         }
@@ -301,7 +320,7 @@ pub fn push_violation<L: MessageWriter>(
     ensures { OnOk result (L.text text.new ≡ L.text text.old ++ breach_text rules.now breach.now) }
 {
     match breach {
-        Violation::NotSupported => text.push_text(b"this word is not supported"),
+        Violation::NotSupported => text.push_text(b"the machine does not implement this word"),
         Violation::WritesUndeclared(cell) => {
             push_write(text, *cell, b", which is neither a variable nor an entry")
         }

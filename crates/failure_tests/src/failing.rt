@@ -367,11 +367,11 @@ const REPORTED: &[u8] = b"HALT 0203 AC=0301 L=0 PC=0204 STEPS=4\nPRINTED 301\nPU
 
 const VERDICT: &[u8] = b"yes: 1 body cells, 0 variable cells, 0 entries, 1 halts\n";
 
-const REASON: &[u8] = b"no: V13 at 0200\n0200 7402 HLT\nV13 asks: a HLT is at a declared halt\n\
-    it halts, and no halt is declared there\nfact 0200 ac 0000-7777 link 01 offsets -\n";
+const REASON: &[u8] = b"no: V13 at 0200\n0200 7402 HLT\n\
+    V13 requires: a HLT is at an address in a `stop` or `pause` line\nit halts, and no halt is declared there\nfact 0200 ac 0000-7777 link 01 offsets -\n";
 
-const STUCK: &[u8] = b"0200 7402 HLT\nV13 asks: a HLT is at a declared halt\n\
-    it halts, and no halt is declared there\n";
+const STUCK: &[u8] = b"0200 7402 HLT\n\
+    V13 requires: a HLT is at an address in a `stop` or `pause` line\nit halts, and no halt is declared there\n";
 
 const PROPOSED: &[u8] = b"start 0200\nmain 0200\nstop 0200 / HLT\n";
 

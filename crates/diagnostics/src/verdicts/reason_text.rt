@@ -27,6 +27,19 @@ use reasons::Reason;
 use std::alloc::AllocError;
 use word12::Word;
 
+/// Adds what a fact in the body of a routine lacks.
+fn push_in_body<L: MessageWriter>(text: &mut L, entry: Word, lack: &[u8]) -> Result<(), AllocError>
+    ensures { OnOk result (L.text text.new ≡ L.text text.old
+        ++ around (codes "the fact is in the body of the routine ") entry lack.now) }
+{
+    push_around(
+        text,
+        b"the fact is in the body of the routine ",
+        entry,
+        lack,
+    )
+}
+
 /// Adds why a condition fails.
 fn push_reason<L: MessageWriter>(
     text: &mut L,
@@ -50,21 +63,10 @@ fn push_reason<L: MessageWriter>(
             b"",
         ),
         Reason::SitesInMain(_) => text.push_text(b"the fact is in main's body but has sites"),
-        Reason::NoOffset(_, entry) => push_around(
+        Reason::NoOffset(_, entry) => push_in_body(text, *entry, b" but has no offset"),
+        Reason::NoSites(_, entry) => push_in_body(text, *entry, b" but has no sites"),
+        Reason::RoutineNotListed(entry) => push_in_body(
             text,
-            b"the fact is in the body of the routine ",
-            *entry,
-            b" but has no offset",
-        ),
-        Reason::NoSites(_, entry) => push_around(
-            text,
-            b"the fact is in the body of the routine ",
-            *entry,
-            b" but has no sites",
-        ),
-        Reason::RoutineNotListed(entry) => push_around(
-            text,
-            b"the fact is in the body of the routine ",
             *entry,
             b", which has no routine line",
         ),

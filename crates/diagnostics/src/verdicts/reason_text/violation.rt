@@ -277,6 +277,45 @@ fn push_address_and_advice<L: MessageWriter>(
     Ok(())
 }
 
+/// Adds that a DCA may store in the routine's own entry, and the `moves` line that allows this.
+fn push_own_store<L: MessageWriter>(text: &mut L, entry: Word) -> Result<(), AllocError>
+    ensures { OnOk result (L.text text.new ≡ L.text text.old
+        ++ advised_text (codes "it may write ") entry (codes ", the routine's own entry: add `moves ")) }
+{
+    push_address_and_advice(
+        text,
+        b"it may write ",
+        entry,
+        b", the routine's own entry: add `moves ",
+    )
+}
+
+/// Adds that a jump may leave a routine for main's body, and the `abandon` line that allows this.
+fn push_jump_to_main<L: MessageWriter>(text: &mut L, at: Word) -> Result<(), AllocError>
+    ensures { OnOk result (L.text text.new ≡ L.text text.old
+        ++ advised_text (codes "it may continue at ") at (codes ", which is in main's body: add `abandon ")) }
+{
+    push_address_and_advice(
+        text,
+        b"it may continue at ",
+        at,
+        b", which is in main's body: add `abandon ",
+    )
+}
+
+/// Adds that a cell may be read that is not on the list of reads.
+fn push_unlisted_read<L: MessageWriter>(text: &mut L, cell: Word) -> Result<(), AllocError>
+    ensures { OnOk result (L.text text.new ≡ L.text text.old
+        ++ around (codes "it may read ") cell (codes ", which is not on the list of reads")) }
+{
+    push_around(
+        text,
+        b"it may read ",
+        cell,
+        b", which is not on the list of reads",
+    )
+}
+
 /// Adds the number of a place, counted from 1, and a comma.
 fn push_number_and_comma<L: MessageWriter>(text: &mut L, index: usize) -> Result<(), AllocError>
     ensures { OnOk result (L.text text.new ≡
@@ -328,12 +367,7 @@ pub fn push_violation<L: MessageWriter>(
         Violation::CountsTooFar(entry) => {
             push_around(text, b"it may increment ", *entry, counting(rules))
         }
-        Violation::StoresInOwn(entry) => push_address_and_advice(
-            text,
-            b"it may write ",
-            *entry,
-            b", the routine's own entry: add `moves ",
-        ),
+        Violation::StoresInOwn(entry) => push_own_store(text, *entry),
         Violation::MovesTooFar(entry, word, site) => push_moving(text, *entry, *word, *site),
         Violation::WritesUnlisted(cell) => {
             push_write(text, *cell, b", which is not in the routine's written set")
@@ -352,18 +386,8 @@ pub fn push_violation<L: MessageWriter>(
             push_around(text, b"it may continue at ", *at, b": ")?;
             push_landing(text, landing)
         }
-        Violation::JumpsToMain(at) => push_address_and_advice(
-            text,
-            b"it may continue at ",
-            *at,
-            b", which is in main's body: add `abandon ",
-        ),
-        Violation::ReadsUnlisted(cell) => push_around(
-            text,
-            b"it may read ",
-            *cell,
-            b", which is not on the list of reads",
-        ),
+        Violation::JumpsToMain(at) => push_jump_to_main(text, *at),
+        Violation::ReadsUnlisted(cell) => push_unlisted_read(text, *cell),
         Violation::DeniesAssertion(subject, word) => push_denied(text, subject, *word, b"holds"),
     }
 }

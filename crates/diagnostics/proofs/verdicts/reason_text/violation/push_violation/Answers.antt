@@ -8,7 +8,7 @@ pub returns-in-CallsThroughIndex : goal.returns-in-CallsThroughIndex
 returns-in-CallsThroughIndex g c = rw c.in-CallsThroughIndex.is c.push_text-in-CallsThroughIndex.ensures
 
 pub returns-in-JumpsToMain : goal.returns-in-JumpsToMain
-returns-in-JumpsToMain g c = rw c.in-JumpsToMain.is c.push_address_and_advice-in-JumpsToMain.ensures
+returns-in-JumpsToMain g c = rw c.in-JumpsToMain.is c.push_jump_to_main.ensures
 
 pub returns-in-ReadsUnlisted : goal.returns-in-ReadsUnlisted
-returns-in-ReadsUnlisted g c = rw c.in-ReadsUnlisted.is c.push_around-in-ReadsUnlisted.ensures
+returns-in-ReadsUnlisted g c = rw c.in-ReadsUnlisted.is c.push_unlisted_read.ensures

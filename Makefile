@@ -37,7 +37,7 @@ run:
 	python3 tests/prove.py
 
 # The gate: the page of definitions, the texts of explain, the links of pages and the length of README, whether each edit applies and that
-# there aren't too many; every proof from nothing, the edits in must-fail/, every test and the program; and then, with the program that was
+# there are not too many; every proof from nothing, the edits in must-fail/, every test and the program; and then, with the program that was
 # proved, whether help, docs/COMMANDS.md, man page and completions agree, whether the reports of the examples are what the reference makes,
 # and all cases.
 test:

@@ -4,7 +4,8 @@
 usage: tests/explanations.py            names each file that is out of date; exit status 1 if there is one
        tests/explanations.py --write    makes the files
 
-The files are conditions.rt, rules.rt and faults.rt in crates/command_line/src/explanations, in the layout that `rt fmt` leaves.
+The files are conditions.rt, rules.rt, program_faults.rt and other_faults.rt in crates/command_line/src/explanations, in the layout that
+`rt fmt` leaves. There are two files of faults because the prover checks a table of all of them only up to a certain length.
 
 The text about a condition is below its heading in docs/NO.md: what the condition requires is the line `V5 requires: ..` of a session there,
 and what to do is the text outside blocks. A rule has a row in the table of rules of docs/NO.md, which also has an example; what the
@@ -31,7 +32,7 @@ static {constant}: [Explanation; {count}] = [
 {entries}\
 ];
 
-/// What is said about the {name}.
+/// What is said about the {subject}.
 pub(crate) fn {name}() -> &'static [Explanation] {{
     &{constant}
 }}
@@ -120,6 +121,11 @@ def faults(page, commands):
         yield name, f"Fault({quoted(line)})", plain(meaning), "; ".join(found[kind, name])
 
 
+def is_of_program(entry):
+    """Whether a fault is one of a tape or of a source."""
+    return re.match(r'Fault\("(tape|source): ', entry[1]) is not None
+
+
 def quoted(text):
     """A text as the source spells it."""
     return '"' + text.replace("\\", "\\\\").replace('"', '\\"').replace("\n", "\\n") + '"'
@@ -140,16 +146,20 @@ def file_of(name, head, said):
         ENTRY.format(code=quoted(code), subject=subject_in_source(subject), meaning=quoted(meaning), advice=quoted(in_lines("what to do: ", advice)))
         for code, subject, meaning, advice in said
     ]
-    return FILE.format(head=head, constant=name.upper(), count=len(entries), entries="".join(entries), name=name)
+    return FILE.format(head=head, constant=name.upper(), count=len(entries), entries="".join(entries), name=name, subject=name.replace("_", " "))
 
 
 def files():
     """Each file, by its path, with the text that the pages make."""
     page = read("docs/NO.md")
+    of_program, others = [], []
+    for entry in faults(page, read("docs/COMMANDS.md")):
+        (of_program if is_of_program(entry) else others).append(entry)
     tables = [
         ("conditions", "The conditions on a certificate.", conditions(page)),
         ("rules", "The rules for the steps of a run.", rules(page, read("docs/DECLARATIONS.md"))),
-        ("faults", "The faults of inputs, searches, files and memory.", faults(page, read("docs/COMMANDS.md"))),
+        ("program_faults", "The faults of tapes and sources.", of_program),
+        ("other_faults", "The faults of other files, of searches, of devices and of memory.", others),
     ]
     return {f"{FOLDER}/{name}.rt": file_of(name, head, said) for name, head, said in tables}
 

@@ -30,12 +30,12 @@ fn push_other_advice<A: Allocator + Copy>(
     }
     let name = Name::new(first);
     let letters = letters_of(&name);
-    text.push_str("only six characters of a symbol count: ")?;
+    text.push_str("only the first six characters of a symbol count, so ")?;
     push_written(text, source, one)?;
-    write!(text, " is {letters}, defined on ")?;
-    push_line_of(alloc, text, source, one, other.part)?;
-    text.push_str(", and so is ")?;
+    text.push_str(" and ")?;
     push_written(text, source, other)?;
+    write!(text, " are both {letters}, defined on ")?;
+    push_line_of(alloc, text, source, one, other.part)?;
     text.push_str(": use symbols that differ in the first six")
 }
 

@@ -64,7 +64,7 @@ pub(crate) fn misplaced(bytes: &[u8], tokens: &[Token]) -> Option<usize> {
 fn about_character(code: u8) -> FaultText {
     match code {
         b'a'..=b'z' => FaultText {
-            wrong: "is not in upper case",
+            wrong: "contains a letter that is not in upper case",
             advice: "letters must be in upper case, except in comments",
         },
         b'(' | b')' | b'[' | b']' => FaultText {
@@ -72,11 +72,11 @@ fn about_character(code: u8) -> FaultText {
             advice: "write the word on a line of its own with a tag, and refer to the tag",
         },
         b'"' | b'\'' => FaultText {
-            wrong: "is not allowed: this assembler has no characters in quotes",
+            wrong: "is not allowed: this assembler does not support characters in quotes",
             advice: "write the code of each character as a word, such as 301 for A with channel 8",
         },
         b'<' | b'>' => FaultText {
-            wrong: "is not allowed: this assembler has no macros and no conditions",
+            wrong: "is not allowed: this assembler has no macros and no conditional assembly",
             advice: "write out the statements",
         },
         b'!' => FaultText {
@@ -122,7 +122,7 @@ pub(crate) fn about(kind: TokenKind, code: u8) -> FaultText {
             advice: "write a term between the two signs, or remove one of them",
         },
         TokenKind::Symbol | TokenKind::Number | TokenKind::Here => FaultText {
-            wrong: "is not joined to the term before it",
+            wrong: "follows the term before it with nothing between them",
             advice: "write a space, + or - between two terms",
         },
         TokenKind::Other | TokenKind::End | TokenKind::Dollar => about_character(code),

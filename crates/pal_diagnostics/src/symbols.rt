@@ -174,15 +174,15 @@ fn push_nearest<A: Allocator + Copy>(
 ) -> Result<(), AllocError> {
     if let Some(own) = nearest(alloc, &known.symbols.own, wanted)? {
         if let Some(occurrence) = known.occurrence(&own) {
-            text.push_str("do you mean ")?;
+            text.push_str("did you mean ")?;
             push_written(text, source, occurrence)?;
-            text.push_str(" of ")?;
+            text.push_str(", defined on ")?;
             push_line_of(alloc, text, source, occurrence, part)?;
             text.push_str("? Otherwise ")?;
         }
     } else if let Some(permanent) = nearest(alloc, known.symbols.permanent, wanted)? {
         let letters = letters_of(&permanent);
-        write!(text, "do you mean {letters}? Otherwise ")?;
+        write!(text, "did you mean {letters}? Otherwise ")?;
     }
     Ok(())
 }

@@ -17,7 +17,7 @@ use turns::{GuessFault, ProposeFault};
 
 /// What is said about a run that ends at a word that the machine does not have.
 pub(crate) const UNSUPPORTED: &str =
-    "the machine does not implement the word there\nwhat to do: look at it with `pdp8 dump`; a word of the PDP-8/E needs --profile 8e; otherwise the word is one that no machine here supports, or execution ran into data\n";
+    "the machine does not implement the word there\nwhat to do: look at it with `pdp8 dump`; a word of the PDP-8/E needs --profile 8e; otherwise neither of the two machines modelled supports the word, or the program ran into data\n";
 
 /// What is said about an output after its name.
 const UNWRITTEN: &str = "cannot be created or written";
@@ -167,7 +167,7 @@ fn advice(alloc: Global, code: &str) -> String {
 fn undeclarable_lines(alloc: Global, fault: DeclarationFault) -> String {
     let mut text = String::new(alloc);
     let found = FaultyFile {
-        name: "what was found",
+        name: "the proposed declaration",
         bytes: b"",
     };
     let _ = push_fault(&mut text, Fault::Declared(fault), &found);

@@ -252,7 +252,7 @@ impl CommandContext<'_, '_> {
         let command = self.command;
         let _ = write!(text, "{name} is a declaration, not a tape: ");
         let Some(option) = option_of_declaration(command) else {
-            let _ = write!(text, "pdp8 {command} takes a tape, and no declaration");
+            let _ = write!(text, "pdp8 {command} takes a tape, not a declaration");
             return;
         };
         let _ = text.push_str("the tape comes before it");
@@ -281,7 +281,7 @@ impl CommandContext<'_, '_> {
             return;
         }
         let declaration = self.names.declaration.unwrap_or("DECLARATION");
-        let _ = write!(text, "pdp8 check TAPE {declaration} {name} judges it");
+        let _ = write!(text, "use pdp8 check TAPE {declaration} {name} to judge it");
     }
 
     /// Adds what to do with a list of events that was given as a tape.
@@ -294,7 +294,7 @@ impl CommandContext<'_, '_> {
         let tape = self.names.events.unwrap_or("TAPE");
         let _ = write!(
             text,
-            "pdp8 run {tape} --events {name} runs a tape with these events"
+            "use pdp8 run {tape} --events {name} to run a tape with these events"
         );
     }
 
@@ -317,13 +317,14 @@ impl CommandContext<'_, '_> {
         } else if self.is_sourced {
             let _ = text.push_str("give the parts of the source as operands, without an option");
         } else if self.takes_source {
+            let _ = text.push_str("use ");
             self.push_with_source(text, name);
             self.push_output(text);
-            let _ = text.push_str(" uses its /: lines as the declaration");
+            let _ = text.push_str(" to take its /: lines as the declaration");
         } else {
             let _ = write!(
                 text,
-                "pdp8 place -o new.declaration {name} makes a declaration from its /: lines"
+                "use pdp8 place -o new.declaration {name} to make a declaration from its /: lines"
             );
         }
     }
@@ -352,16 +353,19 @@ impl CommandContext<'_, '_> {
             let _ = text.push_str("it comes after the declaration");
             return;
         }
-        let _ = text.push_str("pdp8 check");
+        let _ = text.push_str("use pdp8 check");
         self.push_program(text);
-        let _ = write!(text, " DECLARATION {name} judges it");
+        let _ = write!(text, " DECLARATION {name} to judge it");
     }
 
     /// Adds the command that watches the program by a list of events, with this declaration.
     fn push_watch_by(&self, text: &mut String, declaration: &str, name: &str) {
-        let _ = text.push_str("pdp8 watch");
+        let _ = text.push_str("use pdp8 watch");
         self.push_program(text);
-        let _ = write!(text, " {declaration} {name} watches a run of these events");
+        let _ = write!(
+            text,
+            " {declaration} {name} to watch a run with these events"
+        );
     }
 
     /// Adds what to do with a tape that was given as a source.
@@ -377,7 +381,7 @@ impl CommandContext<'_, '_> {
         } else {
             let _ = write!(
                 text,
-                ": pdp8 source {name} -o new.pal makes a source from it"
+                ": use pdp8 source {name} -o new.pal to make a source from it"
             );
         }
     }
@@ -415,24 +419,24 @@ impl CommandContext<'_, '_> {
     fn push_source_as_certificate(&self, text: &mut String, name: &str) {
         let _ = write!(
             text,
-            "{name} is a source, not a certificate: pdp8 guess --source {name}"
+            "{name} is a source, not a certificate: use pdp8 guess --source {name}"
         );
         if let Some(declaration) = self.names.declaration {
             let _ = write!(text, " {declaration}");
         }
-        let _ = text.push_str(" -o new.certificate searches for a certificate");
+        let _ = text.push_str(" -o new.certificate to search for a certificate");
     }
 
     /// Adds what to do with a declaration that was given as a certificate.
     fn push_declaration_as_certificate(&self, text: &mut String, name: &str) {
         let _ = write!(
             text,
-            "{name} is a declaration, not a certificate: pdp8 guess"
+            "{name} is a declaration, not a certificate: use pdp8 guess"
         );
         self.push_program(text);
         let _ = write!(
             text,
-            " {name} -o new.certificate searches for a certificate"
+            " {name} -o new.certificate to search for a certificate"
         );
     }
 
@@ -455,20 +459,20 @@ impl CommandContext<'_, '_> {
 
     /// Adds the command that watches a run without a list of events, with this declaration if there is one.
     fn push_watch_without(&self, text: &mut String, declaration: Option<&str>) {
-        let _ = text.push_str("pdp8 watch");
+        let _ = text.push_str("use pdp8 watch");
         self.push_program(text);
         if let Some(declaration) = declaration {
             let _ = write!(text, " {declaration}");
         }
-        let _ = text.push_str(" --steps 100000 watches a run without a list of events");
+        let _ = text.push_str(" --steps 100000 to watch a run without a list of events");
     }
 
     /// Adds the command that judges a certificate.
     fn push_check(&self, text: &mut String, name: &str) {
-        let _ = text.push_str("pdp8 check");
+        let _ = text.push_str("use pdp8 check");
         self.push_program(text);
         let declaration = self.names.declaration.unwrap_or("DECLARATION");
-        let _ = write!(text, " {declaration} {name} judges it");
+        let _ = write!(text, " {declaration} {name} to judge it");
     }
 
     /// Adds what to do with a file that was given as a list of events, if it is none.
@@ -489,11 +493,15 @@ impl CommandContext<'_, '_> {
             },
             _ if self.command == "watch" => self.push_watch_without(text, self.names.declaration),
             Kind::Source => {
+                let _ = text.push_str("use ");
                 self.push_with_source(text, name);
-                let _ = text.push_str(" runs it without a list of events");
+                let _ = text.push_str(" to run it without a list of events");
             }
             _ => {
-                let _ = write!(text, "pdp8 run {name} runs it without a list of events");
+                let _ = write!(
+                    text,
+                    "use pdp8 run {name} to run it without a list of events"
+                );
             }
         }
     }

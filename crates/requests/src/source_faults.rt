@@ -9,7 +9,7 @@ use pal_diagnostics::push_faults;
 use std::alloc::{AllocError, Global};
 
 /// What is said about a source that is assembled to no word.
-pub const NO_WORD: &str = "the source generates no word: list shows what it contains\n";
+pub const NO_WORD: &str = "the source generates no word: `pdp8 list` shows what it contains\n";
 
 /// Names of files as they are shown to people.
 ///
@@ -87,7 +87,7 @@ pub fn tell_size<R: Eprint>(rt: &R, alloc: Global, fault: PalFault, names: &[&st
     };
     if let Ok(name) = visible_text(alloc, name) {
         let _ = eprintln!(rt;
-            "{name}: TL: the part has more than 65536 bytes\nsplit it into parts, in order, each except the last with PAUSE at its end"
+            "{name}: TL: the part has more than 65536 bytes\nsplit it into parts, in order, and end each part except the last with PAUSE"
         );
     }
     status

@@ -39,7 +39,7 @@ const NOT_SHOWN_NARROWER: &[u8] =
 
 /// What is told if nothing is needless but what is declared to hold.
 const ALL_NEEDED: &[u8] =
-    b"--tight leaves nothing out: the certificate needs everything that the declaration lists, or a `holds` or `returns` line names it\n";
+    b"--tight leaves nothing out: everything that it could leave out is needed by the certificate or named by a `holds` or `returns` line\n";
 
 /// What is told if no return is added since no certificate is found.
 const NO_RETURNS_SHOWN: &[u8] =
@@ -47,7 +47,7 @@ const NO_RETURNS_SHOWN: &[u8] =
 
 /// What is told if there is no return to be added.
 const NO_RETURNS: &[u8] =
-    b"--exits adds nothing: the declaration already says all that is shown about AC and the link when routines return\n";
+    b"--exits adds nothing: the declaration already says everything that is shown about AC and the link at the returns of routines\n";
 
 /// What is told if returns cannot be added.
 const TOO_MANY_RETURNS: &[u8] =

@@ -193,15 +193,15 @@ fn obstacle_words(obstacle: &Obstacle) -> &'static [u8]
     match obstacle {
         Obstacle::Unsupported(_) => b"the machine does not support the word at ",
         Obstacle::Unset(_) =>
-            b"control comes to a cell that has no word from the tape or the program: ",
-        Obstacle::RunsEntry(_) => b"control comes to the word that a JMS stores at ",
+            b"control reaches a cell that has no word from the tape or the program, at ",
+        Obstacle::RunsEntry(_) => b"control reaches the word that a JMS stores at ",
         Obstacle::Shared(_) => b"two routines execute the word at ",
         Obstacle::CallsBody(_) => b"a JMS stores into the code at ",
         Obstacle::CallsVariable(_) => b"instructions other than JMS also store at ",
         Obstacle::CallsPointer(_) => b"a JMS stores into the auto-index cell ",
         Obstacle::StoresInEntry(_) => b"instructions other than JMS also store at ",
         Obstacle::ReturnsForAnother(_) =>
-            b"a call other than the last one returns through the JMP at ",
+            b"a routine other than the one called last returns through the JMP at ",
         Obstacle::ReturnsFar(_) =>
             b"a routine returns to an address outside the 64 words after its call, through the JMP at ",
     }
@@ -230,7 +230,7 @@ fn obstacle_line<A: Allocator>(alloc: A, obstacle: &Obstacle) -> Result<Vec<u8, 
     ensures { IfOk result (λ text. text.items ≡ obstacle_text obstacle.now) }
 {
     let mut text = Vec::new(alloc);
-    text.extend_from_slice(b"no declaration allows what the run does: ")?;
+    text.extend_from_slice(b"no declaration allows what the runs do: ")?;
     push_place(
         &mut text,
         obstacle_words(obstacle),

@@ -168,7 +168,7 @@ fn push_proposal<I: Read + Drop>(
 
 /// What is said if cells that may be read are to be listed, and the declaration that is completed has no list.
 const NO_LIST: &str =
-    "--reads adds nothing: the declaration has no `read` line, so any cell may be read; to have a list, add a line that says `read`\n";
+    "--reads adds nothing: the declaration has no `read` line, so any cell may be read; to have a list, first add a `read` line\n";
 
 /// Whether a declaration lists the cells that may be read.
 fn lists_reads(text: &[u8]) -> bool {

@@ -53,7 +53,9 @@ fn verified_as_proposed<R: Files + Input + Print + Eprint, I: Read + Drop>(
     }
     let status = tell_proposed_and_save(rt, alloc, save, &found.proposed, &lines)?;
     if source.is_none() && save.is_none() {
-        let _ = eprintln!(rt; "the answer is about a proposed declaration: --save NAME writes it");
+        let _ = eprintln!(rt;
+            "the answer is about a proposed declaration; --save NAME saves that declaration"
+        );
     }
     Ok(status)
 }

@@ -157,7 +157,7 @@ fn given_declaration<R: Files + Input>(
 fn said_of(fault: PlaceFault) -> &'static str {
     match fault {
         PlaceFault::BadLine(_) =>
-            "a word with a capital letter must be a symbol, a symbol and + or - a number, or two addresses with - between them",
+            "a word with a capital letter must be a symbol such as LOOP, a symbol plus or minus a number such as LOOP+2, or a range of two addresses such as LOOP-LOOP+2",
         PlaceFault::NoSymbol(_) => "the source defines no such symbol",
         PlaceFault::PastMemory(_) => "an address must be from 0000 to 7777",
         PlaceFault::Backwards(_) => "the range ends below its first address",

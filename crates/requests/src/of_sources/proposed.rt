@@ -25,7 +25,7 @@ fn has_blanked_declaration(parts: &[Vec<u8>]) -> bool {
 pub(crate) fn tell_proposed<R: Eprint>(rt: &R, parts: &[Vec<u8>]) {
     let _ = if has_blanked_declaration(parts) {
         eprintln!(rt;
-            "no declaration is given, and the source has no /: line, but comments that begin with / and :, with a space between them: the answer is about a proposed declaration"
+            "no declaration is given, and the source has no /: line, although it has comments that begin with `/ :`, with a space: the answer is about a proposed declaration"
         )
     } else {
         eprintln!(rt;

@@ -7,31 +7,31 @@ static RULES: [Explanation; 8] = [
     Explanation {
         code: "rule1",
         subject: Subject::Asked("the body"),
-        meaning: "The program counter is in the body of the running routine, and the\ndeclared machine implements the word there.\nfor example: HLT is missing, and execution runs on into data",
-        advice: "end with HLT or JMP; return with `JMP I`; declare all code; use\n`profile 8e` for a word of the PDP-8/E; add an `abandon` line for a JMP that\nleaves a routine for the main program",
+        meaning: "The program counter is in the body of the running routine, and the\ndeclared machine implements the word there.\nexample of a violation: HLT is missing, and execution runs on into data",
+        advice: "end with HLT or JMP; return with `JMP I`; declare all code; add\n`profile 8e` if the program uses instructions of the PDP-8/E; add an `abandon`\nline for a JMP from a routine to the main program",
     },
     Explanation {
         code: "rule2",
         subject: Subject::Asked("writes"),
-        meaning: "Each cell that the step writes, except the cell in which a JMS stores\nits return address, is a variable or the running routine's own entry. Only an\nISZ may write that entry, and, if a `moves` line names the entry, a DCA that\nnames it directly and not through a pointer.\nfor example: a pointer in 0010 to 0017 is incremented before it is used, so it\nmust begin one lower",
+        meaning: "Each cell that the step writes, except the cell in which a JMS stores\nits return address, is a variable or the running routine's own entry. That\nentry may be written only by an ISZ or, if a `moves` line names the entry, by a\nDCA that names it directly and not through a pointer.\nexample of a violation: a pointer in 0010 to 0017 is incremented before it is\nused, so it must begin one lower",
         advice: "add a `var` line for what is meant to change, including such a\npointer; for other cells see V5 and V14",
     },
     Explanation {
         code: "rule3",
         subject: Subject::Asked("calls"),
-        meaning: "A JMS goes to an entry.\nfor example: `JMS I TYPE` goes to the address that TYPE's entry happens to hold",
+        meaning: "A JMS goes to an entry.\nexample of a violation: `JMS I TYPE` goes to the address that TYPE's entry\nhappens to hold",
         advice: "write `JMS TYPE`; declare a `sub` line for each routine; make\ntables of entries, not of first instructions",
     },
     Explanation {
         code: "rule4",
         subject: Subject::Asked("returns"),
-        meaning: "If a JMP I goes through an entry, the last call was to this entry,\nand the JMP I goes to that call's return address plus a declared offset.\nfor example: `JMP I TYPE` in a routine other than TYPE",
+        meaning: "If a JMP I goes through an entry, the last open call is to this\nentry, and the JMP I goes to that call's return address plus a declared offset.\nexample of a violation: `JMP I TYPE` in a routine other than TYPE",
         advice: "return through the routine's own entry; declare each offset, above\n7 in a `skips` line; do not call a routine again before it has returned",
     },
     Explanation {
         code: "rule5",
         subject: Subject::Asked("halts"),
-        meaning: "A HLT is at a declared stop or pause.\nfor example: a HLT is executed if the punch is not ready yet",
+        meaning: "A HLT is at a declared stop or pause.\nexample of a violation: the program executes a HLT when the punch is not ready\nyet",
         advice: "add a `stop` or `pause` line, or remove the HLT",
     },
     Explanation {
@@ -43,13 +43,13 @@ static RULES: [Explanation; 8] = [
     Explanation {
         code: "rule7",
         subject: Subject::Asked("reads"),
-        meaning: "If reads are listed, each cell that the step reads is on the list or\nis the running routine's own entry.\nfor example: the count is one too large, and the word after the table is read",
+        meaning: "If reads are listed, each cell that the step reads is on the list or\nis the running routine's own entry.\nexample of a violation: the count is one too large, and the word after the\ntable is read",
         advice: "add a `read` line, or bound the pointer as for V5",
     },
     Explanation {
         code: "rule8",
         subject: Subject::Asked("assertions"),
-        meaning: "Before the step, every `holds` line about its address is true. Before\na JMP I through the entry of the last call, every `returns` line about this\nentry and the offset of this return is also true. The offset is the distance\nfrom the return address of this call to the word in the entry.\nfor example: a routine that is to return with AC 0 returns with what it read",
+        meaning: "Before the step, every `holds` line about its address is true. Before\na JMP I through the entry of the last call, every `returns` line about this\nentry and the offset of this return is also true. The offset is the distance\nfrom the return address of this call to the word in the entry.\nexample of a violation: a routine that should return with 0 in AC returns with\nthe word that it read",
         advice: "correct the program, or let the line name the words that were found\nas well",
     },
 ];

@@ -19,13 +19,13 @@ static PROGRAM_FAULTS: [Explanation; 18] = [
     Explanation {
         code: "BadFrame",
         subject: Subject::Fault("tape: BadFrame 2"),
-        meaning: "the frame at this position is not allowed there",
+        meaning: "a frame is not allowed where it stands (the number is its position on the tape)",
         advice: "a frame was misread, lost or duplicated: read the tape again; do\nnot correct the checksum by hand",
     },
     Explanation {
         code: "WrongField",
         subject: Subject::Fault("tape: WrongField 1"),
-        meaning: "the frame at this position selects a field other than 0",
+        meaning: "a frame selects a field other than 0 (the number is its position on the tape)",
         advice: "use a tape that loads only field 0, because `pdp8` has no other\nfield",
     },
     Explanation {

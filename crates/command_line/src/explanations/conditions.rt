@@ -10,7 +10,7 @@ static CONDITIONS: [Explanation; 16] = [
             "the fact at the start address holds in every state in which a run may start",
         ),
         meaning: "there is a fact at the start, and it allows every state in which a\nrun may start",
-        advice: "At the start, AC, the link, MQ and cells without a word on the tape\nmay hold anything: `pdp8` does not rely on a START key that clears AC and the\nlink. Let the program clear AC and the link, with `CLA CLL`, if it relies on\nthem. The fact at the start holds before that, so it should say `ac 0000-7777\nlink 01`.",
+        advice: "At the start, AC, the link, MQ and cells without a word on the tape\nmay hold anything: `pdp8` does not rely on a START key that clears AC and the\nlink. If the program needs 0 in AC and the link, let it clear them with `CLA\nCLL`. The fact at the start is about the state before that instruction, so it\nshould say `ac 0000-7777 link 01`.",
     },
     Explanation {
         code: "V2",

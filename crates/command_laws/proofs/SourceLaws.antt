@@ -27,7 +27,7 @@ use Rattle.command_parts.specs.Inputs.{HasImage}
 use Rattle.command_laws.specs.Laws.{telling, TapeIsThere, EmptyHasNoTape, MayMiss, MayBeTold, TapeIsOne, MeantIsRead, ReadIsMeant, MeantIsWritten, FaultIsTold, FaultIsNotWritten, MeantIsListed, FaultIsTheOne, WrittenIsAssembled, AssembledIsWritten}
 use Rattle.source_commands.specs.SourceTexts.{AreRead}
 
--- sources whose bytes are all read hold these parts alone
+-- sources whose bytes are known hold these parts alone
 told : (parts others : List (List ℕ)) → AreRead (telling parts) others → others ≡ parts
 told [] [] reads = refl
 told [] (other ∷ others) reads = absurd reads

@@ -118,7 +118,7 @@ WatchedAsRun =
     (run : IsSessionOf (as_declared d options).run form Whole (plan_for (as_declared d options) frames keys) image written printed punched status) →
     watched.events ≡ run.events
 
--- Sources whose bytes are all read, and are these parts.
+-- Sources whose bytes are known, and are these parts.
 abbrev pub telling : List (List ℕ) → List (Option (List ℕ))
 telling parts = map Some parts
 

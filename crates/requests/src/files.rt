@@ -31,7 +31,7 @@ pub(crate) fn input_of<R: Files + Input>(
 ///
 /// # Errors
 ///
-/// `Device` with `Read`, as for a file that cannot be read, if the file cannot be opened.
+/// `Device` with `Read` if the file cannot be opened, as if it could not be read.
 pub fn open_input<R: Files + Input>(
     rt: &R,
     name: &str,
@@ -66,7 +66,7 @@ pub(crate) fn has_bytes<R: Files>(rt: &R, name: &str) -> bool {
 ///
 /// # Errors
 ///
-/// As for [`open_input`], and `NoMemory`.
+/// As for [`open_input`], and `NoMemory` if memory was refused.
 pub fn open_parts<R: Files + Input>(
     rt: &R,
     names: &[&str],
@@ -88,7 +88,7 @@ pub fn open_parts<R: Files + Input>(
 ///
 /// # Errors
 ///
-/// As for [`open_input`], and `NoMemory`.
+/// As for [`open_input`], and `NoMemory` if memory was refused.
 pub fn open_inputs<R: Files + Input>(
     rt: &R,
     alloc: Global,
@@ -111,7 +111,7 @@ pub type ResultSink<'r, R> = Either<Printer<'r, R>, ResultFile<'r, R>>;
 ///
 /// # Errors
 ///
-/// `Device` with `Write`, as for a file that cannot be written, if the file cannot be created, and `NoMemory`.
+/// `Device` with `Write` if the file cannot be created or written, and `NoMemory` if memory was refused.
 pub fn open_output<'r, R: Files + Print>(
     rt: &'r R,
     alloc: Global,

@@ -201,6 +201,10 @@ impl<'r, R: Files> ResultFile<'r, R> {
     }
 
     /// Creates or empties the file. If it is not a plain file, or may not be replaced, it stays open for writing.
+    ///
+    /// # Errors
+    ///
+    /// Any error from creating the file.
     pub fn make_empty(&mut self) -> io::Result<()> {
         let file = fs::create(self.rt, self.name)?;
         if self.path.is_none() || self.is_device() {
@@ -211,6 +215,10 @@ impl<'r, R: Files> ResultFile<'r, R> {
 
     /// Checks that the file can be created or written, and leaves it as it is. If it is not a plain file, or may not be
     /// replaced, it is opened for writing.
+    ///
+    /// # Errors
+    ///
+    /// Any error from opening or creating the file, or from creating a temporary file beside it.
     pub fn check(&mut self) -> io::Result<()> {
         let Some(path) = &self.path else {
             return self.open_in_place();
@@ -278,6 +286,10 @@ impl<'r, R: Files> ResultFile<'r, R> {
     }
 
     /// Puts the completely written result in its place. If nothing was written, nothing is done.
+    ///
+    /// # Errors
+    ///
+    /// Any error from copying the result, if it can be neither moved nor copied to its place.
     pub fn finish(&mut self) -> io::Result<()> {
         let Some(path) = &self.path else {
             return Ok(());
@@ -298,6 +310,10 @@ impl<'r, R: Files> ResultFile<'r, R> {
     }
 
     /// Puts the completely written result in its place. If nothing was written, the file is created or emptied.
+    ///
+    /// # Errors
+    ///
+    /// As for `finish` and `make_empty`.
     pub fn finish_or_empty(&mut self) -> io::Result<()> {
         if self.file.is_none() {
             return self.make_empty();

@@ -164,7 +164,7 @@ fn push_answer(
 ///
 /// # Errors
 ///
-/// `Device` if the answer cannot be written, and `NoMemory`.
+/// `Device` if the answer cannot be written, and `NoMemory` if memory was refused.
 pub fn tell_answer_and_save<R: Files + Input + Print + Eprint>(
     rt: &R,
     alloc: Global,

@@ -34,6 +34,10 @@ pub struct StuckSearch<'x> {
 
 /// Adds the lines about a stuck search: what the tape and the declaration show by themselves, why the search is stuck,
 /// what to do, and what the draft says about the pointer there.
+///
+/// # Errors
+///
+/// `AllocError` if memory was refused.
 #[inline(never)]
 pub fn push_stuck(
     alloc: Global,
@@ -71,6 +75,10 @@ fn stuck_reasons(alloc: Global, stuck: &StuckSearch<'_>) -> Result<Message<Globa
 }
 
 /// Why a search is stuck, as the report on it says.
+///
+/// # Errors
+///
+/// `AllocError` if memory was refused.
 #[inline(never)]
 pub fn stuck_why(alloc: Global, stuck: &StuckSearch<'_>) -> Result<Message<Global>, AllocError> {
     let (image, declaration, at) = (stuck.image, stuck.declaration, stuck.at);
@@ -80,6 +88,10 @@ pub fn stuck_why(alloc: Global, stuck: &StuckSearch<'_>) -> Result<Message<Globa
 }
 
 /// The message about a stuck search: its first line, and after that why it is stuck and what to do.
+///
+/// # Errors
+///
+/// `AllocError` if memory was refused.
 #[inline(never)]
 pub fn stuck_message(
     alloc: Global,

@@ -28,6 +28,10 @@ fn why_in(
 
 /// Writes to a file what a search had found when it got stuck, with what the source, if there is one, says about the
 /// addresses.
+///
+/// # Errors
+///
+/// `Device` if the file cannot be written, and `NoMemory` if memory was refused.
 #[inline(never)]
 pub fn report_stuck<R: Files + Print>(
     rt: &R,

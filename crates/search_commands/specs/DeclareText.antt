@@ -44,9 +44,9 @@ pub record WritesVariables (image : List (Option ℕ)) (d : Declaration) : Type 
   pub valid : IsValid (checked_case image d lines)
   pub written : VariablesAreWritten (checked_case image d lines)
 
--- The text is such a declaration. If the command is done, no run of the program with these words violates the
--- declaration, each variable may be written and, if a list of reads was requested, there is one, whose cells are
--- needed. Otherwise there is no list, and the command is refused.
+-- The text is such a declaration, and the command is done or refused. If it is done, no run of the program with these
+-- words violates the declaration, and each variable may be written. There is a list of reads if the command is done and
+-- a list was requested, and then its cells are needed; otherwise there is none.
 pub record IsProposalOf (options : DeclareOptions) (image : List (Option ℕ)) (status : Status) (text : List ℕ) : Type 0 where
   pub is : IsDeclarationFor options text
   pub ends : (status ≡ Done) ⊎ (status ≡ Refused)

@@ -1,5 +1,4 @@
--- What `guess --why` reports about a search that is stuck: the line of the fault, followed by the lines of `check
--- --why`.
+-- What `guess --why` reports about a search that is stuck: the line of the fault, and then the lines of `check --why`.
 use Rattle.std.specs.Prelude.{ℕ, ◌≡◌, List, [], Option, Some, None, IfNone, IfSome, Err}
 use Rattle.instruct.specs.declared.Profile.{Profile}
 use Rattle.certificate_lines.specs.Reading.{Text}

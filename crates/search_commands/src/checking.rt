@@ -18,7 +18,11 @@ use judge::{JudgeWorkspace, judge};
 use std::alloc::Allocator;
 use streams::{ByteSink, ByteSource};
 
-/// The verdict on a certificate of a program: its line, and its status.
+/// The verdict on a certificate for a program: its line, and its status.
+///
+/// # Errors
+///
+/// `NoMemory` if memory was refused.
 pub fn verdict_of<A: Allocator + Copy>(
     alloc: A,
     certified: &ProgramWithCertificate<A>,

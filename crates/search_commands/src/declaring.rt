@@ -186,6 +186,10 @@ fn text_of<A: Allocator>(proposal: Proposal<A>) -> Vec<u8, A>
 }
 
 /// What is proposed for a tape's words: the text of a declaration, and whether compliance with it is shown.
+///
+/// # Errors
+///
+/// `Declare` if what is found cannot be declared; `NoMemory` if memory was refused.
 pub fn proposed<A: Allocator + Copy>(
     alloc: A,
     image: &Image,

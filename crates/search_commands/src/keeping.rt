@@ -19,7 +19,7 @@ struct FirstLine<'a> {
     rest: &'a [u8],
 }
 
-/// The first line of a text, if it ends with a line feed, and what follows the line feed.
+/// The first line of a text and what follows it, if the line ends with a line feed.
 fn front_line<'a>(text: &'a [u8]) -> Option<FirstLine<'a>>
     ensures has { IfSome result (λ it. HasLine text.now) }
     ensures line { IfSome result (λ it. it.line.now ≡ first_line text.now) }

@@ -25,6 +25,10 @@ fn migrate_by<R: Files + Input + Print>(
 }
 
 /// Migrates the certificate in a file: to version 3 if there is a declaration, otherwise to version 2.
+///
+/// # Errors
+///
+/// As for `migrate` and `migrate_with_sites`, and `Device` if a file cannot be opened, created or put in its place.
 #[inline(never)]
 pub fn migrate_from<R: Files + Input + Print>(
     rt: &R,

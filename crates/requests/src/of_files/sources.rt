@@ -165,6 +165,11 @@ fn assemble_or_tell<R: Files + Input + Print + Eprint>(
 }
 
 /// Lists the source whose parts are in these files.
+///
+/// # Errors
+///
+/// As for `list` and `list_crossed`, and `Device` if a file cannot be opened. If an explanation is requested, these
+/// faults are reported instead, and only `NoMemory` is returned.
 #[inline(never)]
 pub fn list_from<R: Files + Input + Print + Eprint>(
     rt: &R,
@@ -183,6 +188,11 @@ pub fn list_from<R: Files + Input + Print + Eprint>(
 }
 
 /// Assembles the parts in these files into a tape.
+///
+/// # Errors
+///
+/// As for `assemble`, and `Device` if a file cannot be opened, created or put in its place. If an explanation is
+/// requested, these faults are reported instead, and only `NoMemory` is returned.
 #[inline(never)]
 pub fn assemble_to<R: Files + Input + Print + Eprint>(
     rt: &R,

@@ -57,6 +57,10 @@ fn dump_full<R: Print, S: ByteSource>(
 }
 
 /// Lists the words of the tape in a file with their names.
+///
+/// # Errors
+///
+/// As for `dump`, and `Device` if the file cannot be opened.
 #[inline(never)]
 pub fn dump_from<R: Files + Input + Print>(
     rt: &R,
@@ -176,6 +180,10 @@ pub(crate) fn run_on<R: Files + Input + Print, S: ByteSource, N: Statements>(
 }
 
 /// Runs the tape in a file, in rounds or with the events of another file, and with stops if they are requested.
+///
+/// # Errors
+///
+/// As for the command, and `Device` if a file cannot be opened.
 #[inline(never)]
 pub fn run_from<R: Files + Input + Print>(
     rt: &R,
@@ -190,6 +198,10 @@ pub fn run_from<R: Files + Input + Print>(
 }
 
 /// Writes a source for the tape in a file. A declaration, if there is one, is opened before the file for the source.
+///
+/// # Errors
+///
+/// As for `source` and `declared_source`, and `Device` if a file cannot be opened, created or put in its place.
 #[inline(never)]
 pub fn source_from<R: Files + Input + Print>(
     rt: &R,

@@ -14,6 +14,10 @@ pub struct PartLine<'n> {
 }
 
 /// How many lines each part of a source contributes to its declaration.
+///
+/// # Errors
+///
+/// `AllocError` if memory was refused.
 pub fn line_counts(alloc: Global, parts: &[&[u8]]) -> Result<Vec<usize>, AllocError> {
     let mut counts = Vec::new(alloc);
     for part in parts {

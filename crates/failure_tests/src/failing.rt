@@ -328,7 +328,7 @@ fn left_by<A: Allocator + Copy>(
 }
 
 /// How many reads of an input are made if none fails, provided that each earlier failure is reported as a failed read
-/// and that nothing is written then.
+/// and that nothing is written then; `None` otherwise.
 fn reads_in_turn(heap: Global, command: Command, input: usize) -> Option<usize> {
     for reads in 0..200usize {
         let plan = Plan {

@@ -14,7 +14,7 @@ use pal_asm::PalFault;
 use pal_text::TokenKind;
 use std::alloc::{AllocError, Allocator};
 
-/// The maximum number of faults that are reported.
+/// How many faults are reported before the search for more ends.
 const MOST_FAULTS: usize = 20;
 
 /// The maximum number of statements that are left out.
@@ -279,7 +279,8 @@ fn push_next<A: Allocator + Copy>(
 }
 
 /// Adds everything that can be said about the faults of a source that is not too long, beginning with the first fault.
-/// After each fault, the source is assembled again without it, up to 20 faults.
+/// After each fault, the source is assembled again without it. This ends once 20 faults are reported, 60 statements are
+/// left out, or the table of symbols is full.
 ///
 /// # Errors
 ///

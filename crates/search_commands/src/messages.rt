@@ -91,7 +91,8 @@ fn refuted<A: Allocator + Copy, D: Allocator>(
     }
 }
 
-/// The answer of that search, with what the search for a certificate had found, if that is known.
+/// Searches for a run that violates a declaration, and keeps what the search for a certificate had found, if that is
+/// known.
 fn answer_on<A: Allocator + Copy, D: Allocator>(
     alloc: A,
     image: &Image,

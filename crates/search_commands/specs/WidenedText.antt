@@ -1,4 +1,4 @@
--- What `verify` says of a tape alone, why no declaration allows what a run does.
+-- What `verify` says about a tape alone: why no declaration allows what a run does.
 use Rattle.std.specs.Prelude.{ℕ, ◌≡◌, ◌++◌, ⊤, Bool, false, codes, List, [], Option, Some, None}
 use Rattle.word12.specs.Words.{octal_text}
 use Rattle.declaration.specs.Declaration.{Declaration}
@@ -38,12 +38,13 @@ obstacle_place (ReturnsFar at) = at
 abbrev pub obstacle_text : Obstacle → List ℕ
 obstacle_text o = codes "no declaration allows what the runs do: " ++ obstacle_words o ++ octal_text (obstacle_place o) ++ codes "\n"
 
--- The same, if there is one.
+-- The line for an obstacle, if there is one.
 abbrev pub reason_text : Option Obstacle → List ℕ
 reason_text None = []
 reason_text (Some o) = obstacle_text o
 
--- A no comes with the reason why no declaration allows what the run does, which is so, and no other answer does.
+-- A no comes with the reason why no declaration allows what the run does, and the reason is true. No other answer has
+-- one.
 abbrev pub HasReason : {A : Type 0} → List (Option ℕ) → Declaration → Answer A → Option Obstacle → Type 0
 HasReason image d (No w) (Some o) = IsObstacle image d w.events.items o
 HasReason image d (No w) None = ⊥

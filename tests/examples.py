@@ -4,8 +4,8 @@ usage: examples.py PALBART SIMH EXAMPLES FOLDER [PROGRAM]. Files are made in FOL
 The Python in reference/ runs the tape with its events, watches it under its declaration and checks it with its certificate.
 The outputs must be NAME.run, NAME.watch and NAME.check; for DEC's loader `rim`, which violates its declaration, only the last
 two. If SIMH is given, it runs the tape with the same keys, frames and switches: AC, link and program counter at each halt,
-the memory at the end, and the output must be the same. PROGRAM is a built `pdp8`; for each of these commands that it has,
-its results are compared, too.
+the memory at the end, and the output must be the same. PROGRAM is a built `pdp8`; the results of its commands are compared,
+too, as far as it has these commands.
 """
 import re
 import subprocess

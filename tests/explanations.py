@@ -97,7 +97,7 @@ def rules(page, declarations):
     for name, example, change in rows_of(page, "Rule"):
         number, _, name = name.partition(": ")
         required = in_lines("required: ", dict(listed)[number])
-        wrong = f"\n{in_lines('', f'for example: {example}')}" if example != "-" else ""
+        wrong = f"\n{in_lines('', f'example of a violation: {example}')}" if example != "-" else ""
         yield f"rule{number}", f"Asked({quoted(plain(name))})", required + wrong, change
 
 

@@ -1,5 +1,5 @@
-//! The commands that run the program of a source, or list its words, with the symbols of the source. It is tested, not
-//! proved.
+//! The commands that run the program of a source, or list its words, with the symbols of the source. They are tested,
+//! not proved.
 
 pub(crate) mod places;
 mod words;
@@ -28,7 +28,7 @@ use std::rt::Files;
 use streams::put;
 use streams::standard::{StdReader, StdWriter};
 
-/// The tape of a source that was read, and its lines.
+/// The tape and the lines of a source that was read.
 #[inline(never)]
 fn numbered_of(
     alloc: Global,
@@ -40,7 +40,7 @@ fn numbered_of(
     }
 }
 
-/// Runs a program with these cells shown and these stops.
+/// The same run, with these cells shown and these stops.
 fn run_of<'a>(run: &RunRequest<'a>, named: &ResolvedPlaces) -> RunRequest<'a> {
     RunRequest {
         tape: run.tape,
@@ -54,7 +54,7 @@ fn run_of<'a>(run: &RunRequest<'a>, named: &ResolvedPlaces) -> RunRequest<'a> {
     }
 }
 
-/// A run with an operator with these cells shown and these stops.
+/// The same run with an operator, with these cells shown and these stops.
 fn session_of<'a>(session: &Session<'a>, named: &ResolvedPlaces) -> Session<'a> {
     Session {
         tape: session.tape,
@@ -71,7 +71,7 @@ fn session_of<'a>(session: &Session<'a>, named: &ResolvedPlaces) -> Session<'a> 
     }
 }
 
-/// A session at the teletype with these cells shown and these stops.
+/// The same session at the teletype, with these cells shown and these stops.
 fn teletype_of<'a>(session: &TeletypeSession<'a>, named: &ResolvedPlaces) -> TeletypeSession<'a> {
     TeletypeSession {
         tape: session.tape,
@@ -87,7 +87,7 @@ fn teletype_of<'a>(session: &TeletypeSession<'a>, named: &ResolvedPlaces) -> Tel
     }
 }
 
-/// Does what is requested with the program of a source that was assembled.
+/// Carries out the request on the program of an assembled source.
 #[inline(never)]
 fn carry_out<R: Files + Input + Print + Eprint>(
     rt: &R,
@@ -124,7 +124,8 @@ fn carry_out<R: Files + Input + Print + Eprint>(
     }
 }
 
-/// Tells that a source is refused, and below it why, if that is requested, and if another file was given in its place.
+/// Reports that a source is refused: why, if that is requested, and whether a file of another kind was given in its
+/// place.
 fn tell_refused<R: Eprint>(
     rt: &R,
     alloc: Global,
@@ -141,8 +142,8 @@ fn tell_refused<R: Eprint>(
     status
 }
 
-/// Does what is requested with the program of a source that was read, or tells why it is refused, and says which of its
-/// parts are ignored.
+/// Carries out the request on the program of a source that was read, and reports which of its parts are ignored; or
+/// reports why the source is refused.
 fn answer_given<R: Files + Input + Print + Eprint>(
     rt: &R,
     alloc: Global,
@@ -178,7 +179,7 @@ fn answer_given<R: Files + Input + Print + Eprint>(
 ///
 /// # Errors
 ///
-/// The fault of another file or of the command.
+/// The fault of the source, of another file or of the command.
 #[inline(never)]
 pub fn answer_sourced<R: Files + Input + Print + Eprint>(
     rt: &R,

@@ -1,5 +1,5 @@
-//! The requests of a command line on a program and its declaration, whether the program is given by its tape or by its
-//! source: how it is opened, and what is done with it. It is tested, not proved.
+//! Carries out the requests that work on a program and its declaration, whether the program is given as a tape or as a
+//! source. This is tested, not proved.
 
 mod open;
 mod searches;
@@ -20,8 +20,8 @@ use either::Either;
 use std::alloc::Global;
 use std::rt::Files;
 
-/// Carries out a command on a program that is given by its tape. The tape is opened, then the declaration, and then the
-/// other files of the command.
+/// Carries out a command on a program that is given as a tape. The tape is opened first, then the declaration, and then
+/// the other files of the command.
 #[inline(never)]
 fn answer_tape<R: Files + Input + Print + Eprint>(
     rt: &R,
@@ -40,8 +40,8 @@ fn answer_tape<R: Files + Input + Print + Eprint>(
     carry_out(rt, alloc, &mut program, asked)
 }
 
-/// Carries out a command on a program whose source was assembled, and says which of its parts are ignored, or of which
-/// line of the source a fault is.
+/// Carries out a command on a program whose source was assembled, and reports which parts of the source are ignored, or
+/// in which line of the source a fault lies.
 #[inline(never)]
 fn answer_assembled<R: Files + Input + Print + Eprint>(
     rt: &R,
@@ -61,7 +61,7 @@ fn answer_assembled<R: Files + Input + Print + Eprint>(
     }
 }
 
-/// Carries out a command on a program whose source and declaration were read, or tells why they are refused. The
+/// Carries out a command on a program whose source and declaration were read, or reports why they are refused. The
 /// source is assembled, and then the other files of the command are opened.
 #[inline(never)]
 fn answer_given<R: Files + Input + Print + Eprint>(
@@ -78,8 +78,8 @@ fn answer_given<R: Files + Input + Print + Eprint>(
     answer_assembled(rt, alloc, &source, asked)
 }
 
-/// Carries out a command on a program and its declaration. Of a source the parts are opened and read in order, then the
-/// declaration, and then the other files of the command are opened.
+/// Carries out a command on a program and its declaration. If the program is given as a source, its parts are opened
+/// and read in order, then the declaration, and then the other files of the command are opened.
 ///
 /// # Errors
 ///

@@ -1,4 +1,4 @@
-//! The files that `verify --save` writes, and when the answer is told.
+//! The files that `verify --save` writes, and when the answer is printed.
 
 use crate::files::{has_bytes, open_input};
 use crate::replacing::ResultFile;
@@ -13,10 +13,10 @@ use std::rt::Files;
 use streams::standard::StdWriter;
 use streams::{put, read_at_most};
 
-/// What the first line of a certificate begins with, which says that a command of this program wrote it.
+/// The beginning of the first line of each certificate that a command of this program writes.
 static CERTIFICATE_MARK: &[u8] = b"PDP8-CERTIFICATE ";
 
-/// How much of a file is looked at: the most that may be saved.
+/// The most bytes of a file that are read, which is the most that may be saved.
 const MOST: usize = 1_048_576;
 
 /// A text that is to be saved.
@@ -36,8 +36,8 @@ impl NamedText {
         Ok(NamedText { path, text })
     }
 
-    /// Whether its file is there and was not made by this program, as far as its bytes show: it is neither empty nor
-    /// a certificate, and says something else.
+    /// Whether its file exists and, as far as its bytes show, was not written by this program: it is not empty, is not
+    /// a certificate, and differs from the text.
     fn is_foreign<R: Files + Input>(&self, rt: &R, alloc: Global) -> bool {
         if !has_bytes(rt, &self.path) {
             return false;
@@ -51,7 +51,7 @@ impl NamedText {
         }
     }
 
-    /// Writes it to its file, which is whole or as it was.
+    /// Writes it to its file, which is then either complete or as it was.
     fn write<R: Files>(&self, rt: &R, alloc: Global) -> Result<(), Fault> {
         let mut file = ResultFile::new(rt, alloc, &self.path)?;
         put(&mut StdWriter::new(&mut file), &self.text)?;
@@ -62,7 +62,7 @@ impl NamedText {
     }
 }
 
-/// Tells that a file stays as it is, since it was not written by the command.
+/// Reports that a file is left as it is, because the command did not write it.
 fn tell_kept<R: Eprint>(rt: &R, alloc: Global, path: &str) -> Status {
     let Ok(path) = visible_text(alloc, path) else {
         return Status::Usage;
@@ -75,8 +75,8 @@ fn tell_kept<R: Eprint>(rt: &R, alloc: Global, path: &str) -> Status {
     }
 }
 
-/// Writes these texts to their files, or none of them where one would replace a file that was not written by the
-/// command. The status is this one, or that of what is told.
+/// Writes these texts to their files, or none of them if one would replace a file that the command did not write.
+/// Returns the given status, or the status of the problem that was reported.
 fn save_all<R: Files + Input + Eprint>(
     rt: &R,
     alloc: Global,
@@ -103,9 +103,9 @@ fn tell_answer<R: Print>(rt: &R, told: &[u8]) -> Result<(), Fault> {
     Ok(put(&mut StdWriter::new(io::writer(rt)), told)?)
 }
 
-/// Tells an answer, and writes these texts to their files. A yes is told once they are written, so it is not told
-/// where one of them cannot be; the other answers are told first. The status is that of the answer, or of what is said
-/// about a file.
+/// Prints an answer, and writes these texts to their files. A yes is printed only once they are written, and not at all
+/// if one of them cannot be; any other answer is printed first. Returns the status of the answer, or of the problem
+/// with a file.
 fn tell_and_save<R: Files + Input + Print + Eprint>(
     rt: &R,
     alloc: Global,
@@ -133,7 +133,7 @@ fn push_saved(saved: &mut Vec<NamedText>, it: NamedText) -> Result<(), Fault> {
     }
 }
 
-/// Adds what an answer shows: a certificate after a yes, the events of a run after a no.
+/// Adds the evidence for an answer: a certificate for a yes, the events of a run for a no.
 fn push_answer(
     alloc: Global,
     name: &str,
@@ -158,13 +158,13 @@ fn push_answer(
     Ok(())
 }
 
-/// Tells an answer by this text, and writes what it shows, if that is to be saved: after a yes, which is told once that
-/// is written, the certificate, after a no the events. Returns the status of the command: that of the answer, or of
-/// what is said about a file.
+/// Prints an answer as this text and, if that is requested, saves the evidence for it: for a yes, which is printed only
+/// once its evidence is written, the certificate; for a no, the events. Returns the status of the command: that of the
+/// answer, or that of a problem with a file.
 ///
 /// # Errors
 ///
-/// `Device` if the answer cannot be written, and `NoMemory`.
+/// `Device` if the answer cannot be written, and `NoMemory` if memory was refused.
 pub fn tell_answer_and_save<R: Files + Input + Print + Eprint>(
     rt: &R,
     alloc: Global,
@@ -179,7 +179,7 @@ pub fn tell_answer_and_save<R: Files + Input + Print + Eprint>(
     tell_and_save(rt, alloc, save, &saved, answer_status(answer), told)
 }
 
-/// The same of an answer about a declaration that was proposed, which is saved with what the answer shows.
+/// Does the same for an answer about a proposed declaration, which is saved with the evidence.
 ///
 /// # Errors
 ///

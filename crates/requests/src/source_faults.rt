@@ -1,4 +1,4 @@
-//! What is said about the faults of a source.
+//! Messages about the faults of a source.
 
 use crate::telling::{tell, tell_with};
 use command_parts::status::{Fault, Status};
@@ -8,14 +8,15 @@ use pal_asm::PalFault;
 use pal_diagnostics::push_faults;
 use std::alloc::{AllocError, Global};
 
-/// What is said about a source that is assembled to no word.
-pub const NO_WORD: &str = "the source generates no word: list shows what it contains\n";
+/// The message about a source that assembles to no words.
+pub const NO_WORD: &str = "the source generates no word: `pdp8 list` shows what it contains
+";
 
 /// Names of files as they are shown to people.
 ///
 /// # Errors
 ///
-/// Memory was refused.
+/// `AllocError` if memory was refused.
 pub fn visible_names(alloc: Global, names: &[&str]) -> Result<Vec<String>, AllocError> {
     let mut shown = Vec::new(alloc);
     for name in names {
@@ -26,11 +27,11 @@ pub fn visible_names(alloc: Global, names: &[&str]) -> Result<Vec<String>, Alloc
     Ok(shown)
 }
 
-/// The same names, lent.
+/// The same names as slices.
 ///
 /// # Errors
 ///
-/// Memory was refused.
+/// `AllocError` if memory was refused.
 pub fn name_slices<'n>(alloc: Global, names: &'n [String]) -> Result<Vec<&'n str>, AllocError> {
     let mut lent = Vec::new(alloc);
     for name in names {
@@ -49,7 +50,7 @@ pub fn output_name<'n>(name: &'n str) -> &'n str {
     if name == "-" { "standard output" } else { name }
 }
 
-/// The name of the part that cannot be opened, after the ones that are open.
+/// The name of the part that could not be opened, if `opened` parts were opened before it.
 pub fn unopened<'n>(names: &'n [&'n str], opened: usize) -> &'n str {
     match names.get(opened) {
         Some(name) => input_name(name),
@@ -57,7 +58,8 @@ pub fn unopened<'n>(names: &'n [&'n str], opened: usize) -> &'n str {
     }
 }
 
-/// Writes the line of a fault to standard error, and below it, if a device failed, of which file.
+/// Writes the line of a fault to standard error and, if a device failed, a line below it that says which file it was.
+/// Returns the status of the fault.
 pub fn tell_of<R: Eprint>(
     rt: &R,
     alloc: Global,
@@ -75,7 +77,8 @@ pub fn tell_of<R: Eprint>(
     status
 }
 
-/// Writes the line of the fault of a size to standard error, and below it what is too long or too many.
+/// Writes the line of a fault about a size to standard error, and below it what is too large: the number of parts, or
+/// one of the parts. Returns the status of the fault.
 pub fn tell_size<R: Eprint>(rt: &R, alloc: Global, fault: PalFault, names: &[&str]) -> Status {
     let status = tell(rt, Fault::Source(fault));
     let count = names.len();
@@ -87,7 +90,7 @@ pub fn tell_size<R: Eprint>(rt: &R, alloc: Global, fault: PalFault, names: &[&st
     };
     if let Ok(name) = visible_text(alloc, name) {
         let _ = eprintln!(rt;
-            "{name}: TL: the part has more than 65536 bytes\nsplit it into parts, in order, each except the last with PAUSE at its end"
+            "{name}: TL: the part has more than 65536 bytes\nsplit it into parts, in order, and end each part except the last with PAUSE"
         );
     }
     status
@@ -105,8 +108,8 @@ fn push_source_faults(
     push_faults(alloc, told, &name_slices(alloc, &shown)?, parts, profile)
 }
 
-/// Writes the line of a source's fault to standard error, and below it what is wrong, if that is
-/// requested.
+/// Writes the line of a source's fault to standard error and, if that is requested, what is wrong below it. Returns the
+/// status of the fault.
 pub fn tell_source<R: Eprint>(
     rt: &R,
     alloc: Global,

@@ -1,4 +1,4 @@
-//! What is said about a search for a certificate that is stuck. It is proved that the line of an answer comes first; the
+//! Messages about a search for a certificate that is stuck. It is proved that the line of an answer comes first; the
 //! lines after it are tested.
 
 ghost use Rattle.std.specs.Prelude.{IfOk};
@@ -28,12 +28,16 @@ pub struct StuckSearch<'x> {
     pub declaration: &'x Declaration<Global>,
     /// The address at which the search is stuck.
     pub at: Word,
-    /// What it had found.
+    /// The draft of a certificate that it had found.
     pub draft: &'x Certificate<Global>,
 }
 
-/// Adds the lines that say why a search is stuck, between what the tape and the declaration show by themselves, and
-/// what to do and what the draft says about the pointer there.
+/// Adds the lines about a stuck search: what the tape and the declaration show by themselves, why the search is stuck,
+/// what to do, and what the draft says about the pointer there.
+///
+/// # Errors
+///
+/// `AllocError` if memory was refused.
 #[inline(never)]
 pub fn push_stuck(
     alloc: Global,
@@ -53,7 +57,7 @@ pub fn push_stuck(
     push_bound(alloc, told, image, declaration, stuck.draft, at)
 }
 
-/// The line of a search that is stuck.
+/// The first line of the message about a stuck search.
 fn stuck_line(alloc: Global, at: Word) -> Result<Message<Global>, AllocError> {
     let mut line = String::new(alloc);
     let fault = Fault::Guess(GuessFault::Stuck(at));
@@ -61,7 +65,7 @@ fn stuck_line(alloc: Global, at: Word) -> Result<Message<Global>, AllocError> {
     Ok(Message::of(alloc, line.into_bytes()))
 }
 
-/// What is said about a search that is stuck, after its line: why it is stuck, and what to do.
+/// The message about a stuck search after its first line: why it is stuck, and what to do.
 #[inline(never)]
 fn stuck_reasons(alloc: Global, stuck: &StuckSearch<'_>) -> Result<Message<Global>, AllocError> {
     let mut told = Message::new(alloc);
@@ -70,7 +74,11 @@ fn stuck_reasons(alloc: Global, stuck: &StuckSearch<'_>) -> Result<Message<Globa
     Ok(told)
 }
 
-/// Why a search is stuck, as its report says it.
+/// Why a search is stuck, as the report on it says.
+///
+/// # Errors
+///
+/// `AllocError` if memory was refused.
 #[inline(never)]
 pub fn stuck_why(alloc: Global, stuck: &StuckSearch<'_>) -> Result<Message<Global>, AllocError> {
     let (image, declaration, at) = (stuck.image, stuck.declaration, stuck.at);
@@ -79,7 +87,11 @@ pub fn stuck_why(alloc: Global, stuck: &StuckSearch<'_>) -> Result<Message<Globa
     Ok(told)
 }
 
-/// What is said about a search that is stuck: its line, and after it why it is stuck, and what to do.
+/// The message about a stuck search: its first line, and after that why it is stuck and what to do.
+///
+/// # Errors
+///
+/// `AllocError` if memory was refused.
 #[inline(never)]
 pub fn stuck_message(
     alloc: Global,
@@ -90,7 +102,8 @@ pub fn stuck_message(
     Ok(told)
 }
 
-/// What is said about an answer, after its line; where the search is stuck with all that is known about that.
+/// The message about an answer after its first line. If the search is stuck, it gives everything that is known about
+/// that.
 #[inline(never)]
 fn answer_reasons(
     alloc: Global,
@@ -114,11 +127,11 @@ fn answer_reasons(
     Ok(told)
 }
 
-/// What is said about an answer: its line, first and as it is, and after it why.
+/// The message about an answer: first its line, unchanged, and then the reasons for it.
 ///
 /// # Errors
 ///
-/// Memory was refused.
+/// `AllocError` if memory was refused.
 #[inline(never)]
 pub fn answer_message(
     alloc: Global,

@@ -1,4 +1,4 @@
-//! The report of a search for a certificate that is stuck.
+//! The report on a search for a certificate that is stuck.
 
 use crate::files::{finish, is_read_once, open_output};
 use crate::named_files::NamedFiles;
@@ -14,7 +14,7 @@ use std::rt::Files;
 use streams::put;
 use streams::standard::StdWriter;
 
-/// Why a search is stuck, with what the source says about its addresses, if there is one.
+/// Why a search is stuck, with what the source says about the addresses; `None` if there is no source.
 fn why_in(
     alloc: Global,
     stuck: &StuckSearch<'_>,
@@ -26,8 +26,12 @@ fn why_in(
     Ok(Some(labelled(alloc, source, &stuck_why(alloc, stuck)?)?))
 }
 
-/// Writes to a file what a search had found when it was stuck, with what the source says about addresses, if there is
-/// one.
+/// Writes to a file what a search had found when it got stuck, with what the source, if there is one, says about the
+/// addresses.
+///
+/// # Errors
+///
+/// `Device` if the file cannot be written, and `NoMemory` if memory was refused.
 #[inline(never)]
 pub fn report_stuck<R: Files + Print>(
     rt: &R,
@@ -59,7 +63,7 @@ pub fn report_stuck<R: Files + Print>(
     Ok(())
 }
 
-/// Ensures that these files can be read twice, as a search with a report needs it.
+/// Checks that these files can be read twice, which a search with a report requires.
 ///
 /// # Errors
 ///

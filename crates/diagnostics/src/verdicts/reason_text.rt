@@ -51,7 +51,7 @@ fn push_reason<L: MessageWriter>(
     match reason {
         Reason::AtStart(landing) => push_start(text, landing),
         Reason::LineAtNoEntry => text.push_text(
-            b"a routine or exit line names the address, which is not an entry",
+            b"a routine or exit line names this address, which is not an entry",
         ),
         Reason::InNoBody => {
             text.push_text(b"there is a fact at this address, which is not in any body")

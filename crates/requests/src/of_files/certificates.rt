@@ -8,7 +8,7 @@ use std::alloc::Global;
 use std::rt::Files;
 use streams::standard::StdWriter;
 
-/// Migrates the certificate of a file to version 3. The declaration is opened first.
+/// Migrates the certificate in a file to version 3. The declaration is opened first.
 #[inline(never)]
 fn migrate_by<R: Files + Input + Print>(
     rt: &R,
@@ -24,7 +24,11 @@ fn migrate_by<R: Files + Input + Print>(
     finish(&mut file, status)
 }
 
-/// Migrates the certificate of a file, to version 3 if there is a declaration, and else to version 2.
+/// Migrates the certificate in a file: to version 3 if there is a declaration, otherwise to version 2.
+///
+/// # Errors
+///
+/// As for `migrate` and `migrate_with_sites`, and `Device` if a file cannot be opened, created or put in its place.
 #[inline(never)]
 pub fn migrate_from<R: Files + Input + Print>(
     rt: &R,

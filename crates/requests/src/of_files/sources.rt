@@ -1,4 +1,4 @@
-//! Sources that are assembled or listed, and what is told of their faults.
+//! Assembles and lists sources, and reports their faults.
 
 ghost use Rattle.std.specs.Prelude.{◌≡◌, false};
 ghost use Rattle.std.specs.List.{AllByRecursion};
@@ -19,7 +19,7 @@ use std::rt::Files;
 use streams::standard::StdWriter;
 use streams::{ByteSink, ByteSource};
 
-/// The name of the first part of which a read failed.
+/// The name of the first part that could not be read.
 fn unread<'n, S: ByteSource>(names: &'n [&'n str], parts: &[S]) -> &'n str {
     for (index, part) in parts.iter().enumerate() {
         if part.failed() {
@@ -32,7 +32,8 @@ fn unread<'n, S: ByteSource>(names: &'n [&'n str], parts: &[S]) -> &'n str {
     "a source"
 }
 
-/// Writes the line of a fault to standard error, and below it what is wrong: of a source these lines.
+/// Writes the line of a fault to standard error, and below it what is wrong. For a fault of the source, these are the
+/// lines in `told`.
 fn tell_all<R: Eprint, S: ByteSource>(
     rt: &R,
     alloc: Global,
@@ -83,8 +84,8 @@ fn list_as_asked<S: ByteSource, W: ByteSink>(
     }
 }
 
-/// Lists the source whose parts are in these files, and tells below the line of a fault what is wrong, with the names as
-/// they are shown.
+/// Lists the source whose parts are in these files. Below the line of a fault, it says what is wrong, with the names of
+/// the files as they are shown.
 fn list_or_tell<R: Files + Input + Print + Eprint>(
     rt: &R,
     alloc: Global,
@@ -113,7 +114,7 @@ fn list_or_tell<R: Files + Input + Print + Eprint>(
     }
 }
 
-/// Puts a tape that was written in its place.
+/// Puts the tape in its place once it is assembled.
 fn finish_tape<R: Files + Print>(
     file: &mut ResultSink<'_, R>,
     assembled: Result<Status, Fault>,
@@ -121,8 +122,8 @@ fn finish_tape<R: Files + Print>(
     finish(file, assembled?)
 }
 
-/// Assembles the parts of these files into a tape, and tells below the line of a fault what is wrong, with the names as
-/// they are shown.
+/// Assembles the parts in these files into a tape. Below the line of a fault, it says what is wrong, with the names of
+/// the files as they are shown.
 fn assemble_or_tell<R: Files + Input + Print + Eprint>(
     rt: &R,
     alloc: Global,
@@ -163,7 +164,12 @@ fn assemble_or_tell<R: Files + Input + Print + Eprint>(
     }
 }
 
-/// Lists the source whose parts are in files.
+/// Lists the source whose parts are in these files.
+///
+/// # Errors
+///
+/// As for `list` and `list_crossed`, and `Device` if a file cannot be opened. If an explanation is requested, these
+/// faults are reported instead, and only `NoMemory` is returned.
 #[inline(never)]
 pub fn list_from<R: Files + Input + Print + Eprint>(
     rt: &R,
@@ -181,7 +187,12 @@ pub fn list_from<R: Files + Input + Print + Eprint>(
     list_as_asked(alloc, &mut parts, asked, None, &mut told, &mut out)
 }
 
-/// Assembles the parts of files into a tape.
+/// Assembles the parts in these files into a tape.
+///
+/// # Errors
+///
+/// As for `assemble`, and `Device` if a file cannot be opened, created or put in its place. If an explanation is
+/// requested, these faults are reported instead, and only `NoMemory` is returned.
 #[inline(never)]
 pub fn assemble_to<R: Files + Input + Print + Eprint>(
     rt: &R,

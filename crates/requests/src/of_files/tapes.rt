@@ -25,7 +25,7 @@ use streams::standard::StdWriter;
 use streams::{ByteSource, put};
 use word12::Word;
 
-/// The words of an image, with whole addresses.
+/// A line for each word of an image, with full addresses.
 fn full_words(alloc: Global, image: &Image, profile: Profile) -> Result<Vec<u8>, AllocError> {
     let mut text = Vec::new(alloc);
     for index in 0..4096 {
@@ -41,7 +41,7 @@ fn full_words(alloc: Global, image: &Image, profile: Profile) -> Result<Vec<u8>,
     Ok(text)
 }
 
-/// Names the words of the tape of a file, with whole addresses.
+/// Lists the words of a tape with their names, with full addresses.
 fn dump_full<R: Print, S: ByteSource>(
     rt: &R,
     alloc: Global,
@@ -56,7 +56,11 @@ fn dump_full<R: Print, S: ByteSource>(
     Ok(Status::Done)
 }
 
-/// Names the words of the tape of a file.
+/// Lists the words of the tape in a file with their names.
+///
+/// # Errors
+///
+/// As for `dump`, and `Device` if the file cannot be opened.
 #[inline(never)]
 pub fn dump_from<R: Files + Input + Print>(
     rt: &R,
@@ -71,7 +75,7 @@ pub fn dump_from<R: Files + Input + Print>(
     dump(alloc, &mut frames, asked.profile, &mut out)
 }
 
-/// Runs a tape with these frames, in rounds or by the events of a file, up to where it is stopped, and writes the long
+/// Runs the tape of these frames, in rounds or with the events of a file, until it is stopped, and writes the long
 /// trace.
 fn run_long<R: Files + Input + Print, S: ByteSource, N: Statements>(
     rt: &R,
@@ -94,7 +98,7 @@ fn run_long<R: Files + Input + Print, S: ByteSource, N: Statements>(
     )
 }
 
-/// Where a run is stopped.
+/// The stops of a run.
 fn stops_of(asked: &RunRequest<'_>) -> Stops {
     match &asked.stopping {
         None => no_stops(),
@@ -102,7 +106,7 @@ fn stops_of(asked: &RunRequest<'_>) -> Stops {
     }
 }
 
-/// Runs a tape in rounds up to where it is stopped.
+/// Runs a tape in rounds until it is stopped.
 fn run_rounds_until<R: Print, S: ByteSource>(
     rt: &R,
     alloc: Global,
@@ -120,7 +124,7 @@ fn run_rounds_until<R: Print, S: ByteSource>(
     }
 }
 
-/// Runs a tape by the events of a file up to where it is stopped.
+/// Runs a tape with the events of a file until it is stopped.
 fn run_events_until<R: Files + Input + Print, S: ByteSource>(
     rt: &R,
     alloc: Global,
@@ -142,12 +146,12 @@ fn run_events_until<R: Files + Input + Print, S: ByteSource>(
     }
 }
 
-/// Runs a tape with these frames, in rounds or by the events of a file, up to where it is stopped if that is
-/// requested. In a long trace its instructions read as these statements.
+/// Runs the tape of these frames, in rounds or with the events of a file, and with stops if they are requested. A long
+/// trace shows its instructions as these statements.
 ///
 /// # Errors
 ///
-/// As of the command, and `Device` if the file of events cannot be opened.
+/// As for the command, and `Device` if the file of events cannot be opened.
 pub(crate) fn run_on<R: Files + Input + Print, S: ByteSource, N: Statements>(
     rt: &R,
     alloc: Global,
@@ -175,7 +179,11 @@ pub(crate) fn run_on<R: Files + Input + Print, S: ByteSource, N: Statements>(
     run_events(alloc, frames, &mut list, asked.options, &mut out)
 }
 
-/// Runs the tape of a file, in rounds or by the events of a file, up to where it is stopped if that is requested.
+/// Runs the tape in a file, in rounds or with the events of another file, and with stops if they are requested.
+///
+/// # Errors
+///
+/// As for the command, and `Device` if a file cannot be opened.
 #[inline(never)]
 pub fn run_from<R: Files + Input + Print>(
     rt: &R,
@@ -189,8 +197,11 @@ pub fn run_from<R: Files + Input + Print>(
     run_on(rt, alloc, asked, &mut frames, &statements)
 }
 
-/// Writes a source of the tape of a file. A declaration is opened before the file that the source goes
-/// to is made.
+/// Writes a source for the tape in a file. A declaration, if there is one, is opened before the file for the source.
+///
+/// # Errors
+///
+/// As for `source` and `declared_source`, and `Device` if a file cannot be opened, created or put in its place.
 #[inline(never)]
 pub fn source_from<R: Files + Input + Print>(
     rt: &R,

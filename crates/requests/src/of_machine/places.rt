@@ -7,7 +7,7 @@ use std::alloc::Global;
 use word12::Word;
 use wordset::WordSet;
 
-/// Reads addresses as a declaration of a source does that has these symbols.
+/// Reads addresses as in a declaration of a source that has these symbols.
 #[derive(Clone, Copy)]
 pub(crate) struct SymbolicAddresses<'s> {
     pub(crate) own: &'s SymbolTable<Global>,
@@ -21,7 +21,7 @@ fn set_of(cells: Cells) -> WordSet {
     }
 }
 
-/// The address that cells are; none if they are a range.
+/// The address, if the cells are a single address and not a range.
 fn one_of(cells: Cells) -> Option<Word> {
     match cells {
         Cells::One(at) => Some(at),
@@ -45,16 +45,16 @@ impl AddressReader for SymbolicAddresses<'_> {
     }
 }
 
-/// What the options of a request name.
+/// The cells and places that the options of a request name.
 #[derive(Clone, Copy)]
 pub(crate) struct ResolvedPlaces {
     /// The cells that are shown.
     pub(crate) show: WordSet,
-    /// How the run is followed, if it may be stopped.
+    /// The options for stopping the run, if it may be stopped.
     pub(crate) stopping: Option<StopOptions>,
 }
 
-/// What these options name, where the source has these symbols of its own.
+/// The cells and places that these options name, with the symbols of the source.
 pub(crate) fn named_in(
     own: &SymbolTable<Global>,
     places: &PlaceOptions<'_>,

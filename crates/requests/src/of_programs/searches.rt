@@ -31,7 +31,7 @@ use streams::standard::{StdReader, StdWriter};
 use streams::{ByteSink, put, read_at_most};
 use turns::GuessFault;
 
-/// One frame more than the tape is read, so that a longer one is seen to be too long.
+/// The most frames that are read: one more than a tape may have, so that a longer tape is seen to be too long.
 const MOST_FRAMES: usize = 65_537;
 
 /// Writes a certificate that was found.
@@ -43,7 +43,7 @@ fn write_found<R: Files + Print>(
     finish(file, status)
 }
 
-/// Tells on standard error why a search is stuck, and writes a report of its draft, each if it is requested.
+/// Reports on standard error why a search is stuck, and writes a report on its draft, each if it is requested.
 #[inline(never)]
 fn tell_stuck<R: Files + Print + Eprint>(
     rt: &R,
@@ -66,7 +66,7 @@ fn tell_stuck<R: Files + Print + Eprint>(
     Err(Fault::Guess(GuessFault::Stuck(stuck.at)))
 }
 
-/// Searches for a certificate, of a version if one is requested.
+/// Searches for a certificate, of the requested version if there is one.
 fn found_for(
     alloc: Global,
     image: &Image,
@@ -79,7 +79,7 @@ fn found_for(
     }
 }
 
-/// Searches for a certificate, of a version if one is requested, or for the draft of one.
+/// Searches for a certificate, of the requested version if there is one. If the search is stuck, it returns the draft.
 fn attempt_for(
     alloc: Global,
     image: &Image,
@@ -92,8 +92,8 @@ fn attempt_for(
     }
 }
 
-/// Searches for a certificate, of a version if one is requested. If the search is stuck, it says why on standard error and writes a report,
-/// each if it is requested: one search is made for all of them.
+/// Searches for a certificate, of the requested version if there is one. If the search is stuck, it says why on
+/// standard error and writes a report, each if it is requested. One search serves all of these.
 #[inline(never)]
 pub(crate) fn guessed<R: Files + Print + Eprint, I: Read + Drop>(
     rt: &R,
@@ -124,7 +124,8 @@ pub(crate) fn guessed<R: Files + Print + Eprint, I: Read + Drop>(
     }
 }
 
-/// Searches for a run that violates the declaration. Its events are in their place before the line on them is written.
+/// Searches for a run that violates the declaration. The events of the run are in their place before the line about
+/// them is written.
 #[inline(never)]
 pub(crate) fn refuted<R: Files + Print + Eprint, I: Read + Drop>(
     rt: &R,
@@ -144,7 +145,8 @@ pub(crate) fn refuted<R: Files + Print + Eprint, I: Read + Drop>(
     Ok(status)
 }
 
-/// Adds a declaration that is proposed for the program of a tape, or its own completed.
+/// Adds the declaration that is proposed for the program of a tape or, if the program has a declaration, that
+/// declaration completed.
 fn push_proposal<I: Read + Drop>(
     alloc: Global,
     opened: &mut OpenProgram<'_, I>,
@@ -166,9 +168,9 @@ fn push_proposal<I: Read + Drop>(
     answer
 }
 
-/// What is said if cells that may be read are to be listed, and the declaration that is completed has no list.
+/// The message if cells that may be read are to be listed, but the declaration that is completed has no list of them.
 const NO_LIST: &str =
-    "--reads adds nothing: the declaration has no `read` line, so any cell may be read; to have a list, add a line that says `read`\n";
+    "--reads adds nothing: the declaration has no `read` line, so any cell may be read; to have a list, first add a `read` line\n";
 
 /// Whether a declaration lists the cells that may be read.
 fn lists_reads(text: &[u8]) -> bool {
@@ -176,7 +178,7 @@ fn lists_reads(text: &[u8]) -> bool {
         .any(|line| line.trim_ascii().starts_with(b"read"))
 }
 
-/// A declaration that was proposed or completed, the status of the command, and what is told of how it was refined.
+/// A declaration that was proposed or completed, the status of the command, and the message about how it was refined.
 #[derive(Drop)]
 struct Proposal {
     text: Vec<u8>,
@@ -185,7 +187,7 @@ struct Proposal {
 }
 
 impl Proposal {
-    /// Leaves out what is needless, if that is requested.
+    /// Leaves out what is not needed, if that is requested.
     fn tighten_if(
         &mut self,
         is_requested: bool,
@@ -200,7 +202,7 @@ impl Proposal {
         self.replace(alloc, refined, source)
     }
 
-    /// Adds with what routines return, if that is requested.
+    /// Adds what the routines return with, if that is requested.
     fn add_returns_if(
         &mut self,
         is_requested: bool,
@@ -215,7 +217,7 @@ impl Proposal {
         self.replace(alloc, refined, source)
     }
 
-    /// Takes another text, and what is told of it.
+    /// Takes the refined text in place of its own, and adds the message about it.
     fn replace(
         &mut self,
         alloc: Global,
@@ -248,7 +250,7 @@ impl Proposal {
     }
 }
 
-/// A proposal for the program of a tape, as it is refined.
+/// A proposal for the program of a tape, refined as requested.
 fn refined(
     alloc: Global,
     given: Proposal,
@@ -265,7 +267,8 @@ fn refined(
     Ok(proposal)
 }
 
-/// A declaration that is proposed for a program, or its own completed, as it is refined; of a source with its symbols.
+/// The declaration that is proposed for a program or, if the program has a declaration, that declaration completed. It
+/// is refined as requested and, for a source, written with its symbols.
 fn proposal_for<I: Read + Drop>(
     alloc: Global,
     opened: &mut OpenProgram<'_, I>,
@@ -288,7 +291,8 @@ fn proposal_for<I: Read + Drop>(
     Ok(proposal)
 }
 
-/// Says on standard error, if it takes it, how a declaration was refined, and that no reads are added to it, if that is so.
+/// Says on standard error how a declaration was refined and, if `lacks_list`, that no reads are added to it. A failure
+/// to write is ignored.
 fn tell_of<R: Eprint>(rt: &R, found: &Proposal, lacks_list: bool) {
     let _ = put(&mut tell_to(rt), &found.told);
     if lacks_list {
@@ -296,8 +300,8 @@ fn tell_of<R: Eprint>(rt: &R, found: &Proposal, lacks_list: bool) {
     }
 }
 
-/// Writes a declaration that is proposed for a program, or its own completed, as it is refined. Says what is left out, and if no reads
-/// are added to it that should be.
+/// Writes the declaration that is proposed for a program or, if the program has a declaration, that declaration
+/// completed, refined as requested. Says what is left out, and if no reads are added although they were requested.
 #[inline(never)]
 pub(crate) fn declared<'r, R: Files + Print + Eprint, I: Read + Drop>(
     rt: &'r R,

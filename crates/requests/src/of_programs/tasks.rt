@@ -32,7 +32,7 @@ use streams::put;
 use streams::standard::StdWriter;
 use wordset::WordSet;
 
-/// Writes what is told to standard output, with what a source says about its addresses.
+/// Writes a message to standard output, with what the source, if there is one, says about its addresses.
 fn tell_lines<R: Print>(
     rt: &R,
     alloc: Global,
@@ -43,7 +43,7 @@ fn tell_lines<R: Print>(
     Ok(put(&mut StdWriter::new(io::writer(rt)), &lines)?)
 }
 
-/// Checks the certificate of a file, and says why the verdict is no if that is requested.
+/// Checks the certificate in a file and, if that is requested, says why the verdict is no.
 #[inline(never)]
 fn checked<R: Files + Input + Print, I: Read + Drop>(
     rt: &R,
@@ -70,7 +70,7 @@ fn checked<R: Files + Input + Print, I: Read + Drop>(
     Ok(verdict.status)
 }
 
-/// Writes what the certificate of a file says.
+/// Writes a report on what the certificate in a file says.
 #[inline(never)]
 fn reported<R: Files + Input + Print, I: Read + Drop>(
     rt: &R,
@@ -96,7 +96,7 @@ fn reported<R: Files + Input + Print, I: Read + Drop>(
     finish(&mut file, status)
 }
 
-/// How a watched run is told that may be stopped.
+/// The options for watching a run that may be stopped.
 fn watch_options_of<'s>(
     stopping: &'s StopOptions,
     explained: bool,
@@ -110,7 +110,7 @@ fn watch_options_of<'s>(
     }
 }
 
-/// Watches a run by the events of a file.
+/// Watches a run with the events of a file.
 #[inline(never)]
 fn watched<R: Files + Input + Print, I: Read + Drop>(
     rt: &R,
@@ -200,7 +200,7 @@ fn placed<R: Files + Print>(
     finish(&mut file, Status::Done)
 }
 
-/// How a report looks.
+/// The form of a report: plain text, or a page.
 fn report_form(text: bool) -> ReportForm {
     if text {
         ReportForm::Text
@@ -209,7 +209,8 @@ fn report_form(text: bool) -> ReportForm {
     }
 }
 
-/// What the options of a watched run name: those of a source may do so by its symbols.
+/// The cells and places that the options of a watched run name. If the program is given as a source, they may be named
+/// by its symbols.
 fn named_of(
     source: Option<&AssembledSource>,
     asked: &ProgramRequest<'_>,
@@ -221,7 +222,7 @@ fn named_of(
     }
 }
 
-/// Does what is requested with a program that is open. Each command has a frame of its own on the stack, since they are
+/// Carries out the request on a program that is open. Each command has a stack frame of its own, since these frames are
 /// large.
 ///
 /// # Errors

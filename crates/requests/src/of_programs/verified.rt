@@ -32,7 +32,8 @@ fn verified_as_declared<R: Files + Input + Print + Eprint, I: Read + Drop>(
     tell_answer_and_save(rt, alloc, save, &found.answer, &lines)
 }
 
-/// Says whether the program complies with the declaration that is proposed for it, and on standard error that it is.
+/// Says whether the program complies with the declaration that is proposed for it and, on standard error, that the
+/// declaration is proposed.
 #[inline(never)]
 fn verified_as_proposed<R: Files + Input + Print + Eprint, I: Read + Drop>(
     rt: &R,
@@ -53,16 +54,19 @@ fn verified_as_proposed<R: Files + Input + Print + Eprint, I: Read + Drop>(
     }
     let status = tell_proposed_and_save(rt, alloc, save, &found.proposed, &lines)?;
     if source.is_none() && save.is_none() {
-        let _ = eprintln!(rt; "the answer is about a proposed declaration: --save NAME writes it");
+        let _ = eprintln!(rt;
+            "the answer is about a proposed declaration; --save NAME saves that declaration"
+        );
     }
     Ok(status)
 }
 
-/// Says whether the program complies with its declaration, or with the one that is proposed, and saves what shows it.
+/// Says whether the program complies with its declaration, or with the one that is proposed, and saves the evidence if
+/// that is requested.
 ///
 /// # Errors
 ///
-/// The fault of the tape or of the declaration, of what was found, of a write, or of memory.
+/// The fault of the tape, of the declaration or of what was found; `Device` if a write fails; and `NoMemory`.
 pub(crate) fn verified<R: Files + Input + Print + Eprint, I: Read + Drop>(
     rt: &R,
     alloc: Global,

@@ -1,4 +1,4 @@
-//! Sources and their declarations, read and written in numbers, and what is said about their faults.
+//! Reads sources and their declarations, and reports their faults.
 
 use crate::file_kinds::{declaration_hint, source_hint};
 use crate::files::open_input;
@@ -17,10 +17,10 @@ use std::rt::Files;
 use streams::read_at_most;
 use streams::text::{Lines, Words};
 
-/// A byte more than a part of a source may have.
+/// One byte more than a part of a source may have.
 const MOST_PART: usize = 65_537;
 
-/// A byte more than a declaration may have.
+/// One byte more than a declaration may have.
 const MOST_DECLARATION: usize = 16_385;
 
 /// Where a declaration comes from.
@@ -30,7 +30,7 @@ pub enum DeclarationOrigin {
     File,
     /// From lines within the source.
     Within,
-    /// It is proposed.
+    /// From nowhere: it is to be proposed.
     Proposed,
 }
 
@@ -41,21 +41,21 @@ pub struct SourceInput {
     pub parts: Vec<Vec<u8>>,
     /// The declaration with its symbols.
     pub text: Vec<u8>,
-    /// Where it comes from.
+    /// Where the declaration comes from.
     pub promise: DeclarationOrigin,
 }
 
-/// What became of the files of a source and its declaration.
+/// The result of reading the files of a source and its declaration.
 #[derive(Drop)]
 pub enum SourceInputResult {
-    /// They cannot be taken, which has been told, and this is the status.
+    /// They cannot be used, which has been reported, and this is the status.
     Told(Status),
     /// They were read.
     Read(SourceInput),
 }
 
-/// Reads the parts of a source in order, up to the first that cannot be read, and puts them after those that were
-/// read.
+/// Reads the parts of a source in order, up to the first that cannot be read, and appends them to the parts that were
+/// already read.
 pub(crate) fn read_parts<R: Files + Input>(
     rt: &R,
     alloc: Global,
@@ -72,7 +72,11 @@ pub(crate) fn read_parts<R: Files + Input>(
     Ok(())
 }
 
-/// The bytes of parts, lent.
+/// The bytes of the parts, as slices.
+///
+/// # Errors
+///
+/// `AllocError` if memory was refused.
 pub fn byte_slices<'t>(alloc: Global, parts: &'t [Vec<u8>]) -> Result<Vec<&'t [u8]>, AllocError> {
     let mut slices = Vec::new(alloc);
     for part in parts {
@@ -81,7 +85,7 @@ pub fn byte_slices<'t>(alloc: Global, parts: &'t [Vec<u8>]) -> Result<Vec<&'t [u
     Ok(slices)
 }
 
-/// Whether a declaration says something, apart from comments.
+/// Whether a declaration has anything in it besides comments.
 pub(crate) fn says_something(declaration: &[u8]) -> bool {
     for line in Lines::of(declaration) {
         if Words::of(line).next().is_some() {
@@ -91,7 +95,7 @@ pub(crate) fn says_something(declaration: &[u8]) -> bool {
     false
 }
 
-/// The line that names a machine.
+/// The line of a declaration that names this machine.
 pub(crate) fn machine_line(profile: Profile) -> &'static [u8] {
     match profile {
         Profile::Pdp8I => b"profile 8i\n",
@@ -99,7 +103,7 @@ pub(crate) fn machine_line(profile: Profile) -> &'static [u8] {
     }
 }
 
-/// A declaration that is to be proposed, of which only the machine is known.
+/// The text of a declaration that is to be proposed, in which so far only the machine is known.
 fn unknown_declaration(alloc: Global, task: &Task<'_>) -> Result<Vec<u8>, AllocError> {
     let mut text = Vec::new(alloc);
     match task {
@@ -117,7 +121,8 @@ struct DeclarationInput {
     promise: DeclarationOrigin,
 }
 
-/// Whether a declaration is proposed where no file is named, by what the source says about one.
+/// Whether a declaration is proposed if no file is named for it: the task can propose one, and the declaration within
+/// the source is empty.
 fn is_proposed(task: &Task<'_>, within: &[u8]) -> bool {
     match task {
         Task::Verify { .. } | Task::Declare { .. } => !says_something(within),
@@ -125,7 +130,8 @@ fn is_proposed(task: &Task<'_>, within: &[u8]) -> bool {
     }
 }
 
-/// The declaration of a source: that of the file, else its lines within the source.
+/// The declaration of a source: that of the file, if one is named, and otherwise its lines within the source, or one
+/// that is to be proposed.
 fn given_declaration<R: Files + Input>(
     rt: &R,
     alloc: Global,
@@ -157,7 +163,7 @@ fn given_declaration<R: Files + Input>(
 fn said_of(fault: PlaceFault) -> &'static str {
     match fault {
         PlaceFault::BadLine(_) =>
-            "a word with a capital letter must be a symbol, a symbol and + or - a number, or two addresses with - between them",
+            "a word with a capital letter must be a symbol such as LOOP, a symbol plus or minus a number such as LOOP+2, or a range of two addresses such as LOOP-LOOP+2",
         PlaceFault::NoSymbol(_) => "the source defines no such symbol",
         PlaceFault::PastMemory(_) => "an address must be from 0000 to 7777",
         PlaceFault::Backwards(_) => "the range ends below its first address",
@@ -166,7 +172,7 @@ fn said_of(fault: PlaceFault) -> &'static str {
     }
 }
 
-/// The number of the line that has a fault; 0 if it is not about a line.
+/// The number of the line that has a fault; 0 if the fault is not about a line.
 fn line_of(fault: PlaceFault) -> usize {
     match fault {
         PlaceFault::BadLine(number)
@@ -198,7 +204,7 @@ fn push_placing(
     writeln!(told, "{said}").map_err(|_| AllocError)
 }
 
-/// Tells the fault of a declaration with symbols, and below it the line and what is wrong, if that is requested.
+/// Reports the fault of a declaration with symbols and, if that is requested, the line and what is wrong below it.
 fn tell_placing<R: Eprint>(
     rt: &R,
     alloc: Global,
@@ -224,7 +230,7 @@ fn tell_placing<R: Eprint>(
     Status::Refused
 }
 
-/// Where the fault of a declaration with symbols stands: in its file, or in a part of the source.
+/// Where the fault of a declaration with symbols lies: in its file, or in a part of the source.
 fn placing_spot<'n>(
     alloc: Global,
     fault: PlaceFault,
@@ -239,11 +245,12 @@ fn placing_spot<'n>(
     Ok(part_line_of(asked.program.parts(), &counts, line))
 }
 
-/// Tells that a source or its declaration is refused. A fault that is not about one of their lines is passed on.
+/// Reports that a source or its declaration is refused. A fault that is about neither of their texts is returned
+/// instead.
 ///
 /// # Errors
 ///
-/// `EmptyImage` and `NoMemory`.
+/// `EmptyImage` if the source assembles to no words, and `NoMemory`.
 pub fn tell_refused<R: Eprint>(
     rt: &R,
     alloc: Global,

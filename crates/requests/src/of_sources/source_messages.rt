@@ -1,4 +1,4 @@
-//! What is said about a source whose command is done, or has a fault that lies within the source.
+//! Messages about a source whose command is done, or whose command has a fault that lies within the source.
 
 use crate::of_sources::numbering::{DeclarationOrigin, SourceInput};
 use crate::of_sources::part_lines::{
@@ -14,7 +14,7 @@ use diagnostics::inputs::{FaultyFile, push_fault};
 use pal_text::{Ending, statements};
 use std::alloc::{AllocError, Global};
 
-/// The lines on a fault of a declaration within a source, of which the line stands there.
+/// The lines about a fault of a declaration within a source, with the faulty line as it stands there.
 fn within_lines(
     alloc: Global,
     fault: &DeclarationFault,
@@ -35,7 +35,7 @@ fn within_lines(
     told
 }
 
-/// Tells the fault of a declaration that stands within a source, and below it where and why.
+/// Reports the fault of a declaration within a source, and below it where it lies and why.
 fn tell_within<R: Eprint>(
     rt: &R,
     alloc: Global,
@@ -50,7 +50,7 @@ fn tell_within<R: Eprint>(
     Ok(tell_with(rt, Fault::Declared(*fault), &lines))
 }
 
-/// The declaration's fault, if it is one.
+/// The fault of the declaration, if the fault is one.
 fn declaration_fault(fault: &Fault) -> Option<DeclarationFault> {
     match fault {
         Fault::Declared(declared) => Some(*declared),
@@ -58,7 +58,7 @@ fn declaration_fault(fault: &Fault) -> Option<DeclarationFault> {
     }
 }
 
-/// Tells a fault of the command where it lies within the source; each other one is given on.
+/// Reports a fault of the command that lies within the source, if it is to be explained. Any other fault is returned.
 pub(crate) fn tell_command<R: Eprint>(
     rt: &R,
     alloc: Global,
@@ -76,7 +76,7 @@ pub(crate) fn tell_command<R: Eprint>(
     Err(*fault)
 }
 
-/// The place of the first part that ends the program by `$`.
+/// The index of the first part that ends the program with `$`.
 fn ending_part(alloc: Global, parts: &[&[u8]]) -> Option<usize> {
     for (index, part) in parts.iter().enumerate() {
         if let Ok(read) = statements(alloc, part) {
@@ -92,7 +92,7 @@ fn ending_part(alloc: Global, parts: &[&[u8]]) -> Option<usize> {
 ///
 /// # Errors
 ///
-/// Memory was refused.
+/// `AllocError` if memory was refused.
 pub(crate) fn tell_unread<R: Eprint>(
     rt: &R,
     alloc: Global,
@@ -104,7 +104,7 @@ pub(crate) fn tell_unread<R: Eprint>(
     Ok(())
 }
 
-/// The same with the names as they are shown.
+/// Does the same with the names as they are shown.
 fn tell_ignored<R: Eprint>(rt: &R, alloc: Global, names: &[&str], parts: &[&[u8]]) {
     if names.len() < 2 {
         return;

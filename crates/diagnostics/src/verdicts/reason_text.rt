@@ -2,7 +2,7 @@
 
 ghost use Rattle.std.specs.Prelude.{◌≡◌, ◌++◌, codes, OnOk};
 ghost use Rattle.diagnostics.specs.CheckText.{condition_text};
-ghost use Rattle.diagnostics.specs.WhyText.{asked_by, reason_line, reason_text, which_text, why_text, word_shown};
+ghost use Rattle.diagnostics.specs.WhyText.{around, asked_by, reason_line, reason_text, which_text, why_text, word_shown};
 
 mod asked;
 mod landing;

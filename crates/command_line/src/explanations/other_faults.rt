@@ -121,7 +121,7 @@ static OTHER_FAULTS: [Explanation; 26] = [
     Explanation {
         code: "Stuck",
         subject: Subject::Fault("guess: Stuck 0203"),
-        meaning: "no certificate was found; usually a condition of `check` fails at this address with what the search has found; if calls form a cycle, this is the lowest address of a call in the cycle",
+        meaning: "no certificate was found; usually a condition of `check` fails at this address, given what the search has found; if calls form a cycle, this is the lowest address of a call in the cycle",
         advice: "add `--why`: it usually names the condition that cannot be shown\nthere, and says what violates it",
     },
     Explanation {

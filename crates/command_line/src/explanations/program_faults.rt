@@ -44,7 +44,7 @@ static PROGRAM_FAULTS: [Explanation; 18] = [
         code: "Checksum",
         subject: Subject::Fault("tape: Checksum 0201 0200"),
         meaning: "the checksum on the tape (the first number) is not the checksum of its words (the second number)",
-        advice: "a frame was misread, lost or duplicated: read the tape again; do\nnot correct the checksum by hand; for a RIM tape: a tape of this kind has no\nchecksum, so its last word was taken for one; add a checksum (docs/FORMATS.md)",
+        advice: "a frame was misread, lost or duplicated: read the tape again; do\nnot correct the checksum by hand. If the tape is a RIM tape, it has no\nchecksum, and its last word was taken for one: add a checksum (docs/FORMATS.md)",
     },
     Explanation {
         code: "TooLong",
@@ -55,7 +55,7 @@ static PROGRAM_FAULTS: [Explanation; 18] = [
     Explanation {
         code: "EmptyImage",
         subject: Subject::Fault("tape: EmptyImage"),
-        meaning: "the source generates no code, so there is no tape to write",
+        meaning: "the source generates no word, so there is no tape to write",
         advice: "check that this is the right source, and that `$` does not come too\nearly",
     },
     Explanation {
@@ -74,13 +74,13 @@ static PROGRAM_FAULTS: [Explanation; 18] = [
         code: "DT",
         subject: Subject::Fault("source: DT 1 2"),
         meaning: "a tag whose symbol already has another value",
-        advice: "use a tag only once, and do not use the name of an instruction as a\ntag",
+        advice: "use a tag only once, and do not use as a tag the name of an\ninstruction or a symbol to which `=` gives another value",
     },
     Explanation {
         code: "UA",
         subject: Subject::Fault("source: UA 1 2"),
         meaning: "a symbol without a value",
-        advice: "define the symbol, and define it before any line that uses it for a\nvalue or an origin; if it is not one of your own symbols, the source may need\nsomething that this assembler leaves out (docs/PAL.md); for MQL and the like:\nuse `--profile 8e`, or the line `profile 8e` if there is a declaration",
+        advice: "define the symbol, and define it before any line that uses it for a\nvalue or an origin; if it is not one of your own symbols, the source may need\nsomething that this assembler leaves out (docs/PAL.md). For MQL and similar\ninstructions of the PDP-8/E, use `--profile 8e`, or the line `profile 8e` if\nthere is a declaration",
     },
     Explanation {
         code: "IR",
@@ -103,7 +103,7 @@ static PROGRAM_FAULTS: [Explanation; 18] = [
     Explanation {
         code: "ST",
         subject: Subject::Fault("source: ST 1 2"),
-        meaning: "a 1,025th user symbol",
+        meaning: "the source has more than 1,024 user symbols",
         advice: "use at most 1,024 user symbols",
     },
     Explanation {

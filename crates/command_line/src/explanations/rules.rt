@@ -13,14 +13,14 @@ static RULES: [Explanation; 8] = [
     Explanation {
         code: "rule2",
         subject: Subject::Asked("only declared cells are written"),
-        meaning: "Each cell that the step writes, except the cell in which a JMS stores\nits return address, is a variable or the running routine's own entry. That\nentry may be written only by an ISZ or, if a `moves` line names the entry, by a\nDCA that names it directly and not through a pointer.\nexample of a violation: a pointer in 0010 to 0017 is incremented before it is\nused, so it must begin one lower",
+        meaning: "Each cell that the step writes, except the cell in which a JMS stores\nits return address, is a variable or the running routine's own entry. That\nentry may be written only by an ISZ or, if a `moves` line names the entry, by a\nDCA that names it directly, not through a pointer.\nexample of a violation: a pointer in 0010 to 0017 is incremented before it is\nused, so it must begin one lower",
         advice: "add a `var` line for what is meant to change, including such a\npointer; for other cells see V5 and V14",
     },
     Explanation {
         code: "rule3",
         subject: Subject::Asked("a JMS goes to an entry"),
         meaning: "A JMS goes to an entry.\nexample of a violation: `JMS I TYPE` goes to the address that TYPE's entry\nhappens to hold",
-        advice: "write `JMS TYPE`; declare a `sub` line for each routine; make\ntables of entries, not of first instructions",
+        advice: "write `JMS TYPE`; declare a `sub` line for each routine; in a table\nof routines, give the addresses of the entries, not of the first instructions",
     },
     Explanation {
         code: "rule4",
@@ -49,8 +49,8 @@ static RULES: [Explanation; 8] = [
     Explanation {
         code: "rule8",
         subject: Subject::Asked("what is declared to hold does hold"),
-        meaning: "Before the step, every `holds` line about its address is true. Before\na JMP I through the entry of the last call, every `returns` line about this\nentry and the offset of this return is also true. The offset is the distance\nfrom the return address of this call to the word in the entry.\nexample of a violation: a routine that should return with 0 in AC returns with\nthe word that it read",
-        advice: "correct the program, or let the line name the words that were found\nas well",
+        meaning: "Before the step, every `holds` line about its address is true. Before\na JMP I through the entry of the last call, a second thing is required: every\n`returns` line about this entry and about the offset of this return is true.\nThe offset is the distance from the return address of this call to the word in\nthe entry.\nexample of a violation: a routine that should return with 0 in AC returns with\nthe word that it read",
+        advice: "correct the program, or add to the line the words that were found",
     },
 ];
 

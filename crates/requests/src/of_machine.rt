@@ -89,7 +89,7 @@ fn teletype_of<'a>(session: &TeletypeSession<'a>, places: &ResolvedPlaces) -> Te
 
 /// Carries out the request on the program of an assembled source.
 #[inline(never)]
-fn carry_out<R: Files + Input + Print + Eprint>(
+fn carry_out_machine_task<R: Files + Input + Print + Eprint>(
     rt: &R,
     alloc: Global,
     source: &AssembledSource,
@@ -144,7 +144,7 @@ fn report_source_refusal<R: Eprint>(
 
 /// Carries out the request on the program of a source that was read, and reports which of its parts are ignored; or
 /// reports why the source is refused.
-fn answer_given<R: Files + Input + Print + Eprint>(
+fn answer_machine_source<R: Files + Input + Print + Eprint>(
     rt: &R,
     alloc: Global,
     given: SourceInput,
@@ -161,7 +161,7 @@ fn answer_given<R: Files + Input + Print + Eprint>(
         Err(_) => return Err(Fault::NoMemory),
     };
     let source = describe_source(alloc, given, numbered, &request.parts)?;
-    let status = carry_out(rt, alloc, &source, request, at_terminal)?;
+    let status = carry_out_machine_task(rt, alloc, &source, request, at_terminal)?;
     if request.explained && status == Status::Refused {
         tell_lines(rt, UNSUPPORTED);
     }
@@ -202,5 +202,5 @@ pub fn answer_sourced<R: Files + Input + Print + Eprint>(
         text,
         origin: DeclarationOrigin::Proposed,
     };
-    answer_given(rt, alloc, given, request, at_terminal)
+    answer_machine_source(rt, alloc, given, request, at_terminal)
 }

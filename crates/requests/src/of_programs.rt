@@ -64,7 +64,7 @@ fn answer_assembled<R: Files + Input + Print + Eprint>(
 /// Carries out a command on a program whose source and declaration were read, or reports why they are refused. The
 /// source is assembled, and then the other files of the command are opened.
 #[inline(never)]
-fn answer_given<R: Files + Input + Print + Eprint>(
+fn answer_source<R: Files + Input + Print + Eprint>(
     rt: &R,
     alloc: Global,
     given: SourceInput,
@@ -95,6 +95,6 @@ pub fn answer_program<R: Files + Input + Print + Eprint>(
     }
     match read_all(rt, alloc, request)? {
         SourceInputResult::Reported(status) => Ok(status),
-        SourceInputResult::Read(given) => answer_given(rt, alloc, given, request),
+        SourceInputResult::Read(given) => answer_source(rt, alloc, given, request),
     }
 }

@@ -23,7 +23,7 @@ pub(crate) const UNSUPPORTED: &str =
 const UNWRITTEN: &str = "cannot be created or written";
 
 /// The most bytes of a file that are read: one more than any input may have.
-const MOST: usize = 1_048_577;
+const READ_LIMIT: usize = 1_048_577;
 
 /// The name of the input that has the fault, if it is the tape, the declaration, the certificate or the list of events.
 fn faulty_input<'a>(fault: &Fault, names: &FileNames<'a>) -> Option<&'a str> {
@@ -36,14 +36,14 @@ fn faulty_input<'a>(fault: &Fault, names: &FileNames<'a>) -> Option<&'a str> {
     }
 }
 
-/// The bytes of an input, of which at most `MOST` are read.
+/// The bytes of an input, of which at most `READ_LIMIT` are read.
 pub(crate) fn bytes_of<R: Files + Input>(
     rt: &R,
     alloc: Global,
     name: &str,
 ) -> Result<Vec<u8>, Fault> {
     let mut input = open_input(rt, name)?;
-    Ok(read_at_most(alloc, &mut input, MOST)?)
+    Ok(read_at_most(alloc, &mut input, READ_LIMIT)?)
 }
 
 /// Whether an input cannot be opened or read. An input that can be read only once is not tried.
@@ -115,16 +115,16 @@ fn input_lines<R: Files + Input>(
 }
 
 /// A name as a message shows it: an empty name is shown as a pair of quotation marks.
-fn told_name<'n>(name: &'n str) -> &'n str {
+fn displayed_name<'n>(name: &'n str) -> &'n str {
     if name.is_empty() { "\"\"" } else { name }
 }
 
 /// A line that consists of a name and what is said about it, or nothing if there is no name.
-fn line_of(alloc: Global, name: Option<&str>, said: &str) -> String {
+fn problem_line(alloc: Global, name: Option<&str>, problem: &str) -> String {
     let mut text = String::new(alloc);
     if let Some(name) = name {
-        if let Ok(shown) = visible_text(alloc, told_name(name)) {
-            let _ = writeln!(text, "{shown} {said}");
+        if let Ok(shown) = visible_text(alloc, displayed_name(name)) {
+            let _ = writeln!(text, "{shown} {problem}");
         }
     }
     text
@@ -145,15 +145,15 @@ fn unwritten_line(alloc: Global, names: &FileNames<'_>) -> String {
     let Some(output) = names.output else {
         return String::new(alloc);
     };
-    let first = told_name(output_name(output));
+    let first = displayed_name(output_name(output));
     match names.second_output {
         Some(other) if other != output => {
-            let second = told_name(output_name(other));
+            let second = displayed_name(output_name(other));
             let mut both = String::new(alloc);
             let _ = write!(both, "{first}, {second}");
             pair_line(alloc, &both)
         }
-        _ => line_of(alloc, Some(first), UNWRITTEN),
+        _ => problem_line(alloc, Some(first), UNWRITTEN),
     }
 }
 
@@ -193,7 +193,7 @@ fn device_line<R: Files + Input>(
     match fault {
         DeviceFault::Read => {
             let name = first_unread(rt, alloc, request);
-            line_of(alloc, name, "cannot be opened or read")
+            problem_line(alloc, name, "cannot be opened or read")
         }
         DeviceFault::Write => unwritten_line(alloc, &request.names()),
     }

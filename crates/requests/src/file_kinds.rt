@@ -26,13 +26,13 @@ enum Kind {
 }
 
 /// The words that a line of a declaration can begin with.
-const DECLARING: [&[u8]; 13] = [
+const DECLARATION_KEYWORDS: [&[u8]; 13] = [
     b"start", b"main", b"sub", b"var", b"stop", b"pause", b"profile", b"read", b"skips", b"moves",
     b"abandon", b"holds", b"returns",
 ];
 
 /// The words that a line of a list of events can begin with.
-const HAPPENING: [&[u8]; 7] = [
+const EVENT_KEYWORDS: [&[u8]; 7] = [
     b"step",
     b"key",
     b"reader",
@@ -51,33 +51,33 @@ fn is_text(bytes: &[u8]) -> bool {
 }
 
 /// Whether a line begins like a line of a declaration.
-fn declares(line: &[u8]) -> bool {
+fn is_declaration_line(line: &[u8]) -> bool {
     let line = line.trim_ascii();
     let mut words = line.split(|byte| matches!(*byte, b' ' | b'\t' | b'/'));
     match words.next() {
-        Some(first) => DECLARING.iter().any(|known| *known == first),
+        Some(first) => DECLARATION_KEYWORDS.iter().any(|keyword| *keyword == first),
         None => false,
     }
 }
 
 /// Whether a line looks like an event: a word that an event can begin with, followed only by words that consist of
 /// digits.
-fn happens(line: &[u8]) -> bool {
-    let said = line
+fn is_event_line(line: &[u8]) -> bool {
+    let event = line
         .split(|byte| *byte == b'/')
         .next()
         .unwrap_or(line)
         .trim_ascii();
-    let mut words = said.split(|byte| matches!(*byte, b' ' | b'\t'));
+    let mut words = event.split(|byte| matches!(*byte, b' ' | b'\t'));
     let is_known = match words.next() {
-        Some(first) => HAPPENING.iter().any(|known| *known == first),
+        Some(first) => EVENT_KEYWORDS.iter().any(|keyword| *keyword == first),
         None => false,
     };
     is_known && words.all(|word| word.iter().all(|byte| byte.is_ascii_digit()))
 }
 
 /// Whether a line begins with `$`, which ends a source, or with `*`, which sets the current location.
-fn is_of_source(line: &[u8]) -> bool {
+fn is_source_line(line: &[u8]) -> bool {
     let line = line.trim_ascii();
     line.starts_with(b"$") || line.starts_with(b"*")
 }
@@ -102,13 +102,13 @@ fn kind_of(bytes: &[u8]) -> Kind {
         return Kind::Certificate;
     }
     for line in bytes.split(|byte| *byte == b'\n') {
-        if is_of_source(line) {
+        if is_source_line(line) {
             return Kind::Source;
         }
-        if declares(line) {
+        if is_declaration_line(line) {
             return Kind::Declaration;
         }
-        if happens(line) {
+        if is_event_line(line) {
             return Kind::Events;
         }
     }
@@ -515,7 +515,7 @@ fn is_sourced(request: &Request<'_>) -> bool {
 }
 
 /// What is known about a request.
-fn asked_of<'p, 'a>(request: &'p Request<'a>) -> CommandContext<'p, 'a> {
+fn context_of<'p, 'a>(request: &'p Request<'a>) -> CommandContext<'p, 'a> {
     let command = request.command();
     CommandContext {
         command,
@@ -546,18 +546,18 @@ pub(crate) fn declaration_hint(
     text: &[u8],
 ) -> String {
     let command = request.task.command();
-    let asked = CommandContext {
+    let context = CommandContext {
         command,
         takes_source: takes_source(command),
         is_sourced: true,
         parts: request.program.parts(),
         names: request.names(),
     };
-    let mut told = String::new(alloc);
+    let mut hint = String::new(alloc);
     if name != "-" && !text.is_empty() {
-        asked.push_as_declaration(&mut told, name, kind_of(text));
+        context.push_as_declaration(&mut hint, name, kind_of(text));
     }
-    shown_line(alloc, &told)
+    shown_line(alloc, &hint)
 }
 
 /// The line about a file that was given as a part of a source but is of another kind. It is empty if there is no hint
@@ -570,7 +570,7 @@ pub(crate) fn source_hint<'a>(
     fault: PalFault,
     texts: &[&[u8]],
 ) -> String {
-    let asked = CommandContext {
+    let context = CommandContext {
         command,
         takes_source: takes_source(command),
         is_sourced: true,
@@ -578,15 +578,15 @@ pub(crate) fn source_hint<'a>(
         names,
     };
     let index = fault.part.wrapping_sub(1);
-    let mut told = String::new(alloc);
+    let mut hint = String::new(alloc);
     let name = parts.get(index).copied().unwrap_or("-");
     if name == "-" {
-        return told;
+        return hint;
     }
     if let Some(text) = texts.get(index) {
-        asked.push_as_source(&mut told, name, kind_of(text));
+        context.push_as_source(&mut hint, name, kind_of(text));
     }
-    shown_line(alloc, &told)
+    shown_line(alloc, &hint)
 }
 
 /// What a file seems to contain, if it can be read twice and is not empty. Standard input and pipes cannot be read
@@ -619,7 +619,7 @@ pub(crate) fn part_hint<R: Files + Input>(
     fault: &Fault,
 ) -> String {
     let mut text = String::new(alloc);
-    let asked = CommandContext {
+    let context = CommandContext {
         command,
         takes_source: false,
         is_sourced: true,
@@ -632,7 +632,7 @@ pub(crate) fn part_hint<R: Files + Input>(
     };
     if let Some(name) = name {
         if let Some(kind) = kind_in(rt, alloc, name) {
-            asked.push_as_source(&mut text, name, kind);
+            context.push_as_source(&mut text, name, kind);
         }
     }
     shown_line(alloc, &text)
@@ -648,12 +648,12 @@ pub fn hint_line<R: Files + Input>(
     request: &Request<'_>,
 ) -> String {
     let mut text = String::new(alloc);
-    let asked = asked_of(request);
+    let context = context_of(request);
     let name = match fault {
-        Fault::Tape(_) => asked.names.tape,
-        Fault::Declared(_) => asked.names.declaration,
-        Fault::Certificate(_) => asked.names.certificate,
-        Fault::Events(_) => asked.names.events,
+        Fault::Tape(_) => context.names.tape,
+        Fault::Declared(_) => context.names.declaration,
+        Fault::Certificate(_) => context.names.certificate,
+        Fault::Events(_) => context.names.events,
         Fault::Source(fault) => faulty_part(request.parts(), *fault),
         _ => None,
     };
@@ -664,11 +664,11 @@ pub fn hint_line<R: Files + Input>(
         return text;
     };
     match fault {
-        Fault::Tape(_) => asked.push_as_tape(&mut text, name, kind),
-        Fault::Declared(_) => asked.push_as_declaration(&mut text, name, kind),
-        Fault::Source(_) => asked.push_as_source(&mut text, name, kind),
-        Fault::Events(_) => asked.push_as_events(&mut text, name, kind),
-        _ => asked.push_as_certificate(&mut text, name, kind),
+        Fault::Tape(_) => context.push_as_tape(&mut text, name, kind),
+        Fault::Declared(_) => context.push_as_declaration(&mut text, name, kind),
+        Fault::Source(_) => context.push_as_source(&mut text, name, kind),
+        Fault::Events(_) => context.push_as_events(&mut text, name, kind),
+        _ => context.push_as_certificate(&mut text, name, kind),
     }
     shown_line(alloc, &text)
 }

@@ -10,7 +10,7 @@ use std::os::unix::fs::MetadataExt;
 use std::rt::Files;
 
 /// The beginning of the first line of each source that `source` writes.
-static SOURCE_MARK: &[u8] = b"/From a tape, for the PDP-8/";
+static SOURCE_PREFIX: &[u8] = b"/From a tape, for the PDP-8/";
 
 /// The identity of a plain file, whatever its name: its device, and its inode number there.
 #[derive(Clone, Copy, PartialEq, Eq)]
@@ -39,9 +39,9 @@ fn names_file<R: Files>(rt: &R, names: &[&str], file: Identity) -> bool {
 /// Whether a file is a part of the request's source.
 fn is_part<R: Files>(rt: &R, request: &Request<'_>, file: Identity) -> bool {
     match request {
-        Request::Assemble(asked) => names_file(rt, &asked.sources, file),
-        Request::Sourced(asked) => names_file(rt, &asked.parts, file),
-        Request::Program(asked) => names_file(rt, asked.program.parts(), file),
+        Request::Assemble(request) => names_file(rt, &request.sources, file),
+        Request::Sourced(request) => names_file(rt, &request.parts, file),
+        Request::Program(request) => names_file(rt, request.program.parts(), file),
         _ => false,
     }
 }
@@ -103,7 +103,7 @@ fn misused_output<R: Files>(rt: &R, request: &Request<'_>) -> Option<Misuse> {
 /// The options for the files that a request saves, if it saves any.
 fn save_of<'a>(request: &Request<'a>) -> Option<SaveOptions<'a>> {
     match request {
-        Request::Program(asked) => asked.task.save(),
+        Request::Program(request) => request.task.save(),
         _ => None,
     }
 }
@@ -129,12 +129,12 @@ fn is_foreign_source<R: Files>(rt: &R, name: &str) -> bool {
     if !has_bytes(rt, name) {
         return false;
     }
-    let mut front = [0; 28];
+    let mut prefix = [0; 28];
     let Ok(mut file) = fs::open(rt, name) else {
         return false;
     };
-    match file.read(&mut front) {
-        Ok(_) => front.as_slice() != SOURCE_MARK,
+    match file.read(&mut prefix) {
+        Ok(_) => prefix.as_slice() != SOURCE_PREFIX,
         Err(_) => true,
     }
 }
@@ -142,9 +142,9 @@ fn is_foreign_source<R: Files>(rt: &R, name: &str) -> bool {
 /// Whether the request, without being forced, would replace a source that `source` did not write.
 fn replaces_source<R: Files>(rt: &R, request: &Request<'_>) -> bool {
     match request {
-        Request::Source(asked) => {
-            let name = asked.out.name();
-            !asked.forced && is_source_name(name) && is_foreign_source(rt, name)
+        Request::Source(request) => {
+            let name = request.out.name();
+            !request.forced && is_source_name(name) && is_foreign_source(rt, name)
         }
         _ => false,
     }

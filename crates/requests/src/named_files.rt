@@ -104,18 +104,18 @@ impl NamedFiles {
     pub(crate) fn of<R: Files>(
         rt: &R,
         alloc: Global,
-        asked: &ProgramRequest<'_>,
+        request: &ProgramRequest<'_>,
         certificate: Option<&str>,
     ) -> Result<NamedFiles, AllocError> {
-        let first = first_of(&asked.program);
+        let first = first_of(&request.program);
         let program = visible_text(alloc, title_of(first))?;
         let mut files = String::new(alloc);
         files.push_str("Files: ")?;
         push_file(rt, alloc, &mut files, first)?;
-        for part in asked.program.parts().iter().skip(1) {
+        for part in request.program.parts().iter().skip(1) {
             push_further(rt, alloc, &mut files, Some(part))?;
         }
-        push_further(rt, alloc, &mut files, asked.declaration)?;
+        push_further(rt, alloc, &mut files, request.declaration)?;
         push_further(rt, alloc, &mut files, certificate)?;
         files.push_str(UNITS)?;
         Ok(NamedFiles { program, files })

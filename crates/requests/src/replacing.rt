@@ -10,13 +10,13 @@ use std::os::unix::fs::{MetadataExt, PermissionsExt, chown};
 use std::rt::Files;
 
 /// How many names are tried for a temporary file.
-const MOST_NAMES: u32 = 1_000;
+const MAX_NAMES: u32 = 1_000;
 
 /// How many symbolic links are followed from one to the next.
-const MOST_LINKS: u32 = 40;
+const MAX_LINKS: u32 = 40;
 
 /// Where Linux says how large a file this program may write.
-static LIMITS: &str = "/proc/self/limits";
+static LIMITS_PATH: &str = "/proc/self/limits";
 
 /// A temporary file beside another file, which is removed unless it has replaced that file.
 struct TemporaryFile<'r, R: Files> {
@@ -64,7 +64,7 @@ fn make_beside<'r, R: Files>(
     alloc: Global,
     path: &str,
 ) -> io::Result<(R::File, TemporaryFile<'r, R>)> {
-    for number in 0..MOST_NAMES {
+    for number in 0..MAX_NAMES {
         let name = name_beside(alloc, path, number).map_err(no_memory)?;
         let made = OpenOptions::new()
             .write(true)
@@ -99,7 +99,7 @@ fn link_target<R: Files>(rt: &R, alloc: Global, link: &str) -> io::Result<String
 /// The path of the file with this name, after all symbolic links; `None` if no temporary file may replace it.
 fn place_of<R: Files>(rt: &R, alloc: Global, name: &str) -> Result<Option<String>, AllocError> {
     let mut path = String::from_str(alloc, name)?;
-    for _ in 0..MOST_LINKS {
+    for _ in 0..MAX_LINKS {
         if is_stream(&path) || path.is_empty() || path.ends_with('/') {
             return Ok(None);
         }
@@ -138,9 +138,9 @@ fn limit_on(line: &str) -> Option<u64> {
 }
 
 /// The most bytes that this program may write to a file: a write beyond that would end the program with a signal.
-fn longest_file<R: Files>(rt: &R) -> u64 {
+fn file_size_limit<R: Files>(rt: &R) -> u64 {
     let mut text = [0; 2_048];
-    let Ok(mut file) = fs::open(rt, LIMITS) else {
+    let Ok(mut file) = fs::open(rt, LIMITS_PATH) else {
         return u64::MAX;
     };
     let Ok(count) = file.read(&mut text) else {
@@ -170,7 +170,7 @@ pub struct ResultFile<'r, R: Files> {
     /// The open file that is written to, once there is one.
     file: Option<R::File>,
     /// How many bytes may still be written.
-    room: u64,
+    remaining_bytes: u64,
 }
 
 impl<'r, R: Files> ResultFile<'r, R> {
@@ -187,7 +187,7 @@ impl<'r, R: Files> ResultFile<'r, R> {
             path: place_of(rt, alloc, name)?,
             beside: None,
             file: None,
-            room: u64::MAX,
+            remaining_bytes: u64::MAX,
         })
     }
 
@@ -270,9 +270,9 @@ impl<'r, R: Files> ResultFile<'r, R> {
     fn open(&mut self, count: u64) -> io::Result<()> {
         let device = self.is_device();
         if !device {
-            self.room = longest_file(self.rt);
+            self.remaining_bytes = file_size_limit(self.rt);
         }
-        if count > self.room {
+        if count > self.remaining_bytes {
             return Err(io::Error::from(io::ErrorKind::FileTooLarge));
         }
         match self.path.take() {
@@ -328,10 +328,10 @@ impl<R: Files> io::Write for ResultFile<'_, R> {
         if self.file.is_none() {
             self.open(count)?;
         }
-        if count > self.room {
+        if count > self.remaining_bytes {
             return Err(io::Error::from(io::ErrorKind::FileTooLarge));
         }
-        self.room -= count;
+        self.remaining_bytes -= count;
         match &mut self.file {
             Some(file) => file.write(buf),
             None => Ok(0),

@@ -2,7 +2,7 @@
 
 use crate::files::{has_bytes, open_input};
 use crate::replacing::ResultFile;
-use crate::source_faults::tell_of;
+use crate::source_faults::report_file_fault;
 use command_line::{CERTIFICATE_ENDING, DECLARATION_ENDING, EVENTS_ENDING, SaveOptions};
 use command_parts::status::{DeviceFault, Fault, Status};
 use command_parts::visible::visible_text;
@@ -14,10 +14,10 @@ use streams::standard::StdWriter;
 use streams::{put, read_at_most};
 
 /// The beginning of the first line of each certificate that a command of this program writes.
-static CERTIFICATE_MARK: &[u8] = b"PDP8-CERTIFICATE ";
+static CERTIFICATE_PREFIX: &[u8] = b"PDP8-CERTIFICATE ";
 
 /// The most bytes of a file that are read, which is the most that may be saved.
-const MOST: usize = 1_048_576;
+const READ_LIMIT: usize = 1_048_576;
 
 /// A text that is to be saved.
 #[derive(Drop)]
@@ -45,8 +45,8 @@ impl NamedText {
         let Ok(mut input) = open_input(rt, &self.path) else {
             return false;
         };
-        match read_at_most(alloc, &mut input, MOST) {
-            Ok(bytes) => !bytes.starts_with(CERTIFICATE_MARK) && *bytes != *self.text,
+        match read_at_most(alloc, &mut input, READ_LIMIT) {
+            Ok(bytes) => !bytes.starts_with(CERTIFICATE_PREFIX) && *bytes != *self.text,
             Err(_) => true,
         }
     }
@@ -63,14 +63,14 @@ impl NamedText {
 }
 
 /// Reports that a file is left as it is, because the command did not write it.
-fn tell_kept<R: Eprint>(rt: &R, alloc: Global, path: &str) -> Status {
+fn report_kept_file<R: Eprint>(rt: &R, alloc: Global, path: &str) -> Status {
     let Ok(path) = visible_text(alloc, path) else {
         return Status::Usage;
     };
-    let told = eprintln!(rt;
+    let written = eprintln!(rt;
         "error: {path} is a file that this command did not write, so it is kept: give another '--save NAME', or use --force to replace it"
     );
-    match told {
+    match written {
         Ok(()) | Err(_) => Status::Usage,
     }
 }
@@ -84,50 +84,50 @@ fn save_all<R: Files + Input + Eprint>(
     saved: &[NamedText],
     status: Status,
 ) -> Status {
-    let forced = save.is_some_and(|asked| asked.forced);
-    for it in saved {
-        if !forced && it.is_foreign(rt, alloc) {
-            return tell_kept(rt, alloc, &it.path);
+    let forced = save.is_some_and(|options| options.forced);
+    for text in saved {
+        if !forced && text.is_foreign(rt, alloc) {
+            return report_kept_file(rt, alloc, &text.path);
         }
     }
-    for it in saved {
-        if let Err(fault) = it.write(rt, alloc) {
-            return tell_of(rt, alloc, fault, &it.path, "cannot be created or written");
+    for text in saved {
+        if let Err(fault) = text.write(rt, alloc) {
+            return report_file_fault(rt, alloc, fault, &text.path, "cannot be created or written");
         }
     }
     status
 }
 
 /// Writes an answer to standard output.
-fn tell_answer<R: Print>(rt: &R, told: &[u8]) -> Result<(), Fault> {
-    Ok(put(&mut StdWriter::new(io::writer(rt)), told)?)
+fn print_answer<R: Print>(rt: &R, lines: &[u8]) -> Result<(), Fault> {
+    Ok(put(&mut StdWriter::new(io::writer(rt)), lines)?)
 }
 
 /// Prints an answer, and writes these texts to their files. A yes is printed only once they are written, and not at all
 /// if one of them cannot be; any other answer is printed first. Returns the status of the answer, or of the problem
 /// with a file.
-fn tell_and_save<R: Files + Input + Print + Eprint>(
+fn print_and_save<R: Files + Input + Print + Eprint>(
     rt: &R,
     alloc: Global,
     save: &Option<SaveOptions<'_>>,
     saved: &[NamedText],
     status: Status,
-    told: &[u8],
+    lines: &[u8],
 ) -> Result<Status, Fault> {
     if status != Status::Done {
-        tell_answer(rt, told)?;
+        print_answer(rt, lines)?;
         return Ok(save_all(rt, alloc, save, saved, status));
     }
     let after = save_all(rt, alloc, save, saved, status);
     if after == Status::Done {
-        tell_answer(rt, told)?;
+        print_answer(rt, lines)?;
     }
     Ok(after)
 }
 
 /// Adds a text that is to be saved.
-fn push_saved(saved: &mut Vec<NamedText>, it: NamedText) -> Result<(), Fault> {
-    match saved.push(it) {
+fn push_saved(saved: &mut Vec<NamedText>, text: NamedText) -> Result<(), Fault> {
+    match saved.push(text) {
         Ok(()) => Ok(()),
         Err(_) => Err(Fault::NoMemory),
     }
@@ -165,42 +165,42 @@ fn push_answer(
 /// # Errors
 ///
 /// `Device` if the answer cannot be written, and `NoMemory` if memory was refused.
-pub fn tell_answer_and_save<R: Files + Input + Print + Eprint>(
+pub fn print_answer_and_save<R: Files + Input + Print + Eprint>(
     rt: &R,
     alloc: Global,
     save: &Option<SaveOptions<'_>>,
     answer: &Answer<Global>,
-    told: &[u8],
+    lines: &[u8],
 ) -> Result<Status, Fault> {
     let mut saved = Vec::new(alloc);
-    if let Some(asked) = save {
-        push_answer(alloc, asked.name, answer, &mut saved)?;
+    if let Some(options) = save {
+        push_answer(alloc, options.name, answer, &mut saved)?;
     }
-    tell_and_save(rt, alloc, save, &saved, answer_status(answer), told)
+    print_and_save(rt, alloc, save, &saved, answer_status(answer), lines)
 }
 
 /// Does the same for an answer about a proposed declaration, which is saved with the evidence.
 ///
 /// # Errors
 ///
-/// As for [`tell_answer_and_save`].
-pub fn tell_proposed_and_save<R: Files + Input + Print + Eprint>(
+/// As for [`print_answer_and_save`].
+pub fn print_proposed_and_save<R: Files + Input + Print + Eprint>(
     rt: &R,
     alloc: Global,
     save: &Option<SaveOptions<'_>>,
     proposed: &ProposalAnswer<Global>,
-    told: &[u8],
+    lines: &[u8],
 ) -> Result<Status, Fault> {
     let mut saved = Vec::new(alloc);
-    if let Some(asked) = save {
+    if let Some(options) = save {
         let mut text = Vec::new(alloc);
         text.extend_from_slice(&proposed.text)?;
         push_saved(
             &mut saved,
-            NamedText::new(alloc, asked.name, DECLARATION_ENDING, text)?,
+            NamedText::new(alloc, options.name, DECLARATION_ENDING, text)?,
         )?;
-        push_answer(alloc, asked.name, &proposed.answer, &mut saved)?;
+        push_answer(alloc, options.name, &proposed.answer, &mut saved)?;
     }
     let status = answer_status(&proposed.answer);
-    tell_and_save(rt, alloc, save, &saved, status, told)
+    print_and_save(rt, alloc, save, &saved, status, lines)
 }

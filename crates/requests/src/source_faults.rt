@@ -33,11 +33,11 @@ pub fn visible_names(alloc: Global, names: &[&str]) -> Result<Vec<String>, Alloc
 ///
 /// `AllocError` if memory was refused.
 pub fn name_slices<'n>(alloc: Global, names: &'n [String]) -> Result<Vec<&'n str>, AllocError> {
-    let mut lent = Vec::new(alloc);
+    let mut slices = Vec::new(alloc);
     for name in names {
-        lent.push(name.as_str())?;
+        slices.push(name.as_str())?;
     }
-    Ok(lent)
+    Ok(slices)
 }
 
 /// An input as it is named in a sentence.
@@ -51,7 +51,7 @@ pub fn output_name<'n>(name: &'n str) -> &'n str {
 }
 
 /// The name of the part that could not be opened, if `opened` parts were opened before it.
-pub fn unopened<'n>(names: &'n [&'n str], opened: usize) -> &'n str {
+pub fn unopened_part<'n>(names: &'n [&'n str], opened: usize) -> &'n str {
     match names.get(opened) {
         Some(name) => input_name(name),
         None => "a source",
@@ -60,26 +60,31 @@ pub fn unopened<'n>(names: &'n [&'n str], opened: usize) -> &'n str {
 
 /// Writes the line of a fault to standard error and, if a device failed, a line below it that says which file it was.
 /// Returns the status of the fault.
-pub fn tell_of<R: Eprint>(
+pub fn report_file_fault<R: Eprint>(
     rt: &R,
     alloc: Global,
     fault: Fault,
     name: &str,
-    happened: &str,
+    problem: &str,
 ) -> Status {
     let status = tell(rt, fault);
     if status != Status::Device {
         return status;
     }
     if let Ok(name) = visible_text(alloc, name) {
-        let _ = eprintln!(rt; "{name} {happened}");
+        let _ = eprintln!(rt; "{name} {problem}");
     }
     status
 }
 
 /// Writes the line of a fault about a size to standard error, and below it what is too large: the number of parts, or
 /// one of the parts. Returns the status of the fault.
-pub fn tell_size<R: Eprint>(rt: &R, alloc: Global, fault: PalFault, names: &[&str]) -> Status {
+pub fn report_size_fault<R: Eprint>(
+    rt: &R,
+    alloc: Global,
+    fault: PalFault,
+    names: &[&str],
+) -> Status {
     let status = tell(rt, Fault::Source(fault));
     let count = names.len();
     let Some(name) = names.get(fault.part.wrapping_sub(1)) else {
@@ -99,18 +104,18 @@ pub fn tell_size<R: Eprint>(rt: &R, alloc: Global, fault: PalFault, names: &[&st
 /// Adds what is wrong with a source whose parts have these names.
 fn push_source_faults(
     alloc: Global,
-    told: &mut String,
+    lines: &mut String,
     names: &[&str],
     parts: &[&[u8]],
     profile: Profile,
 ) -> Result<(), AllocError> {
     let shown = visible_names(alloc, names)?;
-    push_faults(alloc, told, &name_slices(alloc, &shown)?, parts, profile)
+    push_faults(alloc, lines, &name_slices(alloc, &shown)?, parts, profile)
 }
 
 /// Writes the line of a source's fault to standard error and, if that is requested, what is wrong below it. Returns the
 /// status of the fault.
-pub fn tell_source<R: Eprint>(
+pub fn report_source_fault<R: Eprint>(
     rt: &R,
     alloc: Global,
     fault: PalFault,
@@ -123,9 +128,9 @@ pub fn tell_source<R: Eprint>(
         return tell(rt, Fault::Source(fault));
     }
     if fault.line == 0 {
-        return tell_size(rt, alloc, fault, names);
+        return report_size_fault(rt, alloc, fault, names);
     }
-    let mut told = String::new(alloc);
-    let _ = push_source_faults(alloc, &mut told, names, parts, profile);
-    tell_with(rt, Fault::Source(fault), &told)
+    let mut lines = String::new(alloc);
+    let _ = push_source_faults(alloc, &mut lines, names, parts, profile);
+    tell_with(rt, Fault::Source(fault), &lines)
 }

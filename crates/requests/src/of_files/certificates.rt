@@ -13,14 +13,14 @@ use streams::standard::StdWriter;
 fn migrate_by<R: Files + Input + Print>(
     rt: &R,
     alloc: Global,
-    asked: &MigrateRequest<'_>,
+    request: &MigrateRequest<'_>,
     declaration: &str,
 ) -> Result<Status, Fault> {
-    let mut promise = open_input(rt, declaration)?;
-    let mut text = open_input(rt, asked.certificate)?;
-    let mut file = open_output(rt, alloc, asked.out)?;
+    let mut declaration_input = open_input(rt, declaration)?;
+    let mut text = open_input(rt, request.certificate)?;
+    let mut file = open_output(rt, alloc, request.out)?;
     let mut out = StdWriter::new(&mut file);
-    let status = migrate_with_sites(alloc, &mut promise, &mut text, &mut out)?;
+    let status = migrate_with_sites(alloc, &mut declaration_input, &mut text, &mut out)?;
     finish(&mut file, status)
 }
 
@@ -33,13 +33,13 @@ fn migrate_by<R: Files + Input + Print>(
 pub fn migrate_from<R: Files + Input + Print>(
     rt: &R,
     alloc: Global,
-    asked: &MigrateRequest<'_>,
+    request: &MigrateRequest<'_>,
 ) -> Result<Status, Fault> {
-    if let Some(declaration) = asked.declaration {
-        return migrate_by(rt, alloc, asked, declaration);
+    if let Some(declaration) = request.declaration {
+        return migrate_by(rt, alloc, request, declaration);
     }
-    let mut text = open_input(rt, asked.certificate)?;
-    let mut file = open_output(rt, alloc, asked.out)?;
+    let mut text = open_input(rt, request.certificate)?;
+    let mut file = open_output(rt, alloc, request.out)?;
     let status = migrate(alloc, &mut text, &mut StdWriter::new(&mut file))?;
     finish(&mut file, status)
 }

@@ -191,29 +191,29 @@ pub fn hold_session<R: Files + Input + Print + Eprint>(
 }
 
 /// The key that interrupts a session at a terminal if no other key is requested: ^E.
-const USUAL_KEY: u8 = 5;
+const DEFAULT_INTERRUPT_KEY: u8 = 5;
 
 /// The byte of the key that interrupts a session, if one does.
 fn interrupt_key(interrupt: Interrupt, at_terminal: bool) -> Option<u8> {
     match interrupt {
-        Interrupt::Usual if at_terminal => Some(USUAL_KEY),
+        Interrupt::Usual if at_terminal => Some(DEFAULT_INTERRUPT_KEY),
         Interrupt::Usual | Interrupt::Off => None,
         Interrupt::Key(byte) => Some(byte),
     }
 }
 
 /// Says on standard error which key interrupts the session, if one does.
-fn tell_key<R: Eprint>(rt: &R, key: Option<u8>) {
+fn report_interrupt_key<R: Eprint>(rt: &R, key: Option<u8>) {
     let Some(byte) = key else {
         return;
     };
-    let told = if byte < 0o40 {
+    let written = if byte < 0o40 {
         let letter = char::from(byte + 0o100);
         eprintln!(rt; "^{letter} ends the session when the program asks for a key")
     } else {
         eprintln!(rt; "key {byte:03o} ends the session when the program asks for a key")
     };
-    match told {
+    match written {
         Ok(()) | Err(_) => {}
     }
 }
@@ -237,7 +237,7 @@ pub(crate) fn hold_teletype_session_on<R: Files + Input + Print + Eprint, S: Byt
 {
     let key = interrupt_key(session.interrupt, at_terminal);
     if at_terminal {
-        tell_key(rt, key);
+        report_interrupt_key(rt, key);
     }
     let name = shown_name(alloc, session.punch)?;
     let form = form_with(session.summary, &name);

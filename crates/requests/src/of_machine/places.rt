@@ -10,7 +10,7 @@ use wordset::WordSet;
 /// Reads addresses as in a declaration of a source that has these symbols.
 #[derive(Clone, Copy)]
 pub(crate) struct SymbolicAddresses<'s> {
-    pub(crate) own: &'s SymbolTable<Global>,
+    pub(crate) symbols: &'s SymbolTable<Global>,
 }
 
 /// Cells as a set.
@@ -31,14 +31,14 @@ fn one_of(cells: Cells) -> Option<Word> {
 
 impl AddressReader for SymbolicAddresses<'_> {
     fn cells(&self, word: &[u8]) -> Option<WordSet> {
-        match cells_of(self.own, word) {
+        match cells_of(self.symbols, word) {
             Ok(cells) => Some(set_of(cells)),
             Err(_) => None,
         }
     }
 
     fn place(&self, word: &[u8]) -> Option<Word> {
-        match cells_of(self.own, word) {
+        match cells_of(self.symbols, word) {
             Ok(cells) => one_of(cells),
             Err(_) => None,
         }
@@ -55,11 +55,11 @@ pub(crate) struct ResolvedPlaces {
 }
 
 /// The cells and places that these options name, with the symbols of the source.
-pub(crate) fn named_in(
-    own: &SymbolTable<Global>,
+pub(crate) fn resolve_places(
+    symbols: &SymbolTable<Global>,
     places: &PlaceOptions<'_>,
 ) -> Result<ResolvedPlaces, Misuse> {
-    let reader = SymbolicAddresses { own };
+    let reader = SymbolicAddresses { symbols };
     Ok(ResolvedPlaces {
         show: places.shown(&reader)?,
         stopping: places.stopping(&reader)?,

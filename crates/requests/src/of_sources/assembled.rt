@@ -34,7 +34,7 @@ pub struct AssembledSource {
 impl AssembledSource {
     /// Whether there is a declaration; otherwise one is to be proposed.
     pub fn is_declared(&self) -> bool {
-        self.given.promise != DeclarationOrigin::Proposed
+        self.given.origin != DeclarationOrigin::Proposed
     }
 
     /// A declaration in numbers, written with the symbols of the source. A line of the declaration that was given stays
@@ -103,12 +103,12 @@ fn without_empty_lines(alloc: Global, text: &[u8]) -> Result<Vec<u8>, AllocError
 
 /// The text of a declaration as it is written for people. A declaration from lines within a source has an empty line
 /// for each other line of the source; these empty lines are left out.
-fn as_written(
+fn readable_text(
     alloc: Global,
     text: &[u8],
-    promise: DeclarationOrigin,
+    origin: DeclarationOrigin,
 ) -> Result<Vec<u8>, AllocError> {
-    if promise == DeclarationOrigin::Within {
+    if origin == DeclarationOrigin::Within {
         return without_empty_lines(alloc, text);
     }
     let mut whole = Vec::new(alloc);
@@ -118,17 +118,17 @@ fn as_written(
 
 /// The declaration with symbols as it is written for people. A line within a source that leaves out its address still
 /// does so here.
-fn written_by_people(alloc: Global, given: &SourceInput) -> Result<Vec<u8>, AllocError> {
-    if given.promise == DeclarationOrigin::Within {
+fn readable_declaration(alloc: Global, given: &SourceInput) -> Result<Vec<u8>, AllocError> {
+    if given.origin == DeclarationOrigin::Within {
         let parts = byte_slices(alloc, &given.parts)?;
         return without_empty_lines(alloc, &declared_lines(alloc, &parts)?);
     }
-    as_written(alloc, &given.text, given.promise)
+    readable_text(alloc, &given.text, given.origin)
 }
 
 /// The declaration in numbers of a source that has no fault but assembles to no words, with an empty tape.
 #[inline(never)]
-fn wordless(
+fn number_wordless(
     alloc: Global,
     parts: &[&[u8]],
     declaration: &[u8],
@@ -157,7 +157,7 @@ fn number_for(
 ) -> Result<NumberedProgram<Global>, NumberingFault> {
     match (number(alloc, parts, declaration), task) {
         (Err(NumberingFault::EmptyImage), Task::Place { .. }) if says_something(declaration) => {
-            wordless(alloc, parts, declaration)
+            number_wordless(alloc, parts, declaration)
         }
         (numbered, _) => numbered,
     }
@@ -169,7 +169,7 @@ fn number_for(
 ///
 /// As for `number`, except that the source may assemble to no words if only the declaration is requested.
 #[inline(never)]
-pub fn numbered_from(
+pub fn number_source(
     alloc: Global,
     given: &SourceInput,
     task: &Task<'_>,
@@ -185,15 +185,15 @@ pub fn numbered_from(
 /// # Errors
 ///
 /// `AllocError` if memory was refused.
-pub fn described(
+pub fn describe_source(
     alloc: Global,
     given: SourceInput,
     numbered: NumberedProgram<Global>,
     names: &[&str],
 ) -> Result<AssembledSource, AllocError> {
     let notes = notes_of(alloc, &numbered.map)?;
-    let written = written_by_people(alloc, &given)?;
-    let shown = as_written(alloc, &numbered.declaration, given.promise)?;
+    let written = readable_declaration(alloc, &given)?;
+    let shown = readable_text(alloc, &numbered.declaration, given.origin)?;
     let names = visible_names(alloc, names)?;
     Ok(AssembledSource {
         numbered,

@@ -2,8 +2,8 @@
 
 use crate::file_kinds::{declaration_hint, source_hint};
 use crate::files::open_input;
-use crate::of_sources::part_lines::{PartLine, behind_lines, line_counts, part_line_of};
-use crate::source_faults::{tell_of, tell_source, unopened};
+use crate::of_sources::part_lines::{PartLine, after_lines, line_counts, part_line_of};
+use crate::source_faults::{report_file_fault, report_source_fault, unopened_part};
 use crate::telling::{tell_lines, tell_misuse};
 use command_line::{Misuse, ProgramRequest, Task};
 use command_parts::status::{Fault, Status};
@@ -18,10 +18,10 @@ use streams::read_at_most;
 use streams::text::{Lines, Words};
 
 /// One byte more than a part of a source may have.
-const MOST_PART: usize = 65_537;
+const PART_READ_LIMIT: usize = 65_537;
 
 /// One byte more than a declaration may have.
-const MOST_DECLARATION: usize = 16_385;
+const DECLARATION_READ_LIMIT: usize = 16_385;
 
 /// Where a declaration comes from.
 #[derive(Clone, Copy, PartialEq, Eq, Debug)]
@@ -42,14 +42,14 @@ pub struct SourceInput {
     /// The declaration with its symbols.
     pub text: Vec<u8>,
     /// Where the declaration comes from.
-    pub promise: DeclarationOrigin,
+    pub origin: DeclarationOrigin,
 }
 
 /// The result of reading the files of a source and its declaration.
 #[derive(Drop)]
 pub enum SourceInputResult {
     /// They cannot be used, which has been reported, and this is the status.
-    Told(Status),
+    Reported(Status),
     /// They were read.
     Read(SourceInput),
 }
@@ -64,7 +64,7 @@ pub(crate) fn read_parts<R: Files + Input>(
 ) -> Result<(), Fault> {
     for name in names {
         let mut input = open_input(rt, name)?;
-        let part = read_at_most(alloc, &mut input, MOST_PART)?;
+        let part = read_at_most(alloc, &mut input, PART_READ_LIMIT)?;
         if parts.push(part).is_err() {
             return Err(Fault::NoMemory);
         }
@@ -118,7 +118,7 @@ fn unknown_declaration(alloc: Global, task: &Task<'_>) -> Result<Vec<u8>, AllocE
 #[derive(Drop)]
 struct DeclarationInput {
     text: Vec<u8>,
-    promise: DeclarationOrigin,
+    origin: DeclarationOrigin,
 }
 
 /// Whether a declaration is proposed if no file is named for it: the task can propose one, and the declaration within
@@ -130,37 +130,37 @@ fn is_proposed(task: &Task<'_>, within: &[u8]) -> bool {
     }
 }
 
-/// The declaration of a source: that of the file, if one is named, and otherwise its lines within the source, or one
-/// that is to be proposed.
-fn given_declaration<R: Files + Input>(
+/// Reads the declaration of a source: that of the file, if one is named, and otherwise its lines within the source, or
+/// one that is to be proposed.
+fn read_declaration<R: Files + Input>(
     rt: &R,
     alloc: Global,
-    asked: &ProgramRequest<'_>,
+    request: &ProgramRequest<'_>,
     parts: &[Vec<u8>],
 ) -> Result<DeclarationInput, Fault> {
-    if let Some(name) = asked.declaration {
+    if let Some(name) = request.declaration {
         let mut input = open_input(rt, name)?;
         return Ok(DeclarationInput {
-            text: read_at_most(alloc, &mut input, MOST_DECLARATION)?,
-            promise: DeclarationOrigin::File,
+            text: read_at_most(alloc, &mut input, DECLARATION_READ_LIMIT)?,
+            origin: DeclarationOrigin::File,
         });
     }
     let slices = byte_slices(alloc, parts)?;
     let text = declaration_within(alloc, &slices)?;
-    if is_proposed(&asked.task, &text) {
+    if is_proposed(&request.task, &text) {
         return Ok(DeclarationInput {
-            text: unknown_declaration(alloc, &asked.task)?,
-            promise: DeclarationOrigin::Proposed,
+            text: unknown_declaration(alloc, &request.task)?,
+            origin: DeclarationOrigin::Proposed,
         });
     }
     Ok(DeclarationInput {
         text,
-        promise: DeclarationOrigin::Within,
+        origin: DeclarationOrigin::Within,
     })
 }
 
 /// What is wrong with a line of a declaration that has symbols.
-fn said_of(fault: PlaceFault) -> &'static str {
+fn description_of(fault: PlaceFault) -> &'static str {
     match fault {
         PlaceFault::BadLine(_) =>
             "a word with a capital letter must be a symbol such as LOOP, a symbol plus or minus a number such as LOOP+2, or a range of two addresses such as LOOP-LOOP+2",
@@ -173,7 +173,7 @@ fn said_of(fault: PlaceFault) -> &'static str {
 }
 
 /// The number of the line that has a fault; 0 if the fault is not about a line.
-fn line_of(fault: PlaceFault) -> usize {
+fn place_fault_line(fault: PlaceFault) -> usize {
     match fault {
         PlaceFault::BadLine(number)
         | PlaceFault::NoSymbol(number)
@@ -184,28 +184,28 @@ fn line_of(fault: PlaceFault) -> usize {
 }
 
 /// Adds the line of a declaration that has a fault, and what is wrong.
-fn push_placing(
-    told: &mut String,
+fn push_place_fault(
+    lines: &mut String,
     fault: PlaceFault,
     part_line: &PartLine<'_>,
     text: &[u8],
 ) -> Result<(), AllocError> {
-    let (name, said) = (part_line.name, said_of(fault));
+    let (name, description) = (part_line.name, description_of(fault));
     if part_line.line == 0 {
-        return writeln!(told, "{name}: {said}").map_err(|_| AllocError);
+        return writeln!(lines, "{name}: {description}").map_err(|_| AllocError);
     }
     let file = FaultyFile {
         name,
-        bytes: behind_lines(text, line_of(fault).saturating_sub(part_line.line)),
+        bytes: after_lines(text, place_fault_line(fault).saturating_sub(part_line.line)),
     };
-    if push_numbered(told, &file, part_line.line).is_err() {
+    if push_numbered(lines, &file, part_line.line).is_err() {
         return Err(AllocError);
     }
-    writeln!(told, "{said}").map_err(|_| AllocError)
+    writeln!(lines, "{description}").map_err(|_| AllocError)
 }
 
 /// Reports the fault of a declaration with symbols and, if that is requested, the line and what is wrong below it.
-fn tell_placing<R: Eprint>(
+fn report_place_fault<R: Eprint>(
     rt: &R,
     alloc: Global,
     fault: PlaceFault,
@@ -213,8 +213,8 @@ fn tell_placing<R: Eprint>(
     text: &[u8],
     explained: bool,
 ) -> Status {
-    let told = eprintln!(rt; "pdp8: declaration: {fault}");
-    if !explained || told.is_err() {
+    let written = eprintln!(rt; "pdp8: declaration: {fault}");
+    if !explained || written.is_err() {
         return Status::Refused;
     }
     let Ok(name) = visible_text(alloc, part_line.name) else {
@@ -225,24 +225,24 @@ fn tell_placing<R: Eprint>(
         line: part_line.line,
     };
     let mut lines = String::new(alloc);
-    let _ = push_placing(&mut lines, fault, &shown, text);
+    let _ = push_place_fault(&mut lines, fault, &shown, text);
     tell_lines(rt, &lines);
     Status::Refused
 }
 
 /// Where the fault of a declaration with symbols lies: in its file, or in a part of the source.
-fn placing_spot<'n>(
+fn place_fault_location<'n>(
     alloc: Global,
     fault: PlaceFault,
-    asked: &ProgramRequest<'n>,
+    request: &ProgramRequest<'n>,
     parts: &[&[u8]],
 ) -> Result<PartLine<'n>, AllocError> {
-    let line = line_of(fault);
-    if let Some(name) = asked.declaration {
+    let line = place_fault_line(fault);
+    if let Some(name) = request.declaration {
         return Ok(PartLine { name, line });
     }
     let counts = line_counts(alloc, parts)?;
-    Ok(part_line_of(asked.program.parts(), &counts, line))
+    Ok(part_line_of(request.program.parts(), &counts, line))
 }
 
 /// Reports that a source or its declaration is refused. A fault that is about neither of their texts is returned
@@ -251,32 +251,32 @@ fn placing_spot<'n>(
 /// # Errors
 ///
 /// `EmptyImage` if the source assembles to no words, and `NoMemory`.
-pub fn tell_refused<R: Eprint>(
+pub fn report_numbering_fault<R: Eprint>(
     rt: &R,
     alloc: Global,
     fault: NumberingFault,
-    asked: &ProgramRequest<'_>,
+    request: &ProgramRequest<'_>,
     given: &SourceInput,
 ) -> Result<Status, Fault> {
     let parts = byte_slices(alloc, &given.parts)?;
     let text = given.text.as_slice();
-    let explained = asked.explained;
+    let explained = request.explained;
     match fault {
         NumberingFault::Source(fault) => {
-            let names = asked.program.parts();
+            let names = request.program.parts();
             let profile = labels::machine_of(text);
-            let status = tell_source(rt, alloc, fault, names, &parts, profile, explained);
-            let command = asked.task.command();
-            let hint = source_hint(alloc, command, asked.names(), names, fault, &parts);
+            let status = report_source_fault(rt, alloc, fault, names, &parts, profile, explained);
+            let command = request.task.command();
+            let hint = source_hint(alloc, command, request.names(), names, fault, &parts);
             tell_lines(rt, &hint);
             Ok(status)
         }
         NumberingFault::EmptyImage => Err(Fault::EmptyImage),
         NumberingFault::Placing(fault) => {
-            let part_line = placing_spot(alloc, fault, asked, &parts)?;
-            let status = tell_placing(rt, alloc, fault, &part_line, text, explained);
-            if let Some(name) = asked.declaration {
-                tell_lines(rt, &declaration_hint(alloc, asked, name, text));
+            let part_line = place_fault_location(alloc, fault, request, &parts)?;
+            let status = report_place_fault(rt, alloc, fault, &part_line, text, explained);
+            if let Some(name) = request.declaration {
+                tell_lines(rt, &declaration_hint(alloc, request, name, text));
             }
             Ok(status)
         }
@@ -293,15 +293,15 @@ pub fn tell_refused<R: Eprint>(
 pub fn read_all<R: Files + Input + Eprint>(
     rt: &R,
     alloc: Global,
-    asked: &ProgramRequest<'_>,
+    request: &ProgramRequest<'_>,
 ) -> Result<SourceInputResult, Fault> {
     let mut parts = Vec::new(alloc);
-    if let Err(fault) = read_parts(rt, alloc, asked.program.parts(), &mut parts) {
-        if !asked.explained {
+    if let Err(fault) = read_parts(rt, alloc, request.program.parts(), &mut parts) {
+        if !request.explained {
             return Err(fault);
         }
-        let name = unopened(asked.program.parts(), parts.len());
-        return Ok(SourceInputResult::Told(tell_of(
+        let name = unopened_part(request.program.parts(), parts.len());
+        return Ok(SourceInputResult::Reported(report_file_fault(
             rt,
             alloc,
             fault,
@@ -309,13 +309,13 @@ pub fn read_all<R: Files + Input + Eprint>(
             "cannot be opened or read",
         )));
     }
-    let DeclarationInput { text, promise } = given_declaration(rt, alloc, asked, &parts)?;
-    if asked.asked && promise == DeclarationOrigin::Within {
-        return Ok(SourceInputResult::Told(tell_misuse(rt, &Misuse::DeclarationAndStart)));
+    let DeclarationInput { text, origin } = read_declaration(rt, alloc, request, &parts)?;
+    if request.asked && origin == DeclarationOrigin::Within {
+        return Ok(SourceInputResult::Reported(tell_misuse(rt, &Misuse::DeclarationAndStart)));
     }
     Ok(SourceInputResult::Read(SourceInput {
         parts,
         text,
-        promise,
+        origin,
     }))
 }

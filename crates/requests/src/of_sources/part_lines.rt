@@ -53,7 +53,7 @@ pub fn part_line_of<'n>(names: &[&'n str], counts: &[usize], number: usize) -> P
 }
 
 /// A text without its first `count` lines.
-pub fn behind_lines(text: &[u8], count: usize) -> &[u8] {
+pub fn after_lines(text: &[u8], count: usize) -> &[u8] {
     let mut rest = text;
     for _ in 0..count {
         match rest.iter().position(|byte| *byte == b'\n') {
@@ -65,7 +65,7 @@ pub fn behind_lines(text: &[u8], count: usize) -> &[u8] {
 }
 
 /// The number of the line that a fault is about; 0 if it is not about a line.
-pub fn line_of(fault: DeclarationFault) -> usize {
+pub fn fault_line(fault: DeclarationFault) -> usize {
     match fault {
         DeclarationFault::BadLine(number)
         | DeclarationFault::TwoStarts(number)

@@ -22,7 +22,7 @@ fn has_blanked_declaration(parts: &[Vec<u8>]) -> bool {
 }
 
 /// Says on standard error that an answer is about a proposed declaration, and why.
-pub(crate) fn tell_proposed<R: Eprint>(rt: &R, parts: &[Vec<u8>]) {
+pub(crate) fn report_proposed_declaration<R: Eprint>(rt: &R, parts: &[Vec<u8>]) {
     let _ = if has_blanked_declaration(parts) {
         eprintln!(rt;
             "no declaration is given, and the source has no /: line, although it has comments that begin with `/ :`, with a space: the answer is about a proposed declaration"

@@ -118,25 +118,25 @@ fn first_line(text: &[u8]) -> &[u8]
 }
 
 /// A text for people, with what the source says about its addresses.
-pub(crate) fn labelled(
+pub(crate) fn label_message(
     alloc: Global,
     source: &AssembledSource,
-    told: &Message<Global>,
+    message: &Message<Global>,
 ) -> Result<Vec<u8>, AllocError> {
-    rest_with_source_lines(alloc, source, told, 0)
+    rest_with_source_lines(alloc, source, message, 0)
 }
 
 /// What comes after the first `from` bytes of a text for people, with what the source says about its addresses.
 fn rest_with_source_lines(
     alloc: Global,
     source: &AssembledSource,
-    told: &Message<Global>,
+    message: &Message<Global>,
     from: usize,
 ) -> Result<Vec<u8>, AllocError> {
-    let bytes = told.as_bytes();
+    let bytes = message.as_bytes();
     let mut text = Vec::new(alloc);
     let mut done = from;
-    for placed in told.marks() {
+    for placed in message.marks() {
         if placed.place > done {
             let piece = bytes.get(done..placed.place).unwrap_or(b"");
             push_piece(alloc, &mut text, piece, placed.mark, source)?;

@@ -2,7 +2,7 @@
 
 use crate::of_sources::numbering::{DeclarationOrigin, SourceInput};
 use crate::of_sources::part_lines::{
-    PartLine, behind_lines, line_counts, line_of, on_line, part_line_of,
+    PartLine, after_lines, fault_line, line_counts, on_line, part_line_of,
 };
 use crate::source_faults::{name_slices, visible_names};
 use crate::telling::tell_with;
@@ -21,22 +21,22 @@ fn within_lines(
     part_line: &PartLine<'_>,
     text: &[u8],
 ) -> String {
-    let behind = line_of(*fault).saturating_sub(part_line.line);
+    let lines_before = fault_line(*fault).saturating_sub(part_line.line);
     let shown = Fault::Declared(on_line(*fault, part_line.line));
-    let mut told = String::new(alloc);
+    let mut lines = String::new(alloc);
     let Ok(name) = visible_text(alloc, part_line.name) else {
-        return told;
+        return lines;
     };
     let file = FaultyFile {
         name: &name,
-        bytes: behind_lines(text, behind),
+        bytes: after_lines(text, lines_before),
     };
-    let _ = push_fault(&mut told, shown, &file);
-    told
+    let _ = push_fault(&mut lines, shown, &file);
+    lines
 }
 
 /// Reports the fault of a declaration within a source, and below it where it lies and why.
-fn tell_within<R: Eprint>(
+fn report_declaration_fault<R: Eprint>(
     rt: &R,
     alloc: Global,
     fault: &DeclarationFault,
@@ -45,7 +45,7 @@ fn tell_within<R: Eprint>(
     text: &[u8],
 ) -> Result<Status, Fault> {
     let counts = line_counts(alloc, parts)?;
-    let part_line = part_line_of(names, &counts, line_of(*fault));
+    let part_line = part_line_of(names, &counts, fault_line(*fault));
     let lines = within_lines(alloc, fault, &part_line, text);
     Ok(tell_with(rt, Fault::Declared(*fault), &lines))
 }
@@ -59,18 +59,18 @@ fn declaration_fault(fault: &Fault) -> Option<DeclarationFault> {
 }
 
 /// Reports a fault of the command that lies within the source, if it is to be explained. Any other fault is returned.
-pub(crate) fn tell_command<R: Eprint>(
+pub(crate) fn report_command_fault<R: Eprint>(
     rt: &R,
     alloc: Global,
     fault: &Fault,
-    asked: &ProgramRequest<'_>,
+    request: &ProgramRequest<'_>,
     given: &SourceInput,
     parts: &[&[u8]],
 ) -> Result<Status, Fault> {
-    if given.promise == DeclarationOrigin::Within && asked.explained {
+    if given.origin == DeclarationOrigin::Within && request.explained {
         if let Some(declared) = declaration_fault(fault) {
-            let names = asked.program.parts();
-            return tell_within(rt, alloc, &declared, names, parts, &given.text);
+            let names = request.program.parts();
+            return report_declaration_fault(rt, alloc, &declared, names, parts, &given.text);
         }
     }
     Err(*fault)
@@ -93,19 +93,19 @@ fn ending_part(alloc: Global, parts: &[&[u8]]) -> Option<usize> {
 /// # Errors
 ///
 /// `AllocError` if memory was refused.
-pub(crate) fn tell_unread<R: Eprint>(
+pub(crate) fn report_ignored_parts<R: Eprint>(
     rt: &R,
     alloc: Global,
     names: &[&str],
     parts: &[&[u8]],
 ) -> Result<(), AllocError> {
     let shown = visible_names(alloc, names)?;
-    tell_ignored(rt, alloc, &name_slices(alloc, &shown)?, parts);
+    eprint_ignored_parts(rt, alloc, &name_slices(alloc, &shown)?, parts);
     Ok(())
 }
 
 /// Does the same with the names as they are shown.
-fn tell_ignored<R: Eprint>(rt: &R, alloc: Global, names: &[&str], parts: &[&[u8]]) {
+fn eprint_ignored_parts<R: Eprint>(rt: &R, alloc: Global, names: &[&str], parts: &[&[u8]]) {
     if names.len() < 2 {
         return;
     }

@@ -1,5 +1,5 @@
 -- Lemmas for the lines of a step that violates a rule.
-use Rattle.std.proofs.Common.{ℕ, zero, suc, ◌≡◌, ◌+◌, ◌<◌, ◌≤◌, ◌++◌, Bool, true, false, not, ◌&&◌, if◌then◌else◌, Option, Some, None, List, [], ◌∷◌, map, drop, get_or, length, append_assoc, append-nil, ap, ◌∙◌, refl, sym, subst, cc, inl, inr, tt, arith}
+use Rattle.std.proofs.Common.{ℕ, zero, suc, ◌≡◌, ◌+◌, ◌<◌, ◌≤◌, ◌++◌, Bool, true, false, if◌then◌else◌, Option, Some, None, List, [], ◌∷◌, map, drop, get_or, length, append_assoc, append-nil, ap, ◌∙◌, refl, sym, subst, inl, inr, arith}
 use Rattle.std.specs.Prelude.{find, filter, flat_map, codes, take, slice_get, IfSome, IfNone}
 use Rattle.std.specs.List.{range_with_len}
 use Rattle.std.specs.Option.{option_map}
@@ -11,13 +11,7 @@ use Rattle.std.proofs.lemmas.List.FromFn.{get_or-map-range_with_len, length-map-
 use Rattle.std.proofs.lemmas.Bool.{cases_Bool, true≢false}
 use Rattle.std.proofs.Math.ListN.{drop_of_length-le}
 use Rattle.word12.specs.Words.{octal_text}
-use Rattle.instruct.specs.Bits.{is_indirect, named_cell}
-use Rattle.instruct.specs.Instructions.{Meaning, And, Tad, Isz, Dca, Jms, Jmp, Group1, Group2, Group3, Device, Undefined, kind_of, reference_at}
-use Rattle.instruct.specs.declared.Instruction.{Instruction}
-use Rattle.instruct.specs.declared.Instruction.TheVariants.{Memory}
-use Rattle.instruct.specs.declared.Operation.{Operation}
-use Rattle.instruct.specs.declared.Operation.TheVariants as operation
-use Rattle.processor.specs.Machine.{after}
+use Rattle.processor.specs.Machine.{State, after}
 use Rattle.declaration.specs.Declaration.{Routine, Declaration, IsDeclared}
 use Rattle.declaration.specs.DeclarationInCode.{routine_of}
 use Rattle.declaration.specs.declared.Owner.{Owner}
@@ -25,18 +19,20 @@ use Rattle.processor.specs.Runs.{Image}
 use Rattle.peripherals.specs.declared.Event.{Event}
 use Rattle.peripherals.specs.declared.Event.TheVariants.{Step as Instruct}
 use Rattle.peripherals.specs.Devices.{WorldState}
+use Rattle.peripherals.specs.Loading.{image_of}
 use Rattle.policy.specs.Calls.{Call, Calls}
-use Rattle.policy.specs.Decided.{is_jmp}
 use Rattle.policy.specs.Rules.{KeepsCode}
 use Rattle.policy.specs.Runs.{HappensDeclared, calls_by}
 use Rattle.policy.specs.Watching.{BreaksAt}
 use Rattle.policy.specs.WatchedSteps.{Goes, Stops}
 use Rattle.policy.specs.declared.rules.Rule.{Rule}
 use Rattle.policy.specs.declared.watcher.Watched.TheVariants.{Broken}
+use Rattle.policy.proofs.CodeLemmas.{loaded_keeps}
 use Rattle.policy.proofs.TellLemmas.{broken_tells}
 use Rattle.policy.proofs.WatchLemmas.{Taken, none_taken, stopped, taken_more}
 use Rattle.machine_commands.specs.declared.violations.flow.ExecutedInstruction.{ExecutedInstruction}
-use Rattle.machine_commands.specs.ViolationText.{LeadsBy, addresses_text, before_address, begun_text, executed_by, is_reference, is_some_told, jumps, numbers_below, owner, return_addresses, routines}
+use Rattle.machine_commands.specs.ViolationText.{IsToldAfter, LeadsBy, addresses_text, before_address, begun_text, executed_by, executed_running, is_some_told, last_call, next_of, numbers_below, owner, return_addresses, routines, violation_text}
+use Rattle.machine_commands.specs.Running.{fresh}
 
 -- two pieces, one after the other
 pub joined : (old mid new a b : List ℕ) → mid ≡ old ++ a → new ≡ mid ++ b → new ≡ old ++ (a ++ b)
@@ -89,15 +85,11 @@ module _ {A B : Type 0} (g : A → B) (p : B → Bool) (xs : List A) (i : ℕ) w
 
 -- the item that is found passes the test
 pub found_passes : {A : Type 0} (p : A → Bool) (xs : List A) (x : A) → find p xs ≡ Some x → p x ≡ true
-found_passes p [] x is = absurd (none_is_no_some is)
-  where
-    none_is_no_some : {B : Type 0} {y : B} → (let none : Option B = None in none) ≡ Some y → ⊥
-    none_is_no_some e = cc
-found_passes p (y ∷ ys) x is = by_test (p y) refl is
-  where
-    by_test : (b : Bool) → p y ≡ b → (if b then Some y else find p ys) ≡ Some x → p x ≡ true
-    by_test true on same = let at : y ≡ x = cc in subst (λ z. p z ≡ true) at on
-    by_test false off later = found_passes p ys x later
+found_passes p [] x is = absurd (cc)
+found_passes p (y ∷ ys) x is = elim (cases_Bool (p y)) [
+  | inl on ↦ let here : Some y ≡ Some x = rw on at is in let same : y ≡ x = cc in rw same at on
+  | inr off ↦ found_passes p ys x (rw off at is)
+]
 
 -- nothing is found where no item passes
 pub nothing_found : {A : Type 0} (p : A → Bool) (xs : List A) → ((x : A) → p x ≡ false) → find p xs ≡ None
@@ -117,15 +109,15 @@ misses p (x ∷ xs) (suc i) d lt is = elim (cases_Bool (p x)) [
 ]
 
 -- of main and the routines of entries below a number
-not_owned : (p : Routine → Bool) (n : ℕ) (r : Routine) → IfSome r (λ e. e < n) → find p (None ∷ map Some (range_with_len 0 n)) ≡ None → p r ≡ false
-not_owned p n None below is = misses p (None ∷ map Some (range_with_len 0 n)) 0 None (omega arith) is
-not_owned p n (Some e) below is =
+not_ranged : (p : Routine → Bool) (n : ℕ) (r : Routine) → IfSome r (λ e. e < n) → find p (None ∷ map Some (range_with_len 0 n)) ≡ None → p r ≡ false
+not_ranged p n None below is = misses p (None ∷ map Some (range_with_len 0 n)) 0 None (omega arith) is
+not_ranged p n (Some e) below is =
     ap p (sym (get_or-map-range_with_len Some 0 n e e None below (omega arith))) ∙
     misses p (None ∷ map Some (range_with_len 0 n)) (suc e) None (let long : length (map Some (range_with_len 0 n)) ≡ n = length-map-range_with_len Some 0 n in omega (arith, long, below)) is
 
-not_owner : (p : Routine → Bool) (r : Routine) → IfSome r (λ e. e < 4096) → find p routines ≡ None → p r ≡ false
+not_owner : (p : Routine → Bool) (n : ℕ) (r : Routine) → IfSome r (λ e. e < n) → find p (None ∷ map Some (numbers_below n)) ≡ None → p r ≡ false
 unfolding numbers_below
-not_owner p r below is = not_owned p 4096 r below is
+not_owner p n r below is = not_ranged p n r below is
 
 -- the entry of a body is a word
 entry_below : (d : Declaration) (a : ℕ) (r : Routine) → IsDeclared d → d.body r a ≡ true → IfSome r (λ e. e < 4096)
@@ -140,38 +132,38 @@ owner_is d a (Some x) dd has none only = by_found (find (λ r. d.body r a) routi
   where
     by_found : (q : Option Routine) → find (λ r. d.body r a) routines ≡ q → Some (routine_of x) ≡ owner d a
     by_found (Some r) is = only r (found_passes (λ r. d.body r a) routines r is) ∙ sym is
-    by_found None is = absurd (true≢false (sym has ∙ not_owner (λ r. d.body r a) (routine_of x) (entry_below d a (routine_of x) dd has) is))
+    by_found None is = absurd (true≢false (sym has ∙ not_owner (λ r. d.body r a) 4096 (routine_of x) (entry_below d a (routine_of x) dd has) is))
 
 -- ---- the addresses to which a call may return
 
 -- those by the offsets below a number
 abbrev pub addresses_below : Declaration → Call → ℕ → List ℕ
-addresses_below d k n = map (after k.after) (filter (d.offset k.entry) (range_with_len 0 n))
+addresses_below d k n = map (after k.after) (filter (d.offset k.entry) (numbers_below n))
 
 range_more : (from n : ℕ) → range_with_len from (suc n) ≡ range_with_len from n ++ (from + n) ∷ []
 range_more from zero = let e : from + 0 ≡ from = omega arith in rw e refl
 range_more from (suc n) = let e : from + 1 + n ≡ from + suc n = omega arith in ap (λ l. from ∷ l) (range_more (from + 1) n ∙ rw e refl)
 
-one_number_more : (n : ℕ) → range_with_len 0 (n + 1) ≡ range_with_len 0 n ++ n ∷ []
-one_number_more n = let e : n + 1 ≡ suc n = omega arith in rw e (range_more 0 n)
+one_number_more : (n : ℕ) → numbers_below (n + 1) ≡ numbers_below n ++ n ∷ []
+unfolding numbers_below
+one_number_more n = let e : n + 1 ≡ suc n = omega arith in let from : 0 + n ≡ n = omega arith in ap (range_with_len 0) e ∙ (range_more 0 n ∙ ap (λ k. range_with_len 0 n ++ k ∷ []) from)
 
-filtered_more : (p : ℕ → Bool) (n : ℕ) → filter p (range_with_len 0 (n + 1)) ≡ filter p (range_with_len 0 n) ++ (if p n then n ∷ [] else [])
-filtered_more p n = ap (filter p) (one_number_more n) ∙ filter-append p (range_with_len 0 n) (n ∷ [])
+no_address : (d : Declaration) (k : Call) → addresses_below d k 0 ≡ []
+unfolding numbers_below
+no_address d k = refl
+
+filtered_more : (p : ℕ → Bool) (n : ℕ) → filter p (numbers_below (n + 1)) ≡ filter p (numbers_below n) ++ (if p n then n ∷ [] else [])
+filtered_more p n = ap (filter p) (one_number_more n) ∙ filter-append p (numbers_below n) (n ∷ [])
 
 pub address_more : (d : Declaration) (k : Call) (n : ℕ) → d.offset k.entry n ≡ true → addresses_below d k (n + 1) ≡ addresses_below d k n ++ after k.after n ∷ []
 address_more d k n has =
-    ap (map (after k.after)) (filtered_more (d.offset k.entry) n ∙ ap (λ l. filter (d.offset k.entry) (range_with_len 0 n) ++ l) (if_so (d.offset k.entry n) (n ∷ []) [] has)) ∙
-    map-append (after k.after) (filter (d.offset k.entry) (range_with_len 0 n)) (n ∷ [])
+    ap (map (after k.after)) (filtered_more (d.offset k.entry) n ∙ ap (λ l. filter (d.offset k.entry) (numbers_below n) ++ l) (if_so (d.offset k.entry n) (n ∷ []) [] has)) ∙
+    map-append (after k.after) (filter (d.offset k.entry) (numbers_below n)) (n ∷ [])
 
 pub address_same : (d : Declaration) (k : Call) (n : ℕ) → d.offset k.entry n ≡ false → addresses_below d k (n + 1) ≡ addresses_below d k n
 address_same d k n has =
-    ap (map (after k.after)) (filtered_more (d.offset k.entry) n ∙ ap (λ l. filter (d.offset k.entry) (range_with_len 0 n) ++ l) (if_not (d.offset k.entry n) (n ∷ []) [] has) ∙
-    append-nil (filter (d.offset k.entry) (range_with_len 0 n)))
-
--- all of them
-pub all_addresses : (d : Declaration) (k : Call) → addresses_below d k 64 ≡ return_addresses d k
-unfolding numbers_below
-all_addresses d k = refl
+    ap (map (after k.after)) (filtered_more (d.offset k.entry) n ∙ ap (λ l. filter (d.offset k.entry) (numbers_below n) ++ l) (if_not (d.offset k.entry n) (n ∷ []) [] has) ∙
+    append-nil (filter (d.offset k.entry) (numbers_below n)))
 
 -- a line with one address more
 pub begun_more : (e a : ℕ) (before : List ℕ) → begun_text e (before ++ a ∷ []) ≡ begun_text e before ++ (before_address e (is_some_told before) ++ octal_text a)
@@ -195,7 +187,11 @@ pub record Adds (d : Declaration) (k : Call) (n : ℕ) (old now : List ℕ) (tol
   pub some : told ≡ is_some_told (addresses_below d k n)
 
 pub adds_none : (d : Declaration) (k : Call) (old : List ℕ) → Adds d k 0 old old false
-adds_none d k old = record { inside = omega arith; text = sym (append-nil old); some = refl }
+adds_none d k old = record {
+  inside = omega arith;
+  text = sym (append-nil old) ∙ ap (λ l. old ++ begun_text k.entry l) (sym (no_address d k));
+  some = sym (ap is_some_told (no_address d k));
+}
 
 pub adds_more : (d : Declaration) (k : Call) (n o : ℕ) (old now new : List ℕ) (told : Bool) → n < 64 → o ≡ n → d.offset k.entry o ≡ true → Adds d k n old now told →
     new ≡ now ++ (before_address k.entry told ++ octal_text (after k.after o)) → Adds d k (n + 1) old new true
@@ -226,7 +222,7 @@ pub adds_all : (d : Declaration) (k : Call) (n : ℕ) (old now : List ℕ) (told
     (now ≡ old ++ begun_text k.entry (return_addresses d k)) × (told ≡ is_some_told (return_addresses d k))
 adds_all d k n old now told past adds =
     let all : n ≡ 64 = omega (arith, past, adds.inside) in
-    let at : addresses_below d k n ≡ return_addresses d k = ap (addresses_below d k) all ∙ all_addresses d k in
+    let at : addresses_below d k n ≡ return_addresses d k = ap (addresses_below d k) all in
     (adds.text ∙ ap (λ l. old ++ begun_text k.entry l) at, adds.some ∙ ap is_some_told at)
 
 -- the end of the line of addresses
@@ -244,9 +240,11 @@ none_ended e old mid new (a ∷ more) told first second = absurd (true≢false t
 leads_more : (d : Declaration) (es : List Event) (w : WorldState) (ks : Calls) (before : Option ExecutedInstruction) (x : WorldState) (ls : Calls) (last : Option ExecutedInstruction) (e : Event) (y : WorldState)
     → LeadsBy d es w ks before x ls last → HappensDeclared d x e y → LeadsBy d (es ++ e ∷ []) w ks before y (calls_by d x e ls) (executed_by x e last)
 leads_more d [] w ks before x ls last e y leads happens =
-    (y, subst (λ (v : WorldState). HappensDeclared d v e y) (sym leads.0) happens, refl,
-    ap (λ (v : WorldState). calls_by d v e ks) leads.0 ∙ ap (calls_by d x e) leads.1,
-    ap (λ (v : WorldState). executed_by v e before) leads.0 ∙ ap (executed_by x e) leads.2)
+    (y, subst (λ (v : WorldState). HappensDeclared d v e y) (sym leads.0) happens, (
+      refl,
+      ap (λ (v : WorldState). calls_by d v e ks) leads.0 ∙ ap (calls_by d x e) leads.1,
+      ap (λ (v : WorldState). executed_by v e before) leads.0 ∙ ap (executed_by x e) leads.2,
+    ))
 leads_more d (f ∷ es) w ks before x ls last e y leads happens =
     (leads.0, leads.1, leads_more d es leads.0 (calls_by d w f ks) (executed_by w f before) x ls last e y leads.2 happens)
 
@@ -298,56 +296,35 @@ is_first image d events w count n e x ks last q r low is replayed stops keeps br
     let same : Broken n q ≡ Broken count r = broken_tells image d events w (Broken n q) count r here breaks in
     let at : n ≡ count = cc in absurd (omega (arith, at, low))
 
--- ---- a JMP that is no return
+-- ---- what is told of that state
 
-pub jumps_by : (d : Declaration) (m : Meaning) (o : Operation) (word at : ℕ) → m ≡ reference_at o word at → jumps d m ≡ (is_jmp o && not (is_indirect word && d.entry (named_cell word at)))
-jumps_by d m operation.And word at is = rw is refl
-jumps_by d m operation.Tad word at is = rw is refl
-jumps_by d m operation.Isz word at is = rw is refl
-jumps_by d m operation.Dca word at is = rw is refl
-jumps_by d m operation.Jms word at is = rw is refl
-jumps_by d m operation.Jmp word at is = rw is refl
+-- a step of a machine that is running
+pub noted : (w : WorldState) (x : ExecutedInstruction) (h : Option ℕ) (s : State) (before : Option ExecutedInstruction) → h ≡ None → h ≡ w.halted_at → x ≡ next_of s → s ≡ w.state →
+    Some x ≡ executed_running w w.halted_at before
+noted w x h s before none at is same =
+    let stands : w.halted_at ≡ None = sym at ∙ none in
+    ap Some (is ∙ ap next_of same) ∙ ap (λ (o : Option ℕ). executed_running w o before) (sym stands)
 
-pub is_kind : (m : Meaning) → is_reference m ≡ true → kind_of m ≡ Memory
-is_kind (And i c) is = refl
-is_kind (Tad i c) is = refl
-is_kind (Isz i c) is = refl
-is_kind (Dca i c) is = refl
-is_kind (Jms i c) is = refl
-is_kind (Jmp i c) is = refl
-is_kind (Group1 w) is = absurd (true≢false (sym is))
-is_kind (Group2 w) is = absurd (true≢false (sym is))
-is_kind (Group3 o) is = absurd (true≢false (sym is))
-is_kind (Device a) is = absurd (true≢false (sym is))
-is_kind Undefined is = absurd (true≢false (sym is))
+-- the lines, of the state that a watcher shows
+pub lines_told : (d : Declaration) (r : Rule) (x : Option ExecutedInstruction) (old new : List ℕ) (last : Option Call) (ks ls : Calls) (s : State) (v w : WorldState) → old ≡ [] → new ≡ old ++ violation_text d last s r x →
+    last ≡ last_call ks → ks ≡ ls → s ≡ v.state → v ≡ w → new ≡ violation_text d (last_call ls) w.state r x
+lines_told d r x old new last ks ls s v w none is at calls state world =
+    is ∙ (ap (λ (t : List ℕ). t ++ violation_text d last s r x) none ∙
+    (ap (λ (k : Option Call). violation_text d k s r x) (at ∙ ap last_call calls) ∙ ap (λ (t : State). violation_text d (last_call ls) t r x) (state ∙ ap (λ (u : WorldState). u.state) world)))
 
-pub no_jump : (d : Declaration) (m : Meaning) → is_reference m ≡ false → false ≡ jumps d m
-no_jump d (And i c) is = refl
-no_jump d (Tad i c) is = refl
-no_jump d (Isz i c) is = refl
-no_jump d (Dca i c) is = refl
-no_jump d (Jms i c) is = refl
-no_jump d (Jmp i c) is = absurd (true≢false is)
-no_jump d (Group1 w) is = refl
-no_jump d (Group2 w) is = refl
-no_jump d (Group3 o) is = refl
-no_jump d (Device a) is = refl
-no_jump d Undefined is = refl
-
--- the test of the kind
-abbrev pub is_memory : Instruction → Bool
-is_memory Memory = true
-is_memory _ = false
-
-pub kind_tells : (m : Meaning) → is_memory (kind_of m) ≡ is_reference m
-kind_tells (And i c) = refl
-kind_tells (Tad i c) = refl
-kind_tells (Isz i c) = refl
-kind_tells (Dca i c) = refl
-kind_tells (Jms i c) = refl
-kind_tells (Jmp i c) = refl
-kind_tells (Group1 w) = refl
-kind_tells (Group2 w) = refl
-kind_tells (Group3 o) = refl
-kind_tells (Device a) = refl
-kind_tells Undefined = refl
+-- the lines after a replay from the declared start
+pub told_after : (image : List (Option ℕ)) (d : Declaration) (events : List Event) (count : ℕ) (r : Rule) (text : List ℕ) (first x : WorldState) (ks : Calls) (last : Option ExecutedInstruction) → first ≡ fresh image d.start →
+    ((words : Image) (q : Rule) → KeepsCode words d first.state.memory → BreaksAt words d events first count q → LeadsBy d (take count events) first [] None x ks last) →
+    text ≡ violation_text d (last_call ks) x.state r last → BreaksAt (image_of image) d events (fresh image d.start) count r → IsToldAfter d (take count events) (fresh image d.start) r text
+told_after image d events count r text first x ks last same leads is breaks =
+    let keeps : KeepsCode (image_of image) d (fresh image d.start).state.memory = loaded_keeps (image_of image) d (λ _. 0) in
+    record {
+      world = x;
+      calls = ks;
+      executed = last;
+      leads =
+          subst (λ (w : WorldState). LeadsBy d (take count events) w [] None x ks last) same
+              (leads (image_of image) r (subst (λ (w : WorldState). KeepsCode (image_of image) d w.state.memory) (sym same) keeps)
+                  (subst (λ (w : WorldState). BreaksAt (image_of image) d events w count r) (sym same) breaks));
+      text_is = is;
+    }

@@ -25,7 +25,7 @@ use Rattle.declaration.specs.declared.Subject.TheVariants.{Accumulator, Link, Mq
 use Rattle.policy.specs.Calls.{Call, Calls}
 use Rattle.policy.specs.Rules.{word_of}
 use Rattle.policy.specs.Runs.{HappensDeclared, calls_by}
-use Rattle.policy.specs.Decided.{is_dca, is_own, is_so, may_load}
+use Rattle.policy.specs.Decided.{is_own, is_so, may_load}
 use Rattle.policy.specs.Watching.{number_of}
 use Rattle.policy.specs.declared.rules.Rule.{Rule}
 use Rattle.policy.specs.declared.rules.Rule.TheVariants as rule
@@ -98,9 +98,14 @@ variable_advice d a =
 abbrev pub pointer_text : Reference → List ℕ
 pointer_text r = if r.indirect then line (codes "the address comes from the pointer ") r.named (codes "") else []
 
+-- The operation is DCA, which deposits the accumulator.
+abbrev pub deposits : Operation → Bool
+deposits operation.Dca = true
+deposits _ = false
+
 -- A DCA names the running routine's own entry.
 abbrev pub moves_return : Routine → Reference → Bool
-moves_return routine r = is_own routine r.place && (not r.indirect && is_dca r.operation)
+moves_return routine r = is_own routine r.place && (not r.indirect && deposits r.operation)
 
 -- What to declare if the program may store where this reference does.
 abbrev pub store_advice : Declaration → Option Call → Reference → List ℕ

@@ -26,6 +26,13 @@ pub fn distance(to: Word, from: Word) -> Word
     to.add(from.complement()).increment()
 }
 
+/// Adds an offset in decimal digits.
+fn push_offset<L: MessageWriter>(text: &mut L, offset: Word) -> Result<(), AllocError>
+    ensures { OnOk result (L.text text.new ≡ L.text text.old ++ decimal offset) }
+{
+    push_decimal(text, offset.value())
+}
+
 /// Adds the `sub` line that lets the routine of an entry return by an offset.
 fn push_listed_offset<L: MessageWriter>(
     text: &mut L,
@@ -36,7 +43,7 @@ fn push_listed_offset<L: MessageWriter>(
         (decimal offset ++ line (codes " to the line `sub ") entry (codes "`")))) }
 {
     text.push_text(b"the offset ")?;
-    push_decimal(text, offset.value())?;
+    push_offset(text, offset)?;
     push_advice(text, b" to the line `sub ", entry, b"`")?;
     Ok(())
 }

@@ -3,7 +3,7 @@ use Rattle.peripherals.specs.World.{profile_of, view}
 use Rattle.declaration.specs.DeclarationInCode.{meaning}
 use Rattle.policy.specs.OpenCalls.{open_calls}
 use Rattle.machine_commands.proofs.ViolationLemmas.{Replayed}
-use Rattle.machine_commands.proofs.violations.replay.replay.Given as goal
+use Rattle.machine_commands.proofs.violations.replaying.replay.Given as goal
 
 abbrev pub invariant-loop-index : goal.invariant-loop-index
 invariant-loop-index g l =

@@ -239,12 +239,15 @@ none_ended e old mid new (a ∷ more) told first second = absurd (true≢false t
 -- one event more
 leads_more : (d : Declaration) (es : List Event) (w : WorldState) (ks : Calls) (before : Option ExecutedInstruction) (x : WorldState) (ls : Calls) (last : Option ExecutedInstruction) (e : Event) (y : WorldState)
     → LeadsBy d es w ks before x ls last → HappensDeclared d x e y → LeadsBy d (es ++ e ∷ []) w ks before y (calls_by d x e ls) (executed_by x e last)
-leads_more d [] w ks before x ls last e y leads happens =
-    (y, subst (λ (v : WorldState). HappensDeclared d v e y) (sym leads.0) happens, (
-      refl,
-      ap (λ (v : WorldState). calls_by d v e ks) leads.0 ∙ ap (calls_by d x e) leads.1,
-      ap (λ (v : WorldState). executed_by v e before) leads.0 ∙ ap (executed_by x e) leads.2,
-    ))
+leads_more d [] w ks before x ls last e y leads happens = (
+  y,
+  subst (λ (v : WorldState). HappensDeclared d v e y) (sym leads.0) happens,
+  (
+    refl,
+    ap (λ (v : WorldState). calls_by d v e ks) leads.0 ∙ ap (calls_by d x e) leads.1,
+    ap (λ (v : WorldState). executed_by v e before) leads.0 ∙ ap (executed_by x e) leads.2,
+  ),
+)
 leads_more d (f ∷ es) w ks before x ls last e y leads happens =
     (leads.0, leads.1, leads_more d es leads.0 (calls_by d w f ks) (executed_by w f before) x ls last e y leads.2 happens)
 
@@ -271,8 +274,8 @@ one_replayed d dd events w count n e x y ks ls last low is replayed goes =
       taken = taken_more d dd events w n e x y ks ls is more replayed.taken goes;
       leads =
           subst (λ (l : Calls). LeadsBy d (take (n + 1) events) w [] None y l (executed_by x e last)) (sym goes.calls)
-              (subst (λ (es : List Event). LeadsBy d es w [] None y (calls_by d x e ks) (executed_by x e last)) (sym more)
-                  (leads_more d (take n events) w [] None x ks last e y replayed.leads goes.happens));
+          (subst (λ (es : List Event). LeadsBy d es w [] None y (calls_by d x e ks) (executed_by x e last)) (sym more)
+          (leads_more d (take n events) w [] None x ks last e y replayed.leads goes.happens));
     }
 
 -- no event is left
@@ -324,7 +327,7 @@ told_after image d events count r text first x ks last same leads is breaks =
       executed = last;
       leads =
           subst (λ (w : WorldState). LeadsBy d (take count events) w [] None x ks last) same
-              (leads (image_of image) r (subst (λ (w : WorldState). KeepsCode (image_of image) d w.state.memory) (sym same) keeps)
-                  (subst (λ (w : WorldState). BreaksAt (image_of image) d events w count r) (sym same) breaks));
+          (leads (image_of image) r (subst (λ (w : WorldState). KeepsCode (image_of image) d w.state.memory) (sym same) keeps)
+          (subst (λ (w : WorldState). BreaksAt (image_of image) d events w count r) (sym same) breaks));
       text_is = is;
     }

@@ -99,7 +99,13 @@ fn push_act<L: MessageWriter, D: Allocator>(
         Rule::KeepsCode => push_line(text, b"the word at ", cpu.pc, b" is not that of the tape"),
         Rule::WritesDeclared => push_fetched(text, declaration, last, cpu, Rule::WritesDeclared),
         Rule::CallsEntries => push_fetched(text, declaration, last, cpu, Rule::CallsEntries),
-        Rule::ReturnsToItsCall => push_fetched(text, declaration, last, cpu, Rule::ReturnsToItsCall),
+        Rule::ReturnsToItsCall => push_fetched(
+            text,
+            declaration,
+            last,
+            cpu,
+            Rule::ReturnsToItsCall,
+        ),
         Rule::ReadsListed => push_fetched(text, declaration, last, cpu, Rule::ReadsListed),
         Rule::AssertionsHold => push_unasserted(text, declaration, last, cpu),
     }

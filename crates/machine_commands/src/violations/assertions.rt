@@ -54,11 +54,7 @@ fn push_subject<L: MessageWriter>(text: &mut L, subject: &Subject) -> Result<(),
 }
 
 /// Adds the rest of a line: the word that a subject has.
-fn push_word<L: MessageWriter>(
-    text: &mut L,
-    cpu: &Cpu,
-    subject: &Subject,
-) -> Result<(), AllocError>
+fn push_word<L: MessageWriter>(text: &mut L, cpu: &Cpu, subject: &Subject) -> Result<(), AllocError>
     ensures { OnOk result (L.text text.new ≡ L.text text.old ++
         line (codes " holds ") (word_of subject.now (state_of cpu.now))
         (codes ", which is not one of the words declared")) }

@@ -9,9 +9,7 @@ ghost use Rattle.declaration.specs.DeclarationInCode.{meaning, routine_of};
 ghost use Rattle.policy.specs.OpenCalls.{call_of};
 ghost use Rattle.machine_commands.specs.ViolationText.{beginning_text, body_advice, body_line, came_by_jump, came_from, entry_advice, is_reference, line, main_text, no_entry_text, no_halt_text, origin_text, outside_text, owner_text, place_text, running, running_text, stray_text, taken_text};
 
-use crate::violations::lines::{
-    is_code, owner_of, push_advice, push_line, push_word_of,
-};
+use crate::violations::lines::{is_code, owner_of, push_advice, push_line, push_word_of};
 use crate::violations::returns::distance;
 use command_parts::message::{MessageWriter, push_text_and_address, push_text_and_advised};
 use declaration::{Declaration, Owner};
@@ -104,11 +102,7 @@ fn push_body_advice<L: MessageWriter>(
 }
 
 /// Adds that an address is in main's body, and what to declare if the JMP to it is to end all calls.
-fn push_in_main<L: MessageWriter>(
-    text: &mut L,
-    at: Word,
-    jumped: bool,
-) -> Result<(), AllocError>
+fn push_in_main<L: MessageWriter>(text: &mut L, at: Word, jumped: bool) -> Result<(), AllocError>
     ensures { OnOk result (L.text text.new ≡ L.text text.old ++ main_text jumped at) }
 {
     if jumped {
@@ -314,10 +308,7 @@ fn push_called<L: MessageWriter>(text: &mut L, call: &Call) -> Result<(), AllocE
 }
 
 /// Adds the line of the routine that runs, and where it was called from.
-pub fn push_running<L: MessageWriter>(
-    text: &mut L,
-    last: &Option<Call>,
-) -> Result<(), AllocError>
+pub fn push_running<L: MessageWriter>(text: &mut L, last: &Option<Call>) -> Result<(), AllocError>
     ensures { OnOk result (L.text text.new ≡
         L.text text.old ++ running_text (option_map call_of last.now)) }
 {

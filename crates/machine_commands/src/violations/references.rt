@@ -76,11 +76,7 @@ fn stored_word(cpu: &Cpu, operation: Operation, cell: Word) -> Word
 }
 
 /// Adds the line of a cell that is incremented.
-fn push_incremented<L: MessageWriter>(
-    text: &mut L,
-    cpu: &Cpu,
-    cell: Word,
-) -> Result<(), AllocError>
+fn push_incremented<L: MessageWriter>(text: &mut L, cpu: &Cpu, cell: Word) -> Result<(), AllocError>
     ensures { let memory = cell_of cpu.now.memory in
         OnOk result (L.text text.new ≡
         L.text text.old ++ change_text memory cell (after (memory cell) 1)) }
@@ -99,7 +95,12 @@ fn push_stored<L: MessageWriter>(
         (stored_word reference.now.operation (state_of cpu.now) reference.now.place)) }
 {
     let place = reference.place;
-    push_change(text, cpu, place, stored_word(cpu, reference.operation, place))
+    push_change(
+        text,
+        cpu,
+        place,
+        stored_word(cpu, reference.operation, place),
+    )
 }
 
 /// Adds the lines of a pointer that is incremented.

@@ -40,11 +40,7 @@ fn note_step<A: Allocator>(executed: &mut Option<ExecutedInstruction>, world: &W
 }
 
 /// Notes the instruction that an event carries out, if it is a step of a machine that is running.
-fn note<A: Allocator>(
-    executed: &mut Option<ExecutedInstruction>,
-    world: &World<A>,
-    event: &Event,
-)
+fn note<A: Allocator>(executed: &mut Option<ExecutedInstruction>, world: &World<A>, event: &Event)
     ensures { executed.new ≡ executed_by (view world.now) event.now executed.old }
 {
     match event {

@@ -14,5 +14,5 @@ pub returns : goal.returns
 returns g c =
     on_ok_weaker c.push_reference.result
     (λ is. is ∙ ap (λ (i : DecodedInstruction). g.L.MessageWriter.text c.args.text.now ++ reference_text (meaning c.args.declaration.now) (option_map call_of c.args.last.now) (state_of c.args.cpu.now) c.args.rule i)
-        (c.fetch-instruction.ensures ∙ ap (λ (p : Profile). fetched p (state_of c.args.cpu.now)) c.requires))
+    (c.fetch-instruction.ensures ∙ ap (λ (p : Profile). fetched p (state_of c.args.cpu.now)) c.requires))
     c.push_reference.ensures

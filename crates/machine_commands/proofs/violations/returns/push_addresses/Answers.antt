@@ -12,10 +12,10 @@ pub loop-index-preserved : goal.loop-index-preserved
 loop-index-preserved g c = elim c.if-has_offset.branch [
   | then-has_offset+in_ok-push_next_address w ↦ rw (w.text-is, w.is_one_told-is)
       (adds_more (meaning c.args.declaration.now) (call_of c.args.call.now) c.loop-index.index c.from_index-offset.result _ _ _ c.loop-index.is_one_told c.loop-index-test.true c.from_index-offset.ensures
-          (sym c.has_offset.ensures ∙ w.if-has_offset.true) c.loop-index.invariant w.in_ok-push_next_address.ensures)
+      (sym c.has_offset.ensures ∙ w.if-has_offset.true) c.loop-index.invariant w.in_ok-push_next_address.ensures)
   | else-has_offset w ↦ rw (w.text-is, w.is_one_told-is)
       (adds_same (meaning c.args.declaration.now) (call_of c.args.call.now) c.loop-index.index c.from_index-offset.result _ _ c.loop-index.is_one_told c.loop-index-test.true c.from_index-offset.ensures
-          (sym c.has_offset.ensures ∙ w.if-has_offset.false) c.loop-index.invariant)
+      (sym c.has_offset.ensures ∙ w.if-has_offset.false) c.loop-index.invariant)
 ]
 
 pub returns-clause-added : goal.returns-clause-added

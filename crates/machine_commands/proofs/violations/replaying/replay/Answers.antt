@@ -1,11 +1,11 @@
-use Rattle.std.proofs.Common.{rules, ◌≡◌, None, Some, ap, ◌∙◌}
+use Rattle.std.proofs.Common.{rules, ◌≡◌, Some, ap, ◌∙◌}
 use Rattle.std.specs.Prelude.{slice_get}
 use Rattle.peripherals.specs.Devices.{WorldState}
 use Rattle.peripherals.specs.World.{view}
 use Rattle.declaration.specs.DeclarationInCode.{meaning}
 use Rattle.policy.specs.OpenCalls.{open_calls}
 use Rattle.machine_commands.specs.ViolationText.{executed_by}
-use Rattle.machine_commands.proofs.ViolationLemmas.{all_replayed, is_first, is_there, none_replayed, one_replayed}
+use Rattle.machine_commands.proofs.ViolationLemmas.{is_first, none_replayed, one_replayed}
 use Rattle.machine_commands.proofs.violations.replaying.replay.Goals as goal
 
 pub loop-index-init : goal.loop-index-init
@@ -13,11 +13,6 @@ loop-index-init g c = (
   c.requires.profile,
   none_replayed (meaning c.args.declaration.now) c.args.events.now (view c.args.watcher.now.world) c.args.count (open_calls c.args.watcher.now.calls.items) c.requires.no_calls,
 )
-
-pub returns-in_default-clause-leads : goal.returns-in_default-clause-leads
-returns-in_default-clause-leads g c =
-    let none : slice_get c.args.events.now c.loop-index.index ≡ None = search rules in
-    λ image rule keeps breaks. absurd (is_there image (meaning c.args.declaration.now) c.args.events.now (view c.args.watcher.now.world) c.args.count c.loop-index.index rule c.loop-index-test.true none breaks)
 
 pub returns-in-Ok-Some-clause-leads : goal.returns-in-Ok-Some-clause-leads
 returns-in-Ok-Some-clause-leads g c =
@@ -36,8 +31,3 @@ loop-index-preserved g c =
       rw noted (one_replayed (meaning c.args.declaration.now) c.is_declared.ensures c.args.events.now (view c.args.watcher.now.world) c.args.count c.loop-index.index c.in-Some.event.now (view c.loop-index.watcher.world)
           (view c.next.new.self.world) (open_calls c.loop-index.watcher.calls.items) (open_calls c.next.new.self.calls.items) c.loop-index.executed c.loop-index-test.true is c.loop-index.invariant.1 goes),
     )
-
-pub returns-clause-leads : goal.returns-clause-leads
-returns-clause-leads g c =
-    λ image rule keeps breaks. all_replayed (meaning c.args.declaration.now) c.args.events.now (view c.args.watcher.now.world) c.args.count c.loop-index.index (view c.loop-index.watcher.world) (open_calls c.loop-index.watcher.calls.items)
-        c.loop-index.executed c.loop-index-test.false c.loop-index.invariant.1

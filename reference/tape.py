@@ -4,7 +4,7 @@ LEADER = bytes([0o200] * 16)
 
 
 def written(image):
-    """The tape of an image that isn't empty: a dictionary from addresses to words."""
+    """The tape of an image that is not empty: a dictionary from addresses to words."""
     frames, after = b"", None
     for at, word in sorted(image.items()):
         if at != after:

@@ -11,7 +11,7 @@ class BadDeclaration(Exception):
 @dataclass
 class Assertion:
     """What is to hold: of a subject (`ac`, `mq`, `link`, or the address of a cell) that it has one of some words, at
-    some places, or where `entry` isn't None when its routine returns by one of some offsets."""
+    some places, or where `entry` is not None when its routine returns by one of some offsets."""
     subject: object
     words: set
     places: set = None

@@ -4,7 +4,8 @@
 usage: tests/explanations.py            names each file that is out of date; exit status 1 if there is one
        tests/explanations.py --write    makes the files
 
-The files are conditions.rt, rules.rt and faults.rt in crates/command_line/src/explanations, in the layout that `rt fmt` leaves.
+The files are conditions.rt, rules.rt, program_faults.rt and other_faults.rt in crates/command_line/src/explanations, in the layout that
+`rt fmt` leaves. There are two files of faults because the prover checks a table of all of them only up to a certain length.
 
 The text about a condition is below its heading in docs/NO.md: what the condition requires is the line `V5 requires: ..` of a session there,
 and what to do is the text outside blocks. A rule has a row in the table of rules of docs/NO.md, which also has an example; what the
@@ -31,7 +32,7 @@ static {constant}: [Explanation; {count}] = [
 {entries}\
 ];
 
-/// What is said about the {name}.
+/// What is said about the {subject}.
 pub(crate) fn {name}() -> &'static [Explanation] {{
     &{constant}
 }}
@@ -96,19 +97,23 @@ def rules(page, declarations):
     for name, example, change in rows_of(page, "Rule"):
         number, _, name = name.partition(": ")
         required = in_lines("required: ", dict(listed)[number])
-        wrong = f"\n{in_lines('', f'for example: {example}')}" if example != "-" else ""
+        wrong = f"\n{in_lines('', f'example of a violation: {example}')}" if example != "-" else ""
         yield f"rule{number}", f"Asked({quoted(plain(name))})", required + wrong, change
 
 
 def changes(page):
-    """What to do about each fault, by its kind and name."""
+    """What to do about each fault, by its kind and name. A row about only some tapes or sources says in its advice which they are."""
     found = {}
     for names, change in [row for row in rows_of(page, "Fault") if len(row) == 2]:
         kind = re.match(r"`(\w+): ", names)[1]
-        qualifier = re.search(r"` (for .*)$", names)
         for name in re.findall(r"`(?:\w+: )?(\w+)[^`]*`", names.partition(" for ")[0]):
-            found.setdefault((kind, name), []).append(f"{qualifier[1]}: {change}" if qualifier else change)
+            found.setdefault((kind, name), []).append(change)
     return found
+
+
+def in_sentences(texts):
+    """Texts as sentences of one text, the last of which has no full stop. The first one is left in lower case."""
+    return ". ".join(texts[:1] + [text[0].upper() + text[1:] for text in texts[1:]])
 
 
 def faults(page, commands):
@@ -117,7 +122,12 @@ def faults(page, commands):
     for line, meaning in rows_of(commands, "Line, after `pdp8: `"):
         line = line.strip("`")
         kind, name = re.match(r"(\w+): (\w+)", line).groups()
-        yield name, f"Fault({quoted(line)})", plain(meaning), "; ".join(found[kind, name])
+        yield name, f"Fault({quoted(line)})", plain(meaning), in_sentences(found[kind, name])
+
+
+def is_of_program(entry):
+    """Whether a fault is one of a tape or of a source."""
+    return re.match(r'Fault\("(tape|source): ', entry[1]) is not None
 
 
 def quoted(text):
@@ -140,16 +150,20 @@ def file_of(name, head, said):
         ENTRY.format(code=quoted(code), subject=subject_in_source(subject), meaning=quoted(meaning), advice=quoted(in_lines("what to do: ", advice)))
         for code, subject, meaning, advice in said
     ]
-    return FILE.format(head=head, constant=name.upper(), count=len(entries), entries="".join(entries), name=name)
+    return FILE.format(head=head, constant=name.upper(), count=len(entries), entries="".join(entries), name=name, subject=name.replace("_", " "))
 
 
 def files():
     """Each file, by its path, with the text that the pages make."""
     page = read("docs/NO.md")
+    of_program, others = [], []
+    for entry in faults(page, read("docs/COMMANDS.md")):
+        (of_program if is_of_program(entry) else others).append(entry)
     tables = [
         ("conditions", "The conditions on a certificate.", conditions(page)),
         ("rules", "The rules for the steps of a run.", rules(page, read("docs/DECLARATIONS.md"))),
-        ("faults", "The faults of inputs, searches, files and memory.", faults(page, read("docs/COMMANDS.md"))),
+        ("program_faults", "The faults of tapes and sources.", of_program),
+        ("other_faults", "The faults of other files, of searches, of devices and of memory.", others),
     ]
     return {f"{FOLDER}/{name}.rt": file_of(name, head, said) for name, head, said in tables}
 

@@ -2,11 +2,13 @@
 //! `tests/explanations.py` makes the texts from the pages. Nothing is proved of them.
 
 mod conditions;
-mod faults;
+mod other_faults;
+mod program_faults;
 mod rules;
 
 use crate::explanations::conditions::conditions;
-use crate::explanations::faults::faults;
+use crate::explanations::other_faults::other_faults;
+use crate::explanations::program_faults::program_faults;
 use crate::explanations::rules::rules;
 use std::alloc::{AllocError, Allocator};
 
@@ -97,13 +99,19 @@ fn is_meant(code: &str, given: &str) -> bool {
     code.eq_ignore_ascii_case(given) || is_spaced(code.as_bytes(), given.as_bytes())
 }
 
-/// Adds what a table says about a code, and returns whether it says anything.
+/// The tables: of the conditions, of the rules, and of the faults.
+fn tables() -> [&'static [Explanation]; 4] {
+    [conditions(), rules(), program_faults(), other_faults()]
+}
+
+/// Adds what a table says about a code, and returns whether this table or an earlier one says anything about it.
 fn push_from<A: Allocator>(
     text: &mut String<A>,
     table: &[Explanation],
     code: &str,
+    is_known_before: bool,
 ) -> Result<bool, AllocError> {
-    let mut is_known = false;
+    let mut is_known = is_known_before;
     for explanation in table {
         if is_meant(explanation.code, code) {
             if is_known {
@@ -148,10 +156,11 @@ pub fn push_explanations<A: Allocator>(
     text: &mut String<A>,
     code: &str,
 ) -> Result<bool, AllocError> {
-    let is_condition = push_from(text, conditions(), code)?;
-    let is_rule = push_from(text, rules(), code)?;
-    let is_fault = push_from(text, faults(), code)?;
-    Ok(is_condition || is_rule || is_fault)
+    let mut is_known = false;
+    for table in tables() {
+        is_known = push_from(text, table, code, is_known)?;
+    }
+    Ok(is_known)
 }
 
 /// Adds what the fault with a code such as `TurnsSpent` means, and what to do. It is for faults that are not in a
@@ -161,7 +170,8 @@ pub fn push_explanations<A: Allocator>(
 ///
 /// `AllocError` if memory was refused.
 pub fn push_advice<A: Allocator>(text: &mut String<A>, code: &str) -> Result<(), AllocError> {
-    push_advice_from(text, faults(), code)
+    push_advice_from(text, program_faults(), code)?;
+    push_advice_from(text, other_faults(), code)
 }
 
 /// Adds the list of codes, one line for each: conditions, rules and faults.
@@ -171,9 +181,10 @@ pub fn push_advice<A: Allocator>(text: &mut String<A>, code: &str) -> Result<(),
 /// `AllocError` if memory was refused.
 pub fn push_codes<A: Allocator>(text: &mut String<A>) -> Result<(), AllocError> {
     text.push_str(
-        "pdp8 explain CODE says what a condition or a rule requires, or what a fault means, and what to do. The codes:\n",
+        "`pdp8 explain CODE` says what a condition or a rule requires, or what a fault means, and what to do about it. The codes are:\n",
     )?;
-    push_table(text, conditions())?;
-    push_table(text, rules())?;
-    push_table(text, faults())
+    for table in tables() {
+        push_table(text, table)?;
+    }
+    Ok(())
 }

@@ -1,4 +1,6 @@
-use Rattle.std.proofs.Common.{rules, ◌≡◌, Some, ap, ◌∙◌}
+use Rattle.std.proofs.Common.{◌≡◌, Some, length, ap, refl, sym, ◌∙◌}
+use Rattle.std.proofs.lemmas.Bool.{ltb-true}
+use Rattle.std.proofs.lemmas.Option.{slice_get_read}
 use Rattle.std.specs.Prelude.{slice_get}
 use Rattle.peripherals.specs.Devices.{WorldState}
 use Rattle.peripherals.specs.World.{view}
@@ -16,14 +18,16 @@ loop-index-init g c = (
 
 pub returns-in-Ok-Some-clause-leads : goal.returns-in-Ok-Some-clause-leads
 returns-in-Ok-Some-clause-leads g c =
-    let is : slice_get c.args.events.now c.loop-index.index ≡ Some c.in-Some.event.now = search rules in
+    let is : slice_get c.args.events.now c.loop-index.index ≡ Some c.in-Some.event.now =
+    slice_get_read c.args.events.now (length c.args.events.now) c.loop-index.index c.in-Some.event.now refl (ltb-true c.loop-index.index (length c.args.events.now) (sym c.in-Some.ensures.lookup.0)) c.in-Some.ensures.lookup.1 in
     let stops = rw c.in-Ok-Some.field-0-is at c.in-Ok-Some.ensures.watches in
     λ image rule keeps breaks. absurd (is_first image (meaning c.args.declaration.now) c.args.events.now (view c.args.watcher.now.world) c.args.count c.loop-index.index c.in-Some.event.now (view c.loop-index.watcher.world)
-        (open_calls c.loop-index.watcher.calls.items) c.loop-index.executed _ rule c.loop-index-test.true is c.loop-index.invariant.1 stops keeps breaks)
+    (open_calls c.loop-index.watcher.calls.items) c.loop-index.executed _ rule c.loop-index-test.true is c.loop-index.invariant.1 stops keeps breaks)
 
 pub loop-index-preserved : goal.loop-index-preserved
 loop-index-preserved g c =
-    let is : slice_get c.args.events.now c.loop-index.index ≡ Some c.in-Some.event.now = search rules in
+    let is : slice_get c.args.events.now c.loop-index.index ≡ Some c.in-Some.event.now =
+    slice_get_read c.args.events.now (length c.args.events.now) c.loop-index.index c.in-Some.event.now refl (ltb-true c.loop-index.index (length c.args.events.now) (sym c.in-Some.ensures.lookup.0)) c.in-Some.ensures.lookup.1 in
     let goes = rw c.in-Ok-None.field-0-is at c.in-Ok-None.ensures.watches in
     let noted : c.note.new.executed ≡ executed_by (view c.loop-index.watcher.world) c.in-Some.event.now c.loop-index.executed =
     c.note.ensures ∙ ap (λ (w : WorldState). executed_by w c.in-Some.event.now c.loop-index.executed) c.world.ensures.machine in (

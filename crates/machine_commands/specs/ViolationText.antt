@@ -38,10 +38,10 @@ use Rattle.machine_commands.specs.declared.violations.flow.ExecutedInstruction.{
 -- What a rule requires.
 abbrev pub requirement : Rule → List ℕ
 requirement rule.StaysInBody = codes "control stays in the running routine's body, at words that are supported"
-requirement rule.WritesDeclared = codes "only declared variables and, as far as allowed, the running routine's own entry are written"
+requirement rule.WritesDeclared = codes "only declared variables are written, and the running routine's own entry by an ISZ or, with a `moves` line, by a DCA"
 requirement rule.CallsEntries = codes "a JMS goes to a declared entry"
-requirement rule.ReturnsToItsCall = codes "a return goes to a declared place that follows its own call in memory"
-requirement rule.HaltsDeclared = codes "a HLT is at a declared halt"
+requirement rule.ReturnsToItsCall = codes "a return goes to the address after the JMS of its own call, plus a declared offset"
+requirement rule.HaltsDeclared = codes "a HLT is executed only at a declared halt"
 requirement rule.KeepsCode = codes "code stays as it is on the tape"
 requirement rule.ReadsListed = codes "only cells on the list of reads, and the running routine's own entry, are read"
 requirement rule.AssertionsHold = codes "each `holds` line and each `returns` line is true where it applies"
@@ -195,7 +195,7 @@ offset_advice k e to =
 abbrev pub call_text : Declaration → Option Call → ℕ → ℕ → List ℕ
 call_text d None e to = codes "; no call is open\n"
 call_text d (Some k) e to =
-    (codes "; the last call is to " ++ octal_text k.entry) ++ (line (codes ", and the address after it is ") k.after (codes "") ++ (returns_text d k ++ offset_advice k e to))
+    (codes "; the last call is to " ++ octal_text k.entry) ++ (line (codes ", and its return address is ") k.after (codes "") ++ (returns_text d k ++ offset_advice k e to))
 
 -- That a return through an entry goes to this address, and the last call.
 abbrev pub return_text : Declaration → Option Call → ℕ → ℕ → List ℕ
@@ -249,10 +249,15 @@ place_text d last at executed =
     if d.entry at then codes ": it is an entry, which holds a return address and must not be executed\n"
     else owner_text d last at executed (owner d at)
 
+-- That an address is not in the body of main, if no call is open, or of the routine that is running.
+abbrev pub outside_of : Option Call → List ℕ
+outside_of None = codes " is not in main's body"
+outside_of (Some k) = codes " is not in the running routine's body"
+
 -- That an address is not in the running routine's body, and what is there.
 abbrev pub outside_text : Declaration → Option Call → ℕ → Option ExecutedInstruction → List ℕ
 outside_text d last at executed =
-    octal_text at ++ (codes " is not in the running routine's body" ++ place_text d last at executed)
+    octal_text at ++ (outside_of last ++ place_text d last at executed)
 
 -- A step is outside the running routine's body, or is at a word that the machine does not implement.
 abbrev pub stray_text : Declaration → Option Call → State → Option ExecutedInstruction → List ℕ
@@ -271,7 +276,7 @@ beginning_text d a =
 
 -- What to declare if a routine begins at this address, which cannot be an auto-index cell.
 abbrev pub entry_advice : Declaration → ℕ → List ℕ
-entry_advice d a = if is_auto_index a then codes "no routine can begin in 0010 to 0017\n" else beginning_text d a
+entry_advice d a = if is_auto_index a then codes "no routine can begin at 0010 to 0017\n" else beginning_text d a
 
 -- A JMS goes to an address that is no entry.
 abbrev pub no_entry_text : Declaration → ℕ → List ℕ
@@ -300,7 +305,7 @@ subject_text (Cell a) = octal_text a
 
 -- That a word is not one of those declared.
 abbrev pub denied_text : Subject → State → List ℕ
-denied_text subject s = subject_text subject ++ line (codes " holds ") (word_of subject s) (codes ", which is not one of the words declared")
+denied_text subject s = subject_text subject ++ line (codes " holds ") (word_of subject s) (codes ", which is not one of the words that the declaration allows")
 
 -- An assertion is about the program counter, and is false.
 abbrev pub is_denied_at : State → PlaceAssertion → Bool
@@ -317,7 +322,7 @@ return_offset k memory = minus (memory k.entry) k.after
 -- What is false at a return by this offset, if something is.
 abbrev pub denied_return : ℕ → State → Option ReturnAssertion → List ℕ
 denied_return o s None = []
-denied_return o s (Some r) = (codes "at a return with offset " ++ octal_text o) ++ (codes " " ++ denied_text r.assertion.subject s)
+denied_return o s (Some r) = (codes "at a return with offset " ++ octal_text o) ++ (codes ", " ++ denied_text r.assertion.subject s)
 
 -- The first assertion about the return from the last call that is false.
 abbrev pub return_denied_text : Declaration → Option Call → State → List ℕ

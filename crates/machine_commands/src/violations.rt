@@ -125,7 +125,7 @@ fn push_next<L: MessageWriter, D: Allocator>(
     text.push_instruction(cpu.pc, Some(word), declaration.profile())
 }
 
-/// Adds what a step that violates a rule is about to do: the instruction with its address, what the rule asks, what the
+/// Adds what a step that violates a rule is about to do: the instruction with its address, what the rule requires, what the
 /// step does in place of it, where control came from, and the routine that runs.
 fn push_violation<L: MessageWriter, D: Allocator>(
     text: &mut L,
@@ -186,7 +186,7 @@ fn lines_after<A: Allocator + Copy, D: Allocator>(
 }
 
 /// The lines after the verdict of a watched run: what the step is about to do that violates a rule. There are none if
-/// they are not asked for, or no rule is violated.
+/// they are not requested, or no rule is violated.
 pub fn violation_lines<A: Allocator + Copy, D: Allocator>(
     alloc: A,
     image: &Image,

@@ -57,13 +57,13 @@ fn push_subject<L: MessageWriter>(text: &mut L, subject: &Subject) -> Result<(),
 fn push_word<L: MessageWriter>(text: &mut L, cpu: &Cpu, subject: &Subject) -> Result<(), AllocError>
     ensures { OnOk result (L.text text.new ≡ L.text text.old ++
         line (codes " holds ") (word_of subject.now (state_of cpu.now))
-        (codes ", which is not one of the words declared")) }
+        (codes ", which is not one of the words that the declaration allows")) }
 {
     push_word_line(
         text,
         b" holds ",
         word_of(cpu, subject),
-        b", which is not one of the words declared",
+        b", which is not one of the words that the declaration allows",
     )
 }
 
@@ -161,7 +161,7 @@ fn push_denied_by<L: MessageWriter>(
         (Some (return_assertion_of returning.now))) }
 {
     push_text_and_word(text, b"at a return with offset ", offset)?;
-    text.push_text(b" ")?;
+    text.push_text(b", ")?;
     push_denied_subject(text, cpu, returning)?;
     Ok(())
 }

@@ -7,7 +7,7 @@ ghost use Rattle.instruct.specs.Instructions.{meaning_of};
 ghost use Rattle.processor.specs.Steps.{state_of};
 ghost use Rattle.declaration.specs.DeclarationInCode.{meaning, routine_of};
 ghost use Rattle.policy.specs.OpenCalls.{call_of};
-ghost use Rattle.machine_commands.specs.ViolationText.{beginning_text, body_advice, body_line, came_by_jump, came_from, entry_advice, is_reference, line, main_text, no_entry_text, no_halt_text, origin_text, outside_text, owner_text, place_text, running, running_text, stray_text, taken_text};
+ghost use Rattle.machine_commands.specs.ViolationText.{beginning_text, body_advice, body_line, came_by_jump, came_from, entry_advice, is_reference, line, main_text, no_entry_text, no_halt_text, origin_text, outside_of, outside_text, owner_text, place_text, running, running_text, stray_text, taken_text};
 
 use crate::violations::lines::{is_code, owner_of, push_advice, push_line, push_word_of};
 use crate::violations::returns::distance;
@@ -157,6 +157,16 @@ fn push_place<L: MessageWriter, D: Allocator>(
     push_owner(text, declaration, last, at, executed, &owner)
 }
 
+/// Of which body an address is said to be outside: main's, if no call is open, or that of the routine that is running.
+fn outside_of(last: &Option<Call>) -> &'static [u8]
+    ensures { result.now ≡ outside_of (option_map call_of last.now) }
+{
+    match last {
+        None => b" is not in main's body",
+        Some(_) => b" is not in the running routine's body",
+    }
+}
+
 /// Adds the line of an address that is not in the running routine's body, to which an instruction led: what it is, or
 /// what to declare if it is code of that routine, or if all calls may be over there.
 fn push_outside<L: MessageWriter, D: Allocator>(
@@ -170,7 +180,7 @@ fn push_outside<L: MessageWriter, D: Allocator>(
         (option_map call_of last.now) at executed.now) }
 {
     text.push_address(at)?;
-    text.push_text(b" is not in the running routine's body")?;
+    text.push_text(outside_of(last))?;
     push_place(text, declaration, last, at, executed)?;
     Ok(())
 }
@@ -249,7 +259,7 @@ fn push_entry_advice<L: MessageWriter, D: Allocator>(
         (L.text text.new ≡ L.text text.old ++ entry_advice (meaning declaration.now) place) }
 {
     if is_auto_index(place) {
-        return text.push_text(b"no routine can begin in 0010 to 0017\n");
+        return text.push_text(b"no routine can begin at 0010 to 0017\n");
     }
     push_beginning(text, declaration, place)
 }

@@ -218,7 +218,7 @@ fn push_last_call<L: MessageWriter, D: Allocator>(
         call_text (meaning declaration.now) (Some (call_of call.now)) entry to) }
 {
     push_text_and_address(text, b"; the last call is to ", call.entry)?;
-    push_line(text, b", and the address after it is ", call.after, b"")?;
+    push_line(text, b", and its return address is ", call.after, b"")?;
     push_returns(text, declaration, call)?;
     push_offset_advice(text, call, entry, to)?;
     Ok(())

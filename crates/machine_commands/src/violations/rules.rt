@@ -1,4 +1,4 @@
-//! What each rule asks.
+//! What each rule requires.
 
 ghost use Rattle.std.specs.Prelude.{◌≡◌, ◌++◌, decimal, OnOk};
 ghost use Rattle.policy.specs.Watching.{number_of};
@@ -9,7 +9,7 @@ use itoa::Buffer;
 use policy::Rule;
 use std::alloc::AllocError;
 
-/// What a rule asks.
+/// What a rule requires.
 fn asked(rule: Rule) -> &'static [u8]
     ensures { result.now ≡ requirement rule }
 {
@@ -17,11 +17,11 @@ fn asked(rule: Rule) -> &'static [u8]
         Rule::StaysInBody =>
             b"control stays in the running routine's body, at words that are supported",
         Rule::WritesDeclared =>
-            b"only declared variables and, as far as allowed, the running routine's own entry are written",
+            b"only declared variables are written, and the running routine's own entry by an ISZ or, with a `moves` line, by a DCA",
         Rule::CallsEntries => b"a JMS goes to a declared entry",
         Rule::ReturnsToItsCall =>
-            b"a return goes to a declared place that follows its own call in memory",
-        Rule::HaltsDeclared => b"a HLT is at a declared halt",
+            b"a return goes to the address after the JMS of its own call, plus a declared offset",
+        Rule::HaltsDeclared => b"a HLT is executed only at a declared halt",
         Rule::KeepsCode => b"code stays as it is on the tape",
         Rule::ReadsListed =>
             b"only cells on the list of reads, and the running routine's own entry, are read",
@@ -45,14 +45,14 @@ fn push_number<L: MessageWriter>(text: &mut L, rule: Rule) -> Result<(), AllocEr
     push_decimal(text, u16::from(rule.number()))
 }
 
-/// Adds what a rule asks.
+/// Adds what a rule requires.
 fn push_requirement<L: MessageWriter>(text: &mut L, rule: Rule) -> Result<(), AllocError>
     ensures { OnOk result (L.text text.new ≡ L.text text.old ++ requirement rule) }
 {
     text.push_text(asked(rule))
 }
 
-/// Adds the line that says what a rule asks.
+/// Adds the line that says what a rule requires.
 pub fn push_asked<L: MessageWriter>(text: &mut L, rule: Rule) -> Result<(), AllocError>
     ensures { OnOk result (L.text text.new ≡ L.text text.old ++ rule_text rule) }
 {

@@ -104,7 +104,7 @@ static CONDITIONS: [Explanation; 16] = [
         code: "V16",
         subject: Subject::Asked("what the declaration says in `holds` and `returns` lines is true"),
         meaning: "every `holds` line about the address is true, and so is every\n`returns` line about the routine whose entry is there",
-        advice: "A `holds` line names the words that AC, the link, MQ or a cell may\nhold, and the fact at its address must exclude all other words. For a `returns`\nline, the routine's exit lines for the offsets that the line names must exclude\nall other words. If every run complies with the line, the certificate says too\nlittle: add an `equal` or `sum` line to it or, in version 3, a fact for each\ncase. Otherwise name more words in the line, or correct the program.",
+        advice: "A `holds` line names the words that AC, the link, MQ or a cell may\nhold, and the fact at its address must exclude all other words. For a `returns`\nline, the routine's exit lines for the offsets that the line names must exclude\nall other words. If every run complies with the line, the certificate says too\nlittle: add an `equal` or `sum` line or, in version 3, a fact for each case.\nOtherwise name more words in the line, or correct the program.",
     },
 ];
 

@@ -33,7 +33,7 @@ try:
 
 # Proves the program and all crates below it, several of them at a time, builds the program, and runs it on the stored tape.
 run:
-	@echo "Proving pdp8 and all below it. From nothing this takes about an hour, and a second where nothing has changed since."
+	@echo "Proving pdp8 and all below it. From nothing this takes 60 to 90 minutes, and a second where nothing has changed since."
 	python3 tests/prove.py
 
 # The gate. First come quick checks: that the page of definitions and the texts of explain are up to date, that the links of pages lead

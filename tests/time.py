@@ -17,7 +17,7 @@ import tempfile
 import time
 
 TOP = os.path.join(os.path.dirname(os.path.abspath(__file__)), '..')
-EXPECTED = {'try': 'a minute', 'run': 'about an hour', 'test': 'an hour, and two with two processors'}
+EXPECTED = {'try': 'a minute', 'run': '60 to 90 minutes', 'test': '60 to 90 minutes, and over two hours with two processors'}
 
 
 def kept_folder():

@@ -1,4 +1,7 @@
 pub mod HtmlLemmas
+pub mod ItemLemmas
+pub mod PieceLemmas
+pub mod RangeLemmas
 pub mod ReachedLemmas
 pub mod ShownLemmas
 pub mod WritingLemmas

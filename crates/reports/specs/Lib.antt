@@ -8,3 +8,8 @@ pub mod Rows
 pub mod Shown
 pub mod Drawings
 pub mod Writing
+pub mod FactText
+pub mod ItemText
+pub mod Labels
+pub mod RelationText
+pub mod SetText

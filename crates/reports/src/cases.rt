@@ -1,12 +1,14 @@
 //! What tells the facts at an address apart.
 
 ghost use Rattle.std.specs.Prelude.{◌≡◌, ◌≤◌, length};
+ghost use Rattle.domain.specs.LocationsInCode.{location_of};
 ghost use Rattle.certificate_lines.specs.CertificateInCode.{claims};
+ghost use Rattle.reports.specs.FactText.{is_by};
 
 use crate::known_fact::KnownFact;
 use bin_tape::Image;
 use certificate::Certificate;
-use domain::{Location, ReturnOffsets};
+use domain::{Location, ReturnOffsets, is_same_location};
 use std::alloc::Allocator;
 use word12::Word;
 use wordset::WordSet;
@@ -134,9 +136,11 @@ impl FactDifferences {
     }
 
     /// Whether facts are distinguished by the words of this name.
-    pub(crate) fn is_by(&self, name: &Location) -> bool {
+    pub(crate) fn is_by(&self, name: &Location) -> bool
+        ensures { result ≡ is_by self.now.name (location_of name.now) }
+    {
         match &self.name {
-            Some(found) => found == name,
+            Some(found) => is_same_location(found, name),
             None => false,
         }
     }

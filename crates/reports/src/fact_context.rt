@@ -1,10 +1,10 @@
 //! What is known at an address, item by item, and what of it is the same as on the line above.
 
-ghost use Rattle.std.specs.Prelude.{◌≡◌};
-ghost use Rattle.wordset.specs.Links.{links_of};
-ghost use Rattle.reports.specs.Rows.{link_said};
-
 use crate::cases::{FactDifferences, are_same_offsets};
+use crate::items::{
+    has_same_links, has_same_words, is_all, link_text, write_cell_item, write_held, write_item,
+    write_link_item, write_sites_item,
+};
 use crate::known_fact::KnownFact;
 use crate::relations::{write_chain, write_lost, write_lost_chain, write_name, write_relation};
 use crate::writer::ReportWriter;
@@ -12,7 +12,7 @@ use bin_tape::Image;
 use domain::{Chain, Location, Relation, ReturnOffsets, Rules};
 use instruct::Profile;
 use std::alloc::Allocator;
-use word12::{Link, Word};
+use word12::Word;
 use wordset::{Links, WordSet};
 
 /// Where facts stand: the tape, the rules by which they are read, the machine, and the sites of the routine in whose body
@@ -25,56 +25,11 @@ pub(crate) struct FactContext<'a> {
     pub(crate) sites: WordSet,
 }
 
-/// Writes which words a register or a cell may hold, after its name.
-fn write_held<A: Allocator>(writer: &mut ReportWriter<'_, A>, set: &WordSet) {
-    if set.is_all() {
-        return writer.put(b" any");
-    }
-    writer.put(if set.only().is_some() {
-        b" is "
-    } else {
-        b" in "
-    });
-    writer.words(set);
-}
-
-/// Writes an item on a register: which words it may hold.
-fn write_item<A: Allocator>(
-    writer: &mut ReportWriter<'_, A>,
-    name: &[u8],
-    set: &WordSet,
-    same: bool,
-) {
-    if writer.begin_item(same) {
-        writer.put(name);
-        write_held(writer, set);
-        writer.end_item(same);
-    }
-}
-
-/// Writes an item on a cell: which words it may hold.
-fn write_cell_item<A: Allocator>(
-    writer: &mut ReportWriter<'_, A>,
-    cell: Word,
-    set: &WordSet,
-    same: bool,
-) {
-    if writer.begin_item(same) {
-        writer.cell(cell);
-        write_held(writer, set);
-        writer.end_item(same);
-    }
-}
-
-/// What the link may be.
-pub(crate) fn link_text(links: Links) -> &'static [u8]
-    ensures { result.now ≡ link_said (links_of links) }
-{
-    match (links.contains(Link::CLEAR), links.contains(Link::SET)) {
-        (true, true) => b"L any",
-        (true, false) => b"L is 0",
-        (false, true) => b"L is 1",
-        (false, false) => b"L is neither",
+/// Whether these are the words that AC may hold on the line above.
+fn has_accumulator(above: Option<&KnownFact>, set: &WordSet) -> bool {
+    match above {
+        Some(above) => has_same_words(above.fact.accumulator(), set),
+        None => false,
     }
 }
 
@@ -85,11 +40,29 @@ fn write_accumulator<A: Allocator>(
     above: Option<&KnownFact>,
 ) {
     let set = known.fact.accumulator();
-    let same = match above {
-        Some(above) => above.fact.accumulator() == set,
-        None => false,
-    };
+    let same = has_accumulator(above, set);
     write_item(writer, b"AC", set, same);
+}
+
+/// Whether these are the words that MQ may hold on the line above.
+fn has_mq(above: Option<&KnownFact>, set: &WordSet) -> bool {
+    match above {
+        Some(above) => has_same_words(above.fact.mq(), set),
+        None => false,
+    }
+}
+
+/// Whether something is known about MQ on the line above.
+fn is_mq_told(above: Option<&KnownFact>) -> bool {
+    match above {
+        Some(above) => !is_all(above.fact.mq()),
+        None => false,
+    }
+}
+
+/// Whether there is an item on MQ, which may hold these words.
+fn tells_mq(above: Option<&KnownFact>, set: &WordSet) -> bool {
+    !is_all(set) || is_mq_told(above)
 }
 
 /// Writes the item on MQ, where something is known about it or was above.
@@ -99,12 +72,18 @@ fn write_mq<A: Allocator>(
     above: Option<&KnownFact>,
 ) {
     let set = known.fact.mq();
-    let (same, was_known) = match above {
-        Some(above) => (above.fact.mq() == set, !above.fact.mq().is_all()),
-        None => (false, false),
-    };
-    if !set.is_all() || was_known {
+    let told = tells_mq(above, set);
+    let same = has_mq(above, set);
+    if told {
         write_item(writer, b"MQ", set, same);
+    }
+}
+
+/// Whether these are the links on the line above.
+fn has_links(above: Option<&KnownFact>, links: Links) -> bool {
+    match above {
+        Some(above) => has_same_links(above.fact.link(), links),
+        None => false,
     }
 }
 
@@ -114,13 +93,32 @@ fn write_link<A: Allocator>(
     known: &KnownFact,
     above: Option<&KnownFact>,
 ) {
-    let same = match above {
-        Some(above) => above.fact.link() == known.fact.link(),
-        None => false,
-    };
-    if writer.begin_item(same) {
-        writer.put(link_text(known.fact.link()));
-        writer.end_item(same);
+    let links = known.fact.link();
+    let same = has_links(above, links);
+    write_link_item(writer, links, same);
+}
+
+/// Writes the item on AC, unless facts are distinguished by it.
+fn write_accumulator_unless<A: Allocator>(
+    writer: &mut ReportWriter<'_, A>,
+    known: &KnownFact,
+    above: Option<&KnownFact>,
+    is_apart: bool,
+) {
+    if !is_apart {
+        write_accumulator(writer, known, above);
+    }
+}
+
+/// Writes the item on the link, unless facts are distinguished by it.
+fn write_link_unless<A: Allocator>(
+    writer: &mut ReportWriter<'_, A>,
+    known: &KnownFact,
+    above: Option<&KnownFact>,
+    is_apart: bool,
+) {
+    if !is_apart {
+        write_link(writer, known, above);
     }
 }
 
@@ -131,12 +129,60 @@ fn write_registers<A: Allocator>(
     above: Option<&KnownFact>,
     apart: &FactDifferences,
 ) {
-    if !apart.is_by(&Location::Accumulator) {
-        write_accumulator(writer, known, above);
-    }
+    write_accumulator_unless(writer, known, above, apart.is_by(&Location::Accumulator));
     write_mq(writer, known, above);
-    if !apart.link {
-        write_link(writer, known, above);
+    write_link_unless(writer, known, above, apart.link);
+}
+
+/// Whether these are the words that a cell may hold on the line above.
+fn has_cell(above: Option<&KnownFact>, cell: Word, set: &WordSet) -> bool {
+    match above {
+        Some(above) => has_same_words(&above.set_of(&Location::Cell(cell)), set),
+        None => false,
+    }
+}
+
+/// Writes the item on a cell, of which facts are not distinguished by its words.
+fn write_one_cell<A: Allocator>(
+    writer: &mut ReportWriter<'_, A>,
+    known: &KnownFact,
+    above: Option<&KnownFact>,
+    cell: Word,
+) {
+    let set = known.set_of(&Location::Cell(cell));
+    let same = has_cell(above, cell, &set);
+    write_cell_item(writer, cell, &set, same);
+}
+
+/// Writes the item on a cell, unless facts are distinguished by it.
+fn write_cell_unless<A: Allocator>(
+    writer: &mut ReportWriter<'_, A>,
+    known: &KnownFact,
+    above: Option<&KnownFact>,
+    is_apart: bool,
+    cell: Word,
+) {
+    if !is_apart {
+        write_one_cell(writer, known, above, cell);
+    }
+}
+
+/// Writes the items on some cells.
+fn write_items_on<A: Allocator>(
+    writer: &mut ReportWriter<'_, A>,
+    known: &KnownFact,
+    above: Option<&KnownFact>,
+    apart: &FactDifferences,
+    cells: &WordSet,
+) {
+    for cell in cells.iter() {
+        write_cell_unless(
+            writer,
+            known,
+            above,
+            apart.is_by(&Location::Cell(cell)),
+            cell,
+        );
     }
 }
 
@@ -147,17 +193,7 @@ fn write_cells<A: Allocator>(
     above: Option<&KnownFact>,
     apart: &FactDifferences,
 ) {
-    for cell in known.cells.iter() {
-        let name = Location::Cell(cell);
-        let set = known.set_of(&name);
-        let same = match above {
-            Some(above) => above.set_of(&name) == set,
-            None => false,
-        };
-        if !apart.is_by(&name) {
-            write_cell_item(writer, cell, &set, same);
-        }
-    }
+    write_items_on(writer, known, above, apart, &known.cells);
 }
 
 /// Writes an item on each cell of which nothing is known any more.
@@ -406,6 +442,27 @@ fn write_counted<A: Allocator>(
     }
 }
 
+/// Whether these are the sites on the line above.
+fn has_sites(above: Option<&KnownFact>, sites: &WordSet) -> bool {
+    match above {
+        Some(above) => has_same_words(&above.sites(), sites),
+        None => false,
+    }
+}
+
+/// Whether the line above tells the sites, which are not all of the routine's there.
+fn are_sites_told(above: Option<&KnownFact>, all: &WordSet) -> bool {
+    match above {
+        Some(above) => !has_same_words(&above.sites(), all),
+        None => false,
+    }
+}
+
+/// Whether there is an item on these sites.
+fn tells_sites(above: Option<&KnownFact>, all: &WordSet, sites: &WordSet) -> bool {
+    !has_same_words(sites, all) || are_sites_told(above, all)
+}
+
 /// Writes the item on the sites from which the routine was called, where they are not all of its sites or were not above.
 fn write_sites<A: Allocator>(
     writer: &mut ReportWriter<'_, A>,
@@ -414,14 +471,10 @@ fn write_sites<A: Allocator>(
     above: Option<&KnownFact>,
 ) {
     let sites = known.sites();
-    let (same, was_told) = match above {
-        Some(above) => (above.sites() == sites, above.sites() != setting.sites),
-        None => (false, false),
-    };
-    if (sites != setting.sites || was_told) && writer.begin_item(same) {
-        writer.put(b"called from ");
-        writer.places(&sites);
-        writer.end_item(same);
+    let told = tells_sites(above, &setting.sites, &sites);
+    let same = has_sites(above, &sites);
+    if told {
+        write_sites_item(writer, &sites, same);
     }
 }
 

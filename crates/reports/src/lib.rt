@@ -6,6 +6,7 @@ mod cases;
 mod escaping;
 mod fact_context;
 mod graph;
+mod items;
 mod known_fact;
 mod listing;
 mod map;

@@ -1,5 +1,8 @@
 //! What the source of a program says about its addresses.
 
+ghost use Rattle.std.specs.Prelude.{◌≡◌};
+ghost use Rattle.reports.specs.Labels.{label_at, spanned};
+
 use std::alloc::{AllocError, Allocator};
 use word12::Word;
 
@@ -162,6 +165,23 @@ impl<A: Allocator> SourceNotes<A> {
             *entry = Some(found);
         }
         Ok(())
+    }
+
+    /// The bytes of a span.
+    fn spanned(&self, span: &Span) -> &[u8]
+        ensures { result.now ≡ spanned self.now.bytes.items span.now }
+    {
+        self.bytes.get(span.from..span.to).unwrap_or(b"")
+    }
+
+    /// The label of an address; empty if the source gives it no word, or a word without a label.
+    pub(crate) fn label(&self, at: Word) -> &[u8]
+        ensures { result.now ≡ label_at self.now at }
+    {
+        match self.entries.get(at.index()) {
+            Some(Some(entry)) => self.spanned(&entry.label),
+            _ => b"",
+        }
     }
 
     /// The note on an address; none if the source gives it no word.

@@ -1,10 +1,13 @@
 //! What writes: words, numbers, sets and items, as plain text or as HTML.
 
-ghost use Rattle.std.specs.Prelude.{◌≡◌, ◌++◌, [], codes, decimal, IfOk, IsOk, OnOk};
+ghost use Rattle.std.specs.Prelude.{◌≡◌, ◌++◌, [], codes, decimal, IfOk, IsOk, OnOk, true, if◌then◌else◌, ◌==◌, replicate};
 ghost use Rattle.word12.specs.Words.{octal_text};
 ghost use Rattle.wordset.specs.Lanes.{words};
 ghost use Rattle.reports.specs.Html.{escaped_text};
-ghost use Rattle.reports.specs.Writing.{Writes, in_page, link_text, linked_text, offset_text, run_text, said_in};
+ghost use Rattle.reports.specs.ItemText.{WritesOn, begun_line, indent_text, is_written, line_of, line_with, one_same, opened_line, opening_text, separator_text};
+ghost use Rattle.reports.specs.Labels.{label_in};
+ghost use Rattle.reports.specs.SetText.{first_ranges, more_text, none_text, outside, places_text, range_text, ranges_text, set_text, words_text};
+ghost use Rattle.reports.specs.Writing.{Writes, cell_text, form_of, in_page, label_text, link_text, linked_text, noted_text, offset_text, place_text, run_text, said_in};
 
 use crate::escaping::push_escaped;
 use crate::source_notes::SourceNotes;
@@ -45,6 +48,24 @@ pub(crate) struct ReportWriter<'a, A: Allocator> {
     has_item: bool,
     /// How many items of the line are the same as on the line above.
     same: usize,
+}
+
+/// Whether something stands at the first of some places.
+pub(crate) fn is_first(place: usize) -> bool
+    ensures { result ≡ (place == 0) }
+{
+    place == 0
+}
+
+/// How many items of a line are the same as on the line above, after one more item.
+fn counted(same: usize, is_same: bool) -> usize
+    ensures { result ≡ (if is_same then one_same same else same) }
+{
+    if is_same {
+        same.saturating_add(1)
+    } else {
+        same
+    }
 }
 
 impl<'a, A: Allocator> ReportWriter<'a, A> {
@@ -200,34 +221,54 @@ impl<'a, A: Allocator> ReportWriter<'a, A> {
     }
 
     /// The label of an address; empty where the source says none.
-    fn label_of(&self, at: Word) -> &'a [u8] {
-        let Some(notes) = self.notes else {
-            return b"";
-        };
-        match notes.at(at) {
-            Some(note) => note.label,
+    fn label_of(&self, at: Word) -> &'a [u8]
+        ensures { result.now ≡ label_in self.now.notes at }
+    {
+        match self.notes {
+            Some(notes) => notes.label(at),
             None => b"",
         }
     }
 
     /// Writes in a page the label of an address in parentheses, if there is one.
-    fn label_in_text(&mut self, at: Word) {
-        let label = self.label_of(at);
-        if self.is_page && !label.is_empty() {
-            self.put(b" (");
-            self.say(label);
-            self.put(b")");
+    fn label_in_text(&mut self, at: Word)
+        ensures { Writes self.old self.new (label_text (form_of self.old) at) }
+    {
+        if self.is_page {
+            self.put_noted(self.label_of(at));
         }
     }
 
+    /// Writes a label in parentheses, unless it is empty.
+    fn put_noted(&mut self, label: &[u8])
+        ensures { Writes self.old self.new (noted_text label.now) }
+    {
+        if !label.is_empty() {
+            self.put_in_parentheses(label);
+        }
+    }
+
+    /// Writes a text that is not markup in parentheses.
+    fn put_in_parentheses(&mut self, text: &[u8])
+        ensures { Writes self.old self.new (codes " (" ++ (escaped_text text.now ++ codes ")")) }
+    {
+        self.put(b" (");
+        self.put_escaped(text);
+        self.put(b")");
+    }
+
     /// Writes an address in a text, in a page with a link to its line, if it has one, and with its label.
-    pub(crate) fn place(&mut self, at: Word) {
+    pub(crate) fn place(&mut self, at: Word)
+        ensures { Writes self.old self.new (place_text (form_of self.old) at) }
+    {
         self.linked(at);
         self.label_in_text(at);
     }
 
     /// Writes the address of a cell of which something is said, in a page with its label.
-    pub(crate) fn cell(&mut self, at: Word) {
+    pub(crate) fn cell(&mut self, at: Word)
+        ensures { Writes self.old self.new (cell_text (form_of self.old) at) }
+    {
         self.word(at);
         self.label_in_text(at);
     }
@@ -269,16 +310,34 @@ impl<'a, A: Allocator> ReportWriter<'a, A> {
     }
 
     /// Writes the addresses from one to another, both of them, in a page with their labels and with a link to the line of the first.
-    fn place_run(&mut self, first: Word, last: Word) {
+    fn place_run(&mut self, first: Word, last: Word)
+        ensures { Writes self.old self.new (range_text (form_of self.old) true first last) }
+    {
         self.place(first);
+        self.run_end(first, last);
+    }
+
+    /// Writes the last of some addresses, in a page with its label, unless it is also the first.
+    fn run_end(&mut self, first: Word, last: Word)
+        ensures { Writes self.old self.new (if first == last then [] else codes "-" ++ cell_text (form_of self.old) last) }
+    {
         if first != last {
-            self.put(b"-");
-            self.cell(last);
+            self.put_last(last);
         }
     }
 
+    /// Writes the last of some addresses, in a page with its label.
+    fn put_last(&mut self, last: Word)
+        ensures { Writes self.old self.new (codes "-" ++ cell_text (form_of self.old) last) }
+    {
+        self.put(b"-");
+        self.cell(last);
+    }
+
     /// Writes a run of words, or of addresses.
-    fn run(&mut self, first: Word, last: Word, are_places: bool) {
+    fn run(&mut self, first: Word, last: Word, are_places: bool)
+        ensures { Writes self.old self.new (range_text (form_of self.old) are_places first last) }
+    {
         if are_places {
             self.place_run(first, last);
         } else {
@@ -287,40 +346,87 @@ impl<'a, A: Allocator> ReportWriter<'a, A> {
     }
 
     /// Writes the words of a set by their runs, at most some of them; `-` if there is none.
-    fn runs(&mut self, set: &WordSet, are_places: bool) {
+    fn runs(&mut self, set: &WordSet, are_places: bool)
+        ensures { Writes self.old self.new (set_text (form_of self.old) are_places (words set.now)) }
+    {
+        self.none(set);
+        let rest = self.first_runs(set, are_places);
+        self.rest(rest.count());
+    }
+
+    /// Writes `-` for a set without a word.
+    fn none(&mut self, set: &WordSet)
+        ensures { Writes self.old self.new (none_text (words set.now)) }
+    {
         if set.is_empty() {
             self.put(b"-");
         }
+    }
+
+    /// Writes the first runs of a set, at most some of them; gives the words that are in none of these.
+    fn first_runs(&mut self, set: &WordSet, are_places: bool) -> WordSet
+        ensures writes { Writes self.old self.new (ranges_text (form_of self.old) are_places true (first_ranges 16 0 (words set.now))) }
+        ensures rest { words result ≡ outside (first_ranges 16 0 (words set.now)) (words set.now) }
+    {
         let mut runs = set.ranges();
         let mut rest = *set;
         for count in 0..MOST_RUNS {
             let Some((first, last)) = runs.next() else {
-                return;
+                return rest;
             };
-            if count > 0 {
-                self.put(b",");
-            }
-            self.run(first, last, are_places);
-            rest = rest.minus(&WordSet::range(first, last));
+            self.next_run(first, last, are_places, is_first(count));
+            let left = rest.minus(&WordSet::range(first, last));
+            rest = left;
         }
-        self.rest(rest.count());
+        rest
+    }
+
+    /// Writes a run of words, or of addresses, behind a comma unless it is the first.
+    fn next_run(&mut self, first: Word, last: Word, are_places: bool, is_first: bool)
+        ensures { Writes self.old self.new ((if is_first then [] else codes ",") ++ range_text (form_of self.old) are_places first last) }
+    {
+        self.comma(is_first);
+        self.run(first, last, are_places);
+    }
+
+    /// Writes a comma, unless something is the first of its kind.
+    fn comma(&mut self, is_first: bool)
+        ensures { Writes self.old self.new (if is_first then [] else codes ",") }
+    {
+        if !is_first {
+            self.put(b",");
+        }
     }
 
     /// Writes how many words are not shown.
-    fn rest(&mut self, count: usize) {
+    fn rest(&mut self, count: usize)
+        ensures { Writes self.old self.new (more_text count) }
+    {
         if count > 0 {
-            self.numbered(b" and ", count);
-            self.put(b" more");
+            self.put_more(count);
         }
     }
 
+    /// Writes that there are some words more.
+    fn put_more(&mut self, count: usize)
+        ensures { Writes self.old self.new (codes " and " ++ (decimal count ++ codes " more")) }
+    {
+        self.put(b" and ");
+        self.number(count);
+        self.put(b" more");
+    }
+
     /// Writes the words of a set.
-    pub(crate) fn words(&mut self, set: &WordSet) {
+    pub(crate) fn words(&mut self, set: &WordSet)
+        ensures { Writes self.old self.new (words_text (form_of self.old) (words set.now)) }
+    {
         self.runs(set, false);
     }
 
     /// Writes the addresses of a set, in a page with their labels and with links to the lines that there are.
-    pub(crate) fn places(&mut self, set: &WordSet) {
+    pub(crate) fn places(&mut self, set: &WordSet)
+        ensures { Writes self.old self.new (places_text (form_of self.old) (words set.now)) }
+    {
         self.runs(set, true);
     }
 
@@ -332,32 +438,85 @@ impl<'a, A: Allocator> ReportWriter<'a, A> {
     }
 
     /// Writes what stands between an item and what is before it.
-    fn separate(&mut self) {
-        if self.has_item {
-            return self.put(b"; ");
+    fn separate(&mut self)
+        ensures { WritesOn self.old self.new (begun_line (line_of self.old)) (separator_text (form_of self.old) (line_of self.old)) }
+    {
+        let has_item = self.has_item;
+        if has_item {
+            self.put(b"; ");
+        } else {
+            self.begin_line();
         }
+    }
+
+    /// Writes what stands before the first item.
+    fn begin_line(&mut self)
+        ensures { WritesOn self.old self.new (begun_line (line_of self.old)) (indent_text self.old.is_page self.old.indent) }
+    {
         self.has_item = true;
+        self.put_indent();
+    }
+
+    /// Writes in plain text the blanks before the first item.
+    fn put_indent(&mut self)
+        ensures { Writes self.old self.new (indent_text self.old.is_page self.old.indent) }
+    {
         if !self.is_page {
-            for _ in 0..self.indent {
-                self.put(b" ");
-            }
+            self.blanks(self.indent);
+        }
+    }
+
+    /// Writes some blanks.
+    fn blanks(&mut self, count: usize)
+        ensures { Writes self.old self.new (replicate count 32) }
+    {
+        for _before in 0..count {
+            self.put(b" ");
         }
     }
 
     /// Begins an item, unless it is the same as on the line above and is left out; tells whether it was
     /// begun.
-    pub(crate) fn begin_item(&mut self, same: bool) -> bool {
+    pub(crate) fn begin_item(&mut self, same: bool) -> bool
+        ensures shown { result ≡ is_written (form_of self.old) (line_of self.old) same }
+        ensures begun { WritesOn self.old self.new (line_with (form_of self.old) (line_of self.old) same)
+            (opening_text (form_of self.old) (line_of self.old) same) }
+    {
+        let is_written = self.is_written(same);
+        self.open_item(is_written, same);
+        self.same = counted(self.same, same);
+        is_written
+    }
+
+    /// Whether an item is written, which may be the same as on the line above.
+    fn is_written(&self, same: bool) -> bool
+        ensures { result ≡ is_written (form_of self.now) (line_of self.now) same }
+    {
         if same {
-            self.same = self.same.saturating_add(1);
-            if !self.is_page || self.same > MOST_SAME {
-                return false;
-            }
+            self.is_page && counted(self.same, true) <= MOST_SAME
+        } else {
+            true
         }
-        self.separate();
+    }
+
+    /// Writes what stands before an item, if it is written.
+    fn open_item(&mut self, is_written: bool, same: bool)
+        ensures { WritesOn self.old self.new (opened_line is_written (line_of self.old))
+            (if is_written then separator_text (form_of self.old) (line_of self.old) ++ (if same then codes "<i>" else []) else []) }
+    {
+        if is_written {
+            self.separate();
+            self.begin_same(same);
+        }
+    }
+
+    /// Writes the markup before an item that is the same as on the line above.
+    fn begin_same(&mut self, same: bool)
+        ensures { Writes self.old self.new (if same then codes "<i>" else []) }
+    {
         if same {
             self.put(b"<i>");
         }
-        true
     }
 
     /// Writes in a page how many items that are the same as on the line above were left out.
@@ -371,7 +530,9 @@ impl<'a, A: Allocator> ReportWriter<'a, A> {
     }
 
     /// Ends an item.
-    pub(crate) fn end_item(&mut self, same: bool) {
+    pub(crate) fn end_item(&mut self, same: bool)
+        ensures { Writes self.old self.new (if same then in_page self.old.is_page (codes "</i>") else []) }
+    {
         if same {
             self.mark(b"</i>");
         }
@@ -385,7 +546,10 @@ impl<'a, A: Allocator> ReportWriter<'a, A> {
     }
 
     /// Writes an item that has nothing to do with the line above.
-    pub(crate) fn item(&mut self, text: &[u8]) {
+    pub(crate) fn item(&mut self, text: &[u8])
+        ensures { WritesOn self.old self.new (begun_line (line_of self.old))
+            (separator_text (form_of self.old) (line_of self.old) ++ said_in self.old.is_page text.now) }
+    {
         self.separate();
         self.say(text);
     }

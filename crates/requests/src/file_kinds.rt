@@ -257,11 +257,12 @@ impl CommandContext<'_, '_> {
             let _ = write!(text, "pdp8 {command} takes a tape, not a declaration");
             return;
         };
-        let _ = text.push_str("the tape comes before it");
-        if let Some(other) = self.names.declaration {
-            let _ = write!(text, ", as in pdp8 {command} {other} {option}{name}");
-            self.push_output(text);
-        }
+        let tape = self.names.declaration.unwrap_or("TAPE");
+        let _ = write!(
+            text,
+            "the tape comes before it, as in pdp8 {command} {tape} {option}{name}"
+        );
+        self.push_output(text);
     }
 
     /// Adds what to do with a file that was given as a tape, if it is not one.

@@ -78,6 +78,21 @@ fn answer_source<R: Files + Input + Print + Eprint>(
     answer_assembled(rt, alloc, &source, request)
 }
 
+/// Carries out a command on a program that is given as a source. Its parts are opened and read in order, then the
+/// declaration, and then the other files of the command are opened. What is read has a stack frame of its own, which a
+/// command on a tape does not need.
+#[inline(never)]
+fn read_and_answer<R: Files + Input + Print + Eprint>(
+    rt: &R,
+    alloc: Global,
+    request: &ProgramRequest<'_>,
+) -> Result<Status, Fault> {
+    match read_all(rt, alloc, request)? {
+        SourceInputResult::Reported(status) => Ok(status),
+        SourceInputResult::Read(given) => answer_source(rt, alloc, given, request),
+    }
+}
+
 /// Carries out a command on a program and its declaration. If the program is given as a source, its parts are opened
 /// and read in order, then the declaration, and then the other files of the command are opened.
 ///
@@ -90,11 +105,8 @@ pub fn answer_program<R: Files + Input + Print + Eprint>(
     alloc: Global,
     request: &ProgramRequest<'_>,
 ) -> Result<Status, Fault> {
-    if let ProgramNames::Tape(tape) = &request.program {
-        return answer_tape(rt, alloc, tape, request);
-    }
-    match read_all(rt, alloc, request)? {
-        SourceInputResult::Reported(status) => Ok(status),
-        SourceInputResult::Read(given) => answer_source(rt, alloc, given, request),
+    match &request.program {
+        ProgramNames::Tape(tape) => answer_tape(rt, alloc, tape, request),
+        _ => read_and_answer(rt, alloc, request),
     }
 }

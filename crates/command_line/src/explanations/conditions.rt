@@ -16,7 +16,7 @@ static CONDITIONS: [Explanation; 16] = [
         code: "V2",
         subject: Subject::Asked("each line of the certificate is at an allowed address"),
         meaning: "each fact is at an address in a body, with offsets if the body is a\nroutine's and without offsets if it is main's; each routine line and each exit\nline names an entry",
-        advice: "Remove the line if it is not needed, or declare the cell that it\nnames as part of a body or as an entry. A fact in a routine's body needs at\nleast one offset, in version 3 also at least one site, and the routine needs\nits own `routine` line. A fact in main's body has no offsets and no sites.",
+        advice: "Remove the line if it is not needed, or declare the cell that it\nnames as part of a body or as an entry. A fact in a routine's body needs at\nleast one offset and, in version 3, at least one site; the routine needs its\nown `routine` line. A fact in main's body has no offsets and no sites.",
     },
     Explanation {
         code: "V3",
@@ -30,7 +30,7 @@ static CONDITIONS: [Explanation; 16] = [
             "wherever the run may continue, there is a fact that allows every possible state",
         ),
         meaning: "at each address where the run may continue, there is a fact in the\nsame body (in main's body if all calls are abandoned), and it allows every\npossible state",
-        advice: "If the address is outside the body, the program runs on past its\nlast instruction, or it jumps into data or into a routine. End it with HLT or\nJMP, or declare more cells as the body. If a routine jumps to the main program\nand thereby ends all open calls, add an `abandon` line. If the address is in\nthe body, the fact at that address is missing, or it claims more than the\ncertificate shows: run `guess` again, or write a fact that claims less. A fact\nin a loop must hold in every iteration of the loop. In version 3 an address may\nhave several facts. The states with link 0 and those with link 1 are then\nconsidered separately. For each of these two groups, either one of the facts\nmust allow every possible state, or the facts must divide the states by the\nword in AC or by the word in one cell. If the facts divide the states by the\nword in AC, then each word that AC may hold must be among the words that some\nfact allows for AC. That fact must then allow every possible state of the group\nin which AC holds one of the words that the fact allows. If the facts divide\nthe states by the word in a cell, the same must be true of that cell.",
+        advice: "If the address is outside the body, the program runs on past its\nlast instruction, or it jumps into data or into a routine. End it with HLT or\nJMP, or declare more cells as the body. If a routine jumps to the main program\nand thereby ends all open calls, add an `abandon` line. If the address is in\nthe body, the fact at that address is missing, or it claims more than the\ncertificate shows: run `guess` again, or write a fact that claims less. A fact\nin a loop must hold in every iteration of the loop. In version 3 an address may\nhave several facts. The states with link 0 and those with link 1 are then\nconsidered separately. For each of these two groups, either one of the facts\nmust allow every possible state, or the facts must divide the states by the\nword in AC or by the word in one cell. Suppose that the facts divide the states\nby the word in AC. Then each word that AC may hold must be allowed for AC by\nsome fact. Of the possible states of the group, this fact must allow each one\nin which AC holds a word that this fact allows for AC. If the facts divide the\nstates by the word in a cell, the same must be true of that cell.",
     },
     Explanation {
         code: "V5",
@@ -62,7 +62,7 @@ static CONDITIONS: [Explanation; 16] = [
         code: "V9",
         subject: Subject::Asked("each call is a listed site"),
         meaning: "the callee's routine line lists the address of the JMS as a site, and\nthis address is at most 7767",
-        advice: "Add the address of the call to the callee's line, as in `sites\n0204`. Move a JMS that is above 7767, because its return address plus an offset\ncould exceed 7777; for a certificate of version 3 the limit is 7776 instead of\n7767.",
+        advice: "Add the address of the call to the callee's line, as in `sites\n0204`. Move a JMS that is above 7767, because its return address plus an offset\ncould exceed 7777. For a certificate of version 3 the limit is 7776, because V9\nthen guards only the return address itself, and V14 guards the return address\nplus an offset.",
     },
     Explanation {
         code: "V10",
@@ -104,7 +104,7 @@ static CONDITIONS: [Explanation; 16] = [
         code: "V16",
         subject: Subject::Asked("what the declaration says in `holds` and `returns` lines is true"),
         meaning: "every `holds` line about the address is true, and so is every\n`returns` line about the routine whose entry is there",
-        advice: "A `holds` line names the words that AC, the link, MQ or a cell may\nhold, and the fact at its address must exclude all other words. For a `returns`\nline, the routine's exit lines for the offsets that the line names must exclude\nall other words. If every run complies with the line, the certificate says too\nlittle: add a relation to it, or a fact for each case. Otherwise name more\nwords in the line, or correct the program.",
+        advice: "A `holds` line names the words that AC, the link, MQ or a cell may\nhold, and the fact at its address must exclude all other words. For a `returns`\nline, the routine's exit lines for the offsets that the line names must exclude\nall other words. If every run complies with the line, the certificate says too\nlittle: add an `equal` or `sum` line or, in version 3, a fact for each case.\nOtherwise name more words in the line, or correct the program.",
     },
 ];
 

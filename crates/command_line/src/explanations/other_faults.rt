@@ -55,7 +55,7 @@ static OTHER_FAULTS: [Explanation; 26] = [
     Explanation {
         code: "Misplaced",
         subject: Subject::Fault("declaration: Misplaced 0204"),
-        meaning: "a line names an address that it must not name: `skips`, `moves` and `returns` name entries, `abandon` names cells of main's body, and `holds` names cells of bodies",
+        meaning: "a line names an address that it must not name: `skips`, `moves` and `returns` may name only entries, `abandon` only cells of main's body, and `holds` only cells of bodies",
         advice: "correct the address, or declare the routine or the body to which it\nbelongs",
     },
     Explanation {
@@ -110,7 +110,7 @@ static OTHER_FAULTS: [Explanation; 26] = [
         code: "Order",
         subject: Subject::Fault("certificate: Order 9"),
         meaning: "the line is out of order, or is a duplicate",
-        advice: "write routines, facts and exits in ascending order of address,\n`cell` before `equal`, and nothing twice",
+        advice: "write routine lines first, then facts, then exits, each in\nascending order of address, and nothing twice; below a fact or an exit, `cell`\nlines come before `equal` or `sum` lines, and `func` lines come last",
     },
     Explanation {
         code: "TooMany",

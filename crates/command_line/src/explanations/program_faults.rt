@@ -74,7 +74,7 @@ static PROGRAM_FAULTS: [Explanation; 18] = [
         code: "DT",
         subject: Subject::Fault("source: DT 1 2"),
         meaning: "a tag whose symbol already has another value",
-        advice: "use a tag only once, and do not use as a tag the name of an\ninstruction or a symbol to which `=` gives another value",
+        advice: "use a tag only once, and do not use the name of an instruction, or\na symbol to which `=` gives another value, as a tag",
     },
     Explanation {
         code: "UA",

@@ -7,13 +7,13 @@ static RULES: [Explanation; 8] = [
     Explanation {
         code: "rule1",
         subject: Subject::Asked("control stays in the body"),
-        meaning: "The program counter is in the body of the running routine, and the\ndeclared machine implements the word there.\nexample of a violation: HLT is missing, and execution runs on into data",
+        meaning: "The program counter is in the body of the running routine, and the\ndeclared machine supports the word there.\nexample of a violation: HLT is missing, and execution runs on into data",
         advice: "end with HLT or JMP; return with `JMP I`; declare all code; add\n`profile 8e` if the program uses instructions of the PDP-8/E; add an `abandon`\nline for a JMP from a routine to the main program",
     },
     Explanation {
         code: "rule2",
         subject: Subject::Asked("only declared cells are written"),
-        meaning: "Each cell that the step writes, except the cell in which a JMS stores\nits return address, is a variable or the running routine's own entry. That\nentry may be written only by an ISZ or, if a `moves` line names the entry, by a\nDCA that names it directly, not through a pointer.\nexample of a violation: a pointer in 0010 to 0017 is incremented before it is\nused, so it must begin one lower",
+        meaning: "Each cell that the step writes, except the cell in which a JMS stores\nits return address, is a variable or the running routine's own entry. That\nentry may be written only by an ISZ or, if a `moves` line names the entry, by a\nDCA that names it directly, not through a pointer.\nexample of a violation: a pointer in 0010 to 0017 begins one word too high,\nbecause it is incremented before it is used",
         advice: "add a `var` line for what is meant to change, including such a\npointer; for other cells see V5 and V14",
     },
     Explanation {
@@ -26,7 +26,7 @@ static RULES: [Explanation; 8] = [
         code: "rule4",
         subject: Subject::Asked("a return goes back to its call"),
         meaning: "If a JMP I goes through an entry, the last open call is to this\nentry, and the JMP I goes to that call's return address plus a declared offset.\nexample of a violation: `JMP I TYPE` in a routine other than TYPE",
-        advice: "return through the routine's own entry; declare each offset, above\n7 in a `skips` line; do not call a routine again before it has returned",
+        advice: "return through the routine's own entry; declare each offset (those\nabove 7 in a `skips` line); do not call a routine again before it has returned",
     },
     Explanation {
         code: "rule5",

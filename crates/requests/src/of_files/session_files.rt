@@ -181,6 +181,7 @@ pub(crate) fn hold_session_on<R: Files + Input + Print + Eprint, S: ByteSource>(
 /// # Errors
 ///
 /// As for [`hold_session_on`].
+#[inline(never)]
 pub fn hold_session<R: Files + Input + Print + Eprint>(
     rt: &R,
     alloc: Global,
@@ -275,6 +276,7 @@ pub(crate) fn hold_teletype_session_on<R: Files + Input + Print + Eprint, S: Byt
 /// # Errors
 ///
 /// As for [`hold_teletype_session_on`].
+#[inline(never)]
 pub fn hold_teletype_session<R: Files + Input + Print + Eprint>(
     rt: &R,
     alloc: Global,

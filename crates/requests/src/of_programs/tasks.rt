@@ -222,6 +222,47 @@ fn resolve_task_places(
     }
 }
 
+/// Watches a run by a list of events, with the cells that are shown and the stops as the symbols of the source say.
+///
+/// # Errors
+///
+/// The fault of the program, of the list of events or of a stream.
+fn resolve_and_watch<R: Files + Input + Print + Eprint, I: Read + Drop>(
+    rt: &R,
+    alloc: Global,
+    opened: &mut OpenProgram<'_, I>,
+    request: &ProgramRequest<'_>,
+    events: &str,
+    places: ResolvedPlaces,
+) -> Result<Status, Fault> {
+    match resolve_task_places(opened.source, request, places) {
+        Ok(places) => run_watch(rt, alloc, opened, events, &places, request.explained),
+        Err(misuse) => Ok(tell_misuse(rt, &misuse.with_symbols())),
+    }
+}
+
+/// Watches a run with an operator in the same way.
+///
+/// # Errors
+///
+/// The fault of the program, of another file or of a stream.
+fn resolve_and_watch_session<R: Files + Input + Print + Eprint, I: Read + Drop>(
+    rt: &R,
+    alloc: Global,
+    opened: &mut OpenProgram<'_, I>,
+    request: &ProgramRequest<'_>,
+    session: &WatchedSession<'_>,
+) -> Result<Status, Fault> {
+    let places = ResolvedPlaces {
+        show: session.options.run.show,
+        stopping: session.stopping,
+    };
+    match resolve_task_places(opened.source, request, places) {
+        Ok(places) => run_watch_session(rt, alloc, opened, session, &places),
+        Err(misuse) => Ok(tell_misuse(rt, &misuse.with_symbols())),
+    }
+}
+
 /// Carries out the request on a program that is open. Each command has a stack frame of its own, since these frames are
 /// large.
 ///
@@ -260,20 +301,10 @@ pub(crate) fn carry_out<R: Files + Input + Print + Eprint, I: Read + Drop>(
                 show: *show,
                 stopping: *stopping,
             };
-            match resolve_task_places(opened.source, request, places) {
-                Ok(places) => run_watch(rt, alloc, opened, events, &places, explained),
-                Err(misuse) => Ok(tell_misuse(rt, &misuse.with_symbols())),
-            }
+            resolve_and_watch(rt, alloc, opened, request, events, places)
         }
         Task::WatchSession(session) => {
-            let places = ResolvedPlaces {
-                show: session.options.run.show,
-                stopping: session.stopping,
-            };
-            match resolve_task_places(opened.source, request, places) {
-                Ok(places) => run_watch_session(rt, alloc, opened, session, &places),
-                Err(misuse) => Ok(tell_misuse(rt, &misuse.with_symbols())),
-            }
+            resolve_and_watch_session(rt, alloc, opened, request, session)
         }
         Task::Guess {
             out,

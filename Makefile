@@ -1,9 +1,9 @@
-# Each target calls rt or a script. Times are those of four processors with nothing kept from earlier runs: make time.
+# Each target calls rt or a script. The times given here are for four processors, with nothing kept from earlier runs; `make time` measures them.
 PREFIX ?= /usr/local
 PROGRAM ?= pdp8
 BUILT = crates/pdp8/out/pdp8
 
-# How many checks the gate runs side by side: one for each processor.
+# How many checks the gate runs side by side. The default is one for each processor.
 LANES ?= $(shell nproc)
 
 VERSION = 1.1
@@ -11,7 +11,7 @@ DIST = pdp8-workbench-$(VERSION)
 
 .PHONY: help try run test cases edits install dist compare time bench fmt
 
-# Says what there is.
+# Says which targets there are.
 help:
 	@echo "make try       the first look: runs a stored tape on the machine, built without any proof (half a minute)"
 	@echo "make run       proves pdp8 and all below it, builds it and runs it on that tape (see README.md for times)"
@@ -25,21 +25,22 @@ help:
 	@echo "make bench     times the program itself, beside others where they are installed"
 	@echo "make fmt       lays out the sources"
 
-# Builds a program that only runs a tape, without any proof, and runs a tape that types HELLO.
+# Builds, without any proof, a program that can only run a tape, and runs a tape with it that types HELLO.
 try:
 	@echo "Building a program that runs a tape, without any proof. This takes half a minute."
 	cd crates/first_look && rt try < stdin
 	@echo "The tape typed HELLO, in octal and with channel 8 set. Nothing was proved: make run proves and builds the whole program."
 
-# Proves the program and all crates below it, side by side, builds it, and runs it on the stored tape.
+# Proves the program and all crates below it, several of them at a time, builds the program, and runs it on the stored tape.
 run:
-	@echo "Proving pdp8 and all below it. From nothing this takes about an hour, and a second where nothing has changed since."
+	@echo "Proving pdp8 and all below it. From nothing this takes 60 to 90 minutes, and a second where nothing has changed since."
 	python3 tests/prove.py
 
-# The gate: the page of definitions, the texts of explain, the links of pages and the length of README, whether each edit applies and that
-# there are not too many; every proof from nothing, the edits in must-fail/, every test and the program; and then, with the program that was
-# proved, whether help, docs/COMMANDS.md, man page and completions agree, whether the reports of the examples are what the reference makes,
-# and all cases.
+# The gate. First come quick checks: that the page of definitions and the texts of explain are up to date, that the links of pages lead
+# somewhere and README.md is not too long, that each edit applies, and that there are not too many edits. Then come every proof from
+# nothing, the edits in must-fail/, every test, and the program. The program that was proved is then used to check that help,
+# docs/COMMANDS.md, man page and completions agree, that the reports of the examples are what the reference makes, and to
+# run all cases.
 test:
 	python3 tests/definitions.py
 	python3 tests/explanations.py
@@ -50,16 +51,16 @@ test:
 	python3 tests/reports.py $(BUILT)
 	python3 tests/cases.py $(BUILT)
 
-# All cases, with the program that is built.
+# Runs all cases with the program that has been built.
 cases:
 	python3 tests/cases.py $(BUILT)
 
-# The wrong edits that the gate leaves out, crates/NAME/more-edits/: the prover must refuse each. Whoever changes a contract
-# tries those of its crate, as by make edits CRATES="facts judge"; without CRATES all are tried, which takes hours.
+# Tries the wrong edits in crates/NAME/more-edits/, which the gate leaves out: the prover must refuse each of them. After changing a
+# contract, try those of its crate, for example with make edits CRATES="facts judge". Without CRATES all are tried, which takes hours.
 edits:
 	python3 tests/more_edits.py $(CRATES)
 
-# Puts the program, its man page and its completions for bash below $(PREFIX). SIMH's program has the name pdp8 too.
+# Puts the program, its man page and its completions for bash below $(PREFIX). One of SIMH's programs is also called pdp8.
 install: run
 	@other=$$(command -v $(PROGRAM)); [ -z "$$other" ] || [ "$$other" = $(PREFIX)/bin/$(PROGRAM) ] || \
 	    echo "Another $(PROGRAM) is on the path: $$other. make install PROGRAM=name gives this one another name."
@@ -68,7 +69,7 @@ install: run
 	sed '$$s/pdp8$$/$(PROGRAM)/' share/pdp8.bash | \
 	    install -D -m 644 /dev/stdin $(PREFIX)/share/bash-completion/completions/$(PROGRAM)
 
-# A tarball with what a user needs.
+# Makes a tarball with what a user needs.
 dist: run
 	rm -rf $(DIST) && mkdir -p $(DIST)/bin $(DIST)/share
 	cp $(BUILT) $(DIST)/bin/pdp8
@@ -77,22 +78,22 @@ dist: run
 	tar czf $(DIST).tar.gz $(DIST) && rm -rf $(DIST)
 	@echo "$(DIST).tar.gz"
 
-# The comparisons with SIMH, palbart and the reference in Python; what is missing on the machine is named.
+# Makes the comparisons with SIMH, palbart and the reference in Python, and says which of these are missing on the machine.
 compare:
 	python3 tests/compare.py --program $(BUILT)
 
-# Times the first look, the first run and the gate, each in a fresh clone with nothing kept from earlier runs.
+# Times the first look, the first run and the gate, each in a fresh clone with nothing kept from earlier runs; then the gate on two processors.
 time:
 	python3 tests/time.py try
 	python3 tests/time.py run
 	python3 tests/time.py test
 	python3 tests/time.py test 2
 
-# Times all that is timed, script after script: machine, tapes, sets, assembler, watcher, facts, certificates, guesses, an
-# archive. Needs Debian's simh and palbart, and rustc for the plain programs beside ours.
+# Runs all scripts of bench/, one after another: they time the machine, tapes, sets, the assembler, the watcher, facts, certificates,
+# guesses, an archive, and more. Needs Debian's simh and palbart, and rustc for the programs in plain Rust that are timed beside ours.
 bench:
 	for script in bench/*.sh; do echo "$$script"; $$script || exit 1; done
 
-# Lays out the sources.
+# Formats the sources of all crates.
 fmt:
 	for crate in crates/*/; do (cd $$crate && rt fmt); done

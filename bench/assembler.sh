@@ -1,8 +1,8 @@
 #!/bin/bash
 # Times the assembler and Debian's palbart in turn, each as often as requested, on one source of the largest size: 65,536 bytes with
 # 1,024 symbols of its own, each of which is used many times. Prints for each program the processor time of one run, the time of a
-# run on a source of one word, which is the start of the program, and the difference, which is the time for the source. For our
-# program it also prints the maximum of the memory that it used for either source.
+# run on a source of one word, which is the time that the program takes to start, and the difference, which is the time for the
+# source itself. For our program, it also prints how much memory it used at most for either source.
 # usage: bench/assembler.sh [RUNS]; PALBART names a palbart other than /usr/bin/palbart.
 set -euo pipefail
 top=$(cd "$(dirname "$0")/.." && pwd)
@@ -10,7 +10,7 @@ runs=${1:-50}
 palbart=${PALBART:-/usr/bin/palbart}
 work=$(mktemp -d)
 trap 'rm -r "$work"' EXIT
-# Building the program also runs it once; what that prints is left out.
+# Building the program also runs it once; what this run prints is discarded.
 (cd "$top/crates/pdp8" && rt run <stdin >"$work/built" 2>&1) || { cat "$work/built"; exit 1; }
 program=$top/crates/pdp8/out/pdp8
 
@@ -31,7 +31,7 @@ open(sys.argv[1], 'w').write(text)
 print(len(text), 'bytes,', len(names), 'symbols,', count, 'words')
 PYTHON
 
-# The processor time, in seconds, of this many runs of a command.
+# The processor time, in seconds, of the given number of runs of a command.
 TIMEFORMAT='%U %S'
 seconds() { { time for ((run = 0; run < runs; run++)); do "$@" >"$work/said" 2>&1 </dev/null; done; } 2>&1; }
 
@@ -55,7 +55,7 @@ awk -v runs="$runs" '
             printf "palbart takes %.1f times as long for the source, %.1f times with the start\n", cost["palbart"] / cost["pdp8"], least["palbart large"] / least["pdp8 large"]
     }' "$work/times"
 if command -v valgrind >/dev/null; then
-    # The number of host instructions is the same in each run.
+    # Each run executes the same number of host instructions.
     instructions() { (cd "$work" && valgrind --tool=callgrind --callgrind-out-file=/dev/null "$@" 2>&1 >/dev/null | awk '/Collected/ { print $NF }'); }
     echo "pdp8 $(instructions "$program" assemble "$work/ours.bin" large.pal) host instructions"
     [ ! -x "$palbart" ] || echo "palbart $(instructions "$palbart" large.pal) host instructions"

@@ -1,10 +1,10 @@
 #!/bin/bash
-# Times `pdp8 check` on certificates of some 100 KB and 1 MB that certificate/make.py makes: complete ones, and ones without their
-# end, for which the text is read and nothing is judged. Each figure is the least of eleven calls, and includes the start of the
-# program. The maximum of the memory that a call takes is printed, too.
+# Times `pdp8 check` on certificates of some 100 KB and 1 MB that certificate/make.py makes: complete certificates, and certificates
+# without their end, for which the text is read and nothing is judged. Each figure is the least of eleven calls, and includes the
+# time that the program takes to start. How much memory a call takes at most is printed, too.
 # PDP8 names a built program to be used in place of the one in this repository. PLAIN names the source of the same checker in plain
 # Rust, with the arguments `bench-check TAPE DECLARATION CERTIFICATE ROUNDS`: it is built by `rustc -O`, and reads the same texts in
-# turn. Then the start of the program is subtracted from our time, and the two rates are compared.
+# turn with our program. Then the time to start the program is subtracted from our time, and the two rates are compared.
 set -euo pipefail
 top=$(cd "$(dirname "$0")/.." && pwd)
 program=${PDP8:-$top/crates/pdp8/out/pdp8}
@@ -20,14 +20,14 @@ least() {
         { time "$program" check tape declaration "$1" >/dev/null 2>&1 || true; } 2>&1
     done | sort -n | head -1
 }
-# The maximum of the memory, in KB, that a call with this certificate takes.
+# The memory, in KB, that a call with this certificate takes at most.
 memory() {
     python3 -c '
 import resource, subprocess, sys
 subprocess.run(sys.argv[1:], stdout=subprocess.DEVNULL, stderr=subprocess.DEVNULL)
 print(resource.getrusage(resource.RUSAGE_CHILDREN).ru_maxrss)' "$program" check tape declaration "$1"
 }
-# The seconds that plain Rust takes to read a certificate, the least of thirty rounds.
+# The seconds that plain Rust takes to read a certificate: the least of thirty rounds.
 plainly() {
     "$work/plain" bench-check tape declaration certificate 30 | sed -n 's/^parse \([0-9.]*\) .* least round.*/\1/p'
 }

@@ -1,21 +1,22 @@
 #!/bin/bash
-# Times one outcome of a word and the test whether it entails a fact: with two tracked cells and two equations, with 64 and 32, and then
-# the same in plain Rust (rustc -O). Prints for each the least processor time of seven runs: other work on the machine slows a run down
-# and never speeds it up.
+# Times the computation of one outcome of a word, together with the test whether the outcome entails a fact. This is done with two
+# tracked cells and two equations, with 64 cells and 32 equations, and then with the same in plain Rust (rustc -O). Prints for each the
+# least processor time of seven runs, because other work on the machine slows a run down and never speeds it up.
 # usage: bench/facts.sh [THOUSANDS]
 set -euo pipefail
 top=$(cd "$(dirname "$0")/.." && pwd)
 thousands=${1:-1000}
 work=$(mktemp -d)
 trap 'rm -r "$work"' EXIT
-# Building the program also runs it once; what that prints is left out.
+# Building the program also runs it once; what this run prints is discarded.
 (cd "$top/crates/speed" && rt run >"$work/built" 2>&1) || { cat "$work/built"; exit 1; }
 program=$top/crates/speed/out/speed
 few=$((thousands / 20 + 1))
 rustc -O -o "$work/plain" "$top/bench/facts/plain.rs"
 
 # A certificate with this many pairs of cells, each with an equation. At 0200 the accumulator is 0, and each cell holds one of five
-# words; the first cell is 0010. The fact at 0201 is what TAD of 0010 makes of that, with one more equation if there are fewer than 32.
+# words; the first cell is 0010. The fact at 0201 is what TAD of 0010 makes of the fact at 0200, with one more equation if there are
+# fewer than 32.
 certificate() {
     echo "PDP8-CERTIFICATE 1"
     for at in 0200 0201; do

@@ -1,6 +1,6 @@
 #!/bin/bash
-# Times `pdp8 guess` on programs of 7, 14 and 28 pages that guess/make.py makes, the least of seven calls each, and checks that `check`
-# accepts each certificate. A program of twice the size should take at most 2.2 times as long.
+# Times `pdp8 guess` on programs of 7, 14 and 28 pages that guess/make.py makes, as the least of seven calls for each, and checks that
+# `check` accepts each certificate. A program of twice the size should take at most 2.2 times as long.
 # PDP8 names a built program to be used in place of the one in this repository.
 set -euo pipefail
 top=$(cd "$(dirname "$0")/.." && pwd)

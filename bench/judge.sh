@@ -1,14 +1,14 @@
 #!/bin/bash
-# Times reading and judging certificates in one process: `speed read` and `speed judge` are run with many rounds and with one, and the
-# difference is the time of the other rounds. Each figure is the least processor time of nine runs. Then `pdp8 check` is timed on the
-# same certificates from start to end, as the least of eleven calls.
+# Times reading and judging certificates in one process: `speed read` and `speed judge` are run with many rounds and with a single
+# round, and the difference is the time of the other rounds. Each figure is the least processor time of nine runs. Then `pdp8 check` is
+# timed on the same certificates from start to end, as the least of eleven calls.
 # usage: bench/judge.sh [FOLDER..]
 # A folder has the files t, d and c: a tape, a declaration and a certificate that the program accepts. Without folders,
 # certificate/make.py makes two.
 # PDP8 and SPEED name built programs to be used in place of those in this repository. PLAIN names the source of a checker in plain Rust,
 # which is built by rustc -O and timed in turn with ours. Its arguments are `bench-check TAPE DECLARATION CERTIFICATE ROUNDS`, and the
-# first line that it prints is `parse SECONDS judge SECONDS seconds per round`, with the means of its rounds. As for ours, the least of
-# nine such means is printed.
+# first line that it prints is `parse SECONDS judge SECONDS seconds per round`, with the means of its rounds. As for our program, the
+# least of nine figures is printed.
 set -euo pipefail
 top=$(cd "$(dirname "$0")/.." && pwd)
 program=${PDP8:-$top/crates/pdp8/out/pdp8}
@@ -31,10 +31,10 @@ fi
 TIMEFORMAT='%U %S'
 # The processor time, in seconds, of a command that reads a file.
 seconds() { { time "${@:2}" <"$1" >"$work/answer" 2>&1; } 2>&1 | awk '{ print $1 + $2 }'; }
-# The least of the numbers, which are one to a line.
+# The least of the given numbers, one on each line.
 least() { sort -g | head -1; }
 rounds=200
-# The time of a round, from the time of many rounds and that of one.
+# The time of a round, computed from the time of many rounds and that of a single round.
 a_round() {
     echo "$(least <"$work/$1many") $(least <"$work/$1one") $rounds" | awk '{ printf "%.5f", ($1 - $2) / $3 }'
 }

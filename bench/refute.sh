@@ -1,9 +1,9 @@
 #!/bin/bash
-# Times the search for a run: `pdp8 refute` on safe programs of examples/, so that it makes all of its steps. Prints millions of steps
-# per second of processor time: the median of the runs, and the best one.
+# Times the search for a run that violates a declaration: `pdp8 refute` on safe programs of examples/, so that the search makes all of
+# its steps. Prints millions of steps per second of processor time: the median of the runs, and the best one.
 # PDP8 names a built program to be used in place of the one in this repository. PLAIN names the source of a search in plain Rust, which
-# is compiled by rustc and timed in turn with ours. Its arguments are the output of `pdp8 dump`, the declaration, a file for the events,
-# millions of steps, and the seed.
+# is compiled by rustc and timed in turn with our program. Its arguments are the output of `pdp8 dump`, the declaration, a file for the
+# events, millions of steps, and the seed.
 # usage: bench/refute.sh [MILLIONS [RUNS]]
 set -euo pipefail
 top=$(cd "$(dirname "$0")/.." && pwd)
@@ -18,7 +18,7 @@ trap 'rm -r "$work"' EXIT
 # The processor time, in seconds, of a command.
 TIMEFORMAT=%U
 seconds() { { time "$@" >"$work/said" 2>&1 </dev/null || true; } 2>&1; }
-# The median of the seconds in a file, as millions of steps per second, and the best.
+# The median and the best of the times in a file, both as millions of steps per second.
 rates() {
     sort -n "$1" | awk -v millions="$millions" '{ of[NR] = $1 } END { printf "%.1f at the median, %.1f at best", millions / of[int((NR + 1) / 2)], millions / of[1] }'
 }

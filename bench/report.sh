@@ -1,8 +1,8 @@
 #!/bin/bash
-# Times `pdp8 report` as it writes pages of HTML: for the certificates of examples/, for two of some 100 KB and 1 MB that
-# certificate/make.py makes, and for the folders that are named, each with a tape t, a declaration d and a certificate c. Prints the
-# least processor time of eleven calls in milliseconds, that of `check` for comparison, and the number of bytes of the page. A page
-# should take at most 50 ms.
+# Measures how long `pdp8 report` takes to write pages of HTML: for the certificates of examples/, for two certificates of some 100
+# KB and 1 MB that certificate/make.py makes, and for the folders that are given, each with a tape t, a declaration d and a
+# certificate c. Prints the least processor time of eleven calls in milliseconds, the same for `check` as a comparison, and the
+# number of bytes of the page. A page should take at most 50 ms.
 # PDP8 names a built program to be used in place of the one in this repository.
 # usage: bench/report.sh [FOLDER..]
 set -euo pipefail

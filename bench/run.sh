@@ -1,16 +1,16 @@
 #!/bin/bash
-# Times one loop of ISZ and JMP on the processor alone, on a world that is driven by events, and on SIMH's pdp8 (Debian's package
-# simh), in turn. Prints for each the least processor time of seven runs and the millions of instructions per second. Other work on the
+# Times one loop of ISZ and JMP in turn on the processor alone, on a world that is driven by events, and on SIMH's pdp8 (Debian's
+# package simh). Prints for each the least processor time of seven runs and the millions of instructions per second. Other work on the
 # machine slows a run down and never speeds it up.
 #
-# If OLD names a program pdp8 of an older commit, it also times `pdp8 run` (a million instructions, CALLS times, 40 by default) and
-# `pdp8 teletype` (the whole loop), without any option that stops or traces, in turn with the same commands of the program PDP8, or of
-# the program in this repository if PDP8 is not set. To get an older program, build its commit in a tree of its own and keep the
-# result:
+# If OLD names a program pdp8 that was built from an older commit, the script also times `pdp8 run` (a million instructions, CALLS
+# times, 40 by default) and `pdp8 teletype` (the whole loop) of that program, without any option that stops or traces. It does so in
+# turn with the same commands of the program that PDP8 names, or of the program in this repository if PDP8 is not set. To get an older
+# program, build its commit in a tree of its own and keep the result:
 #     git worktree add /tmp/old COMMIT && make -C /tmp/old run && cp /tmp/old/crates/pdp8/out/pdp8 /tmp/pdp8.old
 #     OLD=/tmp/pdp8.old bench/run.sh
-# README.md says how long `make run` takes. Both programs have to be proved ones: a program that was built without proofs contains
-# run-time checks, and is slower.
+# README.md says how long `make run` takes. Both programs have to be built with proofs: a program that was built without proofs
+# contains run-time checks, and is slower.
 #
 # usage: bench/run.sh [ROUNDS]; a round has 33,558,529 instructions. SIMH names a simulator other than /usr/bin/pdp8.
 set -euo pipefail
@@ -22,7 +22,7 @@ program=${PDP8:-$top/crates/pdp8/out/pdp8}
 simh=${SIMH:-/usr/bin/pdp8}
 work=$(mktemp -d)
 trap 'rm -r "$work"' EXIT
-# Building the program also runs it once; what that prints is left out.
+# Building the program also runs it once; what this run prints is discarded.
 (cd "$top/crates/speed" && rt run >"$work/built" 2>&1) || { cat "$work/built"; exit 1; }
 [ -z "$old" ] || [ -x "$program" ] || (cd "$top/crates/pdp8" && rt run <stdin >"$work/built" 2>&1) || { cat "$work/built"; exit 1; }
 speed=$top/crates/speed/out/speed
@@ -44,9 +44,9 @@ printf '*200;7300;2210;5201;2211;5201;2212;5201;7402;0;0;%s\n$\n' "$count" >"$wo
 # The processor time, in seconds, of a command that writes to a file.
 TIMEFORMAT=%U
 seconds() { { time "${@:2}" >"$1" 2>&1 </dev/null; } 2>&1; }
-# Runs a million instructions of the loop, this many times.
+# Runs a million instructions of the loop, the given number of times.
 runs() { for _ in $(seq "$calls"); do "$1" run "$work/loop.bin" --steps 1000000; done; }
-# The times of the runs and of the session of a program, each under a name.
+# Prints the times of a program's runs and of its session, each after a name.
 of_program() {
     echo "$1run $(seconds "$work/$1run" runs "$2")"
     echo "$1teletype $(seconds "$work/$1teletype" "$2" teletype "$work/loop.bin")"

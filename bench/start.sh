@@ -1,7 +1,7 @@
 #!/bin/bash
-# Times the whole program pdp8 on the small tape of its stored run, and `pdp8 check` on HELLO: the time by the clock for one call, from
-# its start to its end, as the mean of a hundred calls, the least of five runs. PDP8 names a built program to be used in place of the one
-# in this repository.
+# Times the whole program pdp8 on the small tape of its stored run, and `pdp8 check` on HELLO. The figure is the time by the clock for
+# one call, from its start to its end: the mean of a hundred calls, and of five such means the least. PDP8 names a built program to be
+# used in place of the one in this repository.
 set -euo pipefail
 top=$(cd "$(dirname "$0")/.." && pwd)
 program=${PDP8:-$top/crates/pdp8/out/pdp8}
@@ -12,7 +12,7 @@ trap 'rm -r "$work"' EXIT
 run() { "$program" <"$top/crates/pdp8/stdin" >/dev/null; }
 check() { "$program" check "$work/hello.bin" "$top/examples/hello.declaration" "$top/examples/hello.certificate" >/dev/null; }
 TIMEFORMAT=%R
-# The milliseconds for one of these calls.
+# The milliseconds that one of these calls takes.
 least() {
     for _ in 1 2 3 4 5; do
         { time for _ in {1..100}; do "$1"; done; } 2>&1

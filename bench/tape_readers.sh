@@ -1,7 +1,7 @@
 #!/bin/bash
-# Times a million rounds of the program with a tape in the reader and a punch, which copies the tape, and the same rounds without them,
-# in turn. Prints for each the least processor time of nine runs, and how many times as long as the second the first takes.
-# usage: bench/tape_readers.sh, after the program pdp8 was built
+# Times a million rounds of a program that copies a tape from the reader to the punch and, in turn, the same rounds without reader and
+# punch. Prints for each the least processor time of nine runs, and the ratio of the first time to the second.
+# usage: bench/tape_readers.sh, after the program pdp8 has been built
 set -euo pipefail
 top=$(cd "$(dirname "$0")/.." && pwd)
 program=${PDP8:-$top/crates/pdp8/out/pdp8}
@@ -9,7 +9,8 @@ work=$(mktemp -d)
 trap 'rm -r "$work"' EXIT
 "$program" assemble "$work/copier.bin" "$top/examples/copier.pal"
 head -c 1000000 /dev/zero | tr '\0' '\125' >"$work/frames"
-# The plain run has the same program, changed as if the flag of the reader were always set: it punches in the same loop.
+# The run without a tape has the same program, changed so that it behaves as if the reader's flag were always set: it punches in the
+# same loop.
 sed 's/^NEXT,   RSF/NEXT,   NOP/; s/^        JMP .-1         \/Wait for it/        NOP/' "$top/examples/copier.pal" >"$work/plain.pal"
 "$program" assemble "$work/plain.bin" "$work/plain.pal"
 

@@ -1,6 +1,6 @@
 #!/bin/bash
-# Times writing and reading the fullest tape, 4096 words on 8228 frames, a thousand times each. Prints the microseconds for writing it
-# once and reading it once, the least of seven runs.
+# Times writing and reading the fullest tape, 4096 words on 8228 frames, a thousand times each. Prints the microseconds for writing
+# the tape once and for reading it once, each the least of seven runs.
 set -euo pipefail
 top=$(cd "$(dirname "$0")/.." && pwd)
 times=${1:-1000}

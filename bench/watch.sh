@@ -1,7 +1,7 @@
 #!/bin/bash
-# Times `pdp8 watch` and, for comparison, `pdp8 run` on the same tape and the same events: a million steps of a loop that increments a
-# cell through a routine, so that every fourth step is a call or a return. The two are run in turn, each as often as requested. Prints
-# the median and the least processor time of each.
+# Times `pdp8 watch` and, for comparison, `pdp8 run` on the same tape and the same events: a million steps of a loop that calls a
+# routine to increment a cell, so that every fourth step is a call or a return. The two are run in turn, each as often as requested.
+# Prints the median and the least processor time of each.
 # PDP8 names a built program to be used in place of the one in this repository.
 # usage: bench/watch.sh [RUNS]
 set -euo pipefail
@@ -10,7 +10,7 @@ runs=${1:-25}
 work=$(mktemp -d)
 trap 'rm -r "$work"' EXIT
 program=${PDP8:-$top/crates/pdp8/out/pdp8}
-# Building the program also runs it once; what that prints is left out.
+# Building the program also runs it once; what this run prints is discarded.
 [ -x "$program" ] || (cd "$top/crates/pdp8" && rt run <stdin >"$work/built" 2>&1) || { cat "$work/built"; exit 1; }
 
 cat >"$work/loop.pal" <<'SOURCE'
@@ -44,7 +44,7 @@ for ((run = 0; run < runs; run++)); do
     echo "watch $(seconds "$work/watched" "$program" watch "$work/loop.bin" "$work/loop.declaration" "$work/loop.events")"
 done >"$work/times"
 cat "$work/ran" "$work/watched"
-# The median of the seconds of a command, and the least.
+# The median and the least of the times of a command, in seconds.
 middle() { grep "^$1 " "$work/times" | cut -d' ' -f2 | sort -n | awk '{ of[NR] = $1 } END { print of[int((NR + 1) / 2)], of[1] }'; }
 read -r ran ran_least < <(middle run)
 read -r watched watched_least < <(middle watch)

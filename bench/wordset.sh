@@ -1,8 +1,8 @@
 #!/bin/sh
-# Times the kernels of `wordset`, their plain bodies, and a program in plain Rust with the same lanes (rustc -O), in one run. Prints a
-# table with the nanoseconds for one call, the least of five runs of each program.
-# `speed.rattle` is the program in Rattle; it does not have the name of a source file, so that no gate reads it. This script proves it and
-# builds it in a folder of its own, with copies of the crates.
+# Times in one run the main operations of `wordset`, their plain bodies, and a program in plain Rust that stores sets in the same way
+# (rustc -O). Prints a table with the nanoseconds for one call, each the least of five runs of its program.
+# `speed.rattle` is the program in Rattle; it does not have the name of a source file, so that no gate reads it. This script proves and
+# builds it in a separate folder, with copies of the crates.
 set -e
 top=$(cd "$(dirname "$0")/.." && pwd)
 work=${1:-$(mktemp -d)}
@@ -22,9 +22,9 @@ grep -E '^(word12|instruct|wordset):' "$top/crates.txt" >"$work/crates.txt"
 echo 'library_tests: word12 wordset' >>"$work/crates.txt"
 echo 'wordset_speed: word12 wordset library_tests anyhow' >>"$work/crates.txt"
 rustc -O -o "$work/lanes" "$top/bench/wordset/lanes.rs"
-# Building the program also runs it once; what that prints is left out.
+# Building the program also runs it once; what this run prints is discarded.
 (cd "$work/crates/wordset_speed" && rt run >"$work/built" 2>&1) || { cat "$work/built"; exit 1; }
-# Other work on the machine slows a run down and never speeds it up: the table has the least of five.
+# The table has the least of five runs, because other work on the machine slows a run down and never speeds it up.
 : >"$work/times"
 for run in 1 2 3 4 5; do
     "$work/crates/wordset_speed/out/wordset_speed" >>"$work/times"

@@ -1,13 +1,13 @@
 #!/usr/bin/env python3
-"""Checks that the help of the built program, docs/COMMANDS.md, the man page and the completions for bash agree.
+"""Checks that the help of the built program, docs/COMMANDS.md, the man page and the completions for bash agree with one another.
 
 usage: tests/agreement.py PDP8   PDP8 is the built program; names each difference, and exits with status 1 if there is one
 
-Each place is read as statements (KIND, SUBJECT, ANSWER), such as ('operands', 'run', 'TAPE') or ('default', '--start', '0200').
+Each of these four is read as statements (KIND, SUBJECT, ANSWER), such as ('operands', 'run', 'TAPE') or ('default', '--start', '0200').
 The kinds are: command, operands, option (which options a command has), value, short and default (of an option, whichever command
-has it) and status. The help of the program decides. Each other place makes statements of some kinds, and these must be exactly the statements of
-these kinds that the help makes. What the completions propose is found out with bash. It is not compared that each command has the
-option --help, and that pdp8 without a command has --help and --version; their short forms are compared.
+has it) and status. The help of the program decides. Each of the others makes statements of some kinds, and these must be exactly the statements
+of these kinds that the help makes. What the completions propose is found out with bash. That each command has the option --help, and that pdp8
+without a command has --help and --version, is not compared; the short forms of these options are.
 """
 import os
 import re

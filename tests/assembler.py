@@ -1,7 +1,8 @@
-"""Compares `pdp8 assemble` and `pdp8 list` with the assembler in reference on random sources, most of them
-with faults: the tape, the listing and the line of the fault must be the same to the byte.
+"""Compares `pdp8 assemble` and `pdp8 list` with the assembler in reference/ on random sources, most of
+them with faults: the tape, the listing and the line of the fault must be the same to the byte.
 
-usage: assembler.py PROGRAM FOLDER COUNT SEED. Files are made in FOLDER. If the two differ on a source, its parts stay there.
+usage: assembler.py PROGRAM FOLDER COUNT SEED. Files are made in FOLDER. If the two assemblers differ on
+a source, the parts of this source are kept there.
 """
 import random
 import subprocess

@@ -1,7 +1,7 @@
 #!/usr/bin/env python3
 """Runs the sessions and tables in pages, those of tests/cases/ as well as README.md and docs/, with a built pdp8.
 
-A page is Markdown. Of its blocks of code the following are read, in their order, in a folder that the page has for itself:
+A page is Markdown. Of its code blocks, those of the following kinds are used, in their order, in a folder that the page has for itself:
 
 ```NAME file          the text below is written to the file NAME
 ```NAME tape          NAME is a tape of the words below: "0200: 7402 7000*3", an origin and words, in octal; COUNT in decimal
@@ -13,14 +13,14 @@ A page is Markdown. Of its blocks of code the following are read, in their order
                       octal digits after \\ are bytes in what is printed, and in what is given if it goes into a file;
                       - means that nothing is given, and -- a dash; if nothing is printed, nothing follows =>
 
-A file, a tape or bytes with the word "rows" at the end of its fence is written again for each row of the tables below it, up to
-the next heading, with {1}, {2}, .. replaced. The files that a row writes are removed after it. A page finds in its folder the files of
-the programs of examples/ that it names, and the tape NAME.bin of each of their sources NAME.pal. If it names them, it also finds the
-folder tests/cases/programs as programs/, and the folders version3/, style-of-1970/ and style-of-1970-b/ of tests/. Statuses are compared
-in tests/cases/; other pages may leave them out. The cases of the pages in tests/cases/wrong/ are wrong on purpose: the runner must report
-each of them as wrong, otherwise this counts as a failure.
+A file, a tape or bytes with the word "rows" at the end of its fence is written again for each row of the tables below it, up to the next
+heading, with {1}, {2}, .. replaced. The files that a row writes are removed after it. The folder of a page contains the files of those
+programs of examples/ that the page names, and the tape NAME.bin of each of their sources NAME.pal. If the page names them, it also
+contains the folder tests/cases/programs as programs/, and the folders version3/, style-of-1970/ and style-of-1970-b/ of tests/. Statuses
+are compared in tests/cases/; other pages may leave them out. The cases of the pages in tests/cases/wrong/ are wrong on purpose: if the
+runner does not report each of them as wrong, that counts as a failure.
 
-usage: tests/cases.py PDP8 [PAGE..]    PDP8 is the built program; without pages all of tests/cases/, README.md and docs/
+usage: tests/cases.py PDP8 [PAGE..]    PDP8 is the built program; without pages, it runs all of tests/cases/, README.md and docs/
 """
 import concurrent.futures
 import os

@@ -1,4 +1,5 @@
-"""Lists the public functions of this repository's crates with their contracts, so that two states can be compared.
+"""Lists the public functions of this repository's crates with their contracts, so that two states of the
+repository can be compared.
 
 usage: tests/clauses.py [--root DIR]            the sorted list of the crates below DIR, or of this repository
        tests/clauses.py --compare BEFORE AFTER  what was lost, added or changed from one to the other; each is such a list

@@ -1,12 +1,12 @@
 #!/usr/bin/env python3
 """Compares the program of this repository with others: SIMH, palbart, and the assembler, machine, watcher and checker in reference/.
 
-No gate runs these comparisons. SIMH and palbart are the packages simh and palbart of Debian. If what a comparison needs is not
-installed, it is left out and this is reported.
+The gate does not run these comparisons. SIMH and palbart are the packages simh and palbart of Debian. If something that a
+comparison needs is not installed, the comparison is left out, and the script says so.
 
 usage: tests/compare.py [NAME..] [--program PDP8] [--count N] [--seed N]
 
-Without names all comparisons are made. The exit status is 1 if anything differs.
+Without names, all comparisons are made. The exit status is 1 if anything differs.
 """
 import argparse
 import os

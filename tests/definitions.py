@@ -10,9 +10,10 @@ usage: tests/definitions.py                          names each difference; exit
                                                      themselves, or those that the contracts of the public functions of
                                                      this name use
 
-The page has the definitions on which a yes rests, each with its comment and its formula. A public contract consists of the clauses of
-a public function, or of the ghost items of a public type or trait, except invariants. It reaches the definitions that it names and those
-that these name. A module in specs/inside/, or one whose first comment says that it serves private contracts, must not be reached.
+The page has the definitions on which a yes rests, each with its comment and its formula. A public contract consists of the clauses of a
+public function, or of the ghost items of a public type or trait, except invariants. It reaches the definitions that it names, and those
+that these definitions name in turn. It must not reach a module in specs/inside/, or a module whose first comment says that it serves
+private contracts.
 
 Each definition that a public contract reaches must have a comment that says more than its name: the lines right above it, without a
 blank line between, or the first comment of a module that has no other definition. A comment above one definition does not count for
@@ -42,34 +43,36 @@ YES = ("policy::IsSafe", "declaration::Declares", "bin_tape::IsTape", "periphera
 
 OWN = """\
 Contracts also use definitions of the toolchain: numbers, lists, options and results with their tests (`IfOk`, `IfErr`, `IfSome`), \
-`bit_and` and `bit_or` for operations bit by bit, `codes` for the bytes of a text, `decimal`, `lines`, and for sources and sinks \
-`Appends` (known bytes grow by these) and `Consumes` (known bytes begin with these, and lose them). What is taken from \
-`specs.declared` of a crate is a public type of its `src/`. If a name occurs in several modules, it may mean something else in each.
+`bit_and` and `bit_or` for operations bit by bit, `codes` for the bytes of a text, `decimal` and `lines`; and, for sources and \
+sinks, `Appends` (the given bytes are added to the known bytes) and `Consumes` (the known bytes begin with the given ones, which are \
+then removed). A name that is taken from `specs.declared` of a crate is that of a public type in the crate's `src/`. A name that \
+occurs in several modules may mean something different in each of them.
 """
 
 FRONT = """\
 # The definitions on which a yes rests, in reading order
 
-A yes says that a program is safe: no run violates its declaration. The definitions below say what that means, and nothing else \
-does. The prover ensures that the code complies with them. Only a reader can see that they say what a PDP-8, a tape and a safe \
-program are. So each definition is here with its comment and its formula, under its module. Each crate comes after those that it \
-uses, and so does each module of a crate. The last definition, `IsSafe`, is what a yes says.
+This page is for readers who want to know exactly what a yes of `pdp8` means. A yes says that a program is safe: no run violates its \
+declaration. The definitions below say what that means, and nothing else does. The prover ensures that the code complies with them. \
+Whether they describe a PDP-8, a tape and a safe program correctly, only a reader can judge. So each definition is here, under its \
+module, with its comment and its formula. Each crate comes after those that it uses, and so does each module of a crate. The last \
+definition, `IsSafe`, is what a yes says.
 
 The words of the answer itself, and how it is written, are defined in `diagnostics` and `command_parts`: \
-[THEOREM](THEOREM.md#what-must-be-believed) lists them.
+[THEOREM](THEOREM.md#what-must-be-believed) lists these definitions.
 
 """ + OWN + """
-`python3 tests/definitions.py --all` prints this page for all definitions that the contract of some public function, type or \
-trait reaches, and `--behind CRATE::NAME` lists those that a name uses. What neither of them prints need not be believed: everything \
-under `proofs/`, and the definitions that only private contracts cite. `tests/definitions.py --write` makes this page, and `make test` \
-fails if it is out of date.
+`python3 tests/definitions.py --all` prints a page like this one with all definitions that the contract of some public function, \
+type or trait reaches, and `--behind CRATE::NAME` lists the definitions that a name uses. What neither of them prints need not be \
+believed; this is everything under `proofs/`, and the definitions that only private contracts cite. `tests/definitions.py --write` \
+makes this page, and `make test` fails if it is out of date.
 """
 
 FRONT_OF_ALL = """\
 # The definitions, in reading order
 
-The promises about the code are stated with these definitions: those that the contract of a public function, type or trait \
-reaches.
+This page is for readers who want to know exactly what is promised about the code. The promises are stated with these definitions: \
+those that the contract of a public function, type or trait reaches.
 
 """ + OWN
 

@@ -1,5 +1,5 @@
-"""Checks that each wrong edit can be applied, without trying it, because rt reports this only at its end; and that the gate does not have
-too many edits.
+"""Checks that each wrong edit can be applied, without trying it, because rt reports an edit that cannot be applied only at the end of its
+run. Also checks that the gate does not have too many edits.
 
 usage: tests/edits.py [--root DIR]   names each edit that cannot be applied, and each number that is too large, with exit
                                      status 1 if there is any; counts the edits of each crate

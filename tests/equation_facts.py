@@ -1,4 +1,5 @@
-"""Random cases with facts of versions 1 and 2 of certificates, for facts.py: what the program prints about a word at a fact."""
+"""Random cases, for facts.py, with facts of versions 1 and 2 of certificates, and what the program must print about a
+word at a fact."""
 import random
 import sys
 from dataclasses import replace

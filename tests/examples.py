@@ -1,10 +1,11 @@
-"""Checks the files of examples/ with other programs: Debian's palbart and SIMH, and the Python in reference.
+"""Checks the files of examples/ with other programs: Debian's palbart and SIMH, and the Python in reference/.
 
-usage: examples.py PALBART SIMH EXAMPLES FOLDER [PROGRAM]. Files are made in FOLDER. Each source is assembled with palbart. The
-Python in reference runs the tape with its events, watches it under its declaration and checks it with its certificate; the
-outputs must be NAME.run, NAME.watch and NAME.check, and for DEC's loader `rim`, which violates its declaration, the last two.
-If SIMH is given, it runs the tape with the same keys, frames and switches: AC, link and program counter at each halt, the
-memory at the end and the output must be the same. PROGRAM is a built `pdp8`; the commands that it has are compared, too.
+usage: examples.py PALBART SIMH EXAMPLES FOLDER [PROGRAM]. Files are made in FOLDER. Each source is assembled with palbart.
+The Python in reference/ runs the tape with its events, watches it under its declaration and checks it with its certificate.
+The outputs must be NAME.run, NAME.watch and NAME.check; for DEC's loader `rim`, which violates its declaration, only the last
+two. If SIMH is given, it runs the tape with the same keys, frames and switches: AC, link and program counter at each halt,
+the memory at the end, and the output must be the same. PROGRAM is a built `pdp8`; the results of its commands are compared,
+too, as far as it has these commands.
 """
 import re
 import subprocess

@@ -97,19 +97,23 @@ def rules(page, declarations):
     for name, example, change in rows_of(page, "Rule"):
         number, _, name = name.partition(": ")
         required = in_lines("required: ", dict(listed)[number])
-        wrong = f"\n{in_lines('', f'for example: {example}')}" if example != "-" else ""
+        wrong = f"\n{in_lines('', f'example of a violation: {example}')}" if example != "-" else ""
         yield f"rule{number}", f"Asked({quoted(plain(name))})", required + wrong, change
 
 
 def changes(page):
-    """What to do about each fault, by its kind and name."""
+    """What to do about each fault, by its kind and name. A row about only some tapes or sources says in its advice which they are."""
     found = {}
     for names, change in [row for row in rows_of(page, "Fault") if len(row) == 2]:
         kind = re.match(r"`(\w+): ", names)[1]
-        qualifier = re.search(r"` (for .*)$", names)
         for name in re.findall(r"`(?:\w+: )?(\w+)[^`]*`", names.partition(" for ")[0]):
-            found.setdefault((kind, name), []).append(f"{qualifier[1]}: {change}" if qualifier else change)
+            found.setdefault((kind, name), []).append(change)
     return found
+
+
+def in_sentences(texts):
+    """Texts as sentences of one text, the last of which has no full stop. The first one is left in lower case."""
+    return ". ".join(texts[:1] + [text[0].upper() + text[1:] for text in texts[1:]])
 
 
 def faults(page, commands):
@@ -118,7 +122,7 @@ def faults(page, commands):
     for line, meaning in rows_of(commands, "Line, after `pdp8: `"):
         line = line.strip("`")
         kind, name = re.match(r"(\w+): (\w+)", line).groups()
-        yield name, f"Fault({quoted(line)})", plain(meaning), "; ".join(found[kind, name])
+        yield name, f"Fault({quoted(line)})", plain(meaning), in_sentences(found[kind, name])
 
 
 def is_of_program(entry):

@@ -1,10 +1,11 @@
-"""Compares the facts of crates/facts with those in reference on random words, facts and addresses: the first condition that a
-word violates, its outcomes, the facts that these and a return entail or among which they land, and what holds of every start.
-Half of the cases have facts of versions 1 and 2 of certificates, with equations, and half have facts of version 3.
+"""Compares what crates/facts and the Python in reference/ compute for random words, facts and addresses: the first condition
+that a word violates, the outcomes of the word, the facts that these outcomes and a return entail or among which they land,
+and what holds of every start. Half of the cases have facts of versions 1 and 2 of certificates, with equations, and half have
+facts of version 3.
 
 usage: facts.py make FOLDER COUNT SEED        writes files of cases to FOLDER
-       facts.py compare PRINTED COUNT SEED    compares what the program of tests/facts/cases.rattle printed about them in the
-                                              file PRINTED, where the cases of each file follow a line with its name
+       facts.py compare PRINTED COUNT SEED    compares what the program of tests/facts/cases.rattle printed about these
+                                              cases in the file PRINTED, where the cases of each file follow a line with its name
 """
 import sys
 from pathlib import Path

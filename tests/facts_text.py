@@ -1,4 +1,5 @@
-"""How cases with facts are spelled for the program of tests/facts/cases.rattle, and what it prints about a fact."""
+"""How cases with facts are spelled for the program of tests/facts/cases.rattle, and how this program prints a
+fact."""
 import sys
 from functools import lru_cache
 from pathlib import Path

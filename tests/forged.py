@@ -1,10 +1,10 @@
-"""Compares the verdicts of `pdp8 check` with those of reference/check3.py on the certificates of version 3 of a folder, each changed
-in one place at a time: without one line, or with a set (also that of a sum) without its first or its last word. If both say
-yes, random runs are watched: none may violate a rule.
+"""Compares the verdicts of `pdp8 check` with those of reference/check3.py on the certificates of version 3 in a folder, each of them
+changed in one place at a time: a line is left out, or a set (which may be that of a sum) loses its first or its last word. If both say
+yes, random runs are watched, and none of them may violate a rule.
 
 usage: forged.py PROGRAM EXAMPLES FOLDER SEED [accepted] [PART OF], where files are made in FOLDER, and EXAMPLES has the certificates.
-With PART and OF, only every OF-th change is tried, beginning with number PART. With the word accepted, the reference, which is slow, is
-asked only about the certificates that the program accepts: this finds every wrong yes, but no wrong no.
+With PART and OF, only every OF-th change is tried, beginning with number PART. With the word accepted, the reference, which is slow,
+judges only the certificates that the program accepts: this finds every wrong yes, but no wrong no.
 """
 import collections
 import re

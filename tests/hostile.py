@@ -1,10 +1,10 @@
 #!/usr/bin/env python3
-"""Gives pdp8 random, cut and mixed-up inputs, and checks that each run ends with an answer that docs/COMMANDS.md names.
+"""Gives pdp8 inputs that are random, cut short or mixed up, and checks that each run ends with an answer that docs/COMMANDS.md names.
 
 Each input consists of random bytes, or comes from the programs of examples: it is a tape, a source, a declaration, a list of events or a
-certificate, in which bytes are changed, left out, doubled, inserted or exchanged with those of another file. A run fails if it ends by
-a signal, takes more than a minute of processor time, or says something that the page does not name. If the answer is yes, the run with
-the events of the program is watched, and must be clean. The same seed gives the same runs.
+certificate, in which bytes are changed, left out, doubled, inserted or exchanged with those of another file. A run fails if it is ended
+by a signal, takes more than a minute of processor time, or says something that the page does not name. If the answer is yes, the run
+with the events of the program is watched, and must be clean. The same seed gives the same runs.
 
 Before that, each command that has inputs and outputs is run with files in every order, and with each output in every spelling of the
 name of its file, including a hard link and symbolic links: no input, no source and no file that --save did not write may change.

@@ -2,7 +2,7 @@
 """Checks the pages: each link leads to a file or a heading that exists, each file or page that a page names exists, README.md is not too
 long, and no line of a page has more than 600 characters.
 
-usage: tests/links.py [--quotes]    names each page and what is wrong with it; exit status 1 if anything is wrong. With --quotes it also
+usage: tests/links.py [--quotes]    names each page that is wrong, and says why; exit status 1 if anything is wrong. With --quotes it also
                                     checks that the examples of docs/PROOF_FORMS.md are in the files from which they are quoted.
 """
 import os

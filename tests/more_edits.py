@@ -1,11 +1,11 @@
-"""Tries the wrong edits that the gate leaves out, those of crates/NAME/more-edits/: the prover must refuse each of them.
+"""Tries the wrong edits in crates/NAME/more-edits/, which the gate leaves out: the prover must refuse each of them.
 
 usage: tests/more_edits.py [CRATE..]   the edits of these crates, or all of them; make edits CRATES="CRATE.." does the same
 
-It ends with the status of rt must-fail, which tries the edits in a scratch folder, on copies of crates/, crates.txt and HANDLES as they
-are at the start; in these copies the edits are in must-fail/. So the files may change while it runs. rt begins with the work that a
-check has kept for a crate, and does not try an edit again while the crate and those below it stay as they are. Whoever changes a
-contract runs this for the crate, since the gate does not say which of these edits the prover would now accept."""
+The exit status is that of rt must-fail, which tries the edits in a scratch folder, on copies of crates/, crates.txt and HANDLES as they
+are at the start; in these copies the edits are in must-fail/. So the files may change while the script runs. rt begins with the work
+that a check has kept for a crate, and does not try an edit again as long as the crate and those below it stay as they are. If you
+change a contract, run this script for the crate, since the gate does not say which of these edits the prover would now accept."""
 import os
 import shutil
 import signal

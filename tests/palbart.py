@@ -2,7 +2,8 @@
 
 usage: palbart.py PALBART PROGRAM EXAMPLES FOLDER COUNT SEED, where EXAMPLES has sources *.pal, and files are
 made in FOLDER. COUNT sources are generated from SEED in the part of the language that both assemblers understand in the same way. Some
-have a fault, and then both must refuse them. If the two differ, the source stays in FOLDER and is named.
+sources have a fault, and both assemblers must refuse these. If the two differ on a source, it is kept in FOLDER, and its name is
+printed.
 """
 import random
 import subprocess

@@ -1,9 +1,9 @@
 #!/usr/bin/env python3
 """Proves the program and all crates below it from nothing, builds it as crates/pdp8/out/pdp8, and runs it on the stored tape.
 
-This is the run of the gate, rt ci, on copies of these crates alone, without tests and without edits that must fail. A crate that is
-proved alone gets several processors, as far as memory allows; RT_JOBS=N proves N crates side by side with one processor each. If this
-toolchain has already built the program from exactly these files, it is only run.
+The proofs are those of the gate: the script runs rt ci on copies of these crates alone, without tests and without edits that must
+fail. While only one crate is being proved, it gets several processors, as far as memory allows; RT_JOBS=N proves N crates side by
+side with one processor each. If this toolchain has already built the program from exactly these files, the program is only run.
 
 usage: tests/prove.py
 """

@@ -1,5 +1,6 @@
-"""Reads the sources of the crates as far as the other scripts in this folder need them: the public functions with their contracts in
-src/, and the definitions in specs/. It reads the layout of rt fmt, and only the part of the language that occurs here."""
+"""Reads the sources of the crates as far as the other scripts in this folder need them: the public functions with their contracts
+in src/, and the definitions in specs/. It expects the layout that rt fmt makes, and understands only the part of the language
+that occurs in this repository."""
 import os
 import re
 

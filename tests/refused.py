@@ -1,11 +1,12 @@
 #!/usr/bin/env python3
-"""Refuses pdp8 each request for memory in turn, command by command, until a run ends without a refusal.
+"""Runs the commands of pdp8, and refuses the requests for memory of each command in turn, one in each run, until a run ends without a refusal.
 
 A library replaces malloc and realloc (by cc and LD_PRELOAD), and refuses the request of a given number once. If a request was refused,
 the status must be 4, and standard error must have the line `pdp8: memory: NoMemory`. There may be nothing else on standard error except
 what a session reports there and, under `--why`, the two lines that say what to do. There may be nothing in OUT or on standard output
 except the punched bytes and a prefix of a trace or of what was typed. If no request was refused, the run must end as it does without the
-library. It may also do so if a refusal changes nothing, since the start of the system requests memory too; these cases are counted.
+library. A run may also end in this way although a request was refused, since the start of the system requests memory, too; these cases
+are counted.
 
 usage: tests/refused.py PDP8    PDP8 is the built program, as crates/pdp8/out/pdp8
 """

@@ -1,6 +1,8 @@
-"""The page that `report` should write, computed by the Python in reference/ like its text; tests/reports.py compares the two.
+"""Computes the page that `report` should write; like the text of a report, it is computed by the Python in reference/.
+tests/reports.py compares it with what the program writes.
 
-The styles of the page are taken from the source of the program, where they are one text, spelled as in the page.
+The styles of the page are taken from the source of the program, where they are a single text in the same spelling as on
+the page.
 """
 import datetime
 import itertools

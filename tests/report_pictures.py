@@ -1,7 +1,8 @@
 #!/usr/bin/env python3
-"""Makes pictures of reports with headless Chromium (Debian's package), wide and narrow, and prints them to PDF, so that people can look at them. No gate runs it.
+"""Makes pictures of reports with headless Chromium (Debian's package), wide and narrow, and prints them to PDF, so that people can look at them.
+The gate does not run this script.
 
-usage: tests/report_pictures.py PDP8 FOLDER [NAME..]    of these examples, or without names of hello, punch and hello-broken. It
+usage: tests/report_pictures.py PDP8 FOLDER [NAME..]    of these examples, or, without names, of hello, punch and hello-broken. It
                                                          makes NAME.html, NAME-wide.png, NAME-narrow.png and NAME.pdf in FOLDER,
                                                          and for hello also report.png, which is docs/report.png
 """

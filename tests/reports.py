@@ -1,13 +1,13 @@
 #!/usr/bin/env python3
-"""Compares what `report` writes with what the Python in reference/ makes of the same certificate. The gate runs it.
+"""Compares what `report` writes with what the Python in reference/ makes of the same certificate. The gate runs this script.
 
 usage: tests/reports.py PDP8 [NAME..]             compares text and page for the examples and their broken variants
        tests/reports.py PDP8 --pages FILE NAME..  writes the expected pages of these examples to FILE as cases, without their
                                                   heads and the numbers next to the map
        tests/reports.py PDP8 TAPE DECLARATION CERTIFICATE  compares the report of these three files
 
-The Python in reference/ computes what is known, and what is read, written, called and returned to. From the program come only the names
-of words (from `dump`), and the lines above the listing (from `check` and `check --why`).
+The Python in reference/ computes what is known, and what is read, written, called and returned to. Only the names of words (from
+`dump`) and the lines above the listing (from `check` and `check --why`) come from the program.
 """
 import re
 import subprocess

@@ -1,7 +1,8 @@
 """A second reader of BIN tapes, written from the loader's description alone.
 
-usage: second_reader.py TAPE, which prints address and word of each word on the tape, by ascending address, like the
-first two columns of `pdp8 dump`. If it refuses the tape, the status is 1.
+usage: second_reader.py TAPE, which prints the address and the value of each word on the tape, by
+ascending address, like the first two columns of `pdp8 dump`. If it refuses the tape, the exit
+status is 1.
 """
 import sys
 

@@ -1,4 +1,5 @@
-"""Random cases with facts of version 3 of certificates, for facts.py: what the program prints about a word at a fact."""
+"""Random cases, for facts.py, with facts of version 3 of certificates, and what the program must print about a
+word at a fact."""
 import sys
 from pathlib import Path
 

@@ -2,11 +2,13 @@
 """Uses the teletype as a person does: starts `pdp8 teletype` in a terminal of tmux, sends keys and reads the screen. If socat is
 installed, it also uses a pseudo-terminal as the other end of a line.
 
-usage: tests/teletype.py PDP8    PDP8 is the built program; names what differs from what is expected; exit status 1 if anything does
+usage: tests/teletype.py PDP8    PDP8 is the built program; prints what differs from what is expected; exit status 1 if
+                                 anything differs
 
 The programs are those of tests/cases/teletype.md (the game `guess`, which answers each line, and the line editor `edit`, which deletes
-a character at a rubout) and examples/echo, which is also stopped, interrupted and run from its source. It is also checked that `pdp8`
-alone says that it waits for a tape. No gate runs this, because it needs tmux and waits for screens.
+a character at a rubout) and examples/echo, which is also stopped, interrupted and run from its source. The script also checks that
+`pdp8` without arguments says that it is waiting for a tape. The gate does not run this script, because it needs tmux and waits for
+screens.
 """
 import contextlib
 import os

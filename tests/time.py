@@ -1,11 +1,12 @@
 #!/usr/bin/env python3
 """Times the first look, the first run and the gate in a fresh clone, with nothing kept from earlier runs.
 
-The toolchain keeps what it proved in a folder next to its own, each entry under a checksum of everything on which it depends. That
-folder is moved away first, and in the end its entries are put back next to the new ones, whatever happens. Nothing else should run on
-the machine. Times are by the clock; the minutes of processor time are those of all processes that ran.
+The toolchain keeps what it has proved in a folder next to its own, with each entry under a checksum of everything on which the entry
+depends. This folder is first moved away, and in the end its entries are put back next to the new ones, whatever happens. Nothing else
+should run on the machine at the same time. The times are by the clock; the minutes of processor time are those of all processes that
+ran.
 
-usage: tests/time.py try|run|test [PROCESSORS]    PROCESSORS is how many are used; without it, all of them
+usage: tests/time.py try|run|test [PROCESSORS]    PROCESSORS says how many processors are used; without it, all are
 """
 import os
 import resource
@@ -16,7 +17,7 @@ import tempfile
 import time
 
 TOP = os.path.join(os.path.dirname(os.path.abspath(__file__)), '..')
-EXPECTED = {'try': 'a minute', 'run': 'about an hour', 'test': 'an hour, and two with two processors'}
+EXPECTED = {'try': 'a minute', 'run': '60 to 90 minutes', 'test': '60 to 90 minutes, and over two hours with two processors'}
 
 
 def kept_folder():

@@ -1,10 +1,10 @@
-"""Compares the verdicts of `pdp8 check` with those of the checkers in reference on the programs of examples/ or tests/version3
-with a change: a line of the certificate left out, a set with one word more or less, another digit, rank, site, offset, link, equation
-or coefficient, another version, another word on the tape, or another declaration. The line of a yes or a no must be the same, and what
-one of them refuses as a certificate or a declaration the other must refuse, too. If a case is accepted, a run with random events from
-a random start is watched: it may not violate a rule.
+"""Compares the verdicts of `pdp8 check` with those of the checkers in reference/ on the programs of examples/ or tests/version3, each
+with one change: a line of the certificate is left out, a set has one word more or less, or there is another digit, rank, site, offset,
+link, equation or coefficient, another version, another word on the tape, or another declaration. The line of a yes or a no must be the
+same, and if one of the two refuses a certificate or a declaration as malformed, the other must refuse it, too. If a case is accepted,
+a run with random events from a random start is watched, which must not violate a rule.
 
-usage: verdicts.py PROGRAM EXAMPLES FOLDER COUNT SEED. Files are made in FOLDER, and cases on which the two differ stay there.
+usage: verdicts.py PROGRAM EXAMPLES FOLDER COUNT SEED. Files are made in FOLDER, and cases on which the two differ are kept there.
 """
 import collections
 import random

@@ -1,5 +1,6 @@
-"""Tries version 3 of certificates in reference/: the programs of version3/ with their certificates, their variants with one
-changed word, certificates in which one line is changed, and texts with their faults. Prints nothing if all is well.
+"""Tests how the Python in reference/ treats version 3 of certificates: the programs of version3/ with their
+certificates, variants of these programs in which one word is changed, certificates in which one line is changed, and
+texts that have faults. Prints nothing if all is well.
 """
 import sys
 from pathlib import Path

@@ -1,5 +1,5 @@
-"""Tries the rules of version 3 in reference/facts3.py on random machines: a fact is made that holds of a random state, the machine
-in reference/ executes a word, and what the rules conclude must hold of the state after it.
+"""Tests the rules of version 3 in reference/facts3.py on random machines: a fact is made that holds of a random state, the
+machine in reference/ executes a word, and what the rules conclude must hold of the state after the word.
 
 usage: version3_facts.py COUNT SEED, which prints how many cases of each kind there were, and what went wrong.
 """

@@ -1,8 +1,8 @@
-"""Compares versions 1 and 2 with version 3 on the random cases of tests/equation_facts.py. The outcomes, the entailments and the returns of
-reference/facts.py must be those of reference/facts3.py, if the latter is restricted as points 1 to 7 of "Versions 1 and 2" in
-docs/TRANSFER.md say, and as points 8 and 9 say about outcomes and returns. Each single fact that version 1 or 2 entails must be entailed
-by the narrowed fact in version 3. Conditions, landing and whole certificates are not compared, and neither are facts with two equations
-for one pair of names.
+"""Compares versions 1 and 2 with version 3 on the random cases of tests/equation_facts.py. The outcomes, the entailments and the returns
+of reference/facts.py must be those of reference/facts3.py, if the latter is restricted as points 1 to 7 of "Versions 1 and 2" in
+docs/TRANSFER.md say, and as points 8 and 9 say about outcomes and returns. Whenever a fact entails a single fact in version 1 or 2, the
+narrowed fact must entail it in version 3. Conditions, landing and whole certificates are not compared, and neither are facts with two
+equations for one pair of names.
 
 usage: version3_older.py COUNT SEED
 """

@@ -1,5 +1,5 @@
-"""Checks that the random cases of version3_facts.py find wrong rules: each edit of reference/facts3.py below makes a rule
-wrong, and some case must show this.
+"""Checks that the random cases of version3_facts.py find wrong rules: each of the edits of reference/facts3.py below
+makes a rule wrong, and at least one case must show this.
 
 usage: version3_wrong.py COUNT SEED [FIRST [LAST]], which prints for each edit the first case that shows it, among COUNT
 """

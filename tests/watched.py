@@ -1,6 +1,6 @@
-"""Watches the programs of a folder for which `pdp8 verify --source` says yes, each in many runs with random events from a random start,
-with the watcher in reference/: no run may violate a rule. Keys, frames and switches are often words of the tape, so that comparisons
-hold now and then.
+"""Uses the watcher in reference/ to watch those programs of a folder for which `pdp8 verify --source` says yes, each in many runs
+with random events from a random start: no run may violate a rule. Keys, frames and switches are often words of the tape, so that
+comparisons in the programs are true now and then.
 
 usage: watched.py PROGRAM FOLDER RUNS STEPS SEED
 """

@@ -1,7 +1,8 @@
-"""Compares `pdp8 watch` with the watcher in reference on random programs, declarations and events: what they
-print, and what they say about a fault, must be the same to the byte.
+"""Compares `pdp8 watch` with the watcher in reference/ on random programs, declarations and events: what
+the two print, and what they say about a fault, must be the same to the byte.
 
-usage: watcher.py PROGRAM FOLDER COUNT SEED. Files are made in FOLDER, and cases on which the two differ stay there.
+usage: watcher.py PROGRAM FOLDER COUNT SEED. Files are made in FOLDER, and cases on which the two differ
+are kept there.
 """
 import random
 import subprocess

@@ -1,10 +1,10 @@
 #!/usr/bin/env python3
 """Has pdp8 write sources of random tapes and of those of examples/, and assembles each again.
 
-This script writes a tape of a random image, which is sparse, dense or full, consists of code or of characters only, or is that of an
-example with words changed. From the source that `pdp8 source` writes for it, `pdp8 assemble` must make that tape again, to the byte; no
-line of the source may have more than 80 columns. If palbart is installed, it must read the same words. It has no CAM, which is
-therefore defined for it.
+This script writes tapes of random images. An image is sparse, dense or full, consists of code or of characters only, or is that of an
+example in which words were changed. From the source that `pdp8 source` writes for a tape, `pdp8 assemble` must make that tape again, to
+the byte; no line of the source may have more than 80 columns. If palbart is installed, it must assemble the source to the same words.
+palbart does not know CAM, which is therefore defined for it.
 
 usage: tests/written_sources.py [PDP8 [COUNT [SEED]]]    PDP8 is the built program, or else the one that the variable PDP8
                                                          names; PALBART names a palbart, otherwise /usr/bin/palbart is tried;

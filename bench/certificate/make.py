@@ -1,12 +1,14 @@
 #!/usr/bin/env python3
-"""Makes a tape, a declaration and a certificate of about so many bytes that `pdp8 check` accepts.
+"""Makes a tape, a declaration and a certificate that `pdp8 check` accepts. The certificate has about the given number of
+bytes.
 
 usage: make.py BYTES FOLDER
 
 The program is a row of NOPs with a halt at its end. It changes nothing, so each fact of the certificate may say what the
-one before it says, or less: sets of words for AC and for cells, and how the words of two cells differ. The sets grow from
-fact to fact, and most words have no neighbour in them, so that the text is mostly runs. The folder gets the files `tape`,
-`declaration`, `certificate` and `cut`, which is the certificate without its end.
+fact before it says, or less. The facts have sets of words for AC and for cells, and say by how much the words of two
+cells differ. The sets grow from fact to fact, and most words in them have no neighbour there, so that the text consists
+mostly of ranges. The folder gets the files `tape`, `declaration`, `certificate` and `cut`, which is the certificate
+without its end.
 """
 
 import random

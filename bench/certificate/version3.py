@@ -1,11 +1,12 @@
 #!/usr/bin/env python3
-"""Makes a tape, a declaration and a certificate of version 3 of some 113 KB that `pdp8 check` accepts: three copies of
-tests/style-of-1970/pack.pal, each on a page of its own, behind a choice by the switches.
+"""Makes a tape, a declaration and a certificate of version 3, of some 113 KB, that `pdp8 check` accepts. The program consists of
+three copies of tests/style-of-1970/pack.pal, each on a page of its own; the switches decide which copy is executed.
 
 usage: version3.py PDP8 FOLDER
 
-The certificate of each copy is found by PDP8, for a program in which all choices lead to that copy. The three are then put
-together: what they say of the choice stands below one fact. The folder gets the files `t`, `d` and `c`, as bench/judge.sh wants them.
+The certificate of each copy is found by PDP8, for a program in which all choices lead to that copy. The three certificates are then
+merged, and what they say about the instructions that make the choice is put below a single fact. The folder gets the files `t`, `d`
+and `c`, which bench/judge.sh expects.
 """
 import re
 import subprocess

@@ -1,11 +1,12 @@
 #!/usr/bin/env python3
-"""Makes a source and a declaration of a program of so many pages that `pdp8 guess` certifies.
+"""Makes the source and the declaration of a program with the given number of pages, for which `pdp8 guess` finds a
+certificate.
 
 usage: make.py PAGES FOLDER
 
-Each page has thirteen loops, one after the other, that clear the same eight cells through a pointer and count them, and
-goes on to the next page; the last one halts. So a program of twice the pages is the same work twice. The folder gets the
-files `source.pal` and `declaration`.
+Each page has thirteen loops, one after the other, which clear the same eight cells through a pointer and count them;
+then it goes on to the next page. The last page halts. So a program with twice as many pages is twice the same work. The
+folder gets the files `source.pal` and `declaration`.
 """
 
 import sys

@@ -1,4 +1,5 @@
-"""A table of the least nanoseconds for one call from lines `NAME BODY TIMES ANSWER SPENT`, parted by tabs."""
+"""Makes a table of the least nanoseconds for one call, from lines `NAME BODY TIMES ANSWER SPENT` whose
+items are separated by tabs."""
 
 import re
 import sys

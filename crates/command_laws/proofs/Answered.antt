@@ -31,13 +31,13 @@ use Rattle.machine_commands.specs.Running.{IsRunOf, fresh, status_of}
 use Rattle.machine_commands.specs.Summary.{closing}
 use Rattle.machine_commands.specs.Trace.{trace_of, traced}
 
--- what the devices may tell is a byte, and the switches show a word
+-- what the devices deliver is bytes, and the switches show a word
 pub record Tells (v : Devices) : Type 0 where
   pub key : v.keyboard.buffer < 256
   pub frame : v.reader.buffer < 256
   pub switches : v.switches < 4096
 
--- the word of an operation
+-- one step of a search: the value that is found passes the test
 found_by : {X : Type 0} (test : X → Bool) (b : Bool) (x o : X) (rest : Option X) → test x ≡ b → (if b then Some x else rest) ≡ Some o →
     (rest ≡ Some o → test o ≡ true) → test o ≡ true
 found_by test true x o rest is same later = cc
@@ -57,7 +57,7 @@ word_is : (p : Profile) (word : ℕ) (o : DeviceOperation) → device_operation 
 unfolding device_operation
 word_is p word o is = equal word (word_of o) (passes (λ o. word == word_of o) (operations ++ more_operations p) o is)
 
--- what a device word makes of the accumulator, and whether it skips
+-- a device instruction has an answer: the accumulator after it, and whether it skips
 abbrev Answered : DeviceAction → ℕ → Answer → Type 0
 Answered a ac q = (ac' : ℕ) × (skip : Bool) × Answers a ac q ac' skip
 
@@ -99,7 +99,7 @@ device_answered p at word a v ac is tells =
     let same : told.0 ≡ a = same_action told.0 a (sym told.2 ∙ is) in
     operation_answered p word (device_operation p word) a v ac refl (told.1 ∙ ap Some same) tells
 
--- an instruction that has a meaning leads somewhere
+-- an instruction that has a meaning leads to a state
 abbrev Leads : Meaning → State → Answer → Type 0
 Leads m s q = (t : State) × Does m s q t
 
@@ -119,7 +119,7 @@ led p (Device a) s v is some tells =
     (record s { ac = told.0; pc = next_pc s.pc told.1 }, (told.0, told.1, told.2, refl))
 led p Undefined s v is some tells = absurd (some refl)
 
--- the devices go on telling bytes and a word
+-- the devices go on delivering bytes and a word, whichever of the two they become
 tells_if : (b : Bool) (x y : Devices) → Tells x → Tells y → Tells (if b then x else y)
 tells_if true x y first second = first
 tells_if false x y first second = second
@@ -147,7 +147,7 @@ frame_if : (b : Bool) (x y : Reader) → x.buffer < 256 → y.buffer < 256 → (
 frame_if true x y first second = first
 frame_if false x y first second = second
 
--- an event leads somewhere, and the devices still tell bytes
+-- an event leads to a state in which the devices still deliver bytes
 abbrev pub Goes : Profile → WorldState → Event → Type 0
 Goes p w e = (x : WorldState) × Happens p w e x × Tells x.devices
 
@@ -196,7 +196,7 @@ goes p w (Switches word) carries tells =
     (with_devices w (record w.devices { switches = word }), (carries, refl), record { key = tells.key; frame = tells.frame; switches = carries })
 goes p w Continue carries tells = (record w { halted_at = None }, refl, tells)
 
--- a run of events
+-- the events have a run from this state
 abbrev pub Ends : Profile → Bool → List Event → WorldState → Type 0
 Ends p ends es w = (lines : List ℕ) × (n : ℕ) × (end : End) × (x : WorldState) × Follows p ends es w lines n end x
 

@@ -1,4 +1,4 @@
--- Events, and the plan of an operator, have one run.
+-- A list of events has at most one run, and so has the plan of an operator.
 use Rattle.std.proofs.Common.{ℕ, ◌≡◌, ◌+◌, Bool, true, false, Option, Some, None, List, [], ◌∷◌, ◌++◌, refl, sym, ap, ◌∙◌, subst}
 use Rattle.instruct.specs.declared.Profile.{Profile}
 use Rattle.peripherals.specs.declared.Event.{Event}
@@ -24,14 +24,14 @@ use Rattle.command_parts.specs.declared.status.Status.{Status}
 use Rattle.machine_commands.specs.Summary.{closing}
 use Rattle.machine_commands.specs.Trace.{trace_of, traced}
 
--- two runs are one
+-- two runs are the same
 record AreOne (lines lines' : List ℕ) (n n' : ℕ) (end end' : End) (x x' : WorldState) : Type 0 where
   same_lines : lines ≡ lines'
   same_steps : n ≡ n'
   same_end : end ≡ end'
   same_final : x ≡ x'
 
--- a run that goes on doesn't end here
+-- a run that goes on does not end here
 not_on : (h : Bool) (what : Seen) (word : ℕ) → what ≡ seen.Unsupported word → goes_on h what ≡ true → ⊥
 not_on h what word is on = let no : goes_on h what ≡ false = ap (goes_on h) is in cc
 
@@ -109,7 +109,7 @@ comes_one schedule p s w es fs (Then _ _ m e more is on a f) (Then _ _ m' d more
     let rest : more ≡ more' = comes_one schedule p (schedule.after s w e) m more more' f (subst (λ (y : WorldState). Comes schedule p Whole (schedule.after s w e) y more') one after) in
     ap (λ (l : List Event). e ∷ l) rest ∙ ap (λ (x : Event). x ∷ more') (sym same)
 
--- what is held by one schedule is one
+-- a session by a given schedule has at most one outcome
 held_one : {S : Type 0} (schedule : Schedule S) (s : S) (options : RunOptions) (form : SummaryForm) (image : List (Option ℕ)) (text text' printed printed' punched punched' : List ℕ) (status status' : Status) →
     IsHeld (λ p w extent es. Comes schedule p extent s w es) options form Whole image text printed punched status → IsHeld (λ p w extent es. Comes schedule p extent s w es) options form Whole image text' printed' punched' status' →
     (text ≡ text') × (printed ≡ printed') × (punched ≡ punched') × (status ≡ status')
@@ -133,7 +133,7 @@ pub typed_are_one : TypedAreOne
 typed_are_one options form frames bytes image text text' printed printed' punched punched' status status' a b =
     held_one typing (first_sitting options.switches options.manner frames bytes) (run_of options) form image text text' printed printed' punched punched' status status' a b
 
--- what is watched is what is run
+-- the events that are watched are those of the run
 pub watched_as_run : WatchedAsRun
 watched_as_run options form image d frames keys explained named told seen written printed punched status watched run =
     comes_one operating d.profile (first_place (plan_for options frames keys)) (fresh image d.start) watched.events run.events watched.come run.come

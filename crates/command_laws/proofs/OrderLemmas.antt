@@ -1,4 +1,5 @@
--- A command that reads its inputs in order tells the fault of the first that has one, and touches none behind it.
+-- A command that reads its inputs in order reports the fault of the first input that has one, and touches none of the
+-- inputs after it.
 use Rattle.std.proofs.Common.{ℕ, ◌≡◌, ◌⊎◌, ◌∙◌, Bool, true, false, List, [], refl, sym, ap, subst, inl, inr, arith}
 use Rattle.std.specs.Prelude.{◌||◌, Option, Some, None, Result, Ok, Err, IfErr}
 use Rattle.std.proofs.lemmas.Bool.{true≢false}
@@ -16,12 +17,12 @@ use Rattle.diagnostics.specs.CertificateFaults.{IsCertificateInputFault}
 use Rattle.diagnostics.specs.CertificateInputs.{TakesCertificate}
 use Rattle.command_laws.specs.InOrder.{OneInOrder, ThreeInOrder, TwoInOrder, Work, Tells, Searches, Proposes, Migrates, later_fault}
 
--- an input that wasn't touched
+-- an input that was not touched
 pub record IsAsItWas (one : Input) : Type 0 where
   pub failed : one.failed ≡ false
   pub left : one.left ≡ one.had
 
--- a fault that comes behind a tape and a declaration
+-- a fault that comes after a tape and a declaration, so is a fault of neither
 pub record ComesBehind (W : Fault → Type 0) : Type 0 where
   pub tape : (f : TapeFault) → W (fault.Tape f) → ⊥
   pub declared : (f : DeclarationFault) → W (fault.Declared f) → ⊥
@@ -36,7 +37,7 @@ or_false false = refl
 not_both : {A : Type 0} {a : Bool} → a ≡ true → a ≡ false → A
 not_both is isnt = absurd (true≢false (sym is ∙ isnt))
 
--- that memory was refused is no other fault
+-- whether a fault is that memory was refused
 abbrev is_memory : Fault → Bool
 is_memory fault.NoMemory = true
 is_memory _ = false
@@ -57,7 +58,7 @@ then : {A B C D : Type 0} → A ⊎ (B × C) → (C → D) → A ⊎ (B × D)
 then (inl a) on = inl a
 then (inr (b, c)) on = inr (b, on c)
 
--- it ends here, or goes on
+-- the reading ends here or goes on, and the claim follows in either case
 ends_or : {T : Type 0} {F : Input → Fault → Type 0} {G : Option (List ℕ) → Type 0} {K : Option (List ℕ) → Option (List ℕ) → Type 0} {one : Input} {u X : Type 0} {R : Result T Fault → Type 0} {result : Result T Fault} →
     (EndsAt F one u result → X) → (GoesOn G one R result → X) → Reads {T = T} F G K one u R result → X
 ends_or {T = T} {F = F} {G = G} {one = one} {u = u} {X = X} {R = R} {result = result} here on h = go h.ends
@@ -66,14 +67,14 @@ ends_or {T = T} {F = F} {G = G} {one = one} {u = u} {X = X} {R = R} {result = re
     go (inl e) = here e
     go (inr e) = on e
 
--- the work reads nothing
+-- work that reads nothing has no failed read
 no_read : {T : Type 0} (W : Fault → Type 0) (result : Result T Fault) → NoRead W → FailsBy W result → fails_to_read result ≡ false
 no_read W (Ok x) none is = refl
 no_read W (Err (fault.Device device.Read)) none is = absurd (none is)
 no_read W (Err (fault.Device device.Write)) none is = refl
 no_read W (Err _) none is = refl
 
--- what comes behind a tape isn't a fault of it
+-- a fault that comes after a tape is not a fault of the tape
 behind_tape : {A : Type 0} {W : Fault → Type 0} (text : Input) (f : Fault) → ComesBehind W → IsDeclarationInputFault text f ⊎ (IsGoodDeclaration text.had × W f) → is_fault_of_tape f ≡ true → A
 behind_tape text (fault.Tape t) behind (inl is) of_tape = absurd is
 behind_tape text (fault.Tape t) behind (inr is) of_tape = absurd (behind.tape t is.1)
@@ -194,7 +195,7 @@ three_in_order {T = T} {F = F} {G = G} {K = K} {W = W} {tape = tape} {text = tex
         either (inl is) = inl is
         either (inr is) = inr is.0
 
--- the work of commands has neither a fault of a tape or of a declaration nor reads anything
+-- the work of a command reads nothing
 pub work_reads_nothing : (work : Work) → NoRead (later_fault work)
 work_reads_nothing Tells (inl is) = not_memory is refl
 work_reads_nothing Tells (inr is) = absurd is
@@ -228,7 +229,7 @@ work_of_text Migrates f (inr is) = absurd is
 pub work_comes_behind : (work : Work) → ComesBehind (later_fault work)
 work_comes_behind work = record { tape = work_of_tape work; declared = work_of_text work }
 
--- so do certificates and events
+-- a certificate comes after a tape and a declaration, and so does a text of events
 pub certificate_comes_behind : (certificate : Input) → ComesBehind (IsCertificateInputFault certificate)
 certificate_comes_behind certificate = record { tape = λ f is. is; declared = λ f is. is }
 
@@ -239,6 +240,6 @@ pub takes_no_certificate : (had : Option (List ℕ)) → TakesCertificate had ha
 takes_no_certificate None = record { limit = tt; prompt = tt }
 takes_no_certificate (Some bytes) = record { limit = ([], refl, omega arith); prompt = ([], refl, λ n more. absurd (omega (arith, more))) }
 
--- a source that is as it was is an input that is as it was
+-- a byte source that is unchanged is an input that was not touched
 pub as_it_was : {S : Type 0} (mark : S → Bool) (remaining : S → Option (List ℕ)) (old new : S) → mark old ≡ false → new ≡ old → IsAsItWas (input (mark new) (remaining old) (remaining new))
 as_it_was mark remaining old new readable same = record { failed = ap mark same ∙ readable; left = ap remaining same }

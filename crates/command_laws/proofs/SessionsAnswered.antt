@@ -65,7 +65,7 @@ at_printer plan = refl
 at_punch : (plan : Plan) → left_with plan PunchDone ≡ 5 * plan.rounds + 2
 at_punch plan = refl
 
--- what is due leaves less to come
+-- fewer events are still to come after the one that is due
 round_less : (plan : Plan) (n : ℕ) (e : Event) → plan.rounds ≡ n → round_due n ≡ Some e → left_with plan e < 5 * n
 round_less plan zero e is due = cc
 round_less plan (suc n) e is due = subst (λ e. left_with plan e < 5 * suc n) (some_same Step e due) (omega (arith, at_step plan, ap one_less is))
@@ -98,7 +98,7 @@ less plan w (Some (Key key)) e is = omega (arith, round_less plan plan.rounds e 
 less plan w (Some (Switches word)) e is = omega (arith, round_less plan plan.rounds e refl is)
 less plan w (Some Continue) e is = omega (arith, round_less plan plan.rounds e refl is)
 
--- what is due carries a byte or a word, and so does what is left
+-- the event that is due carries a byte or a word, and so do those that are left
 all_but_one : (bytes : List ℕ) → AllByRecursion (λ byte. byte < 256) bytes → AllByRecursion (λ byte. byte < 256) (drop 1 bytes)
 all_but_one [] all = all
 all_but_one (byte ∷ bytes) all = all.1

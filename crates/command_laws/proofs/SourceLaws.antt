@@ -27,7 +27,7 @@ use Rattle.command_parts.specs.Inputs.{HasImage}
 use Rattle.command_laws.specs.Laws.{telling, TapeIsThere, EmptyHasNoTape, MayMiss, MayBeTold, TapeIsOne, MeantIsRead, ReadIsMeant, MeantIsWritten, FaultIsTold, FaultIsNotWritten, MeantIsListed, FaultIsTheOne, WrittenIsAssembled, AssembledIsWritten}
 use Rattle.source_commands.specs.SourceTexts.{AreRead}
 
--- sources that tell their bytes hold these parts alone
+-- sources whose bytes are known hold these parts alone
 told : (parts others : List (List ℕ)) → AreRead (telling parts) others → others ≡ parts
 told [] [] reads = refl
 told [] (other ∷ others) reads = absurd reads
@@ -45,7 +45,7 @@ others_of : List TapeWord → List TapeWord
 others_of [] = []
 others_of (w ∷ ws) = ws
 
--- frames are a tape with one image
+-- the frames of a tape have one image
 tape_one : (fs : List ℕ) (a b : List (Option ℕ)) → IsTape fs a → IsTape fs b → a ≡ b
 unfolding parts_of others_of
 tape_one fs a b one two =
@@ -53,11 +53,11 @@ tape_one fs a b one two =
     let others : one.others ≡ two.others = ap others_of (sym one.last ∙ ap words same ∙ two.last) in
     one_image one.others a b one.cells (subst (λ (ws : List TapeWord). IsImage ws b) (sym others) two.cells)
 
--- so many frames are all that is looked at
+-- a written tape is within the limit on the frames that are read
 within : (image : List (Option ℕ)) → take 65536 (written_tape image) ≡ written_tape image
 within image = take_all 65536 (written_tape image) (let short = written_at_most image in omega (arith, short))
 
--- the image of a source is that of its tape
+-- the image that an assembled source means is the image of its tape
 meant : MeaningIsOne → (profile : Profile) (parts : List (List ℕ)) (symbols : List (Name × ℕ)) (image : List (Option ℕ)) (tape : List ℕ) →
     (is : IsAssembled profile (telling parts) tape) → Means (permanent_symbols profile) parts symbols image → is.image ≡ image
 meant one profile parts symbols image tape is means =
@@ -65,7 +65,7 @@ meant one profile parts symbols image tape is means =
     let other : Means (permanent_symbols profile) parts is.symbols is.image = rw whole at is.assembles.means in
     (one (permanent_symbols profile) parts is.symbols symbols is.image image other means).1
 
--- and hold these
+-- and they do hold these parts
 telling_all : (parts : List (List ℕ)) → AreRead (telling parts) parts
 telling_all [] = tt
 telling_all (part ∷ parts) = (refl, telling_all parts)
@@ -163,7 +163,7 @@ meant_is_listed sound profile parts symbols image marks left bad means is = soun
 pub fault_is_the_one : FaultIsOne → FaultIsTheOne
 fault_is_the_one one profile parts bad told_so marks left faulty is = one (permanent_symbols profile) parts told_so bad (fault_of profile parts told_so is) faulty
 
--- the image that is read of a tape is the one of which a source was written
+-- the image that is read from a tape is the one that its source was written from
 read_so : (profile : Profile) (frames text : List ℕ) (image : List (Option ℕ)) → (s : IsTapeSource profile (Some frames) text) → HasImage (Some frames) image → s.image ≡ image
 read_so profile frames text image s has = tape_one (take 65536 frames) s.image image s.tape has
 

@@ -1,4 +1,4 @@
--- A run that events make is one of the instruction table.
+-- A run that is driven by events is a run of the instruction table.
 use Rattle.std.proofs.Common.{ℕ, suc, ◌≡◌, ◌+◌, Bool, true, false, ◌&&◌, if◌then◌else◌, Option, Some, None, List, [], ◌∷◌, ◌++◌, length, length-append, refl, sym, ap, ◌∙◌}
 use Rattle.std.specs.Prelude.{is_none, is_some}
 use Rattle.instruct.specs.declared.Profile.{Profile}
@@ -18,7 +18,7 @@ use Rattle.machine_commands.specs.declared.follow.End.{End}
 use Rattle.machine_commands.specs.Follows.{Follows, Ended, Stuck, Stopped, Went, counted}
 use Rattle.command_laws.specs.Laws.{FollowsTheTable}
 
--- what is seen of an instruction counts it where it has a meaning
+-- an instruction that has a meaning is counted once
 supported_counts : (halts : Bool) (s : State) → counted (if halts then seen.Halted else seen.Ran) ≡ length (s ∷ [])
 supported_counts true s = refl
 supported_counts false s = refl
@@ -45,7 +45,7 @@ device_counts : (enabled : Bool) → counted (if enabled then seen.Changed else 
 device_counts true = refl
 device_counts false = refl
 
--- the states before the steps of one event are as many as are counted of it
+-- the count for an event is the number of states before its steps
 event_counts : (p : Profile) (w : WorldState) (e : Event) → counted (seen_of p w e) ≡ length (stepped_from p w e)
 event_counts p w Step = step_counts p w w.halted_at
 event_counts p w (Key byte) = refl
@@ -55,7 +55,7 @@ event_counts p w PunchDone = device_counts w.devices.punch.busy
 event_counts p w (Switches word) = refl
 event_counts p w Continue = device_counts (is_some w.halted_at)
 
--- The events that happened in a run, and the states before their steps.
+-- The events that happened in a run, and the states before its steps.
 record Happened (p : Profile) (w : WorldState) (steps : ℕ) (x : WorldState) : Type 0 where
   events : List Event
   before : List State

@@ -1,4 +1,4 @@
--- Bytes have one verdict, and so has what a certificate is migrated to.
+-- Inputs have at most one verdict, and a migrated certificate has that of its original.
 use Rattle.std.proofs.Common.{ℕ, ◌≡◌, ◌≤◌, true, List, [], ◌∷◌, length, take, Option, Some, refl, sym, ap, ◌∙◌, subst, arith}
 use Rattle.std.specs.Prelude.{Result, Ok, Err}
 use Rattle.bin_tape.proofs.OneAnswer.{one_tape}
@@ -42,7 +42,7 @@ same_refusal e k = rw (e, k) refl
 abbrev judged_as : List (Option ℕ) → Declaration → Certificate → Case
 judged_as image d c = record { image = image_of image; declaration = d; certificate = c }
 
--- ---- one case has one verdict
+-- ---- a case has at most one verdict
 
 same_verdict : (j : Case) (v w : Verdict) → IsVerdict j v → IsVerdict j w → v ≡ w
 same_verdict j (Ok u) (Ok w) holds also = refl
@@ -82,9 +82,9 @@ pub checks_are_one : ChecksAreOne
 checks_are_one t d c line line' status status' x y =
     one_answer t d c c line line' status status' x y (lines_alike x.lines y.lines x.claims.lines_are y.claims.lines_are (sym x.claims.text_is ∙ y.claims.text_is))
 
--- ---- what is guessed
+-- ---- what `guess` writes
 
--- what is guessed is checked so, where it is read
+-- what `guess` writes is checked with a yes, if it is within the limit that is read
 guess_checked : (t d guess : List ℕ) (g : IsGuess (Some t) (Some d) guess) → length guess ≤ most_bytes → IsCheckedSo (Some t) (Some d) (Some guess) (yes_text g.declaration) Done
 guess_checked t d guess g few = record {
   image = g.image;
@@ -103,9 +103,9 @@ guess_is_accepted t d guess line status g checked =
 pub guess_is_read : GuessIsRead
 guess_is_read t d guess g few = (yes_text g.declaration, guess_checked t d guess g few)
 
--- ---- what is migrated
+-- ---- what `migrate` writes
 
--- lines that may follow one another in version 1 may in version 2
+-- lines that may follow one another in version 1 may do so in version 2
 follow_two : (before ls : List Line) → Follow One before ls → Follow Two before ls
 follow_two before [] h = tt
 follow_two before (l ∷ ls) h =
@@ -119,7 +119,7 @@ follow_mq Three ls h = h
 migrated_lines : (c : Text) → AreLines c → AreLines (migrated c)
 migrated_lines c h = record { order = follow_mq c.version c.lines h.order; has_end = h.has_end }
 
--- what is claimed stays, since the rules do
+-- the rules stay the same, and so do the claims
 same_rules : (v : Version) → rules_of v ≡ rules_of (with_mq v)
 same_rules One = refl
 same_rules Two = refl

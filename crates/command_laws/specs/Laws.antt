@@ -1,5 +1,5 @@
--- A run of any events has an answer, and so has one with an operator; and what sources mean, what is written of them and what
--- is read of that is one.
+-- Laws of the definitions. Every run of events has an answer, and so has every run with an operator; and what a source
+-- means, what is written for it and what is read from that agree.
 use Rattle.std.specs.Prelude.{None, ℕ, ◌≡◌, ◌<◌, ◌≤◌, Bool, true, Option, Some, List, [], ◌∷◌, IfSome, length, map, ⊤}
 use Rattle.std.specs.List.{AllByRecursion}
 use Rattle.peripherals.specs.declared.Event.{Event}
@@ -39,7 +39,7 @@ use Rattle.machine_commands.specs.WatchedSession.{IsPlanWatchedSo}
 use Rattle.declaration.specs.Declaration.{Declaration}
 use Rattle.command_parts.specs.declared.options.SessionOptions.{SessionOptions}
 
--- What an event carries is a byte, or a word.
+-- The number that an event carries, if any, is a byte or a word.
 abbrev pub Carries : Event → Type 0
 Carries Step = ⊤
 Carries (Key byte) = byte < 256
@@ -49,13 +49,14 @@ Carries PunchDone = ⊤
 Carries (Switches word) = word < 4096
 Carries Continue = ⊤
 
--- Whatever the image and the events, and however a halt counts: there is a run, with its text and its status.
+-- For every image and every list of events, and whether or not a halt ends the run, there is a run, with its text and
+-- its status.
 abbrev pub RunsEnd : Type 0
 RunsEnd =
     (options : RunOptions) (ends_at_halt : Bool) (events : List Event) (image : List (Option ℕ)) → AllByRecursion Carries events →
     (text : List ℕ) × (status : Status) × IsRunOf options ends_at_halt events image text status
 
--- There is no other such text and no other status.
+-- A run has only one text and one status.
 abbrev pub RunsAreOne : Type 0
 RunsAreOne =
     (options : RunOptions) (ends_at_halt : Bool) (events : List Event) (image : List (Option ℕ))
@@ -63,21 +64,21 @@ RunsAreOne =
     IsRunOf options ends_at_halt events image text status → IsRunOf options ends_at_halt events image text' status' →
     (text ≡ text') × (status ≡ status')
 
--- What is still to come is bytes, and a word on the switches.
+-- What a plan still holds are bytes, and a word for the switches if there is one.
 pub record CarriesAll (plan : Plan) : Type 0 where
   pub switches : IfSome plan.switches (λ word. word < 4096)
   pub frames : AllByRecursion (λ byte. byte < 256) plan.frames
   pub keys : AllByRecursion (λ byte. byte < 256) plan.keys
 
--- Whatever an operator has in mind and whatever the image, the run comes to an end: with its text, what was printed and
--- punched, and its status.
+-- For every plan of an operator and every image, the run comes to an end, with its text, what was printed and punched,
+-- and its status.
 abbrev pub SessionsEnd : Type 0
 SessionsEnd =
     (options : RunOptions) (form : SummaryForm) (plan : Plan) (image : List (Option ℕ)) → CarriesAll plan →
     (text : List ℕ) × (printed : List ℕ) × (punched : List ℕ) × (status : Status) ×
     IsSessionOf options form Whole plan image text printed punched status
 
--- There is no other such end.
+-- A run with an operator has only one such end.
 abbrev pub SessionsAreOne : Type 0
 SessionsAreOne =
     (options : RunOptions) (form : SummaryForm) (plan : Plan) (image : List (Option ℕ))
@@ -86,7 +87,7 @@ SessionsAreOne =
     IsSessionOf options form Whole plan image text' printed' punched' status' →
     (text ≡ text') × (printed ≡ printed') × (punched ≡ punched') × (status ≡ status')
 
--- A session at the teletype with these frames and these bytes of keys has one end at most.
+-- A session at the teletype with these frames and these bytes of keys has at most one end.
 abbrev pub TypedAreOne : Type 0
 TypedAreOne =
     (options : TeletypeOptions) (form : SummaryForm) (frames bytes : List ℕ) (image : List (Option ℕ))
@@ -95,19 +96,20 @@ TypedAreOne =
     IsHeld (types_by options frames bytes) (run_of options) form Whole image text' printed' punched' status' →
     (text ≡ text') × (printed ≡ printed') × (punched ≡ punched') × (status ≡ status')
 
--- What events lead to in so many instructions, that many steps of the instruction table lead to, by some answers of the devices.
+-- A state that events lead to in some number of instructions is also reached by that many steps of the instruction
+-- table, for some answers of the devices.
 abbrev pub FollowsTheTable : Type 0
 FollowsTheTable =
     (profile : Profile) (ends_at_halt : Bool) (events : List Event) (w x : WorldState) (lines : List ℕ) (steps : ℕ) (end : End) →
     Follows profile ends_at_halt events w lines steps end x →
     (taken : List Taken) × (length taken ≡ steps) × Run profile w.state taken x.state
 
--- These options, but with the start and the machine that are declared.
+-- The same options with the start and the machine of the declaration.
 abbrev pub as_declared : Declaration → SessionOptions → SessionOptions
 as_declared d options = record options { run = record options.run { start = d.start; profile = d.profile } }
 
--- The events of a watched run with an operator who presses no CONTINUE are those of the run with the same options, on the declared machine and from the
--- declared start.
+-- The events of a watched run with an operator who never presses CONTINUE are those of the run with the same options on
+-- the declared machine and from the declared start.
 abbrev pub WatchedAsRun : Type 0
 WatchedAsRun =
     (options : SessionOptions) (form : SummaryForm) (image : List (Option ℕ)) (d : Declaration) (frames keys : List ℕ)
@@ -116,80 +118,80 @@ WatchedAsRun =
     (run : IsSessionOf (as_declared d options).run form Whole (plan_for (as_declared d options) frames keys) image written printed punched status) →
     watched.events ≡ run.events
 
--- Sources that tell their bytes, which are these parts.
+-- Sources whose bytes are known, and are these parts.
 abbrev pub telling : List (List ℕ) → List (Option (List ℕ))
 telling parts = map Some parts
 
--- What is written of a source is one tape.
+-- The tape that is written for a source is unique.
 abbrev pub TapeIsOne : Type 0
 TapeIsOne =
     (profile : Profile) (parts : List (List ℕ)) (tape tape' : List ℕ) →
     IsAssembled profile (telling parts) tape → IsAssembled profile (telling parts) tape' → tape ≡ tape'
 
--- The image that a source means is read of its tape.
+-- The image that a source means is read from its tape.
 abbrev pub MeantIsRead : Type 0
 MeantIsRead =
     (profile : Profile) (parts : List (List ℕ)) (symbols : List (Name × ℕ)) (image : List (Option ℕ)) (tape : List ℕ) →
     IsAssembled profile (telling parts) tape → Means (permanent_symbols profile) parts symbols image → HasImage (Some tape) image
 
--- The image that is read of a source's tape is the one that the source means.
+-- The image that is read from a source's tape is the one that the source means.
 abbrev pub ReadIsMeant : Type 0
 ReadIsMeant =
     (profile : Profile) (parts : List (List ℕ)) (image : List (Option ℕ)) (tape : List ℕ) →
     IsAssembled profile (telling parts) tape → HasImage (Some tape) image →
     (symbols : List (Name × ℕ)) × Means (permanent_symbols profile) parts symbols image
 
--- A source that means an image with a word has a tape, the one that is written of that image.
+-- A source that means an image with at least one word has a tape: the one that is written for that image.
 abbrev pub TapeIsThere : Type 0
 TapeIsThere =
     (profile : Profile) (parts : List (List ℕ)) (symbols : List (Name × ℕ)) (image : List (Option ℕ)) →
     Means (permanent_symbols profile) parts symbols image → (IsEmptyImage image → ⊥) →
     IsAssembled profile (telling parts) (written_tape image)
 
--- A source that means an image without a word has no tape.
+-- A source that means an image without words has no tape.
 abbrev pub EmptyHasNoTape : Type 0
 EmptyHasNoTape =
     (profile : Profile) (parts : List (List ℕ)) (symbols : List (Name × ℕ)) (image : List (Option ℕ)) (tape : List ℕ) →
     Means (permanent_symbols profile) parts symbols image → IsEmptyImage image → IsAssembled profile (telling parts) tape → ⊥
 
--- Of the source that `source` writes of a tape, whose image has a word, `assemble` makes the tape that is written of that
--- image.
+-- From the source that `source` writes for a tape whose image has at least one word, `assemble` makes the tape that is
+-- written for that image.
 abbrev pub WrittenIsAssembled : Type 0
 WrittenIsAssembled =
     (profile : Profile) (frames text : List ℕ) (image : List (Option ℕ)) →
     IsTapeSource profile (Some frames) text → HasImage (Some frames) image → (IsEmptyImage image → ⊥) →
     IsAssembled profile (telling (text ∷ [])) (written_tape image)
 
--- `assemble` makes no other tape of it.
+-- `assemble` makes no other tape from that source.
 abbrev pub AssembledIsWritten : Type 0
 AssembledIsWritten =
     (profile : Profile) (frames text tape : List ℕ) (image : List (Option ℕ)) →
     IsTapeSource profile (Some frames) text → HasImage (Some frames) image →
     IsAssembled profile (telling (text ∷ [])) tape → tape ≡ written_tape image
 
--- Why a source that means an image may have no tape: the image has no word, a device failed, or memory was refused.
+-- The reasons why a source that means an image may have no tape: the image has no words, a device failed, or memory was
+-- refused.
 abbrev pub MayMiss : List (Option ℕ) → Fault → Type 0
 MayMiss image EmptyImage = IsEmptyImage image
 MayMiss image (Device device) = Unit {0}
 MayMiss image fault.NoMemory = Unit {0}
 MayMiss image _ = ⊥
 
--- What a source with a fault may be told: that fault, that a device failed, or that memory was refused.
+-- What may be reported for a source with a fault: that fault, that a device failed, or that memory was refused.
 abbrev pub MayBeTold : PalFault → Fault → Type 0
 MayBeTold bad (Source told) = told ≡ bad
 MayBeTold bad (Device device) = Unit {0}
 MayBeTold bad fault.NoMemory = Unit {0}
 MayBeTold bad _ = ⊥
 
--- A source that means an image is refused a tape only since the image has no word, a device failed, or memory was
--- refused.
+-- A source that means an image has no tape only if the image has no words, a device failed, or memory was refused.
 abbrev pub MeantIsWritten : Type 0
 MeantIsWritten =
     (profile : Profile) (parts : List (List ℕ)) (symbols : List (Name × ℕ)) (image : List (Option ℕ))
     (marks : List Bool) (left : List (Option (List ℕ))) (fault : Fault) →
     Means (permanent_symbols profile) parts symbols image → IsSourceFault profile marks (telling parts) left fault → MayMiss image fault
 
--- A source with a fault is told, where it has no tape, nothing but that fault, a device that failed, or that memory was
+-- If a source with a fault has no tape, nothing is reported but that fault, that a device failed, or that memory was
 -- refused.
 abbrev pub FaultIsTold : Type 0
 FaultIsTold =
@@ -203,41 +205,41 @@ FaultIsNotWritten =
     IsFault (permanent_symbols profile) parts fault →
     (IsAssembled profile (telling parts) text → ⊥) × (IsListing profile (telling parts) text → ⊥)
 
--- A source that means an image is not refused its listing for any fault of the source.
+-- A source that means an image is never refused its listing because of a fault of the source.
 abbrev pub MeantIsListed : Type 0
 MeantIsListed =
     (profile : Profile) (parts : List (List ℕ)) (symbols : List (Name × ℕ)) (image : List (Option ℕ))
     (marks : List Bool) (left : List (Option (List ℕ))) (fault : PalFault) →
     Means (permanent_symbols profile) parts symbols image → IsListFault profile marks (telling parts) left (Source fault) → ⊥
 
--- A source with a fault is not refused its listing for any other fault of the source.
+-- A source with a fault is refused its listing for no fault of the source other than that one.
 abbrev pub FaultIsTheOne : Type 0
 FaultIsTheOne =
     (profile : Profile) (parts : List (List ℕ)) (fault told : PalFault) (marks : List Bool) (left : List (Option (List ℕ))) →
     IsFault (permanent_symbols profile) parts fault → IsListFault profile marks (telling parts) left (Source told) → told ≡ fault
 
--- The bytes of a tape, a declaration and a certificate have one verdict: one line and one status.
+-- The bytes of a tape, a declaration and a certificate have at most one verdict, that is, one line and one status.
 abbrev pub ChecksAreOne : Type 0
 ChecksAreOne =
     (tape declaration certificate line line' : List ℕ) (status status' : Status) →
     IsCheckedSo (Some tape) (Some declaration) (Some certificate) line status →
     IsCheckedSo (Some tape) (Some declaration) (Some certificate) line' status' → (line ≡ line') × (status ≡ status')
 
--- To what `guess` writes for a tape and a declaration, `check` says yes: where it has a verdict, that has the status of
+-- If `check` has a verdict on what `guess` writes for a tape and a declaration, it is yes: its status is that of
 -- success.
 abbrev pub GuessIsAccepted : Type 0
 GuessIsAccepted =
     (tape declaration guess line : List ℕ) (status : Status) → IsGuess (Some tape) (Some declaration) guess →
     IsCheckedSo (Some tape) (Some declaration) (Some guess) line status → status ≡ Done
 
--- What `guess` writes is read by `check`, if it has no more bytes than are read of a certificate, and has a verdict then: yes.
+-- If what `guess` writes has no more bytes than are read of a certificate, `check` has a verdict on it, which is yes.
 abbrev pub GuessIsRead : Type 0
 GuessIsRead =
     (tape declaration guess : List ℕ) → IsGuess (Some tape) (Some declaration) guess → length guess ≤ most_bytes →
     (line : List ℕ) × IsCheckedSo (Some tape) (Some declaration) (Some guess) line Done
 
--- Of what `migrate` writes of a certificate, where `check` has a verdict on both, it says what it says of the
--- certificate itself, in line and status.
+-- If `check` has a verdict on a certificate and on what `migrate` writes for it, the two verdicts are the same, in line
+-- and status.
 abbrev pub MigratedIsCheckedAlike : Type 0
 MigratedIsCheckedAlike =
     (tape declaration certificate migrated line line' : List ℕ) (status status' : Status) → IsMigrated (Some certificate) migrated →

@@ -1,4 +1,4 @@
-//! Laws over the definitions alone. Each is the contract of a function that does nothing.
+//! Laws that follow from the definitions alone. Each is the contract of a function that does nothing.
 
 ghost use Rattle.std.specs.Prelude.{◌≡◌, false, Result, ⊤};
 ghost use Rattle.command_parts.specs.Answers.{FailsBy, ReadsOne, ReadsRun, ReadsTwo};
@@ -12,45 +12,43 @@ use pal_asm::laws::{meant_are_words, sources_have_one_answer};
 use peripherals::laws::events_are_runs;
 use streams::ByteSource;
 
-/// From every image each list of events has a run, with its text and its status, and has no other.
-/// So what a run is said to write is there, whatever the tape does.
+/// From every image, each list of events has exactly one run, with its text and its status. So the text and the status
+/// that a run is said to have exist, whatever is on the tape.
 pub fn runs_end()
     ensures end { RunsEnd }
     ensures one { RunsAreOne }
 {}
 
-/// Whatever tape an operator puts into the reader and whatever keys are struck, a run of so many
-/// rounds comes to an end, and to no other. So what a run with an operator is said to write is
-/// there.
+/// Whatever tape an operator puts into the reader and whatever keys are struck, a run of a given number of rounds comes
+/// to exactly one end. So what a run with an operator is said to write exists.
 pub fn sessions_end()
     ensures end { SessionsEnd }
     ensures one { SessionsAreOne }
 {}
 
-/// A session at the teletype comes to no other end, whatever frames are in the reader and whatever keys
-/// are struck.
+/// A session at the teletype comes to at most one end, whatever frames are in the reader and whatever keys are struck.
 pub fn typed_sessions_are_one()
     ensures { TypedAreOne }
 {}
 
-/// A run is one of the instruction table, whether rounds, a list of events, an operator or a session at
-/// the teletype drives it: as many steps of the table as it counts lead to its end.
+/// A run is a run of the instruction table, whether it is driven by rounds, by a list of events, by an operator or by a
+/// session at the teletype: as many steps of the table as it counts lead to its end.
 pub fn runs_follow_the_table()
     ensures { FollowsTheTable }
 {
     events_are_runs();
 }
 
-/// `watch` with an operator watches exactly the events that `run` makes of the same options, where the
-/// run is on the declared machine and begins at the declared start.
+/// `watch` with an operator watches exactly the events that `run` makes from the same options, if the run is on the
+/// declared machine and begins at the declared start.
 pub fn watched_sessions_are_runs()
     ensures { WatchedAsRun }
 {}
 
-/// From a source to its tape and to the image that is read of the tape is one function, in both
-/// directions: a source that means an image with a word has a tape, and one without a word has none;
-/// the tape that `assemble` writes is one, the image that the source means is read of it, and whatever
-/// image is read of it is the one that the source means.
+/// A source, its tape and the image that is read from the tape determine one another in both directions. A source that
+/// means an image with at least one word has a tape, and one without words has none. `assemble` writes only one tape;
+/// the image that the source means is read from it, and every image that is read from it is the one that the source
+/// means.
 pub fn sources_are_read_back()
     ensures there { TapeIsThere }
     ensures empty { EmptyHasNoTape }
@@ -62,8 +60,8 @@ pub fn sources_are_read_back()
     meant_are_words();
 }
 
-/// From a tape to its source and back is one way: of the source that `source` writes of a tape `assemble`
-/// makes the tape that is written of that tape's image, and no other.
+/// A tape and the source that is written for it belong together: from the source that `source` writes for a tape,
+/// `assemble` makes the tape that is written for the image of the first tape, and no other.
 pub fn written_sources_come_back()
     ensures there { WrittenIsAssembled }
     ensures only { AssembledIsWritten }
@@ -72,9 +70,9 @@ pub fn written_sources_come_back()
     meant_are_words();
 }
 
-/// What `assemble` and `list` answer is exact in both directions. A source that means something is
-/// refused only for want of a word, of memory or of a device; one with a fault is told that fault,
-/// or that a device or memory failed, and nothing is written of it.
+/// The answers of `assemble` and `list` are exact in both directions. A source that means an image gets no tape only if
+/// the image has no words, memory was refused or a device failed. For a source with a fault, that fault is reported, or
+/// that memory was refused or a device failed, and nothing is written.
 pub fn assemblies_are_exact()
     ensures meant { MeantIsWritten }
     ensures told { FaultIsTold }
@@ -85,9 +83,9 @@ pub fn assemblies_are_exact()
     sources_have_one_answer();
 }
 
-/// The bytes of a tape, a declaration and a certificate have at most one verdict. To what `guess` writes
-/// it is yes, and to what `migrate` writes it is that of the certificate which was migrated, unless it is
-/// longer than what is read.
+/// The bytes of a tape, a declaration and a certificate have at most one verdict. For what `guess` writes it is yes,
+/// and for what `migrate` writes it is the verdict on the certificate that was migrated, unless the text is longer than
+/// what is read.
 pub fn checks_are_one()
     ensures one { ChecksAreOne }
     ensures guessed { GuessIsAccepted }
@@ -95,8 +93,8 @@ pub fn checks_are_one()
     ensures migrated { MigratedIsCheckedAlike }
 {}
 
-/// Of a command that reads one input, and then does its work: a fault is that of the input, or after a good one
-/// that of the work; a read failed if and only if the answer says so; and no more is taken than may be.
+/// For a command that reads one input and then does its work: a fault is one of the input or, after a good input, one
+/// of the work; a read failed if and only if the answer says so; and the input is not read past its limit.
 pub fn single_inputs_are_told<T>()
     ensures tape { (work : Work) (tape : Input) (result : Result T Fault) →
         ReadsOne (later_fault work) tape result → TapeInOrder (later_fault work) tape result }
@@ -105,10 +103,10 @@ pub fn single_inputs_are_told<T>()
         CertificateInOrder (later_fault work) certificate result }
 {}
 
-/// Of a command that reads a tape and a declaration, and then does its work: a fault is that of the first input that
-/// has one, or after good ones that of the work; a read failed if and only if the answer says so; the declaration is
-/// not touched after a tape that is refused or whose read failed, but only after a good one; and no more is taken than
-/// may be.
+/// For a command that reads a tape and a declaration and then does its work: a fault is that of the first input that
+/// has one or, if both are good, one of the work; a read failed if and only if the answer says so; the declaration is
+/// not touched after a tape that is refused or whose read failed, and is read only after a good one; and no input is
+/// read past its limit.
 pub fn two_inputs_are_read_in_order<D: ByteSource, T>()
     ensures { (work : Work) (tape : Input) (old new : D) (result : Result T Fault) →
         D.mark old ≡ false →
@@ -118,7 +116,7 @@ pub fn two_inputs_are_read_in_order<D: ByteSource, T>()
         (input (D.mark new) (D.remaining old) (D.remaining new)) (new ≡ old) result }
 {}
 
-/// The same of a command that reads a certificate after that, or a text of events.
+/// The same for a command that then reads a certificate or a text of events.
 pub fn three_inputs_are_read_in_order<D: ByteSource, E: ByteSource, T>()
     ensures certified { (work : Work) (tape : Input) (old new : D) (old_third new_third : E)
         (result : Result T Fault) → D.mark old ≡ false → E.mark old_third ≡ false →

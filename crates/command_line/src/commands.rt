@@ -18,9 +18,9 @@ const VERSION: &str = "1.1";
 /// The text below the list of commands.
 const STATUSES: &str = "Exit status:
   0  done
-  1  an input was refused, a run violated a rule or reached an unsupported word, a condition failed, no certificate was found, or the answer of verify is no or not known
+  1  an input was refused, a run violated a rule or reached an unsupported word, a condition failed, no certificate was found, or verify answered no or not known
   2  the command line is wrong, or a file would be replaced without --force
-  3  a file or a stream failed
+  3  a file or a stream could not be opened, read or written
   4  memory was refused
 
 Files are opened in the order of the operands; an OUT that is given by -o is created when there is a result. The operand - stands for standard input or, as OUT, for standard output.
@@ -32,7 +32,7 @@ const VERIFY: Entry = Entry {
     name: "verify",
     usage: "pdp8 verify [OPTIONS] <TAPE> [DECLARATION]",
     about: "Says whether a program complies with its declaration: yes, no or not known",
-    after_help: "Without DECLARATION, and without /: lines in the source, a declaration is proposed; --start and --profile then say where the program starts and which machine it is for. If there is a declaration, it says both.\n\nExamples:\n  pdp8 verify hello.bin hello.declaration\n  pdp8 verify --source hello.pal --save new",
+    after_help: "Without DECLARATION, and without /: lines in the source, a declaration is proposed; --start and --profile then say where the program starts and which machine it is for. If there is a declaration, it says where the program starts and which machine it is for.\n\nExamples:\n  pdp8 verify hello.bin hello.declaration\n  pdp8 verify --source hello.pal --save new",
 };
 
 const RUN: Entry = Entry {
@@ -45,14 +45,14 @@ const RUN: Entry = Entry {
 const SESSION: Entry = Entry {
     name: "teletype",
     usage: "pdp8 teletype [OPTIONS] <TAPE>",
-    about: "Runs a tape with you at the teletype: what it prints appears at once, and it gets a key when it asks for one",
-    after_help: "Keys come from standard input, what is printed goes to standard output, and the summary goes to standard error. The session ends at a halt and at an unsupported word. It also ends when the program asks for a key, if none is left or if the next one is the key of --interrupt.\n\nExample:\n  pdp8 teletype echo.bin",
+    about: "Runs a tape with you at the teletype: what the program prints appears at once, and the program gets a key when it asks for one",
+    after_help: "Keys come from standard input, what is printed goes to standard output, and the summary goes to standard error. The session ends at a halt, at an unsupported word, and where --until, --until-write or --until-read stops it. It also ends when the program asks for a key, if none is left or if the next one is the key of --interrupt.\n\nExample:\n  pdp8 teletype echo.bin",
 };
 
 const DUMP: Entry = Entry {
     name: "dump",
     usage: "pdp8 dump [OPTIONS] <TAPE>",
-    about: "Writes each word on a tape, with its address and its name",
+    about: "Writes each word on a tape, with its address and what it is as an instruction",
     after_help: "With --source, each line ends with the place of the word in the source, such as LOOP or LOOP+2, and, if the word is the first one of its line in the source, with that line.\n\nExamples:\n  pdp8 dump hello.bin\n  pdp8 dump --source hello.pal",
 };
 
@@ -74,20 +74,20 @@ const SOURCE_OF_TAPE: Entry = Entry {
     name: "source",
     usage: "pdp8 source [OPTIONS] <TAPE> [-o] <OUT>",
     about: "Writes a PAL III source for a tape; assemble makes the same words from it",
-    after_help: "OUT stays as it was if there is nothing to write. Without --force, it also stays as it was if it is a source that this command did not write. Without a declaration, the code is found by following the control flow from the start. With one, the declaration says what is code, where the program starts and which machine it is for.\n\nExample:\n  pdp8 source hello.bin -o found.pal",
+    after_help: "OUT stays as it was if there is nothing to write. Without --force, a source that this command did not write is kept as well. Without a declaration, the code is found by following the control flow from the start. With one, the declaration says what is code, where the program starts and which machine it is for.\n\nExample:\n  pdp8 source hello.bin -o found.pal",
 };
 
 const WATCH: Entry = Entry {
     name: "watch",
     usage: "pdp8 watch [OPTIONS] <TAPE> <DECLARATION> [EVENTS]",
-    about: "Says whether a run complies with its declaration, or which rule it violates first, and where",
+    about: "Says whether a run complies with the declaration, and if not, which rule it violates first and where",
     after_help: "Examples:\n  pdp8 watch hello.bin hello.declaration hello.events\n  pdp8 watch --source hello.pal hello.declaration hello.events",
 };
 
 const CHECK: Entry = Entry {
     name: "check",
     usage: "pdp8 check [OPTIONS] <TAPE> <DECLARATION> <CERTIFICATE>",
-    about: "Says whether a certificate shows that no run violates its declaration",
+    about: "Says whether a certificate shows that no run of the program violates the declaration",
     after_help: "Examples:\n  pdp8 check hello.bin hello.declaration hello.certificate --why\n  pdp8 check --source hello.pal hello.declaration hello.certificate --why",
 };
 
@@ -95,35 +95,35 @@ const REPORT: Entry = Entry {
     name: "report",
     usage: "pdp8 report [OPTIONS] <TAPE> <DECLARATION> <CERTIFICATE> [-o] <OUT>",
     about: "Writes what a certificate says as a page of HTML: verdict, memory, routines, listing",
-    after_help: "A file stays as it was if there is nothing to write; with --source, OUT is given by -o. The verdict and the status are those of check.\n\nExamples:\n  pdp8 report hello.bin hello.declaration hello.certificate -o hello.html\n  pdp8 report --source hello.pal hello.declaration hello.certificate -o hello.html",
+    after_help: "An existing OUT stays as it was if there is nothing to write. The verdict and the status are those of check.\n\nExamples:\n  pdp8 report hello.bin hello.declaration hello.certificate -o hello.html\n  pdp8 report --source hello.pal hello.declaration hello.certificate -o hello.html",
 };
 
 const DECLARE: Entry = Entry {
     name: "declare",
     usage: "pdp8 declare [OPTIONS] <TAPE> [-o] <OUT>",
     about: "Proposes a declaration, which says what the program of a tape may do",
-    after_help: "A file stays as it was if there is nothing to write; with --source, OUT is given by -o. If no certificate is found, the declaration is written all the same, with comments that say why, if there is room for them, and the status is 1.\n\nExamples:\n  pdp8 declare hello.bin -o new.declaration\n  pdp8 declare --source hello.pal -o new.declaration",
+    after_help: "An existing OUT stays as it was if there is nothing to write. If no certificate is found, the declaration is still written, and the status is 1; if there is room, comments in it say why.\n\nExamples:\n  pdp8 declare hello.bin -o new.declaration\n  pdp8 declare --source hello.pal -o new.declaration",
 };
 
 const GUESS: Entry = Entry {
     name: "guess",
     usage: "pdp8 guess [OPTIONS] <TAPE> <DECLARATION> [-o] <OUT>",
-    about: "Searches for a certificate showing that no run violates a declaration",
-    after_help: "Without --source, the operand OUT is emptied before an input is read; with --source, it is emptied after the source and the declaration are read. It stays empty if nothing is found. With --source and without DECLARATION, OUT is given by -o. If a certificate is found, no run violates the declaration: this is proved.\n\nExamples:\n  pdp8 guess hello.bin hello.declaration -o new.certificate\n  pdp8 guess --source hello.pal hello.declaration -o new.certificate",
+    about: "Searches for a certificate that shows that no run violates a declaration",
+    after_help: "Without --source, the operand OUT is emptied before an input is read; with --source, it is emptied after the source and the declaration are read. OUT stays empty if nothing is found. With --source and without DECLARATION, give OUT with -o. If a certificate is found, no run violates the declaration: this is proved, under the premises in docs/THEOREM.md.\n\nExamples:\n  pdp8 guess hello.bin hello.declaration -o new.certificate\n  pdp8 guess --source hello.pal hello.declaration -o new.certificate",
 };
 
 const REFUTE: Entry = Entry {
     name: "refute",
     usage: "pdp8 refute [OPTIONS] <TAPE> <DECLARATION> [-o] <OUT>",
     about: "Searches for a run that violates a declaration, and writes its events",
-    after_help: "A file stays as it was if nothing is found. With --source and without DECLARATION, OUT is given by -o. With the same inputs and options, the same seed gives the same answer.\n\nExamples:\n  pdp8 refute hello.bin hello.declaration -o found.events --why\n  pdp8 refute --source hello.pal hello.declaration -o found.events --why",
+    after_help: "An existing OUT stays as it was if nothing is found. With --source and without DECLARATION, give OUT with -o. With the same inputs and options, the same seed gives the same answer.\n\nExamples:\n  pdp8 refute hello.bin hello.declaration -o found.events --why\n  pdp8 refute --source hello.pal hello.declaration -o found.events --why",
 };
 
 const PLACE: Entry = Entry {
     name: "place",
     usage: "pdp8 place [OPTIONS] [-o] <OUT> <SOURCE>...",
     about: "Writes a declaration with the symbols of a source replaced by their addresses",
-    after_help: "Without -o, OUT comes first. It stays as it was if an input is refused or there is no declaration.\n\nExample:\n  pdp8 place -o numbers.declaration --declaration symbols.declaration my.pal",
+    after_help: "Without -o, OUT comes first. With or without -o, an existing OUT stays as it was if an input is refused or if there is no declaration.\n\nExample:\n  pdp8 place -o numbers.declaration --declaration symbols.declaration my.pal",
 };
 
 const MIGRATE: Entry = Entry {
@@ -135,7 +135,7 @@ const MIGRATE: Entry = Entry {
 
 const EXPLAIN: Entry = Entry {
     name: "explain",
-    usage: "pdp8 explain [CODE]",
+    usage: "pdp8 explain [CODE] [NUMBER]",
     about: "Writes what a condition, a rule or a fault means, and what to do",
     after_help: "Without CODE it lists the codes. In `no: V5 at 0210`, `broken: event 50 rule 2` and `pdp8: source: IR 1 2` the codes are V5, rule 2 and IR.\n\nExample:\n  pdp8 explain V5",
 };

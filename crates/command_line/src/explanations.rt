@@ -181,7 +181,7 @@ pub fn push_advice<A: Allocator>(text: &mut String<A>, code: &str) -> Result<(),
 /// `AllocError` if memory was refused.
 pub fn push_codes<A: Allocator>(text: &mut String<A>) -> Result<(), AllocError> {
     text.push_str(
-        "pdp8 explain CODE says what a condition or a rule requires, or what a fault means, and what to do. The codes:\n",
+        "`pdp8 explain CODE` says what a condition or a rule requires, or what a fault means, and what to do about it. The codes are:\n",
     )?;
     for table in tables() {
         push_table(text, table)?;

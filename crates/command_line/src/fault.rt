@@ -159,7 +159,7 @@ impl Misuse {
             Misuse::LastAndTrace =>
                 "'--last' cannot be combined with '--trace' or '--trace-long', which write all instructions",
             Misuse::LongTrace =>
-                "'--trace-long' cannot be combined with '--trace', nor with the options for the reader, the punch, the teletype and the switches",
+                "'--trace-long' cannot be combined with '--trace' or with the options for the reader, the punch, the teletype and the switches",
             Misuse::EventsAndOperator =>
                 "'--events' cannot be combined with the options for the reader, the punch, the teletype and the switches",
             Misuse::ListAndOperator =>
@@ -167,10 +167,10 @@ impl Misuse {
             Misuse::DeclarationAndStart =>
                 "a declaration determines the start and the machine: '--start' and '--profile' cannot be combined with it",
             Misuse::VersionAndDeclaration =>
-                "'--certificate 3' needs '--declaration FILE', and no other version does",
+                "'--declaration FILE' must be given with '--certificate 3', and only with it",
             Misuse::TapeAndSource => "'--source' takes the place of TAPE: too many operands",
             Misuse::NoOutput =>
-                "'-o OUT' is missing: with '--source', each operand here is treated as an input",
+                "'-o OUT' is missing: with '--source', this command takes every operand as an input",
             Misuse::NoEvents =>
                 "EVENTS is missing: give it, or an option that takes its place, such as '--steps 1000'",
             Misuse::BothStandardInput => "'-' can stand for standard input in only one place",
@@ -202,12 +202,12 @@ impl Misuse {
             Misuse::ReportIsTaken =>
                 "the file of '--report' is also an input or OUT: the report needs a file of its own",
             Misuse::ReportIsSource =>
-                "the file of '--report' is named like a source: the report needs a file name with another ending",
+                "the file of '--report' has the name of a source: give the report a file name with another ending",
             Misuse::PunchToOutput => "'--punch' needs the name of a file",
             Misuse::PunchIsTaken =>
                 "the file of '--punch' is also an input: what is punched needs a file of its own",
             Misuse::PunchIsSource =>
-                "the file of '--punch' is named like a source: what is punched needs a file name with another ending",
+                "the file of '--punch' has the name of a source: give what is punched a file name with another ending",
             Misuse::SaveIsFolder =>
                 "'--save NAME' needs a NAME such as 'found', with which the names of the files begin",
             Misuse::SaveIsTaken => "'--save NAME' would replace an input: give another NAME",

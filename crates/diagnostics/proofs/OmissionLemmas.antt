@@ -16,13 +16,13 @@ meant_as image d at named o p is means = let P : Operation → Type 0 = λ q. Me
 
 -- A heading more.
 pub heading_told : (image : List (Option ℕ)) (d : Declaration) (before old new : List ℕ) → SaysOmissions image d before old
-    → new ≡ old ++ codes "no certificate is possible if a run reaches any of these:\n" → SaysOmissions image d before new
+    → new ≡ old ++ codes "with this declaration, no certificate is possible if a run reaches any of these:\n" → SaysOmissions image d before new
 heading_told image d before old new says is =
     let P : List ℕ → Type 0 = λ t. SaysOmissions image d before t in subst P (sym is) (heading before old says)
 
 -- The line that says that there are more.
 pub others_told : (image : List (Option ℕ)) (d : Declaration) (before old new : List ℕ) → SaysOmissions image d before old
-    → new ≡ old ++ codes "and more\n" → SaysOmissions image d before new
+    → new ≡ old ++ codes "and other instructions\n" → SaysOmissions image d before new
 others_told image d before old new says is =
     let P : List ℕ → Type 0 = λ t. SaysOmissions image d before t in subst P (sym is) (others before old says)
 

@@ -175,16 +175,16 @@ stop_for_pause before at = twice before at (codes "` in place of `pause ") (code
 -- What to do about what is omitted at an address.
 abbrev pub remedy_text : ℕ → Omission → List ℕ
 remedy_text at omission.NoWord = codes "remove it from the body, or end the program before it"
-remedy_text at omission.Unsupported = codes "if it is data, remove it from the body"
-remedy_text at omission.OfThe8e = codes "add `profile 8e` if the program is for one"
+remedy_text at omission.Unsupported = codes "if this word is data, remove it from the body"
+remedy_text at omission.OfThe8e = codes "add `profile 8e` if the program is for a PDP-8/E"
 remedy_text at (omission.Stores cell) = around_place (codes "add `var ") cell (codes "`")
-remedy_text at (omission.StoresInEntry cell) = codes "only these may write there: a JMS that calls the routine, an ISZ of the routine itself and, with a `moves` line, a DCA of it"
+remedy_text at (omission.StoresInEntry cell) = codes "only a JMS that calls the routine, an ISZ in the routine and, with a `moves` line, a DCA in the routine may write there"
 remedy_text at (omission.StoresInOwn entry) = around_place (codes "add `moves ") entry (codes "`")
 remedy_text at (omission.Steps cell) = around_place (codes "add `var ") cell (codes "`")
 remedy_text at (omission.Calls entry) = around_place (codes "add `sub ") entry (codes " body .. returns ..`")
 remedy_text at (omission.CallsIntoBody entry) =
     around_place (codes "add `sub ") entry (codes " body .. returns ..`, and remove the entry from the body and the variables")
-remedy_text at (omission.CallsAutoIndex entry) = codes "no routine can begin in 0010 to 0017"
+remedy_text at (omission.CallsAutoIndex entry) = codes "no routine can begin at 0010 to 0017"
 remedy_text at (omission.Jumps place) = codes "add that address to the body"
 remedy_text at (omission.JumpsAcross place) = codes "call a routine with a JMS, and leave it with a return"
 remedy_text at (omission.JumpsToMain place) = around_place (codes "leave the routine with a return, or add `abandon ") place (codes "`")
@@ -204,7 +204,7 @@ remedy_line before at o = before ++ remedy_text at o ++ codes "\n"
 -- names a line that would allow the instruction.
 abbrev pub stuck_line : ℕ → Omission → List ℕ
 stuck_line at omission.NoWord = omission_line at omission.NoWord
-stuck_line at omission.Unsupported = omission_line at omission.Unsupported
+stuck_line at omission.Unsupported = remedy_line [] at omission.Unsupported
 stuck_line at omission.OfThe8e = omission_line at omission.OfThe8e
 stuck_line at (omission.StoresInOwn entry) = []
 stuck_line at (omission.JumpsToMain place) = []
@@ -228,10 +228,10 @@ omission_lines image d at o = dump_line d.profile at (word_at image at) ++ omiss
 -- omitted is so; which of them are told, and in which order, is only tested.
 pub data SaysOmissions (image : List (Option ℕ)) (d : Declaration) : List ℕ → List ℕ → Type 0 where
   nothing : (text : List ℕ) → SaysOmissions image d text text
-  heading : (old new : List ℕ) → SaysOmissions image d old new → SaysOmissions image d old (new ++ codes "no certificate is possible if a run reaches any of these:\n")
+  heading : (old new : List ℕ) → SaysOmissions image d old new → SaysOmissions image d old (new ++ codes "with this declaration, no certificate is possible if a run reaches any of these:\n")
   omitted : (old new : List ℕ) (at : ℕ) (o : Omission) → SaysOmissions image d old new → IsOmitted image d at o
       → SaysOmissions image d old (new ++ omission_lines image d at o)
-  others : (old new : List ℕ) → SaysOmissions image d old new → SaysOmissions image d old (new ++ codes "and more\n")
+  others : (old new : List ℕ) → SaysOmissions image d old new → SaysOmissions image d old (new ++ codes "and other instructions\n")
 
 -- A text became this one by what is said of the instruction at an address at which a search is stuck, which is so; or by nothing, and
 -- when nothing is said is only tested.

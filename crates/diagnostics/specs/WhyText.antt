@@ -231,7 +231,7 @@ gap_of_exit g = told_gap g (codes "the exit line requires ") (codes ", which the
 
 -- The link with which something is possible, before what is.
 abbrev pub with_link_text : ℕ → List ℕ
-with_link_text l = (codes "with the link " ++ link_text l) ++ codes ", "
+with_link_text l = (codes "if the link is " ++ link_text l) ++ codes ", "
 
 -- A word that a name may hold.
 abbrev pub name_may_hold : Location → ℕ → List ℕ
@@ -276,8 +276,8 @@ start_text l =
 
 -- A call from an address past the last that may be a site, by the rules.
 abbrev pub too_high_text : Rules → List ℕ
-too_high_text OfEquations = codes ", from an address above 7767"
-too_high_text OfSums = codes ", from an address above 7776"
+too_high_text OfEquations = codes " from an address above 7767"
+too_high_text OfSums = codes " from an address above 7776"
 
 -- The number of a place, counted from 1. Where the numbers end it stays the last.
 abbrev pub from_one : ℕ → ℕ
@@ -286,7 +286,7 @@ from_one i = min (i + 1) 18446744073709551615
 -- By which offset a callee returns, and by the rules of sums, by which several exit lines may stand for an offset, which of them.
 abbrev pub returned_text : Rules → ℕ → ℕ → List ℕ
 returned_text OfEquations o i = around_offset (codes ", which returns with offset ") o (codes ": ")
-returned_text OfSums o i = around_offset (codes ", which returns with offset ") o (codes " by exit line ") ++ around_number (codes "") (from_one i) (codes ": ")
+returned_text OfSums o i = around_offset (codes ", which returns with offset ") o (codes ", according to exit line ") ++ around_number (codes "") (from_one i) (codes ": ")
 
 -- What a call violates.
 abbrev pub call_text : Rules → CallViolation → List ℕ
@@ -294,7 +294,7 @@ call_text rules call.NoEntry = codes ", which is not an entry"
 call_text rules call.NotListed = codes ", which has no routine line"
 call_text rules (call.NotLower rank own) =
     around_number (codes ", whose rank ") rank (codes " is not below the caller's rank ") ++ decimal own
-call_text rules (call.Writes c) = around (codes ", which may write ") c (codes ", but the caller's written set does not contain it")
+call_text rules (call.Writes c) = around (codes ", which may write ") c (codes ", a cell that the caller's written set does not contain")
 call_text rules call.EntryNotWritten = codes ", which the caller's written set does not contain"
 call_text rules call.WritesCaller = codes ", which may write the caller's entry"
 call_text rules call.NoSite = codes ", whose routine line does not list this address as a site"
@@ -310,7 +310,7 @@ undeclared_text e o =
 
 -- What a return through an entry violates.
 abbrev pub return_text : ℕ → ReturnViolation → List ℕ
-return_text e return.OtherRoutine = codes ", which is not its own entry"
+return_text e return.OtherRoutine = codes ", which is not the entry of its own routine"
 return_text e (return.NotDeclared o) = around_offset (codes " with offset ") o (codes "") ++ undeclared_text e o
 return_text e (return.NotAllowed o l) = around_offset (codes " with offset ") o (codes "") ++ exit_text l
 
@@ -339,7 +339,7 @@ counting_text OfSums = codes ", the routine's own entry, past offset 77 or past 
 abbrev pub moving_text : ℕ → ℕ → ℕ → List ℕ
 moving_text e w s =
     (codes "it may store the word " ++ octal_text w) ++ (around (codes " in ") e (codes "") ++
-    around (codes ": this word is not 0 to 77 past the return address of the call at ") s (codes ""))
+    around (codes ", but the word there must be the return address of the call at ") s (codes " plus 0 to 77"))
 
 -- An address, and after it that a line with it is to be added, up to its end.
 abbrev pub advised_text : List ℕ → ℕ → List ℕ → List ℕ
@@ -356,16 +356,16 @@ breach_text rules (breach.MovesTooFar c w s) = moving_text c w s
 breach_text rules (breach.WritesUnlisted c) = around (codes "it may write ") c (codes ", which is not in the routine's written set")
 breach_text rules breach.HaltsUndeclared = codes "it halts, and no halt is declared there"
 breach_text rules breach.CallsThroughIndex = codes "it calls through an auto-index cell"
-breach_text rules (breach.Calls e b) = (codes "it calls " ++ octal_text e) ++ call_text rules b
+breach_text rules (breach.Calls e b) = (codes "the JMS calls " ++ octal_text e) ++ call_text rules b
 breach_text rules (breach.Returns e b) = (codes "it returns through " ++ octal_text e) ++ return_text e b
-breach_text rules (breach.JumpsToMain a) = advised_text (codes "it may continue at ") a (codes ", which is in main's body: add `abandon ")
-breach_text rules (breach.GoesOn a l) = around (codes "it may continue at ") a (codes ": ") ++ landing_text l
+breach_text rules (breach.JumpsToMain a) = advised_text (codes "the run may continue at ") a (codes ", which is in main's body: add `abandon ")
+breach_text rules (breach.GoesOn a l) = around (codes "the run may continue at ") a (codes ", and ") ++ landing_text l
 breach_text rules (breach.ReadsUnlisted c) = around (codes "it may read ") c (codes ", which is not on the list of reads")
 breach_text rules (breach.DeniesAssertion s w) = denied_text s w (codes "holds")
 
 -- What tells a fact from another at its address.
 abbrev pub mark_text : Distinction → List ℕ
-mark_text (mark.CalledFrom a) = codes ", called from " ++ octal_text a
+mark_text (mark.CalledFrom a) = codes ", for the call from " ++ octal_text a
 mark_text mark.LinkClear = codes ", link 0"
 mark_text mark.LinkSet = codes ", link 1"
 mark_text (mark.Accumulator w) = codes ", AC = " ++ octal_text w
@@ -395,7 +395,7 @@ exit_named OfSums o i = around_offset (codes "when it returns with offset ") o (
 -- Why the condition fails.
 abbrev pub reason_text : Rules → Reason → List ℕ
 reason_text rules (reason.AtStart l) = start_text l
-reason_text rules reason.LineAtNoEntry = codes "a routine or exit line names the address, which is not an entry"
+reason_text rules reason.LineAtNoEntry = codes "a routine or exit line names this address, which is not an entry"
 reason_text rules reason.InNoBody = codes "there is a fact at this address, which is not in any body"
 reason_text rules (reason.OffsetInMain i o) = around_offset (codes "the fact is in main's body but has the offset ") o (codes "")
 reason_text rules (reason.SitesInMain i) = codes "the fact is in main's body but has sites"

@@ -175,11 +175,11 @@ fn push_test<L: MessageWriter, D: Allocator>(
             text.push_text(b" ")?;
             push_name(text, image, declaration, test)?;
             text.push_text(
-                b" tests a sum that contains the pointer, and could show that it holds only these words\n",
+                b" tests a sum that contains the pointer, and could show that the pointer holds only the words that would be enough\n",
             )
         }
         None => text.push_text(
-            b"no skip in this body tests a sum that contains the pointer; a test or a mask before the instruction could show that it holds only these words\n",
+            b"no skip in this body tests a sum that contains the pointer; a test or a mask before this instruction could show that the pointer holds only the words that would be enough\n",
         ),
     }
 }
@@ -227,14 +227,14 @@ fn push_relation<L: MessageWriter, D: Allocator>(
     relation: &Relation,
     at: Word,
 ) -> Result<(), AllocError> {
-    push_text_and_address(text, b"[", relation.pointer)?;
-    push_text_and_address(text, b"] = [", relation.cell)?;
-    text.push_text(b"] + ")?;
+    push_text_and_address(text, b"the word in ", relation.pointer)?;
+    push_text_and_address(text, b" is the word in ", relation.cell)?;
+    text.push_text(b" plus ")?;
     text.push_text(&relation.more.to_octal())?;
-    push_text_and_address(text, b" holds until ", at)?;
+    push_text_and_address(text, b"; this is known up to ", at)?;
     text.push_text(b" ")?;
     push_name(text, image, declaration, at)?;
-    text.push_text(b"\n")
+    text.push_text(b", and lost there\n")
 }
 
 /// Adds where the bound of a pointer was lost, and why.

@@ -84,14 +84,14 @@ fn push_certificate<A: Allocator>(
             push_numbered(text, file, number)?;
             push_form(
                 text,
-                "out of order or a duplicate line: routines come first, then facts, then exits, each by ascending address; under a fact or an exit come its cells, then its equations, or in version 3 its `sum` lines and then its `func` lines",
+                "out of order, or a duplicate: routines come first, then facts, then exits, each by ascending address; under a fact or an exit come its cells, then its equations, or in version 3 its `sum` lines and then its `func` lines",
             )
         }
         CertificateFault::TooMany => {
             push_said(
                 text,
                 file,
-                "it has more than 64 routines, more than 1048576 bytes, or more than 64 cells, 32 equations or `sum` lines, or 4 `func` lines in a fact or an exit",
+                "it has more than 64 routines or more than 1048576 bytes; or one of its facts or exits has more than 64 cells, more than 32 equations or `sum` lines, or more than 4 `func` lines",
             )
         }
         CertificateFault::NoMemory | CertificateFault::ReadFault => Ok(()),

@@ -1,5 +1,5 @@
-//! Each command where a read, a write or a request for memory fails: all of them in turn, a byte at a
-//! time, until none fails.
+//! Tests each command with failing reads, writes and requests for memory: each of them in turn, a byte at a time, until
+//! none fails.
 
 ghost use Rattle.std.specs.Prelude.{◌≡◌, false};
 
@@ -30,7 +30,7 @@ use testing::memory::{MemorySink, MemorySource};
 use word12::Word;
 use wordset::WordSet;
 
-/// The commands, those that say why among them.
+/// The commands, among them those that explain an answer.
 #[derive(Clone, Copy, PartialEq, Eq, Debug)]
 enum Command {
     Assemble,
@@ -45,12 +45,12 @@ enum Command {
     Watch,
     WatchSession,
     Check,
-    /// A check where several facts stand at an address.
+    /// A check of a certificate with several facts at one address.
     CheckSeveral,
     Explain,
     Declare,
     Guess,
-    /// A search that is stuck, with what is said of it.
+    /// A search that is stuck, with the message about it.
     Stuck,
     Migrate,
 }
@@ -58,7 +58,7 @@ enum Command {
 /// The parts of the source.
 static PARTS: [&[u8]; 2] = [b"*200\n", b"HLT\n$\n"];
 
-/// Which input fails after how many reads, and which output has room for how many bytes.
+/// Which input fails, after how many reads, and which output has room for how many bytes.
 #[derive(Clone, Copy)]
 struct Plan {
     input: usize,
@@ -67,7 +67,7 @@ struct Plan {
     room: usize,
 }
 
-/// The machine of all that is assembled and run.
+/// The machine that everything is assembled for and run on.
 const MACHINE: Profile = Profile::Pdp8I;
 
 /// Nothing fails.
@@ -79,7 +79,7 @@ const FINE: Plan = Plan {
 };
 
 impl Plan {
-    /// The input with this number, which gives a byte at a time.
+    /// The input with this number, which gives one byte at a time.
     fn source<'a>(&self, number: usize, bytes: &'a [u8]) -> MemorySource<'a>
         ensures { result.failed ≡ false }
     {
@@ -104,7 +104,7 @@ impl Plan {
     }
 }
 
-/// What a command left: its answer, the output that the plan names, and how much went to all outputs.
+/// The result of a command: its answer, the output that the plan names, and how many bytes went to all outputs.
 #[derive(Drop)]
 struct ObservedResult {
     answer: Result<Status, Fault>,
@@ -130,7 +130,7 @@ fn session() -> SessionOptions {
     }
 }
 
-/// What a command on tapes and sources answers, or another.
+/// The answer of a command on tapes and sources; any other command is passed on.
 fn answered<A: Allocator + Copy>(
     alloc: A,
     command: Command,
@@ -157,7 +157,7 @@ fn answered<A: Allocator + Copy>(
     }
 }
 
-/// What is said of a run by a list of events.
+/// Watches a run with a list of events.
 fn watched<A: Allocator + Copy>(
     alloc: A,
     plan: &Plan,
@@ -176,7 +176,7 @@ fn watched<A: Allocator + Copy>(
     )
 }
 
-/// What is said of a run with an operator.
+/// Watches a run with an operator.
 fn watched_with_operator<A: Allocator + Copy>(
     alloc: A,
     plan: &Plan,
@@ -203,7 +203,7 @@ fn watched_with_operator<A: Allocator + Copy>(
     Ok(seen.status)
 }
 
-/// What is said of a certificate, and why the verdict is no.
+/// Checks a certificate, and explains why the verdict is no.
 fn explained<A: Allocator + Copy>(
     alloc: A,
     plan: &Plan,
@@ -224,7 +224,7 @@ fn explained<A: Allocator + Copy>(
     Ok(verdict.status)
 }
 
-/// What is said of a search that is stuck.
+/// Searches for a certificate, and writes the message about a search that is stuck.
 fn stuck<A: Allocator + Copy>(
     alloc: A,
     plan: &Plan,
@@ -245,7 +245,7 @@ fn stuck<A: Allocator + Copy>(
     }
 }
 
-/// What a command on promises answers.
+/// The answer of a command on declarations or certificates.
 fn promised<A: Allocator + Copy>(
     alloc: A,
     command: Command,
@@ -281,7 +281,7 @@ fn promised<A: Allocator + Copy>(
     }
 }
 
-/// What is left by a run with an operator.
+/// The result of a run with an operator.
 fn operated<A: Allocator + Copy>(alloc: A, heap: Global, plan: &Plan) -> ObservedResult {
     let mut outputs = Outputs {
         report: plan.sink(0, heap),
@@ -308,8 +308,8 @@ fn operated<A: Allocator + Copy>(alloc: A, heap: Global, plan: &Plan) -> Observe
     ObservedResult { answer, out, total }
 }
 
-/// What a command leaves by a plan. It takes its memory from the first allocator, and what it writes is
-/// kept by the second.
+/// The result of a command under a plan. The command takes its memory from the first allocator, and the second keeps
+/// what it writes.
 fn left_by<A: Allocator + Copy>(
     alloc: A,
     heap: Global,
@@ -327,8 +327,8 @@ fn left_by<A: Allocator + Copy>(
     }
 }
 
-/// How many reads of an input are made where none fails, if each that fails before is told as such and
-/// nothing is written then.
+/// How many reads of an input are made if none fails, provided that each earlier failure is reported as a failed read
+/// and that nothing is written then; `None` otherwise.
 fn reads_in_turn(heap: Global, command: Command, input: usize) -> Option<usize> {
     for reads in 0..200usize {
         let plan = Plan {
@@ -347,7 +347,7 @@ fn reads_in_turn(heap: Global, command: Command, input: usize) -> Option<usize> 
     None
 }
 
-/// What goes out of the halt and of the program that prints and punches a letter.
+/// What the commands write for the tape with the halt and for the program that prints and punches a letter.
 const TAPE: &[u8] =
     b"\x80\x80\x80\x80\x80\x80\x80\x80\x80\x80\x80\x80\x80\x80\x80\x80\x42\x00\x3c\x02\x02\x00\
     \x80\x80\x80\x80\x80\x80\x80\x80\x80\x80\x80\x80\x80\x80\x80\x80";
@@ -378,8 +378,8 @@ const PROPOSED: &[u8] = b"start 0200\nmain 0200\nstop 0200 / HLT\n";
 const MIGRATED: &[u8] =
     b"PDP8-CERTIFICATE 2\nfact 0200 ac 0000-7777 mq 0000-7777 link 01 offsets -\nend\n";
 
-/// Commands, how many reads of each input they make, and what goes to their first output. A tape is read up to the first
-/// frame of its trailer, a text until its end was told.
+/// The commands, how many reads of each input they make, and what goes to their first output. A tape is read up to the
+/// first frame of its trailer, and a text until its end is reported.
 const COMMANDS: [(Command, [usize; 4], &[u8]); 18] = [
     (Command::Assemble, [6, 7, 0, 0], TAPE),
     (Command::List, [6, 7, 0, 0], LISTING),
@@ -411,7 +411,7 @@ fn each_read_that_fails_is_told(rt: HostRuntime) {
     }
 }
 
-/// An output has room for so many bytes.
+/// A plan in which this output has room for this many bytes.
 fn with_room(output: usize, room: usize) -> Plan {
     Plan {
         output,
@@ -420,9 +420,9 @@ fn with_room(output: usize, room: usize) -> Plan {
     }
 }
 
-/// Whether with room for ever more bytes of a text just as many of them go out, with an answer that
-/// says that a write failed, until there is room for all. Where the command looks for a certificate,
-/// which takes longer than all else here, every ninth room is tried.
+/// Whether, with room for more and more bytes of a text, exactly that many go out and the answer says that a write
+/// failed, until there is room for all. For commands that search for a certificate, which takes longer than everything
+/// else here, only every ninth size is tried.
 fn writes_in_turn(heap: Global, command: Command, output: usize, text: &[u8]) -> bool {
     let searches = matches!(command, Command::Declare | Command::Guess | Command::Stuck);
     for room in 0..text.len() {
@@ -449,8 +449,8 @@ fn each_write_that_fails_leaves_a_front(rt: HostRuntime) {
     assert!(rt; writes_in_turn(rt.alloc(), Command::Session, 2, b"\xc1"));
 }
 
-/// Whether each request for memory that is refused is answered so, with a prefix of a text at most,
-/// and without one where the command does not write as it goes, until none is refused.
+/// Whether each refused request for memory leads to that answer, with at most a prefix of the text written, and nothing
+/// if the command does not write as it goes, until no request is refused.
 fn memory_in_turn(heap: Global, command: Command, output: usize, text: &[u8]) -> bool {
     let goes_on = matches!(command, Command::Trace | Command::Session);
     for count in 0..1000u64 {

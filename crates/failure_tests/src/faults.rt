@@ -1,4 +1,4 @@
-//! Faults that no small input has.
+//! Tests of faults that no small input has.
 
 use analyser::GuessFault;
 use command_parts::status::{Fault, Status};

@@ -1,9 +1,9 @@
-//! A lone HLT on tape, with declarations and a certificate, and a program that prints and punches.
+//! A tape with a single HLT, with declarations and certificates, and a program that prints and punches.
 
 /// A tape with HLT at 0200.
 pub static HALT: &[u8] = b"\x80\x80\x80\x80\x42\x00\x3c\x02\x02\x00\x80\x80\x80\x80";
 
-/// Its declaration, and one that leaves the halt out.
+/// Its declaration, and one that leaves out the halt.
 pub static HALT_DECLARED: &[u8] = b"start 200\nmain 200\nstop 200\n";
 
 pub static UNDECLARED: &[u8] = b"start 200\nmain 200\n";

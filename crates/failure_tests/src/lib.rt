@@ -1,6 +1,6 @@
-//! What commands answer where memory, a read or a write fails: each request, each read and each write in turn. The
-//! same of the program, over a runtime whose files and streams fail. Which commands are left out is said in
-//! crates/README.md.
+//! Tests of what commands answer when memory is refused or a read or a write fails: each request, each read and each
+//! write in turn. The whole program is tested in the same way, with a runtime whose files and streams fail.
+//! crates/README.md says which commands are left out.
 #![tactic(auto)]
 
 #[cfg(test)]

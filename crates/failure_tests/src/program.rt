@@ -1,8 +1,9 @@
-//! The whole program where a file or a stream fails: what is written until then, what is told and the status.
+//! Tests of the whole program when a file or a stream fails: what has been written by then, what is reported, and the
+//! status.
 
 use crate::runtime::{OutputLimits, ROOMY, run_program};
 
-/// Words with a file of which a read fails after some bytes.
+/// Command lines with a file on which a read fails after some bytes.
 const FAILING_READS: [&str; 25] = [
     "pdp8 run failing.bin",
     "pdp8 run failing.bin --events step.ev",
@@ -44,7 +45,7 @@ fn a_read_that_fails_is_told(rt: HostRuntime) {
     }
 }
 
-/// Words by which something is printed or goes to a file, and the status where all of it goes out.
+/// Command lines that print something or write a file, and the status if everything can be written.
 const WRITING: [(&str, u8); 23] = [
     ("pdp8 run halt.bin", 0),
     ("pdp8 run halt.bin --trace", 0),
@@ -91,7 +92,7 @@ fn a_write_that_fails_is_told(rt: HostRuntime) {
     }
 }
 
-/// Words of which something is told, and the status.
+/// Command lines that report something on standard error, and the status.
 const TOLD: [(&str, u8); 7] = [
     ("pdp8 run", 2),
     ("pdp8 fly", 2),

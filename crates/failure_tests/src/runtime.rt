@@ -1,4 +1,4 @@
-//! A runtime whose words, input and files are given, and which keeps what the program writes.
+//! A runtime whose arguments, input and files are given, and which keeps what the program writes.
 
 use crate::fixtures::{HALT, HALT_CERTIFICATE, HALT_DECLARED, HALT_SEVERAL, LETTER, UNDECLARED};
 use std::alloc::{Allocator, Global};
@@ -10,10 +10,11 @@ use std::io::{self, BufRead, ErrorKind, Lines, Read, Seek, SeekFrom, Write};
 use std::rt::{Env, Files};
 use workbench::exit_status;
 
-/// What standard input gives: a source with HLT at 0200.
+/// The contents of standard input: a source with HLT at 0200.
 static INPUT: &[u8] = b"*200\nHLT\n$\n";
 
-/// What the file of this name has, if there is one. If the name begins with `failing`, a read behind that fails.
+/// The contents of the file with this name, if there is one. If the name begins with `failing`, a read past the
+/// contents fails.
 fn content(name: &str) -> Option<&'static [u8]> {
     match name {
         "halt.bin" => Some(HALT),
@@ -34,7 +35,7 @@ fn content(name: &str) -> Option<&'static [u8]> {
     }
 }
 
-/// Bytes that are only added to, up to so many.
+/// Bytes that are only appended, up to a limit.
 #[derive(Drop)]
 struct OutputBuffer {
     bytes: RefCell<Vec<u8, Global>>,
@@ -64,7 +65,7 @@ impl OutputBuffer {
     }
 }
 
-/// A file: the bytes still to be read, whether a read after them fails, and where the written ones go.
+/// A file: the bytes that are still to be read, whether a read past them fails, and where written bytes go.
 #[derive(Drop)]
 pub struct FakeFile<'d> {
     rest: &'d [u8],
@@ -120,7 +121,7 @@ impl OpenFile for FakeFile<'_> {
     }
 }
 
-/// What the program did.
+/// The outputs of the program.
 #[derive(Drop)]
 struct OutputBuffers {
     printed: OutputBuffer,
@@ -128,7 +129,7 @@ struct OutputBuffers {
     written: OutputBuffer,
 }
 
-/// The runtime. Its words are those of a text, separated by spaces.
+/// The runtime. Its arguments are the words of a text, separated by spaces.
 #[derive(Drop)]
 struct FakeRuntime<'d> {
     alloc: Global,
@@ -166,7 +167,7 @@ impl Env for FakeRuntime<'_> {
     }
 }
 
-/// Adds the text of a value to a page.
+/// Adds a value, as text, to an output.
 fn add_text<D: Display + Drop>(alloc: Global, page: &OutputBuffer, value: D) -> io::Result<()> {
     match format!(in alloc; "{value}") {
         Ok(text) => page.add(text.as_bytes()),
@@ -275,7 +276,7 @@ impl<'d> Files for FakeRuntime<'d> {
     }
 }
 
-/// For how many bytes there is room on standard output, on standard error and in files.
+/// How many bytes there is room for on standard output, on standard error and in files.
 #[derive(Clone, Copy)]
 pub struct OutputLimits {
     pub printed: usize,
@@ -283,14 +284,14 @@ pub struct OutputLimits {
     pub written: usize,
 }
 
-/// There is room for all.
+/// Limits that leave room for everything.
 pub const ROOMY: OutputLimits = OutputLimits {
     printed: usize::MAX,
     told: usize::MAX,
     written: usize::MAX,
 };
 
-/// What the program leaves: its status, and what went to standard output, to standard error and to files.
+/// The result of the program: its status, and what went to standard output, to standard error and to files.
 #[derive(Drop)]
 pub struct ProgramResult {
     pub status: u8,
@@ -299,7 +300,7 @@ pub struct ProgramResult {
     pub written: Vec<u8, Global>,
 }
 
-/// Runs the program with these words, separated by spaces, where a write past the room that there is fails.
+/// Runs the program with these arguments, separated by spaces. A write past these limits fails.
 pub fn run_program(alloc: Global, words: &str, rooms: OutputLimits) -> ProgramResult {
     let pages = OutputBuffers {
         printed: OutputBuffer::new(alloc, rooms.printed),

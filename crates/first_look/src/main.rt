@@ -1,7 +1,7 @@
 //! A first look at the machine: runs the tape on standard input as `pdp8 run -` does.
 //!
-//! It leaves out the judge, the reports and `clap`, so that `make try` builds it in a fraction of the time of `pdp8`.
-//! Of a fault it tells nothing: its status is 1.
+//! It leaves out the judge, the reports and `clap`, so that `make try` builds it in a fraction of the time that `pdp8`
+//! takes. It reports no fault: if there is one, the exit status is 1.
 #![tactic(auto)]
 
 use command_parts::options::RunOptions;
@@ -13,7 +13,7 @@ use streams::standard::{StdReader, StdWriter};
 use word12::Word;
 use wordset::WordSet;
 
-/// How many rounds are made at most: as many as by `pdp8 run` without `--steps`.
+/// The maximum number of rounds, which is that of `pdp8 run` without `--steps`.
 const ROUNDS: u32 = 100_000;
 
 fn main(rt: HostRuntime) -> ExitCode {

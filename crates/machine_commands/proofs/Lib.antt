@@ -20,3 +20,4 @@ pub mod InterruptedLemmas
 pub mod LongTraceLemmas
 pub mod LastSessionLemmas
 pub mod StoppedWatchLemmas
+pub mod ViolationLemmas

@@ -64,7 +64,7 @@ presses (e ∷ es) = press_of e + presses es
 -- Where the machine is: at the HLT where it is halted, or else at the program counter.
 abbrev pub standing_text : Option ℕ → ℕ → List ℕ
 standing_text (Some at) pc = codes "halted at " ++ octal_text at
-standing_text None pc = codes "stands at " ++ octal_text pc
+standing_text None pc = codes "the next instruction is at " ++ octal_text pc
 
 -- The line that says how far a run went in which every step is legal: how many pauses it passed of how many it might pass at
 -- most, and where it ended.

@@ -26,3 +26,4 @@ pub mod DeclaredRun
 pub mod StoppedWatch
 pub mod LongTrace
 pub mod LastSession
+pub mod ViolationText

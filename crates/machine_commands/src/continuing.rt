@@ -121,7 +121,7 @@ fn went_line<A: Allocator, B: Allocator>(
     text.extend_from_slice(b", ")?;
     match world.halted_at() {
         Some(at) => push_place(&mut text, b"halted at ", at)?,
-        None => push_place(&mut text, b"stands at ", world.cpu().pc)?,
+        None => push_place(&mut text, b"the next instruction is at ", world.cpu().pc)?,
     }
     text.extend_from_slice(b"\n")?;
     Ok(text)

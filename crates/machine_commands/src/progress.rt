@@ -97,10 +97,10 @@ fn push_standing<L: MessageWriter, B: Allocator>(
         _ => b"",
     };
     if device.is_empty() {
-        push_text_and_address(text, b"stands at ", cpu.pc)?;
+        push_text_and_address(text, b"the next instruction is at ", cpu.pc)?;
     } else {
         push_text_and_address(text, b"waits at ", at)?;
-        text.push_text(b", for the ")?;
+        text.push_text(b" for the ")?;
         text.push_text(device)?;
     }
     text.push_text(b"\n")

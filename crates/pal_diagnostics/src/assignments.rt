@@ -11,7 +11,8 @@ use pal_text::{Token, TokenKind};
 use std::alloc::{AllocError, Allocator};
 use word12::Word;
 
-/// What to do about a symbol that is given another value: `one` is where it got the first one.
+/// Adds what to do about a symbol that is given another value; `one` is where it got its first value, and `other` where
+/// it is given the second.
 fn push_other_advice<A: Allocator + Copy>(
     alloc: A,
     text: &mut String<A>,
@@ -30,16 +31,16 @@ fn push_other_advice<A: Allocator + Copy>(
     }
     let name = Name::new(first);
     let letters = letters_of(&name);
-    text.push_str("only six characters of a symbol count: ")?;
+    text.push_str("only the first six characters of a symbol count, so ")?;
     push_written(text, source, one)?;
-    write!(text, " is {letters}, defined on ")?;
-    push_line_of(alloc, text, source, one, other.part)?;
-    text.push_str(", and so is ")?;
+    text.push_str(" and ")?;
     push_written(text, source, other)?;
+    write!(text, " are both {letters}, defined on ")?;
+    push_line_of(alloc, text, source, one, other.part)?;
     text.push_str(": use symbols that differ in the first six")
 }
 
-/// What is said about a symbol that is given another value than it has: this one.
+/// The finding about a symbol that has the value `had` and is given another one, `value`.
 fn about_other_value<A: Allocator + Copy>(
     alloc: A,
     source: &Source<'_>,
@@ -75,7 +76,7 @@ fn about_other_value<A: Allocator + Copy>(
     })
 }
 
-/// What is said about DECIMAL, OCTAL or PAUSE where a symbol is given a value.
+/// The finding about DECIMAL, OCTAL or PAUSE in a place where a symbol is given a value.
 fn about_direction<A: Allocator + Copy>(
     alloc: A,
     source: &Source<'_>,
@@ -101,7 +102,7 @@ fn about_direction<A: Allocator + Copy>(
     })
 }
 
-/// What is said about a symbol that is given this value, if it cannot be.
+/// The finding about a symbol that is given this value, if it cannot be.
 fn about_given<A: Allocator + Copy>(
     alloc: A,
     source: &Source<'_>,
@@ -126,7 +127,7 @@ fn about_given<A: Allocator + Copy>(
     Ok(Some(about_direction(alloc, source, occurrence, direction)?))
 }
 
-/// Where a token of a statement stands.
+/// Where a token of a statement occurs.
 fn occurrence_of<A: Allocator>(faulty: &FaultyStatement<A>, token: Token) -> Occurrence {
     Occurrence {
         part: faulty.part,
@@ -135,7 +136,7 @@ fn occurrence_of<A: Allocator>(faulty: &FaultyStatement<A>, token: Token) -> Occ
     }
 }
 
-/// What is said about the first tag of a statement that has another value.
+/// The finding about the first tag of a statement whose symbol has another value.
 pub(crate) fn about_tags<A: Allocator + Copy>(
     alloc: A,
     source: &Source<'_>,
@@ -154,7 +155,7 @@ pub(crate) fn about_tags<A: Allocator + Copy>(
     Ok(None)
 }
 
-/// What is said about an assignment of another value.
+/// The finding about an assignment to a symbol that has another value.
 pub(crate) fn about_assignment<A: Allocator + Copy>(
     alloc: A,
     source: &Source<'_>,
@@ -171,7 +172,7 @@ pub(crate) fn about_assignment<A: Allocator + Copy>(
     about_given(alloc, source, before, occurrence_of(faulty, *token), value)
 }
 
-/// What is said about one symbol too many.
+/// The finding about the first symbol beyond the limit of 1024.
 fn about_new<A: Allocator + Copy>(
     alloc: A,
     source: &Source<'_>,
@@ -192,7 +193,7 @@ fn about_new<A: Allocator + Copy>(
     })
 }
 
-/// What is said about the first symbol of a statement for which there is no place.
+/// The finding about the first symbol of a statement that the table has no room for.
 pub(crate) fn about_room<A: Allocator + Copy>(
     alloc: A,
     source: &Source<'_>,

@@ -5,8 +5,8 @@ use pal_asm::{AssembleFault, PalFault, translate};
 use pal_text::Line;
 use std::alloc::{AllocError, Allocator};
 
-/// A copy of a part in which each statement has a line of its own: a `;` that separates two of them ends a
-/// line there. Every byte keeps its place.
+/// A copy of a part in which each statement has a line of its own: a `;` between two statements is replaced by the end
+/// of a line. Every byte keeps its place.
 fn copy_of<A: Allocator>(alloc: A, part: &[u8]) -> Result<Vec<u8, A>, AllocError> {
     let mut copy = Vec::new(alloc);
     let mut in_comment = false;
@@ -23,7 +23,7 @@ fn copy_of<A: Allocator>(alloc: A, part: &[u8]) -> Result<Vec<u8, A>, AllocError
     Ok(copy)
 }
 
-/// Copies of parts, each with one statement a line.
+/// Copies of the parts, with one statement on each line.
 pub(crate) fn copies_of<A: Allocator + Copy>(
     alloc: A,
     parts: &[&[u8]],
@@ -36,7 +36,7 @@ pub(crate) fn copies_of<A: Allocator + Copy>(
     Ok(copies)
 }
 
-/// The first fault of a source with these parts; its line is that of the copy.
+/// The first fault of a source with these parts. Its line is a line of the copy.
 pub(crate) fn first_fault<A: Allocator + Copy>(
     alloc: A,
     copies: &[Vec<u8, A>],
@@ -53,7 +53,7 @@ pub(crate) fn first_fault<A: Allocator + Copy>(
     }
 }
 
-/// Where the statement on a line ends: at a comment, at `$`, or with the line.
+/// Where the statement on a line ends: at a comment, at `$`, or at the end of the line.
 pub(crate) fn statement_end(bytes: &[u8], line: Line) -> usize {
     for (at, byte) in bytes.iter().enumerate() {
         let code = *byte % 0o200;
@@ -64,7 +64,8 @@ pub(crate) fn statement_end(bytes: &[u8], line: Line) -> usize {
     line.end
 }
 
-/// Makes the bytes from `start` up to the one before `end` spaces, and the first of them this one.
+/// Overwrites the bytes from `start` up to, but not including, `end` with spaces, except that the first of them becomes
+/// `first`.
 pub(crate) fn replace(bytes: &mut [u8], start: usize, end: usize, first: u8) {
     for (at, byte) in bytes.iter_mut().enumerate() {
         if start <= at && at < end {

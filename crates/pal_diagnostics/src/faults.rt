@@ -1,4 +1,4 @@
-//! All faults of a source that can be found, one after another.
+//! Finds all faults of a source that can be found, one after another.
 
 use crate::assignments::{about_assignment, about_room, about_tags};
 use crate::copies::{copies_of, first_fault, replace};
@@ -14,13 +14,13 @@ use pal_asm::PalFault;
 use pal_text::TokenKind;
 use std::alloc::{AllocError, Allocator};
 
-/// How many faults are reported at most.
+/// How many faults are reported before the search for more ends.
 const MOST_FAULTS: usize = 20;
 
-/// How many statements are left out at most.
+/// The maximum number of statements that are left out.
 const MOST_STATEMENTS: usize = 60;
 
-/// What is said about PAUSE in the last part.
+/// The finding about PAUSE in the last part.
 fn about_pause<A: Allocator + Copy>(
     alloc: A,
     faulty: &FaultyStatement<A>,
@@ -39,7 +39,7 @@ fn about_pause<A: Allocator + Copy>(
     }))
 }
 
-/// What is said about a fault that brings one finding at most.
+/// The finding about a fault that has at most one.
 fn finding_of<A: Allocator + Copy>(
     alloc: A,
     source: &Source<'_>,
@@ -61,7 +61,7 @@ fn finding_of<A: Allocator + Copy>(
     }
 }
 
-/// Puts what is said about a fault, by what is known before its statement and after the whole source.
+/// Adds the findings about a fault, given what is known before its statement and what is known after the whole source.
 fn put_findings<A: Allocator + Copy>(
     alloc: A,
     source: &Source<'_>,
@@ -82,7 +82,7 @@ fn put_findings<A: Allocator + Copy>(
     }
 }
 
-/// What is said about a fault, by what is known before its statement and after the whole source.
+/// The findings about a fault, given what is known before its statement and what is known after the whole source.
 fn findings_by<A: Allocator + Copy>(
     alloc: A,
     source: &Source<'_>,
@@ -95,7 +95,7 @@ fn findings_by<A: Allocator + Copy>(
     Ok(findings)
 }
 
-/// What is said about a fault.
+/// The findings about a fault.
 fn findings_of<A: Allocator + Copy>(
     alloc: A,
     source: &Source<'_>,
@@ -108,7 +108,7 @@ fn findings_of<A: Allocator + Copy>(
     findings_by(alloc, source, &before, &known, faulty)
 }
 
-/// Adds what is said about a fault.
+/// Adds a finding about a fault, with its place, the marked line and the advice.
 fn push_finding<A: Allocator + Copy>(
     alloc: A,
     text: &mut String<A>,
@@ -131,7 +131,7 @@ fn push_finding<A: Allocator + Copy>(
     text.push('\n')
 }
 
-/// Where the tag ends that begins at this place.
+/// Where the tag that begins at this place ends.
 fn end_of_tag<A: Allocator>(faulty: &FaultyStatement<A>, start: usize) -> usize {
     for token in faulty.tags() {
         if token.kind == TokenKind::Comma && token.start > start {
@@ -141,7 +141,7 @@ fn end_of_tag<A: Allocator>(faulty: &FaultyStatement<A>, start: usize) -> usize 
     faulty.end
 }
 
-/// What stands in the place of a statement's body that is left out.
+/// The byte that replaces the body of a statement that is left out.
 fn placeholder_of<A: Allocator>(bytes: &[u8], faulty: &FaultyStatement<A>) -> u8 {
     match faulty.code {
         FaultCode::PauseInLastPart => b'$',
@@ -151,8 +151,8 @@ fn placeholder_of<A: Allocator>(bytes: &[u8], faulty: &FaultyStatement<A>) -> u8
     }
 }
 
-/// Leaves a fault out of a part: the tag at this place, or the body of the statement, in whose stead stands
-/// the word or the value 0. A body that was left out before becomes nothing, and so does a byte order mark.
+/// Leaves a fault out of a part: the tag at this place, or the body of the statement, where the word or the value 0 is
+/// put in its place. A body that was left out before becomes blank, and so does a byte order mark.
 fn leave_out<A: Allocator>(
     bytes: &mut [u8],
     faulty: &FaultyStatement<A>,
@@ -181,8 +181,8 @@ fn leave_out<A: Allocator>(
     }
 }
 
-/// How far the faults of a source are told: how many are, which statements had one, and whether an origin was left
-/// out, so that locations are not known.
+/// How far the search for faults has come: how many findings were reported, which statements had a fault, and whether
+/// an origin was left out, so that locations are no longer known.
 #[derive(Drop)]
 struct FaultProgress<A: Allocator> {
     told: usize,
@@ -190,7 +190,8 @@ struct FaultProgress<A: Allocator> {
     is_astray: bool,
 }
 
-/// Whether the fault of a statement is told: a second one only of a tag, and no page where locations are not known.
+/// Whether the fault of a statement is reported. A statement that had a fault before is reported again only for a tag,
+/// and a reference to another page only while locations are known.
 fn is_told<A: Allocator>(
     course: &FaultProgress<A>,
     faulty: &FaultyStatement<A>,
@@ -203,7 +204,7 @@ fn is_told<A: Allocator>(
     }
 }
 
-/// Adds what is said about a fault.
+/// Adds the findings about a fault.
 fn push_findings<A: Allocator + Copy>(
     alloc: A,
     text: &mut String<A>,
@@ -217,7 +218,7 @@ fn push_findings<A: Allocator + Copy>(
     Ok(())
 }
 
-/// Adds what is said about a fault, and returns which byte of its part is marked.
+/// Adds the findings about a fault, and returns the place of the first byte that is marked.
 fn push_fault<A: Allocator + Copy>(
     alloc: A,
     text: &mut String<A>,
@@ -238,7 +239,7 @@ fn push_fault<A: Allocator + Copy>(
     }
 }
 
-/// Notes that a fault is left out of this part.
+/// Notes that a fault was left out of this part.
 fn note<A: Allocator>(
     course: &mut FaultProgress<A>,
     bytes: &[u8],
@@ -251,7 +252,7 @@ fn note<A: Allocator>(
     Ok(())
 }
 
-/// Adds what is said about the first fault of the copies, and leaves it out of them.
+/// Adds the findings about the first fault of the copies, and leaves that fault out of them.
 fn push_next<A: Allocator + Copy>(
     alloc: A,
     text: &mut String<A>,
@@ -277,12 +278,13 @@ fn push_next<A: Allocator + Copy>(
     }
 }
 
-/// Adds everything that can be said about the faults of a source that is not too long, beginning with the first.
-/// After each fault the source is assembled again without it, up to 20 faults.
+/// Adds everything that can be said about the faults of a source that is not too long, beginning with the first fault.
+/// After each fault, the source is assembled again without it. This ends once 20 faults are reported, 60 statements are
+/// left out, or the table of symbols is full.
 ///
 /// # Errors
 ///
-/// Memory was refused.
+/// `AllocError` if memory was refused.
 pub fn push_faults<A: Allocator + Copy>(
     alloc: A,
     text: &mut String<A>,

@@ -8,7 +8,7 @@ use pal_acts::FaultCode;
 use pal_text::{Name, Token, TokenKind};
 use std::alloc::{AllocError, Allocator};
 
-/// What is said about a fault: the bytes of its part that are marked, what is wrong, and what to change.
+/// A finding about a fault: which bytes of its part are marked, what is wrong, and what to change.
 #[derive(Drop)]
 pub(crate) struct Finding<A: Allocator> {
     pub(crate) start: usize,
@@ -17,7 +17,7 @@ pub(crate) struct Finding<A: Allocator> {
     pub(crate) advice: String<A>,
 }
 
-/// The code of the character at a place; that of a space if there is none.
+/// The code of the character at this place, or of a space if there is none.
 fn code_at(bytes: &[u8], at: usize) -> u8 {
     match bytes.get(at) {
         Some(byte) => *byte % 0o200,
@@ -40,7 +40,7 @@ fn push_named<A: Allocator>(
     }
 }
 
-/// What these words tell of bytes.
+/// The finding that these texts give about these bytes.
 fn finding_by<A: Allocator + Copy>(
     alloc: A,
     bytes: &[u8],
@@ -61,13 +61,13 @@ fn finding_by<A: Allocator + Copy>(
     })
 }
 
-/// Whether a part, or its copy, in which the second of the three bytes ends a line, begins with a byte order mark, which
-/// some editors put in front of a text.
+/// Whether a part begins with a byte order mark, which some editors put before a text. In a copy of a part, the second
+/// of its three bytes may have become the end of a line.
 pub(crate) fn has_order_mark(bytes: &[u8]) -> bool {
     matches!(bytes, [0o357, 0o273 | b'\r', 0o277, ..])
 }
 
-/// What is said about a byte order mark in front of a part.
+/// The finding about a byte order mark at the beginning of a part.
 fn about_order_mark<A: Allocator + Copy>(alloc: A) -> Result<Finding<A>, AllocError> {
     Ok(Finding {
         start: 0,
@@ -83,8 +83,8 @@ fn about_order_mark<A: Allocator + Copy>(alloc: A) -> Result<Finding<A>, AllocEr
     })
 }
 
-/// What is said about a statement that has no valid form: of the token at this place among its own, or of the last
-/// one where that wants another after it.
+/// The finding about a statement that has no valid form: about the token at this place among its tokens or, if there is
+/// none, about the last token, which needs another after it.
 fn about_form<A: Allocator + Copy>(
     alloc: A,
     bytes: &[u8],
@@ -105,7 +105,7 @@ fn about_form<A: Allocator + Copy>(
     }
 }
 
-/// What is said about digits that are not octal.
+/// The finding about digits that are not octal.
 fn about_digits<A: Allocator + Copy>(
     alloc: A,
     bytes: &[u8],
@@ -135,7 +135,7 @@ fn about_digits<A: Allocator + Copy>(
     })
 }
 
-/// What is said about a number that is too large.
+/// The finding about a number that is too large.
 fn about_large<A: Allocator + Copy>(
     alloc: A,
     bytes: &[u8],
@@ -158,7 +158,7 @@ fn about_large<A: Allocator + Copy>(
     })
 }
 
-/// What is said about the first number among these tokens that is none.
+/// The finding about the first of these tokens that looks like a number but is not a valid one.
 fn about_number<A: Allocator + Copy>(
     alloc: A,
     bytes: &[u8],
@@ -180,7 +180,7 @@ fn about_number<A: Allocator + Copy>(
     Ok(None)
 }
 
-/// What is said about a statement with the fault IC or NB.
+/// The finding about a statement with the fault IC or NB.
 pub(crate) fn about_text<A: Allocator + Copy>(
     alloc: A,
     bytes: &[u8],

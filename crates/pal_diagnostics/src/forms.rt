@@ -3,7 +3,7 @@
 use crate::pieces::{count_front_tokens, count_tag_tokens, tokens_from, told_kind};
 use pal_text::{Token, TokenKind};
 
-/// What is wrong with a token, after the token's text, and what to change.
+/// The text about a token: what is wrong, which follows the token itself, and what to change.
 #[derive(Clone, Copy)]
 pub(crate) struct FaultText {
     pub(crate) wrong: &'static str,
@@ -18,7 +18,7 @@ fn is_term(kind: TokenKind) -> bool {
     )
 }
 
-/// Whether a token of this kind gives a direction, and is a statement by itself.
+/// Whether a token of this kind is a directive, which is a statement by itself.
 fn is_direction(kind: TokenKind) -> bool {
     matches!(
         kind,
@@ -26,8 +26,8 @@ fn is_direction(kind: TokenKind) -> bool {
     )
 }
 
-/// The place among these tokens of the first that has none in an expression; their number, where the
-/// expression goes on past them.
+/// The index of the first of these tokens that does not belong in an expression; their number, if the expression is
+/// incomplete at its end; nothing if it is complete.
 fn misplaced_in_expression(bytes: &[u8], tokens: &[Token]) -> Option<usize> {
     let mut wants_term = true;
     for (at, token) in tokens.iter().enumerate() {
@@ -45,8 +45,8 @@ fn misplaced_in_expression(bytes: &[u8], tokens: &[Token]) -> Option<usize> {
     if wants_term { Some(tokens.len()) } else { None }
 }
 
-/// The place among the tokens of a statement of the first that has none in it; their number, where the
-/// statement goes on past them, and nothing if it has a form.
+/// The index of the first token of a statement that does not belong in it; the number of tokens, if the statement is
+/// incomplete at its end; nothing if it has a valid form.
 pub(crate) fn misplaced(bytes: &[u8], tokens: &[Token]) -> Option<usize> {
     let tags = count_tag_tokens(tokens);
     let body = tokens_from(tokens, tags);
@@ -60,11 +60,11 @@ pub(crate) fn misplaced(bytes: &[u8], tokens: &[Token]) -> Option<usize> {
     Some(front.saturating_add(at))
 }
 
-/// What is said about a character that means nothing.
+/// The text about a character that means nothing.
 fn about_character(code: u8) -> FaultText {
     match code {
         b'a'..=b'z' => FaultText {
-            wrong: "is not in upper case",
+            wrong: "contains a letter that is not in upper case",
             advice: "letters must be in upper case, except in comments",
         },
         b'(' | b')' | b'[' | b']' => FaultText {
@@ -72,11 +72,11 @@ fn about_character(code: u8) -> FaultText {
             advice: "write the word on a line of its own with a tag, and refer to the tag",
         },
         b'"' | b'\'' => FaultText {
-            wrong: "is not allowed: this assembler has no characters in quotes",
+            wrong: "is not allowed: this assembler does not support characters in quotes",
             advice: "write the code of each character as a word, such as 301 for A with channel 8",
         },
         b'<' | b'>' => FaultText {
-            wrong: "is not allowed: this assembler has no macros and no conditions",
+            wrong: "is not allowed: this assembler has no macros and no conditional assembly",
             advice: "write out the statements",
         },
         b'!' => FaultText {
@@ -90,7 +90,7 @@ fn about_character(code: u8) -> FaultText {
     }
 }
 
-/// What is said about a token of this kind that has no place; of a character by its code.
+/// The text about a token of this kind that does not belong where it is; for a character, by its code.
 pub(crate) fn about(kind: TokenKind, code: u8) -> FaultText {
     match kind {
         TokenKind::Mixed => FaultText {
@@ -122,20 +122,20 @@ pub(crate) fn about(kind: TokenKind, code: u8) -> FaultText {
             advice: "write a term between the two signs, or remove one of them",
         },
         TokenKind::Symbol | TokenKind::Number | TokenKind::Here => FaultText {
-            wrong: "is not joined to the term before it",
+            wrong: "follows the term before it with nothing between them",
             advice: "write a space, + or - between two terms",
         },
         TokenKind::Other | TokenKind::End | TokenKind::Dollar => about_character(code),
     }
 }
 
-/// What is said about a last token after which a term is missing.
+/// The text about a last token that a term is missing after.
 pub(crate) const UNFINISHED: FaultText = FaultText {
     wrong: "has no term after it",
     advice: "write a number or a symbol there, or remove it",
 };
 
-/// Whether a token is a small letter.
+/// Whether a token begins with a lower-case letter.
 fn is_small(bytes: &[u8], token: Token) -> bool {
     match bytes.get(token.start) {
         Some(byte) => (*byte % 0o200).is_ascii_lowercase(),
@@ -143,8 +143,8 @@ fn is_small(bytes: &[u8], token: Token) -> bool {
     }
 }
 
-/// Where the word in small letters ends with which tokens begin; the end of its first token, where they
-/// begin with none.
+/// Where the lower-case word at the beginning of these tokens ends; `first`, the end of the first token, if they begin
+/// with none.
 pub(crate) fn end_of_small(bytes: &[u8], tokens: &[Token], first: usize) -> usize {
     let mut end = first;
     for token in tokens {

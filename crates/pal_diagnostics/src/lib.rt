@@ -1,5 +1,5 @@
-//! What is said about the faults of a source: of each the file, the line and the column, what is wrong, the line with
-//! a mark below the token, and what to change. It is tested, not proved.
+//! Messages about the faults of a source: for each of them the file, the line and the column, what is wrong, the line
+//! with a mark below the token, and what to change. This is tested, not proved.
 #![tactic(auto)]
 
 mod assignments;

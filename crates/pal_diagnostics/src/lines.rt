@@ -4,7 +4,7 @@ use pal_text::characters::is_character_code;
 use pal_text::{Line, lines_of};
 use std::alloc::{AllocError, Allocator};
 
-/// How many bytes a line has at most that is shown.
+/// The maximum length, in bytes, of a line that is shown.
 const LONGEST_SHOWN: usize = 200;
 
 /// A line and its number, counted from 1.
@@ -14,7 +14,7 @@ pub(crate) struct NumberedLine {
     pub(crate) line: Line,
 }
 
-/// The bytes from `start` up to the one before `end`; none if there are not so many.
+/// The bytes from `start` up to, but not including, `end`, or none if there are not that many.
 pub(crate) fn bytes_between(bytes: &[u8], start: usize, end: usize) -> &[u8] {
     match bytes.get(start..end) {
         Some(found) => found,
@@ -22,7 +22,7 @@ pub(crate) fn bytes_between(bytes: &[u8], start: usize, end: usize) -> &[u8] {
     }
 }
 
-/// The line of a part on which the byte at this place stands.
+/// The line of a part that the byte at this place is on.
 pub(crate) fn line_at<A: Allocator>(
     alloc: A,
     part: &[u8],
@@ -44,7 +44,7 @@ pub(crate) fn line_at<A: Allocator>(
     Ok(found)
 }
 
-/// How many characters bytes have.
+/// How many characters these bytes stand for.
 pub(crate) fn count_characters(bytes: &[u8]) -> usize {
     let mut count = 0usize;
     for byte in bytes {
@@ -55,7 +55,8 @@ pub(crate) fn count_characters(bytes: &[u8]) -> usize {
     count
 }
 
-/// Adds the character of a byte, if it has one; a question mark for one that cannot be shown.
+/// Adds the character that a byte stands for, if it stands for one, or a question mark if that character cannot be
+/// shown.
 fn push_character<A: Allocator>(text: &mut String<A>, byte: u8) -> Result<(), AllocError> {
     let code = byte % 0o200;
     if code == b'\t' || (b' ' <= code && code <= b'~') {
@@ -67,7 +68,7 @@ fn push_character<A: Allocator>(text: &mut String<A>, byte: u8) -> Result<(), Al
     }
 }
 
-/// Adds the characters of bytes.
+/// Adds the characters that these bytes stand for.
 pub(crate) fn push_characters<A: Allocator>(
     text: &mut String<A>,
     bytes: &[u8],
@@ -78,7 +79,7 @@ pub(crate) fn push_characters<A: Allocator>(
     Ok(())
 }
 
-/// Adds a blank as wide as the character of each byte.
+/// Adds, for each byte, a blank as wide as its character.
 fn push_blanks<A: Allocator>(text: &mut String<A>, bytes: &[u8]) -> Result<(), AllocError> {
     for byte in bytes {
         let code = *byte % 0o200;
@@ -91,7 +92,8 @@ fn push_blanks<A: Allocator>(text: &mut String<A>, bytes: &[u8]) -> Result<(), A
     Ok(())
 }
 
-/// Adds a line of a part, and below it a mark under the bytes from `start` up to the one before `end`.
+/// Adds a line of a part, and below it a mark under the bytes from `start` up to, but not including, `end`. A line that
+/// is too long to be shown is left out.
 pub(crate) fn push_marked<A: Allocator>(
     text: &mut String<A>,
     part: &[u8],

@@ -10,8 +10,8 @@ use pal_text::{Ending, Form, Statement, TextFault, Token, TokenKind, statements}
 use std::alloc::{AllocError, Allocator};
 use word12::Word;
 
-/// Where a symbol stands: the number of its part, counted from 0, and the byte at which it begins and the
-/// one after it.
+/// Where a symbol occurs: the number of its part, counted from 0, the place of its first byte, and the place after its
+/// last byte.
 #[derive(Clone, Copy)]
 pub(crate) struct Occurrence {
     pub(crate) part: usize,
@@ -19,8 +19,8 @@ pub(crate) struct Occurrence {
     pub(crate) end: usize,
 }
 
-/// What is known before a statement: the symbols with their values, where each of a source's own got it,
-/// the location, and whether numbers are decimal.
+/// What is known before a statement: the symbols with their values, where each of the source's own symbols got its
+/// value, the location, and whether numbers are decimal.
 #[derive(Drop)]
 pub(crate) struct Meanings<'p, A: Allocator + Copy> {
     pub(crate) symbols: Symbols<'p, A>,
@@ -35,11 +35,11 @@ pub(crate) const NOWHERE: SourcePlace = SourcePlace {
     line: 0,
 };
 
-/// The word that digits spell.
+/// The word that these digits stand for.
 ///
 /// # Errors
 ///
-/// The fault of a digit that the radix lacks, or else that of a number above 4095.
+/// `IllegalCharacter` if a digit is not one of the radix, and otherwise `NumberTooLarge` if the number is above 4095.
 pub(crate) fn number_of(is_decimal: bool, digits: &[u8]) -> Result<Word, FaultCode> {
     let base = if is_decimal { 10 } else { 8 };
     let mut value = 0usize;
@@ -75,7 +75,7 @@ fn term_of(is_decimal: bool, bytes: &[u8], token: Token) -> ExpressionTerm {
     }
 }
 
-/// The terms of an expression; a number that is none counts as 0.
+/// The terms of an expression. A number that is not valid counts as 0.
 pub(crate) fn terms_of<A: Allocator>(
     alloc: A,
     is_decimal: bool,
@@ -160,7 +160,7 @@ impl<'p, A: Allocator + Copy> Meanings<'p, A> {
         self.define(name_of(bytes, token), value, occurrence)
     }
 
-    /// Takes the tags of a statement.
+    /// Applies the tags of a statement: they define their symbols.
     fn take_tags(&mut self, part: usize, bytes: &[u8], tags: &[Token]) -> Result<(), AllocError> {
         let here = self.here;
         for token in tags {
@@ -171,7 +171,7 @@ impl<'p, A: Allocator + Copy> Meanings<'p, A> {
         Ok(())
     }
 
-    /// Takes what a statement does after its tags.
+    /// Applies what a statement does after its tags.
     fn take_body<B: Allocator>(
         &mut self,
         alloc: B,
@@ -199,7 +199,7 @@ impl<'p, A: Allocator + Copy> Meanings<'p, A> {
         Ok(())
     }
 
-    /// Takes a statement with these tokens.
+    /// Applies a statement with these tokens.
     fn take<B: Allocator>(
         &mut self,
         alloc: B,
@@ -214,7 +214,7 @@ impl<'p, A: Allocator + Copy> Meanings<'p, A> {
         self.take_body(alloc, part, bytes, body, statement.form)
     }
 
-    /// Takes the statements of a part up to the one at this place. It tells whether the next part is read.
+    /// Applies the statements of a part, up to the one at this place, and returns whether the next part is to be read.
     fn take_part(
         &mut self,
         alloc: A,
@@ -240,8 +240,8 @@ impl<'p, A: Allocator + Copy> Meanings<'p, A> {
     }
 }
 
-/// What is known before the statement at this place, which is that of a fault: a part and a line of its
-/// copy, counted from 1.
+/// What is known before the statement at this place, which is the place of a fault: a part and a line of its copy, both
+/// counted from 1.
 pub(crate) fn meanings_before<'p, A: Allocator + Copy>(
     alloc: A,
     permanent: &'p SymbolTable<A>,

@@ -5,7 +5,7 @@ use pal_text::characters::is_character_code;
 use pal_text::{Name, Token, TokenKind};
 use std::alloc::{AllocError, Allocator};
 
-/// What a character is by itself.
+/// The kind of token that a character is by itself.
 fn kind_of(code: u8) -> TokenKind {
     match code {
         b'A'..=b'Z' => TokenKind::Symbol,
@@ -21,7 +21,7 @@ fn kind_of(code: u8) -> TokenKind {
     }
 }
 
-/// Whether a space beside a token of this kind does not count.
+/// Whether a space next to a token of this kind is ignored.
 fn absorbs_spaces(kind: TokenKind) -> bool {
     matches!(
         kind,
@@ -29,7 +29,8 @@ fn absorbs_spaces(kind: TokenKind) -> bool {
     )
 }
 
-/// What a token of this kind is with a character of that kind after it, where they are one token.
+/// The kind of token that a token of this kind becomes with a character of the other kind after it, if the two are one
+/// token.
 fn longer(kind: TokenKind, next: TokenKind) -> Option<TokenKind> {
     match (kind, next) {
         (TokenKind::Symbol, TokenKind::Symbol | TokenKind::Number) => Some(TokenKind::Symbol),
@@ -41,7 +42,7 @@ fn longer(kind: TokenKind, next: TokenKind) -> Option<TokenKind> {
     }
 }
 
-/// The one token that two neighbours make, where the second does not stand after the first.
+/// The single token that two neighbours make, if they do not stay two tokens.
 fn join(last: Token, next: Token) -> Option<Token> {
     if let Some(kind) = longer(last.kind, next.kind) {
         return Some(Token {
@@ -60,7 +61,7 @@ fn join(last: Token, next: Token) -> Option<Token> {
     }
 }
 
-/// Adds a character to the tokens before it.
+/// Adds a character to the tokens before it, joining it to the last one if the two are one token.
 fn add<A: Allocator>(tokens: &mut Vec<Token, A>, next: Token) -> Result<(), AllocError> {
     match tokens.pop() {
         None => {
@@ -79,7 +80,7 @@ fn add<A: Allocator>(tokens: &mut Vec<Token, A>, next: Token) -> Result<(), Allo
     Ok(())
 }
 
-/// Takes a space off the end of tokens.
+/// Removes a space from the end of the tokens.
 fn drop_space<A: Allocator>(tokens: &mut Vec<Token, A>) {
     let count = tokens.len();
     if count > 0 && tokens[count - 1].kind == TokenKind::Space {
@@ -87,7 +88,7 @@ fn drop_space<A: Allocator>(tokens: &mut Vec<Token, A>) {
     }
 }
 
-/// The tokens of the statement from `start` up to the byte before `end`.
+/// The tokens of the statement from `start` up to, but not including, `end`.
 pub(crate) fn tokens_in<A: Allocator>(
     alloc: A,
     bytes: &[u8],
@@ -112,7 +113,7 @@ pub(crate) fn tokens_in<A: Allocator>(
     Ok(tokens)
 }
 
-/// What a token is: a symbol told by its name.
+/// The kind of a token; a symbol has the kind that its name gives it.
 pub(crate) fn told_kind(bytes: &[u8], token: Token) -> TokenKind {
     match token.kind {
         TokenKind::Symbol => name_of(bytes, token).kind(),
@@ -120,12 +121,12 @@ pub(crate) fn told_kind(bytes: &[u8], token: Token) -> TokenKind {
     }
 }
 
-/// The name of a symbol's token.
+/// The name of the symbol that a token is.
 pub(crate) fn name_of(bytes: &[u8], token: Token) -> Name {
     Name::new(bytes_between(bytes, token.start, token.end))
 }
 
-/// The tokens from this place on.
+/// The tokens from this index on.
 pub(crate) fn tokens_from(tokens: &[Token], at: usize) -> &[Token] {
     match tokens.get(at..) {
         Some(rest) => rest,
@@ -133,7 +134,7 @@ pub(crate) fn tokens_from(tokens: &[Token], at: usize) -> &[Token] {
     }
 }
 
-/// How many tokens the tags at the front of a statement have: each a symbol and a comma.
+/// How many tokens the tags at the beginning of a statement have; each tag is a symbol and a comma.
 pub(crate) fn count_tag_tokens(tokens: &[Token]) -> usize {
     let mut count = 0usize;
     for (at, token) in tokens.iter().enumerate() {
@@ -146,7 +147,7 @@ pub(crate) fn count_tag_tokens(tokens: &[Token]) -> usize {
     count
 }
 
-/// How many tokens stand before the expression of a statement without tags: a star, or a symbol and `=`.
+/// How many tokens come before the expression of a statement without tags: a star, or a symbol and `=`.
 pub(crate) fn count_front_tokens(body: &[Token]) -> usize {
     match body {
         [first, ..] if first.kind == TokenKind::Star => 1,

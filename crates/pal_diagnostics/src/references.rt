@@ -1,4 +1,4 @@
-//! What is wrong when a value is needed.
+//! What is wrong when a value is needed, or an address is out of reach.
 
 use crate::findings::Finding;
 use crate::lines::{bytes_between, push_characters};
@@ -10,7 +10,7 @@ use pal_text::{Token, TokenKind};
 use std::alloc::{AllocError, Allocator};
 use word12::Word;
 
-/// What is said about a symbol that has no value if it is requested; `known` has the values of the whole source.
+/// The finding about a symbol that has no value when one is needed; `known` has the values of the whole source.
 fn about_undefined<A: Allocator + Copy>(
     alloc: A,
     source: &Source<'_>,
@@ -39,7 +39,7 @@ fn about_undefined<A: Allocator + Copy>(
     })
 }
 
-/// Puts what is said about each symbol of a statement that has no value if it is requested.
+/// Adds the findings about the symbols of a statement that have no value when one is needed.
 pub(crate) fn put_undefined<A: Allocator + Copy>(
     alloc: A,
     source: &Source<'_>,
@@ -65,7 +65,7 @@ pub(crate) fn put_undefined<A: Allocator + Copy>(
     Ok(())
 }
 
-/// What comes after an operation: the address, and whether I and Z stand before it.
+/// What follows an operation: the address, and whether I and Z come before it.
 #[derive(Clone, Copy)]
 struct Reference<'t> {
     is_indirect: bool,
@@ -78,7 +78,7 @@ fn is_symbol(bytes: &[u8], token: Token, letters: [u8; 6]) -> bool {
     token.kind == TokenKind::Symbol && name_of(bytes, token).letters == letters
 }
 
-/// What comes after an operation with these tokens.
+/// What follows an operation, given these tokens after it.
 fn reference_of<'t>(bytes: &[u8], tokens: &'t [Token]) -> Reference<'t> {
     let mut found = Reference {
         is_indirect: false,
@@ -104,7 +104,7 @@ fn reference_of<'t>(bytes: &[u8], tokens: &'t [Token]) -> Reference<'t> {
     found
 }
 
-/// The tokens of an address without a space in front.
+/// The tokens of an address without a space at the beginning.
 fn without_space(tokens: &[Token]) -> &[Token] {
     match tokens {
         [first, rest @ ..] if first.kind == TokenKind::Space => rest,
@@ -120,7 +120,7 @@ fn push_page<A: Allocator>(text: &mut String<A>, at: Word) -> Result<(), AllocEr
     write!(text, "page {page:o} ({first}-{last})")
 }
 
-/// The bytes that tokens take up: where they begin, and where they end.
+/// The bytes that these tokens take up: where they begin, and where they end.
 fn span_of(tokens: &[Token]) -> (usize, usize) {
     match tokens {
         [] => (0, 0),
@@ -129,7 +129,7 @@ fn span_of(tokens: &[Token]) -> (usize, usize) {
     }
 }
 
-/// Adds an address: as it is written, unless that is a number, and its value.
+/// Adds an address: as it is written, unless it is written as a number, then its value and the page that it is on.
 fn push_address<A: Allocator>(
     text: &mut String<A>,
     bytes: &[u8],
@@ -147,7 +147,7 @@ fn push_address<A: Allocator>(
     push_page(text, value)
 }
 
-/// What is wrong with an address that a word at this location cannot name.
+/// What is wrong with an address that a word at this location cannot reach.
 fn wrong_of<A: Allocator>(
     alloc: A,
     is_on_page_zero: bool,
@@ -167,7 +167,7 @@ fn wrong_of<A: Allocator>(
     Ok(wrong)
 }
 
-/// Adds what to change of a reference, by this operation, that cannot name its address.
+/// Adds what to change in a reference, with this operation, that cannot reach its address.
 fn push_advice<A: Allocator>(
     text: &mut String<A>,
     reference: &Reference<'_>,
@@ -189,7 +189,7 @@ fn push_advice<A: Allocator>(
     text.push_str(" I TAG")
 }
 
-/// What is said about a reference that cannot name its address; `known` has the values of the whole source.
+/// The finding about a reference that cannot reach its address; `known` has the values of the whole source.
 pub(crate) fn about_reference<A: Allocator + Copy>(
     alloc: A,
     source: &Source<'_>,

@@ -8,8 +8,8 @@ use pal_asm::PalFault;
 use pal_text::{Line, Token, TokenKind, lines_of};
 use std::alloc::{AllocError, Allocator};
 
-/// A statement that has a fault: the fault's code, the number of its part, counted from 0, its part and its
-/// line in the copies, counted from 1, where it begins and ends in its part, and its tokens.
+/// A statement that has a fault: the code of the fault; the number of its part, counted from 0; its part and its line
+/// in the copies, counted from 1; where it begins and ends in its part; and its tokens.
 #[derive(Drop)]
 pub(crate) struct FaultyStatement<A: Allocator> {
     pub(crate) code: FaultCode,
@@ -29,7 +29,7 @@ pub(crate) enum Act {
     SetsLocation,
     /// It gives a symbol a value.
     Assigns,
-    /// All else: a word, a direction, or what has no form.
+    /// Anything else: a word, a directive, or something without a valid form.
     Other,
 }
 
@@ -54,7 +54,8 @@ impl<A: Allocator> FaultyStatement<A> {
         tokens_from(body, count_front_tokens(body))
     }
 
-    /// Whether locations are not known without it: it is an origin, or another assembler's word that is one.
+    /// Whether locations are unknown without it: it is an origin, or a word of another assembler that sets the
+    /// location.
     pub(crate) fn loses_location(&self, bytes: &[u8]) -> bool {
         match self.body() {
             [first, ..] => {
@@ -89,7 +90,7 @@ fn line_of<A: Allocator>(alloc: A, bytes: &[u8], number: usize) -> Result<Line, 
     }
 }
 
-/// The statement of a fault in a copy of its part.
+/// The statement that has this fault, in a copy of its part.
 pub(crate) fn faulty_of<A: Allocator + Copy>(
     alloc: A,
     bytes: &[u8],

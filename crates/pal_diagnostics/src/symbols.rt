@@ -1,4 +1,4 @@
-//! What is said about symbols.
+//! Messages about symbols.
 
 use crate::lines::{bytes_between, line_at, push_characters};
 use crate::meanings::{Meanings, Occurrence};
@@ -7,8 +7,8 @@ use pal_acts::{Name, SymbolTable, permanent_table};
 use std::alloc::{AllocError, Allocator};
 use strsim::osa_distance;
 
-/// A source whose faults are reported: the names of the files of its parts, their bytes, and the machine
-/// whose symbols it has.
+/// A source whose faults are reported: the names of the files of its parts, their bytes, and the machine whose
+/// permanent symbols it uses.
 #[derive(Clone, Copy)]
 pub(crate) struct Source<'s> {
     pub(crate) names: &'s [&'s str],
@@ -16,7 +16,7 @@ pub(crate) struct Source<'s> {
     pub(crate) profile: Profile,
 }
 
-/// A source.
+/// The source with these parts, for this machine.
 pub(crate) fn source_of<'s>(
     names: &'s [&'s str],
     parts: &'s [&'s [u8]],
@@ -30,7 +30,7 @@ pub(crate) fn source_of<'s>(
 }
 
 impl<'s> Source<'s> {
-    /// The name of the file of a part, counted from 0.
+    /// The name of the file of a part; parts are counted from 0.
     pub(crate) fn name(&self, part: usize) -> &'s str {
         match self.names.get(part) {
             Some(name) => name,
@@ -38,7 +38,7 @@ impl<'s> Source<'s> {
         }
     }
 
-    /// The bytes of a part, counted from 0.
+    /// The bytes of a part; parts are counted from 0.
     pub(crate) fn bytes(&self, part: usize) -> &'s [u8] {
         match self.parts.get(part) {
             Some(bytes) => bytes,
@@ -65,7 +65,7 @@ pub(crate) fn push_written<A: Allocator>(
     push_characters(text, written(source, occurrence))
 }
 
-/// The characters of a name that count.
+/// The significant characters of a name.
 pub(crate) fn letters_of(name: &Name) -> &str {
     match str::from_utf8(name.letters.trim_ascii_end()) {
         Ok(letters) => letters,
@@ -73,7 +73,7 @@ pub(crate) fn letters_of(name: &Name) -> &str {
     }
 }
 
-/// Adds the line on which a symbol stands, and its file if it is not the file of this part.
+/// Adds the line that a symbol is on, and the name of its file if that is not the file of this part.
 pub(crate) fn push_line_of<A: Allocator + Copy>(
     alloc: A,
     text: &mut String<A>,
@@ -109,7 +109,7 @@ pub(crate) fn push_defined<A: Allocator + Copy>(
     text.push(',')
 }
 
-/// What to do about a word that other assemblers have.
+/// What to do about a word that only other assemblers have.
 fn about_other_word(name: &Name) -> Option<&'static str> {
     match letters_of(name) {
         "PAGE" => Some("this assembler has no PAGE: write the address, as in *400"),
@@ -132,7 +132,7 @@ pub(crate) fn moves_location(name: &Name) -> bool {
     matches!(letters_of(name), "PAGE" | "TEXT" | "ZBLOCK" | "FIELD")
 }
 
-/// By how many edits a symbol may differ from this one that is near it.
+/// The maximum number of edits by which a symbol may differ from this one and still be near it.
 fn most_edits(wanted: &str) -> usize {
     match wanted.len() {
         0..=2 => 0,
@@ -141,8 +141,8 @@ fn most_edits(wanted: &str) -> usize {
     }
 }
 
-/// The symbol of a table that is nearest to this one, if one is near: it differs by a character or two that
-/// are more, less, others or exchanged.
+/// The symbol of a table that is nearest to this one, if one is near: they differ by one or two characters that are
+/// added, missing, replaced or exchanged.
 fn nearest<A: Allocator + Copy>(
     alloc: A,
     table: &SymbolTable<A>,
@@ -162,8 +162,8 @@ fn nearest<A: Allocator + Copy>(
     Ok(found)
 }
 
-/// Adds the question whether another symbol is meant, one of the source's own or else a permanent one, if one
-/// is near to this one.
+/// Adds the question whether another symbol is meant, if one is near to this one: one of the source's own or, if none
+/// of those is near, a permanent symbol.
 fn push_nearest<A: Allocator + Copy>(
     alloc: A,
     text: &mut String<A>,
@@ -174,15 +174,15 @@ fn push_nearest<A: Allocator + Copy>(
 ) -> Result<(), AllocError> {
     if let Some(own) = nearest(alloc, &known.symbols.own, wanted)? {
         if let Some(occurrence) = known.occurrence(&own) {
-            text.push_str("do you mean ")?;
+            text.push_str("did you mean ")?;
             push_written(text, source, occurrence)?;
-            text.push_str(" of ")?;
+            text.push_str(", defined on ")?;
             push_line_of(alloc, text, source, occurrence, part)?;
             text.push_str("? Otherwise ")?;
         }
     } else if let Some(permanent) = nearest(alloc, known.symbols.permanent, wanted)? {
         let letters = letters_of(&permanent);
-        write!(text, "do you mean {letters}? Otherwise ")?;
+        write!(text, "did you mean {letters}? Otherwise ")?;
     }
     Ok(())
 }

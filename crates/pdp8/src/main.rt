@@ -5,8 +5,8 @@ use std::fs;
 use std::io::IsTerminal;
 use std::process::ExitCode;
 
-/// What is opened in the place of a standard stream that is closed: it can be neither read nor
-/// written, so each use of that stream fails, and no file that is opened later stands for it.
+/// What is opened in place of a standard stream that is closed. It can be neither read nor written, so each use of that
+/// stream fails, and no file that is opened later is taken for the stream.
 static NO_STREAM: &str = "/";
 
 fn main(rt: HostRuntime) -> ExitCode {

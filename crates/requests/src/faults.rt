@@ -1,5 +1,5 @@
-//! What is said below the line of a fault. The file is looked at once more for it, if it can be read twice; this is
-//! tested, not proved.
+//! The lines that are printed below the line of a fault. The faulty file is read again for them, if it can be read
+//! twice. They are tested, not proved.
 
 use crate::files::{is_read_once, open_input};
 use crate::source_faults::{NO_WORD, output_name};
@@ -15,17 +15,17 @@ use std::rt::Files;
 use streams::read_at_most;
 use turns::{GuessFault, ProposeFault};
 
-/// What is said about a run that ends at a word that the machine does not have.
+/// The message about a run that ends at a word that the machine does not implement.
 pub(crate) const UNSUPPORTED: &str =
-    "the machine does not implement the word there\nwhat to do: look at it with `pdp8 dump`; a word of the PDP-8/E needs --profile 8e; otherwise the word is one that no machine here supports, or execution ran into data\n";
+    "the machine does not implement the word there\nwhat to do: look at it with `pdp8 dump`; a word of the PDP-8/E needs --profile 8e; otherwise neither of the two machines modelled supports the word, or the program ran into data\n";
 
-/// What is said about an output after its name.
+/// What is said, after its name, about an output that cannot be created or written.
 const UNWRITTEN: &str = "cannot be created or written";
 
-/// How much of a file is looked at: a byte more than any input may have.
-const MOST: usize = 1_048_577;
+/// The most bytes of a file that are read: one more than any input may have.
+const READ_LIMIT: usize = 1_048_577;
 
-/// The input that has a fault, if it is one of the inputs that have a name.
+/// The name of the input that has the fault, if it is the tape, the declaration, the certificate or the list of events.
 fn faulty_input<'a>(fault: &Fault, names: &FileNames<'a>) -> Option<&'a str> {
     match fault {
         Fault::Tape(_) => names.tape,
@@ -36,22 +36,22 @@ fn faulty_input<'a>(fault: &Fault, names: &FileNames<'a>) -> Option<&'a str> {
     }
 }
 
-/// What is in a file.
+/// The bytes of an input, of which at most `READ_LIMIT` are read.
 pub(crate) fn bytes_of<R: Files + Input>(
     rt: &R,
     alloc: Global,
     name: &str,
 ) -> Result<Vec<u8>, Fault> {
     let mut input = open_input(rt, name)?;
-    Ok(read_at_most(alloc, &mut input, MOST)?)
+    Ok(read_at_most(alloc, &mut input, READ_LIMIT)?)
 }
 
-/// Whether an input that can be read twice cannot be opened or read.
+/// Whether an input cannot be opened or read. An input that can be read only once is not tried.
 fn is_unread<R: Files + Input>(rt: &R, alloc: Global, name: &str) -> bool {
     !is_read_once(rt, name) && matches!(bytes_of(rt, alloc, name), Err(Fault::Device(_)))
 }
 
-/// The first of the parts of a source that cannot be opened or read.
+/// The first part of a source that cannot be opened or read.
 fn unread_part<'a, R: Files + Input>(rt: &R, alloc: Global, parts: &[&'a str]) -> Option<&'a str> {
     for name in parts {
         if is_unread(rt, alloc, name) {
@@ -77,7 +77,7 @@ fn unread_input<'a, R: Files + Input>(
     None
 }
 
-/// The first of the inputs of a request that cannot be opened or read, of those that can be read twice.
+/// The first input of a request that cannot be opened or read. Inputs that can be read only once are passed over.
 fn first_unread<'a, R: Files + Input>(
     rt: &R,
     alloc: Global,
@@ -89,7 +89,7 @@ fn first_unread<'a, R: Files + Input>(
     }
 }
 
-/// The lines on an input that has a fault. Of standard input or a pipe, which cannot be read twice, there are none.
+/// The lines about an input that has a fault. There are none for standard input or a pipe, which cannot be read twice.
 fn input_lines<R: Files + Input>(
     rt: &R,
     alloc: Global,
@@ -114,23 +114,23 @@ fn input_lines<R: Files + Input>(
     text
 }
 
-/// A name as it is told: one without a character as quotes.
-fn told_name<'n>(name: &'n str) -> &'n str {
+/// A name as a message shows it: an empty name is shown as a pair of quotation marks.
+fn displayed_name<'n>(name: &'n str) -> &'n str {
     if name.is_empty() { "\"\"" } else { name }
 }
 
-/// A line that is a name and what is said about it, if there is a name.
-fn line_of(alloc: Global, name: Option<&str>, said: &str) -> String {
+/// A line that consists of a name and what is said about it, or nothing if there is no name.
+fn problem_line(alloc: Global, name: Option<&str>, problem: &str) -> String {
     let mut text = String::new(alloc);
     if let Some(name) = name {
-        if let Ok(shown) = visible_text(alloc, told_name(name)) {
-            let _ = writeln!(text, "{shown} {said}");
+        if let Ok(shown) = visible_text(alloc, displayed_name(name)) {
+            let _ = writeln!(text, "{shown} {problem}");
         }
     }
     text
 }
 
-/// The line on two outputs, by their names, of which one cannot be created or written.
+/// The line about two outputs, with these names, one of which cannot be created or written.
 fn pair_line(alloc: Global, names: &str) -> String {
     let mut text = String::new(alloc);
     if let Ok(shown) = visible_text(alloc, names) {
@@ -139,35 +139,36 @@ fn pair_line(alloc: Global, names: &str) -> String {
     text
 }
 
-/// The line on an output that cannot be created or written; where there are two it is one of them.
+/// The line about an output that cannot be created or written. If there are two outputs, it names both, since either
+/// may be meant.
 fn unwritten_line(alloc: Global, names: &FileNames<'_>) -> String {
     let Some(output) = names.output else {
         return String::new(alloc);
     };
-    let first = told_name(output_name(output));
+    let first = displayed_name(output_name(output));
     match names.second_output {
         Some(other) if other != output => {
-            let second = told_name(output_name(other));
+            let second = displayed_name(output_name(other));
             let mut both = String::new(alloc);
             let _ = write!(both, "{first}, {second}");
             pair_line(alloc, &both)
         }
-        _ => line_of(alloc, Some(first), UNWRITTEN),
+        _ => problem_line(alloc, Some(first), UNWRITTEN),
     }
 }
 
-/// The lines on a fault that lies in no line of a file: what it means and what to do.
+/// The lines about a fault that does not lie in a line of a file: what it means and what to do.
 fn advice(alloc: Global, code: &str) -> String {
     let mut text = String::new(alloc);
     let _ = push_advice(&mut text, code);
     text
 }
 
-/// The lines on what was found and cannot be declared: why, and what to do.
+/// The lines about findings that cannot be declared: why, and what to do.
 fn undeclarable_lines(alloc: Global, fault: DeclarationFault) -> String {
     let mut text = String::new(alloc);
     let found = FaultyFile {
-        name: "what was found",
+        name: "the proposed declaration",
         bytes: b"",
     };
     let _ = push_fault(&mut text, Fault::Declared(fault), &found);
@@ -175,14 +176,14 @@ fn undeclarable_lines(alloc: Global, fault: DeclarationFault) -> String {
     text
 }
 
-/// The line on a source that is assembled to no word.
+/// The line about a source that assembles to no words.
 fn empty_lines(alloc: Global) -> String {
     let mut text = String::new(alloc);
     let _ = text.push_str(NO_WORD);
     text
 }
 
-/// The line on a file that cannot be read or written.
+/// The line about a file that cannot be read or written.
 fn device_line<R: Files + Input>(
     rt: &R,
     alloc: Global,
@@ -192,14 +193,15 @@ fn device_line<R: Files + Input>(
     match fault {
         DeviceFault::Read => {
             let name = first_unread(rt, alloc, request);
-            line_of(alloc, name, "cannot be opened or read")
+            problem_line(alloc, name, "cannot be opened or read")
         }
         DeviceFault::Write => unwritten_line(alloc, &request.names()),
     }
 }
 
-/// What is said below the line of a fault: which file has it, and if the fault is to be explained even if it is, and
-/// what may stand there; or what the fault means and what to do.
+/// The lines that are printed below the line of a fault. If a file cannot be read or written, they name it. For any
+/// other fault there are lines only if it is to be explained: where in its file the fault lies and what is allowed
+/// there, or what the fault means and what to do.
 pub fn fault_lines<R: Files + Input>(
     rt: &R,
     alloc: Global,
@@ -219,8 +221,9 @@ pub fn fault_lines<R: Files + Input>(
     }
 }
 
-/// What is said below the answer of a command that is refused without a fault, where the command itself does not say
-/// why: of a run of a tape that ends at a word that the machine does not have.
+/// The lines that are printed below the answer of a command that is refused without a fault and does not say why
+/// itself: a run of a tape that ends at a word that the machine does not implement. There are none for any other
+/// command.
 pub fn refusal_lines(request: &Request<'_>) -> &'static str {
     match request {
         Request::Run(_) | Request::Session(_) | Request::Teletype(_) => UNSUPPORTED,

@@ -1,5 +1,5 @@
-//! Files that were given in the place of others: a source where a tape is wanted, say. They are known by what is in
-//! them; this is tested, not proved.
+//! Hints about files that were given in place of others, such as a source where a tape is expected. The kind of a file
+//! is recognised by its contents. This is tested, not proved.
 
 use crate::faults::bytes_of;
 use crate::files::is_read_once;
@@ -13,7 +13,7 @@ use std::fmt::Write;
 use std::rt::Files;
 use streams::standard::StdReader;
 
-/// What is in a file, by the look of it.
+/// What a file seems to contain.
 #[derive(Clone, Copy, PartialEq, Eq)]
 enum Kind {
     Tape,
@@ -25,14 +25,14 @@ enum Kind {
     OtherBytes,
 }
 
-/// The words that begin the lines of a declaration.
-const DECLARING: [&[u8]; 13] = [
+/// The words that a line of a declaration can begin with.
+const DECLARATION_KEYWORDS: [&[u8]; 13] = [
     b"start", b"main", b"sub", b"var", b"stop", b"pause", b"profile", b"read", b"skips", b"moves",
     b"abandon", b"holds", b"returns",
 ];
 
-/// The words that begin the lines of a list of events.
-const HAPPENING: [&[u8]; 7] = [
+/// The words that a line of a list of events can begin with.
+const EVENT_KEYWORDS: [&[u8]; 7] = [
     b"step",
     b"key",
     b"reader",
@@ -42,52 +42,54 @@ const HAPPENING: [&[u8]; 7] = [
     b"continue",
 ];
 
-/// Whether these are the characters of a text, as a source has them and a tape has not.
+/// Whether all these bytes are printable ASCII characters or white space, as those of a source are and those of a tape
+/// are not.
 fn is_text(bytes: &[u8]) -> bool {
     bytes
         .iter()
         .all(|byte| matches!(*byte, b'\t'..=b'\r' | b' '..=b'~'))
 }
 
-/// Whether a line begins like one of a declaration.
-fn declares(line: &[u8]) -> bool {
+/// Whether a line begins like a line of a declaration.
+fn is_declaration_line(line: &[u8]) -> bool {
     let line = line.trim_ascii();
     let mut words = line.split(|byte| matches!(*byte, b' ' | b'\t' | b'/'));
     match words.next() {
-        Some(first) => DECLARING.iter().any(|known| *known == first),
+        Some(first) => DECLARATION_KEYWORDS.iter().any(|keyword| *keyword == first),
         None => false,
     }
 }
 
-/// Whether a line is like that of an event: a word that begins one, and behind it nothing but digits.
-fn happens(line: &[u8]) -> bool {
-    let said = line
+/// Whether a line looks like an event: a word that an event can begin with, followed only by words that consist of
+/// digits.
+fn is_event_line(line: &[u8]) -> bool {
+    let event = line
         .split(|byte| *byte == b'/')
         .next()
         .unwrap_or(line)
         .trim_ascii();
-    let mut words = said.split(|byte| matches!(*byte, b' ' | b'\t'));
+    let mut words = event.split(|byte| matches!(*byte, b' ' | b'\t'));
     let is_known = match words.next() {
-        Some(first) => HAPPENING.iter().any(|known| *known == first),
+        Some(first) => EVENT_KEYWORDS.iter().any(|keyword| *keyword == first),
         None => false,
     };
     is_known && words.all(|word| word.iter().all(|byte| byte.is_ascii_digit()))
 }
 
-/// Whether a line is the end of a source, or sets the location.
-fn is_of_source(line: &[u8]) -> bool {
+/// Whether a line begins with `$`, which ends a source, or with `*`, which sets the current location.
+fn is_source_line(line: &[u8]) -> bool {
     let line = line.trim_ascii();
     line.starts_with(b"$") || line.starts_with(b"*")
 }
 
-/// Whether bytes are a tape.
+/// Whether these bytes can be read as a tape.
 #[inline(never)]
 fn is_tape(bytes: &[u8]) -> bool {
     let mut frames = StdReader::new(bytes);
     tape_from(&mut frames).is_ok()
 }
 
-/// What is in a file that is not empty.
+/// What a file that is not empty seems to contain.
 fn kind_of(bytes: &[u8]) -> Kind {
     if !is_text(bytes) {
         return if is_tape(bytes) {
@@ -100,20 +102,20 @@ fn kind_of(bytes: &[u8]) -> Kind {
         return Kind::Certificate;
     }
     for line in bytes.split(|byte| *byte == b'\n') {
-        if is_of_source(line) {
+        if is_source_line(line) {
             return Kind::Source;
         }
-        if declares(line) {
+        if is_declaration_line(line) {
             return Kind::Declaration;
         }
-        if happens(line) {
+        if is_event_line(line) {
             return Kind::Events;
         }
     }
     Kind::OtherText
 }
 
-/// The name of the tape of a source, without its ending.
+/// The name, without its ending, for the tape of the source with this name; `new` if that name ends in `.bin` itself.
 fn stem_of<'n>(name: &'n str) -> &'n str {
     if name.ends_with(".bin") {
         return "new";
@@ -121,7 +123,7 @@ fn stem_of<'n>(name: &'n str) -> &'n str {
     name.strip_suffix(".pal").unwrap_or(name)
 }
 
-/// What is known of a command whose input has a fault.
+/// What is known about a command whose input has a fault.
 #[derive(Clone, Copy)]
 struct CommandContext<'p, 'a> {
     /// Its name.
@@ -130,7 +132,7 @@ struct CommandContext<'p, 'a> {
     takes_source: bool,
     /// Whether it is given a source in place of a tape.
     is_sourced: bool,
-    /// The names of the parts of its source, where they are known.
+    /// The names of the parts of its source, if they are known.
     parts: &'p [&'a str],
     /// Its files.
     names: FileNames<'a>,
@@ -146,27 +148,27 @@ fn takes_source(command: &str) -> bool {
     .any(|name| *name == command)
 }
 
-/// Whether a command writes its result to a file, which is named behind its inputs.
+/// Whether a command writes its result to a file, whose name comes after those of the inputs.
 fn writes_result(command: &str) -> bool {
     ["declare", "guess", "refute", "report", "source"]
         .iter()
         .any(|name| *name == command)
 }
 
-/// Whether a command takes a declaration behind a tape or a source.
+/// Whether a command takes a declaration after a tape or a source.
 fn takes_declaration(command: &str) -> bool {
     ["verify", "check", "report", "guess", "refute", "watch"]
         .iter()
         .any(|name| *name == command)
 }
 
-/// Whether a command takes a certificate behind a declaration.
+/// Whether a command takes a certificate after a declaration.
 fn takes_certificate(command: &str) -> bool {
     command == "check" || command == "report"
 }
 
-/// What stands before the name of a declaration behind a tape: nothing where it is an operand; none if the command takes
-/// no declaration.
+/// The option before the name of a declaration that comes after a tape: empty if the declaration is an operand, and
+/// `None` if the command takes no declaration.
 fn option_of_declaration(command: &str) -> Option<&'static str> {
     match command {
         "declare" => Some("--from "),
@@ -201,7 +203,7 @@ impl CommandContext<'_, '_> {
         let _ = write!(text, "pdp8 {} --source {source}", self.command);
     }
 
-    /// Adds the operands behind the tape.
+    /// Adds the operands that come after the tape.
     fn push_operands(&self, text: &mut String) {
         let names = &self.names;
         let events = if self.command == "watch" {
@@ -221,7 +223,7 @@ impl CommandContext<'_, '_> {
         self.push_output(text);
     }
 
-    /// Adds where the result goes, if there is one.
+    /// Adds the option that says where the result goes, if the command writes one.
     fn push_output(&self, text: &mut String) {
         if !writes_result(self.command) {
             return;
@@ -252,17 +254,18 @@ impl CommandContext<'_, '_> {
         let command = self.command;
         let _ = write!(text, "{name} is a declaration, not a tape: ");
         let Some(option) = option_of_declaration(command) else {
-            let _ = write!(text, "pdp8 {command} takes a tape, and no declaration");
+            let _ = write!(text, "pdp8 {command} takes a tape, not a declaration");
             return;
         };
-        let _ = text.push_str("the tape comes before it");
-        if let Some(other) = self.names.declaration {
-            let _ = write!(text, ", as in pdp8 {command} {other} {option}{name}");
-            self.push_output(text);
-        }
+        let tape = self.names.declaration.unwrap_or("TAPE");
+        let _ = write!(
+            text,
+            "the tape comes before it, as in pdp8 {command} {tape} {option}{name}"
+        );
+        self.push_output(text);
     }
 
-    /// Adds what to do with a file that was given as a tape, if it is none.
+    /// Adds what to do with a file that was given as a tape, if it is not one.
     fn push_as_tape(&self, text: &mut String, name: &str, kind: Kind) {
         match kind {
             Kind::Tape | Kind::OtherBytes => {}
@@ -281,7 +284,7 @@ impl CommandContext<'_, '_> {
             return;
         }
         let declaration = self.names.declaration.unwrap_or("DECLARATION");
-        let _ = write!(text, "pdp8 check TAPE {declaration} {name} judges it");
+        let _ = write!(text, "use pdp8 check TAPE {declaration} {name} to judge it");
     }
 
     /// Adds what to do with a list of events that was given as a tape.
@@ -294,11 +297,11 @@ impl CommandContext<'_, '_> {
         let tape = self.names.events.unwrap_or("TAPE");
         let _ = write!(
             text,
-            "pdp8 run {tape} --events {name} runs a tape with these events"
+            "use pdp8 run {tape} --events {name} to run a tape with these events"
         );
     }
 
-    /// Where a tape is given, if one is.
+    /// What a message says about where the command takes a tape, if it takes one.
     fn place_of_tape(&self) -> &'static str {
         if self.command == "migrate" || self.command == "place" {
             "this command takes no tape"
@@ -317,18 +320,19 @@ impl CommandContext<'_, '_> {
         } else if self.is_sourced {
             let _ = text.push_str("give the parts of the source as operands, without an option");
         } else if self.takes_source {
+            let _ = text.push_str("use ");
             self.push_with_source(text, name);
             self.push_output(text);
-            let _ = text.push_str(" uses its /: lines as the declaration");
+            let _ = text.push_str(" to take its /: lines as the declaration");
         } else {
             let _ = write!(
                 text,
-                "pdp8 place -o new.declaration {name} makes a declaration from its /: lines"
+                "use pdp8 place -o new.declaration {name} to make a declaration from its /: lines"
             );
         }
     }
 
-    /// Adds what to do with a file that was given as a declaration, if it is none.
+    /// Adds what to do with a file that was given as a declaration, if it is not one.
     fn push_as_declaration(&self, text: &mut String, name: &str, kind: Kind) {
         match kind {
             Kind::Declaration | Kind::OtherText | Kind::OtherBytes => {}
@@ -352,16 +356,19 @@ impl CommandContext<'_, '_> {
             let _ = text.push_str("it comes after the declaration");
             return;
         }
-        let _ = text.push_str("pdp8 check");
+        let _ = text.push_str("use pdp8 check");
         self.push_program(text);
-        let _ = write!(text, " DECLARATION {name} judges it");
+        let _ = write!(text, " DECLARATION {name} to judge it");
     }
 
-    /// Adds the command that watches the program by a list of events, with this declaration.
+    /// Adds the command that watches a run of the program with this declaration and the list of events of this name.
     fn push_watch_by(&self, text: &mut String, declaration: &str, name: &str) {
-        let _ = text.push_str("pdp8 watch");
+        let _ = text.push_str("use pdp8 watch");
         self.push_program(text);
-        let _ = write!(text, " {declaration} {name} watches a run of these events");
+        let _ = write!(
+            text,
+            " {declaration} {name} to watch a run with these events"
+        );
     }
 
     /// Adds what to do with a tape that was given as a source.
@@ -377,7 +384,7 @@ impl CommandContext<'_, '_> {
         } else {
             let _ = write!(
                 text,
-                ": pdp8 source {name} -o new.pal makes a source from it"
+                ": use pdp8 source {name} -o new.pal to make a source from it"
             );
         }
     }
@@ -396,7 +403,7 @@ impl CommandContext<'_, '_> {
         }
     }
 
-    /// Adds what to do with a file that was given as a part of a source, if it is none.
+    /// Adds what to do with a file that was given as a part of a source, if it is not one.
     fn push_as_source(&self, text: &mut String, name: &str, kind: Kind) {
         match kind {
             Kind::Source | Kind::OtherText | Kind::OtherBytes => {}
@@ -415,28 +422,28 @@ impl CommandContext<'_, '_> {
     fn push_source_as_certificate(&self, text: &mut String, name: &str) {
         let _ = write!(
             text,
-            "{name} is a source, not a certificate: pdp8 guess --source {name}"
+            "{name} is a source, not a certificate: use pdp8 guess --source {name}"
         );
         if let Some(declaration) = self.names.declaration {
             let _ = write!(text, " {declaration}");
         }
-        let _ = text.push_str(" -o new.certificate searches for a certificate");
+        let _ = text.push_str(" -o new.certificate to search for a certificate");
     }
 
     /// Adds what to do with a declaration that was given as a certificate.
     fn push_declaration_as_certificate(&self, text: &mut String, name: &str) {
         let _ = write!(
             text,
-            "{name} is a declaration, not a certificate: pdp8 guess"
+            "{name} is a declaration, not a certificate: use pdp8 guess"
         );
         self.push_program(text);
         let _ = write!(
             text,
-            " {name} -o new.certificate searches for a certificate"
+            " {name} -o new.certificate to search for a certificate"
         );
     }
 
-    /// Adds what to do with a file that was given as a certificate, if it is none.
+    /// Adds what to do with a file that was given as a certificate, if it is not one.
     fn push_as_certificate(&self, text: &mut String, name: &str, kind: Kind) {
         match kind {
             Kind::Certificate | Kind::OtherText | Kind::OtherBytes => {}
@@ -455,23 +462,23 @@ impl CommandContext<'_, '_> {
 
     /// Adds the command that watches a run without a list of events, with this declaration if there is one.
     fn push_watch_without(&self, text: &mut String, declaration: Option<&str>) {
-        let _ = text.push_str("pdp8 watch");
+        let _ = text.push_str("use pdp8 watch");
         self.push_program(text);
         if let Some(declaration) = declaration {
             let _ = write!(text, " {declaration}");
         }
-        let _ = text.push_str(" --steps 100000 watches a run without a list of events");
+        let _ = text.push_str(" --steps 100000 to watch a run without a list of events");
     }
 
     /// Adds the command that judges a certificate.
     fn push_check(&self, text: &mut String, name: &str) {
-        let _ = text.push_str("pdp8 check");
+        let _ = text.push_str("use pdp8 check");
         self.push_program(text);
         let declaration = self.names.declaration.unwrap_or("DECLARATION");
-        let _ = write!(text, " {declaration} {name} judges it");
+        let _ = write!(text, " {declaration} {name} to judge it");
     }
 
-    /// Adds what to do with a file that was given as a list of events, if it is none.
+    /// Adds what to do with a file that was given as a list of events, if it is not one.
     fn push_as_events(&self, text: &mut String, name: &str, kind: Kind) {
         let found = match kind {
             Kind::Events | Kind::OtherText | Kind::OtherBytes => return,
@@ -489,11 +496,15 @@ impl CommandContext<'_, '_> {
             },
             _ if self.command == "watch" => self.push_watch_without(text, self.names.declaration),
             Kind::Source => {
+                let _ = text.push_str("use ");
                 self.push_with_source(text, name);
-                let _ = text.push_str(" runs it without a list of events");
+                let _ = text.push_str(" to run it without a list of events");
             }
             _ => {
-                let _ = write!(text, "pdp8 run {name} runs it without a list of events");
+                let _ = write!(
+                    text,
+                    "use pdp8 run {name} to run it without a list of events"
+                );
             }
         }
     }
@@ -504,8 +515,8 @@ fn is_sourced(request: &Request<'_>) -> bool {
     matches!(request, Request::Program(_) | Request::Sourced(_)) && !request.parts().is_empty()
 }
 
-/// What is known of a request.
-fn asked_of<'p, 'a>(request: &'p Request<'a>) -> CommandContext<'p, 'a> {
+/// What is known about a request.
+fn context_of<'p, 'a>(request: &'p Request<'a>) -> CommandContext<'p, 'a> {
     let command = request.command();
     CommandContext {
         command,
@@ -516,7 +527,7 @@ fn asked_of<'p, 'a>(request: &'p Request<'a>) -> CommandContext<'p, 'a> {
     }
 }
 
-/// A line as it is shown, with its end, if there is anything in it.
+/// A line as it is shown, with the line feed that ends it, or nothing if the line is empty.
 fn shown_line(alloc: Global, text: &str) -> String {
     match visible_text(alloc, text) {
         Ok(mut shown) if !shown.is_empty() => {
@@ -527,8 +538,8 @@ fn shown_line(alloc: Global, text: &str) -> String {
     }
 }
 
-/// The line on a file that was given as the declaration of a source, if it is none; else nothing, and nothing of
-/// standard input.
+/// The line about a file that was given as the declaration of a source but is of another kind. It is empty if there is
+/// no hint to give, and for standard input.
 pub(crate) fn declaration_hint(
     alloc: Global,
     request: &ProgramRequest<'_>,
@@ -536,22 +547,22 @@ pub(crate) fn declaration_hint(
     text: &[u8],
 ) -> String {
     let command = request.task.command();
-    let asked = CommandContext {
+    let context = CommandContext {
         command,
         takes_source: takes_source(command),
         is_sourced: true,
         parts: request.program.parts(),
         names: request.names(),
     };
-    let mut told = String::new(alloc);
+    let mut hint = String::new(alloc);
     if name != "-" && !text.is_empty() {
-        asked.push_as_declaration(&mut told, name, kind_of(text));
+        context.push_as_declaration(&mut hint, name, kind_of(text));
     }
-    shown_line(alloc, &told)
+    shown_line(alloc, &hint)
 }
 
-/// The line on a file that was given as a part of a source, if it is none; else nothing, and nothing of standard
-/// input. These are the names and the texts of the parts.
+/// The line about a file that was given as a part of a source but is of another kind. It is empty if there is no hint
+/// to give, and for standard input. `parts` are the names of the parts and `texts` their contents.
 pub(crate) fn source_hint<'a>(
     alloc: Global,
     command: &'static str,
@@ -560,7 +571,7 @@ pub(crate) fn source_hint<'a>(
     fault: PalFault,
     texts: &[&[u8]],
 ) -> String {
-    let asked = CommandContext {
+    let context = CommandContext {
         command,
         takes_source: takes_source(command),
         is_sourced: true,
@@ -568,18 +579,19 @@ pub(crate) fn source_hint<'a>(
         names,
     };
     let index = fault.part.wrapping_sub(1);
-    let mut told = String::new(alloc);
+    let mut hint = String::new(alloc);
     let name = parts.get(index).copied().unwrap_or("-");
     if name == "-" {
-        return told;
+        return hint;
     }
     if let Some(text) = texts.get(index) {
-        asked.push_as_source(&mut told, name, kind_of(text));
+        context.push_as_source(&mut hint, name, kind_of(text));
     }
-    shown_line(alloc, &told)
+    shown_line(alloc, &hint)
 }
 
-/// What is in a file that can be read twice and is not empty. Standard input and pipes cannot be read twice.
+/// What a file seems to contain, if it can be read twice and is not empty. Standard input and pipes cannot be read
+/// twice.
 fn kind_in<R: Files + Input>(rt: &R, alloc: Global, name: &str) -> Option<Kind> {
     if is_read_once(rt, name) {
         return None;
@@ -593,13 +605,13 @@ fn kind_in<R: Files + Input>(rt: &R, alloc: Global, name: &str) -> Option<Kind> 
     Some(kind_of(&bytes))
 }
 
-/// The name of the part of a source that has a fault, if it has that part.
+/// The name of the part of a source that a fault lies in, if there is such a part.
 fn faulty_part<'a>(parts: &[&'a str], fault: PalFault) -> Option<&'a str> {
     parts.get(fault.part.wrapping_sub(1)).copied()
 }
 
-/// The line on a file that was given as a part of a source that is assembled or listed, if it is none and can be
-/// read twice; else nothing.
+/// The line about a file that was given as a part of a source to assemble or list but is of another kind. It is empty
+/// if there is no hint to give, and if the file cannot be read twice.
 pub(crate) fn part_hint<R: Files + Input>(
     rt: &R,
     alloc: Global,
@@ -608,7 +620,7 @@ pub(crate) fn part_hint<R: Files + Input>(
     fault: &Fault,
 ) -> String {
     let mut text = String::new(alloc);
-    let asked = CommandContext {
+    let context = CommandContext {
         command,
         takes_source: false,
         is_sourced: true,
@@ -621,13 +633,14 @@ pub(crate) fn part_hint<R: Files + Input>(
     };
     if let Some(name) = name {
         if let Some(kind) = kind_in(rt, alloc, name) {
-            asked.push_as_source(&mut text, name, kind);
+            context.push_as_source(&mut text, name, kind);
         }
     }
     shown_line(alloc, &text)
 }
 
-/// The line on an input that was given in the place of another one, if it can be told; else nothing.
+/// The line about an input that was given in place of one of another kind. It is empty if there is no hint to give, and
+/// if the input cannot be read twice.
 #[inline(never)]
 pub fn hint_line<R: Files + Input>(
     rt: &R,
@@ -636,12 +649,12 @@ pub fn hint_line<R: Files + Input>(
     request: &Request<'_>,
 ) -> String {
     let mut text = String::new(alloc);
-    let asked = asked_of(request);
+    let context = context_of(request);
     let name = match fault {
-        Fault::Tape(_) => asked.names.tape,
-        Fault::Declared(_) => asked.names.declaration,
-        Fault::Certificate(_) => asked.names.certificate,
-        Fault::Events(_) => asked.names.events,
+        Fault::Tape(_) => context.names.tape,
+        Fault::Declared(_) => context.names.declaration,
+        Fault::Certificate(_) => context.names.certificate,
+        Fault::Events(_) => context.names.events,
         Fault::Source(fault) => faulty_part(request.parts(), *fault),
         _ => None,
     };
@@ -652,11 +665,11 @@ pub fn hint_line<R: Files + Input>(
         return text;
     };
     match fault {
-        Fault::Tape(_) => asked.push_as_tape(&mut text, name, kind),
-        Fault::Declared(_) => asked.push_as_declaration(&mut text, name, kind),
-        Fault::Source(_) => asked.push_as_source(&mut text, name, kind),
-        Fault::Events(_) => asked.push_as_events(&mut text, name, kind),
-        _ => asked.push_as_certificate(&mut text, name, kind),
+        Fault::Tape(_) => context.push_as_tape(&mut text, name, kind),
+        Fault::Declared(_) => context.push_as_declaration(&mut text, name, kind),
+        Fault::Source(_) => context.push_as_source(&mut text, name, kind),
+        Fault::Events(_) => context.push_as_events(&mut text, name, kind),
+        _ => context.push_as_certificate(&mut text, name, kind),
     }
     shown_line(alloc, &text)
 }

@@ -13,7 +13,7 @@ use std::io::{self, Printer};
 use std::rt::Files;
 use streams::standard::StdReader;
 
-/// What a name of the command line stands for: `-` for standard input, otherwise a file.
+/// The input that a name on the command line stands for: standard input for `-`, otherwise a file.
 pub(crate) fn input_of<R: Files + Input>(
     rt: &R,
     name: &str,
@@ -27,11 +27,11 @@ pub(crate) fn input_of<R: Files + Input>(
     }
 }
 
-/// Opens what a name of the command line stands for: `-` for standard input, otherwise a file.
+/// Opens the input that a name on the command line stands for: standard input for `-`, otherwise a file.
 ///
 /// # Errors
 ///
-/// `Device` if a file cannot be opened, which is told as one that cannot be read.
+/// `Device` with `Read` if the file cannot be opened, as if it could not be read.
 pub fn open_input<R: Files + Input>(
     rt: &R,
     name: &str,
@@ -41,8 +41,8 @@ pub fn open_input<R: Files + Input>(
     Ok(StdReader::new(input_of(rt, name)?))
 }
 
-/// Whether an input can be read only once: standard input, a pipe, or another file that is neither plain nor a
-/// folder. One that is not there is none.
+/// Whether an input can be read only once: standard input, a pipe, or anything else that is neither a plain file nor a
+/// folder. A file that does not exist does not count.
 pub fn is_read_once<R: Files>(rt: &R, name: &str) -> bool {
     if name == "-" {
         return true;
@@ -53,7 +53,7 @@ pub fn is_read_once<R: Files>(rt: &R, name: &str) -> bool {
     }
 }
 
-/// Whether a plain file with this name is there and is not empty.
+/// Whether a plain file with this name exists and is not empty.
 pub(crate) fn has_bytes<R: Files>(rt: &R, name: &str) -> bool {
     match fs::metadata(rt, name) {
         Ok(found) => found.is_file() && found.len() > 0,
@@ -61,12 +61,12 @@ pub(crate) fn has_bytes<R: Files>(rt: &R, name: &str) -> bool {
     }
 }
 
-/// Opens the parts of a source in order, up to the first that cannot be opened, and puts them after those that are
-/// open.
+/// Opens the parts of a source in order, up to the first that cannot be opened, and appends them to the parts that are
+/// already open.
 ///
 /// # Errors
 ///
-/// As for [`open_input`], and `NoMemory`.
+/// As for [`open_input`], and `NoMemory` if memory was refused.
 pub fn open_parts<R: Files + Input>(
     rt: &R,
     names: &[&str],
@@ -88,7 +88,7 @@ pub fn open_parts<R: Files + Input>(
 ///
 /// # Errors
 ///
-/// As for [`open_input`], and `NoMemory`.
+/// As for [`open_input`], and `NoMemory` if memory was refused.
 pub fn open_inputs<R: Files + Input>(
     rt: &R,
     alloc: Global,
@@ -104,13 +104,14 @@ pub fn open_inputs<R: Files + Input>(
 /// Where a result goes: standard output, or a file.
 pub type ResultSink<'r, R> = Either<Printer<'r, R>, ResultFile<'r, R>>;
 
-/// Opens where a result goes: `-` is standard output. The operand of `assemble`, `guess` and `migrate` is created or
-/// emptied at once; of that of another command it is checked at once that it can be written; and the file of `-o` is
-/// not touched before the first byte comes. What is written to a file is in its place after [`finish`].
+/// Opens the output for a result; `-` is standard output. The output operand of `assemble`, `guess` or `migrate` is
+/// created or emptied at once. For that of any other command, it is only checked at once that it can be written. The
+/// file of `-o` is not touched before its first byte is written. What is written to a file is in place after
+/// [`finish`].
 ///
 /// # Errors
 ///
-/// `Device` if a file cannot be created, which is told as one that cannot be written, and `NoMemory`.
+/// `Device` with `Write` if the file cannot be created or written, and `NoMemory` if memory was refused.
 pub fn open_output<'r, R: Files + Print>(
     rt: &'r R,
     alloc: Global,
@@ -132,12 +133,12 @@ pub fn open_output<'r, R: Files + Print>(
     }
 }
 
-/// Puts a result that was written whole in its place, and returns this status. If nothing was written, nothing is
-/// done.
+/// Puts a completely written result in its place, and returns the given status. If nothing was written, nothing is done
+/// to the file.
 ///
 /// # Errors
 ///
-/// `Device` if it cannot be put there.
+/// `Device` with `Write` if the result cannot be put there.
 pub fn finish<R: Files + Print>(
     out: &mut ResultSink<'_, R>,
     status: Status,

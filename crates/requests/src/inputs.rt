@@ -1,4 +1,5 @@
-//! Outputs that are inputs under another name: files are compared, not their names. It is tested, not proved.
+//! Finds outputs that are also inputs, perhaps under another name: the files themselves are compared, not their names.
+//! This is tested, not proved.
 
 use crate::files::has_bytes;
 use command_line::{Misuse, Request, SaveOptions, is_source_name};
@@ -8,17 +9,17 @@ use std::io::Read;
 use std::os::unix::fs::MetadataExt;
 use std::rt::Files;
 
-/// What the first line begins with of a source that `source` writes.
-static SOURCE_MARK: &[u8] = b"/From a tape, for the PDP-8/";
+/// The beginning of the first line of each source that `source` writes.
+static SOURCE_PREFIX: &[u8] = b"/From a tape, for the PDP-8/";
 
-/// A plain file, however it is named: its device and its number there.
+/// The identity of a plain file, whatever its name: its device, and its inode number there.
 #[derive(Clone, Copy, PartialEq, Eq)]
 struct Identity {
     device: u64,
     number: u64,
 }
 
-/// The plain file with this name, if it is there; `-` stands for standard input.
+/// The identity of the plain file with this name, if it exists; `-` stands for standard input.
 fn identity_of<R: Files>(rt: &R, name: &str) -> Option<Identity> {
     let name = if name == "-" { "/dev/stdin" } else { name };
     match fs::metadata(rt, name) {
@@ -30,7 +31,7 @@ fn identity_of<R: Files>(rt: &R, name: &str) -> Option<Identity> {
     }
 }
 
-/// Whether one of these names is that of a file.
+/// Whether one of these names stands for this file.
 fn names_file<R: Files>(rt: &R, names: &[&str], file: Identity) -> bool {
     names.iter().any(|name| identity_of(rt, name) == Some(file))
 }
@@ -38,24 +39,24 @@ fn names_file<R: Files>(rt: &R, names: &[&str], file: Identity) -> bool {
 /// Whether a file is a part of the request's source.
 fn is_part<R: Files>(rt: &R, request: &Request<'_>, file: Identity) -> bool {
     match request {
-        Request::Assemble(asked) => names_file(rt, &asked.sources, file),
-        Request::Sourced(asked) => names_file(rt, &asked.parts, file),
-        Request::Program(asked) => names_file(rt, asked.program.parts(), file),
+        Request::Assemble(request) => names_file(rt, &request.sources, file),
+        Request::Sourced(request) => names_file(rt, &request.parts, file),
+        Request::Program(request) => names_file(rt, request.program.parts(), file),
         _ => false,
     }
 }
 
-/// Whether a request reads keys from standard input, though that is not among its names.
+/// Whether a request reads keys from standard input, which is not among the names of its inputs.
 fn reads_keys(request: &Request<'_>) -> bool {
     request.command() == "teletype"
 }
 
-/// Whether the second output of a request is the file of what is punched.
+/// Whether the second output of a request is the file for what is punched.
 fn is_punched(request: &Request<'_>) -> bool {
     matches!(request.command(), "run" | "teletype")
 }
 
-/// Whether a name that no stream has is that of one of the request's inputs.
+/// Whether a name, which is not `-`, stands for one of the request's inputs.
 fn is_input<R: Files>(rt: &R, request: &Request<'_>, name: &str) -> bool {
     let Some(output) = identity_of(rt, name) else {
         return false;
@@ -73,7 +74,7 @@ fn is_input<R: Files>(rt: &R, request: &Request<'_>, name: &str) -> bool {
     is_part(rt, request, output)
 }
 
-/// What is wrong with an output: it is also an input, or the result's file.
+/// What is wrong with an output, if anything: it is also an input, or a report would go to the file of the result.
 fn misused_output<R: Files>(rt: &R, request: &Request<'_>) -> Option<Misuse> {
     let names = request.names();
     let out = names.output.unwrap_or("-");
@@ -99,15 +100,15 @@ fn misused_output<R: Files>(rt: &R, request: &Request<'_>) -> Option<Misuse> {
     None
 }
 
-/// The files that a request saves, if it does.
+/// The options for the files that a request saves, if it saves any.
 fn save_of<'a>(request: &Request<'a>) -> Option<SaveOptions<'a>> {
     match request {
-        Request::Program(asked) => asked.task.save(),
+        Request::Program(request) => request.task.save(),
         _ => None,
     }
 }
 
-/// Whether a file that may be saved is an input.
+/// Whether a file that the request may save is one of its inputs.
 fn saves_over<R: Files>(rt: &R, alloc: Global, request: &Request<'_>) -> Result<bool, AllocError> {
     let Some(save) = save_of(request) else {
         return Ok(false);
@@ -123,38 +124,38 @@ fn saves_over<R: Files>(rt: &R, alloc: Global, request: &Request<'_>) -> Result<
     Ok(false)
 }
 
-/// Whether a file is there and is not empty, and is not a source that `source` wrote.
+/// Whether a file exists, is not empty, and is not a source that `source` wrote.
 fn is_foreign_source<R: Files>(rt: &R, name: &str) -> bool {
     if !has_bytes(rt, name) {
         return false;
     }
-    let mut front = [0; 28];
+    let mut prefix = [0; 28];
     let Ok(mut file) = fs::open(rt, name) else {
         return false;
     };
-    match file.read(&mut front) {
-        Ok(_) => front.as_slice() != SOURCE_MARK,
+    match file.read(&mut prefix) {
+        Ok(_) => prefix.as_slice() != SOURCE_PREFIX,
         Err(_) => true,
     }
 }
 
-/// Whether a source would replace one that the command did not write.
+/// Whether the request, without being forced, would replace a source that `source` did not write.
 fn replaces_source<R: Files>(rt: &R, request: &Request<'_>) -> bool {
     match request {
-        Request::Source(asked) => {
-            let name = asked.out.name();
-            !asked.forced && is_source_name(name) && is_foreign_source(rt, name)
+        Request::Source(request) => {
+            let name = request.out.name();
+            !request.forced && is_source_name(name) && is_foreign_source(rt, name)
         }
         _ => false,
     }
 }
 
-/// What is wrong with the files of a request, before any of them is opened: an output is also an input under another
-/// name, or a source would be lost.
+/// What is wrong with the files of a request, if anything, before any of them is opened: an output is also another file
+/// of the request, perhaps under another name, or a source would be lost.
 ///
 /// # Errors
 ///
-/// If memory was refused.
+/// `AllocError` if memory was refused.
 pub fn misused_files<R: Files>(
     rt: &R,
     alloc: Global,

@@ -1,5 +1,5 @@
-//! The files and streams that the requests of a command line work on, what is said about faults, and the files that
-//! `verify --save` writes. It is tested, not proved.
+//! The files and streams that the requests of a command line work on, the messages about faults, and the files that
+//! `verify --save` writes. This is tested, not proved, except where a function has a contract.
 #![tactic(auto)]
 
 pub mod faults;

@@ -1,4 +1,4 @@
-//! What a report says about a program and its files. It is tested, not proved.
+//! What a report says about a program and its files. This is tested, not proved.
 
 use crate::source_faults::input_name;
 use command_line::{ProgramNames, ProgramRequest};
@@ -14,11 +14,11 @@ use std::io::Read;
 use std::path::Path;
 use std::rt::Files;
 
-/// What is said after the names of the files.
+/// The sentence after the names of the files, which says what their sums and dates mean.
 const UNITS: &str =
     ". A sum is that of the file's bytes, in octal, modulo 200000; a date is that of its last change, in UTC.";
 
-/// The sum of the bytes of a file, if it can be read.
+/// The sum of the bytes of a file, modulo 65536, if the file can be read.
 fn sum_of<R: Files>(rt: &R, alloc: Global, name: &str) -> Option<u16> {
     let mut bytes = Vec::new(alloc);
     let _ = fs::open(rt, name).ok()?.read_to_end(&mut bytes).ok()?;
@@ -34,7 +34,7 @@ fn date_of(found: &Metadata) -> Option<Date> {
     Some(changed.to_zoned(TimeZone::UTC).date())
 }
 
-/// Adds the name of a file, and of a plain one the sum of its bytes and the date of its last change.
+/// Adds the name of a file and, for a plain file, the sum of its bytes and the date of its last change.
 fn push_file<R: Files>(
     rt: &R,
     alloc: Global,
@@ -57,7 +57,7 @@ fn push_file<R: Files>(
     Ok(())
 }
 
-/// Adds a further file.
+/// Adds a further file, if there is one, after a semicolon.
 fn push_further<R: Files>(
     rt: &R,
     alloc: Global,
@@ -95,32 +95,33 @@ pub(crate) struct NamedFiles {
 }
 
 impl NamedFiles {
-    /// The names of a program's files, of its declaration and of a certificate. The files are read once more.
+    /// The names of a program's files, of its declaration and of a certificate, if there is one. The plain files among
+    /// them are read again for the sums of their bytes.
     ///
     /// # Errors
     ///
-    /// Memory was refused.
+    /// `AllocError` if memory was refused.
     pub(crate) fn of<R: Files>(
         rt: &R,
         alloc: Global,
-        asked: &ProgramRequest<'_>,
+        request: &ProgramRequest<'_>,
         certificate: Option<&str>,
     ) -> Result<NamedFiles, AllocError> {
-        let first = first_of(&asked.program);
+        let first = first_of(&request.program);
         let program = visible_text(alloc, title_of(first))?;
         let mut files = String::new(alloc);
         files.push_str("Files: ")?;
         push_file(rt, alloc, &mut files, first)?;
-        for part in asked.program.parts().iter().skip(1) {
+        for part in request.program.parts().iter().skip(1) {
             push_further(rt, alloc, &mut files, Some(part))?;
         }
-        push_further(rt, alloc, &mut files, asked.declaration)?;
+        push_further(rt, alloc, &mut files, request.declaration)?;
         push_further(rt, alloc, &mut files, certificate)?;
         files.push_str(UNITS)?;
         Ok(NamedFiles { program, files })
     }
 
-    /// The names for a page.
+    /// The names as a page shows them.
     pub(crate) fn names(&self) -> PageNames<'_> {
         PageNames {
             program: self.program.as_bytes(),

@@ -1,5 +1,5 @@
-//! The requests of a command line on tapes, sources, declarations and certificates in files: which files are
-//! opened, and in which order. It is tested and not proved.
+//! Carries out the requests that work on tapes, sources, declarations and certificates in files: which files are
+//! opened, and in what order. This is tested, not proved.
 
 pub mod certificates;
 pub mod session_files;

@@ -1,5 +1,5 @@
-//! The commands that run the program of a source, or list its words, with the symbols of the source. It is tested, not
-//! proved.
+//! The commands that run the program of a source, or list its words, with the symbols of the source. They are tested,
+//! not proved.
 
 pub(crate) mod places;
 mod words;
@@ -8,14 +8,14 @@ use crate::faults::UNSUPPORTED;
 use crate::file_kinds::source_hint;
 use crate::of_files::session_files::{hold_session_on, hold_teletype_session_on};
 use crate::of_files::tapes::run_on;
-use crate::of_machine::places::{ResolvedPlaces, named_in};
+use crate::of_machine::places::{ResolvedPlaces, resolve_places};
 use crate::of_machine::words::{SourceStatements, words_of};
-use crate::of_sources::assembled::{AssembledSource, described};
+use crate::of_sources::assembled::{AssembledSource, describe_source};
 use crate::of_sources::numbering::{
     DeclarationOrigin, SourceInput, byte_slices, machine_line, read_parts,
 };
-use crate::of_sources::source_messages::tell_unread;
-use crate::source_faults::{tell_of, tell_source, unopened};
+use crate::of_sources::source_messages::report_ignored_parts;
+use crate::source_faults::{report_file_fault, report_source_fault, unopened_part};
 use crate::telling::{tell_lines, tell_misuse};
 use command_line::{MachineTask, RunRequest, Session, SourceProgramRequest, TeletypeSession};
 use command_parts::options::{RunOptions, SessionOptions, TeletypeOptions};
@@ -28,9 +28,9 @@ use std::rt::Files;
 use streams::put;
 use streams::standard::{StdReader, StdWriter};
 
-/// The tape of a source that was read, and its lines.
+/// The tape and the lines of a source that was read.
 #[inline(never)]
-fn numbered_of(
+fn number_machine_source(
     alloc: Global,
     given: &SourceInput,
 ) -> Result<NumberedProgram<Global>, NumberingFault> {
@@ -40,80 +40,80 @@ fn numbered_of(
     }
 }
 
-/// Runs a program with these cells shown and these stops.
-fn run_of<'a>(run: &RunRequest<'a>, named: &ResolvedPlaces) -> RunRequest<'a> {
+/// The same run, with these cells shown and these stops.
+fn run_of<'a>(run: &RunRequest<'a>, places: &ResolvedPlaces) -> RunRequest<'a> {
     RunRequest {
         tape: run.tape,
         events: run.events,
         options: RunOptions {
-            show: named.show,
+            show: places.show,
             ..run.options
         },
-        stopping: named.stopping,
+        stopping: places.stopping,
         long: run.long,
     }
 }
 
-/// A run with an operator with these cells shown and these stops.
-fn session_of<'a>(session: &Session<'a>, named: &ResolvedPlaces) -> Session<'a> {
+/// The same run with an operator, with these cells shown and these stops.
+fn session_of<'a>(session: &Session<'a>, places: &ResolvedPlaces) -> Session<'a> {
     Session {
         tape: session.tape,
         joined: session.joined,
         options: SessionOptions {
             run: RunOptions {
-                show: named.show,
+                show: places.show,
                 ..session.options.run
             },
             ..session.options
         },
         summary: session.summary,
-        stopping: named.stopping,
+        stopping: places.stopping,
     }
 }
 
-/// A session at the teletype with these cells shown and these stops.
-fn teletype_of<'a>(session: &TeletypeSession<'a>, named: &ResolvedPlaces) -> TeletypeSession<'a> {
+/// The same session at the teletype, with these cells shown and these stops.
+fn teletype_of<'a>(session: &TeletypeSession<'a>, places: &ResolvedPlaces) -> TeletypeSession<'a> {
     TeletypeSession {
         tape: session.tape,
         reader: session.reader,
         punch: session.punch,
         options: TeletypeOptions {
-            show: named.show,
+            show: places.show,
             ..session.options
         },
         summary: session.summary,
-        stopping: named.stopping,
+        stopping: places.stopping,
         interrupt: session.interrupt,
     }
 }
 
-/// Does what is requested with the program of a source that was assembled.
+/// Carries out the request on the program of an assembled source.
 #[inline(never)]
-fn carry_out<R: Files + Input + Print + Eprint>(
+fn carry_out_machine_task<R: Files + Input + Print + Eprint>(
     rt: &R,
     alloc: Global,
     source: &AssembledSource,
-    asked: &SourceProgramRequest<'_>,
+    request: &SourceProgramRequest<'_>,
     at_terminal: bool,
 ) -> Result<Status, Fault> {
-    let named = match named_in(source.numbered.map.symbols(), &asked.places) {
-        Ok(named) => named,
+    let places = match resolve_places(source.numbered.map.symbols(), &request.places) {
+        Ok(places) => places,
         Err(misuse) => return Ok(tell_misuse(rt, &misuse.with_symbols())),
     };
     let mut frames = StdReader::new(source.numbered.tape.as_slice());
-    match &asked.task {
+    match &request.task {
         MachineTask::Run(run) => {
             let statements = SourceStatements {
                 source,
                 profile: run.options.profile,
             };
-            run_on(rt, alloc, &run_of(run, &named), &mut frames, &statements)
+            run_on(rt, alloc, &run_of(run, &places), &mut frames, &statements)
         }
         MachineTask::Session(session) => {
-            hold_session_on(rt, alloc, &session_of(session, &named), &mut frames)
+            hold_session_on(rt, alloc, &session_of(session, &places), &mut frames)
         }
         MachineTask::Teletype(session) => {
-            let session = teletype_of(session, &named);
+            let session = teletype_of(session, &places);
             hold_teletype_session_on(rt, alloc, &session, at_terminal, &mut frames)
         }
         MachineTask::Dump(dump) => {
@@ -124,50 +124,51 @@ fn carry_out<R: Files + Input + Print + Eprint>(
     }
 }
 
-/// Tells that a source is refused, and below it why, if that is requested, and if another file was given in its place.
-fn tell_refused<R: Eprint>(
+/// Reports that a source is refused: why, if that is requested, and whether a file of another kind was given in its
+/// place.
+fn report_source_refusal<R: Eprint>(
     rt: &R,
     alloc: Global,
     fault: PalFault,
     parts: &[&[u8]],
-    asked: &SourceProgramRequest<'_>,
+    request: &SourceProgramRequest<'_>,
 ) -> Status {
-    let names = &asked.parts;
-    let profile = asked.task.profile();
-    let status = tell_source(rt, alloc, fault, names, parts, profile, asked.explained);
-    let command = asked.task.command();
-    let hint = source_hint(alloc, command, asked.task.names(), names, fault, parts);
+    let names = &request.parts;
+    let profile = request.task.profile();
+    let status = report_source_fault(rt, alloc, fault, names, parts, profile, request.explained);
+    let command = request.task.command();
+    let hint = source_hint(alloc, command, request.task.names(), names, fault, parts);
     tell_lines(rt, &hint);
     status
 }
 
-/// Does what is requested with the program of a source that was read, or tells why it is refused, and says which of its
-/// parts are ignored.
-fn answer_given<R: Files + Input + Print + Eprint>(
+/// Carries out the request on the program of a source that was read, and reports which of its parts are ignored; or
+/// reports why the source is refused.
+fn answer_machine_source<R: Files + Input + Print + Eprint>(
     rt: &R,
     alloc: Global,
     given: SourceInput,
-    asked: &SourceProgramRequest<'_>,
+    request: &SourceProgramRequest<'_>,
     at_terminal: bool,
 ) -> Result<Status, Fault> {
-    let numbered = match numbered_of(alloc, &given) {
+    let numbered = match number_machine_source(alloc, &given) {
         Ok(numbered) => numbered,
         Err(NumberingFault::Source(fault)) => {
             let parts = byte_slices(alloc, &given.parts)?;
-            return Ok(tell_refused(rt, alloc, fault, &parts, asked));
+            return Ok(report_source_refusal(rt, alloc, fault, &parts, request));
         }
         Err(NumberingFault::EmptyImage) => return Err(Fault::EmptyImage),
         Err(_) => return Err(Fault::NoMemory),
     };
-    let source = described(alloc, given, numbered, &asked.parts)?;
-    let status = carry_out(rt, alloc, &source, asked, at_terminal)?;
-    if asked.explained && status == Status::Refused {
+    let source = describe_source(alloc, given, numbered, &request.parts)?;
+    let status = carry_out_machine_task(rt, alloc, &source, request, at_terminal)?;
+    if request.explained && status == Status::Refused {
         tell_lines(rt, UNSUPPORTED);
     }
-    tell_unread(
+    report_ignored_parts(
         rt,
         alloc,
-        &asked.parts,
+        &request.parts,
         &byte_slices(alloc, &source.given.parts)?,
     )?;
     Ok(status)
@@ -178,28 +179,28 @@ fn answer_given<R: Files + Input + Print + Eprint>(
 ///
 /// # Errors
 ///
-/// The fault of another file or of the command.
+/// The fault of the source, of another file or of the command.
 #[inline(never)]
 pub fn answer_sourced<R: Files + Input + Print + Eprint>(
     rt: &R,
     alloc: Global,
-    asked: &SourceProgramRequest<'_>,
+    request: &SourceProgramRequest<'_>,
     at_terminal: bool,
 ) -> Result<Status, Fault> {
     let mut parts = Vec::new(alloc);
-    if let Err(fault) = read_parts(rt, alloc, &asked.parts, &mut parts) {
-        if !asked.explained {
+    if let Err(fault) = read_parts(rt, alloc, &request.parts, &mut parts) {
+        if !request.explained {
             return Err(fault);
         }
-        let name = unopened(&asked.parts, parts.len());
-        return Ok(tell_of(rt, alloc, fault, name, "cannot be opened or read"));
+        let name = unopened_part(&request.parts, parts.len());
+        return Ok(report_file_fault(rt, alloc, fault, name, "cannot be opened or read"));
     }
     let mut text = Vec::new(alloc);
-    text.extend_from_slice(machine_line(asked.task.profile()))?;
+    text.extend_from_slice(machine_line(request.task.profile()))?;
     let given = SourceInput {
         parts,
         text,
-        promise: DeclarationOrigin::Proposed,
+        origin: DeclarationOrigin::Proposed,
     };
-    answer_given(rt, alloc, given, asked, at_terminal)
+    answer_machine_source(rt, alloc, given, request, at_terminal)
 }

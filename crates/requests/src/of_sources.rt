@@ -1,5 +1,5 @@
-//! Sources and their declarations: how they are read and assembled, and what is said about them. It is tested, not
-//! proved, but that the first line of a text stays as it is.
+//! Sources and their declarations: how they are read and assembled, and what is reported about them. This is tested,
+//! not proved, except that the first line of a text is proved to stay as it is.
 
 pub(crate) mod assembled;
 pub(crate) mod numbering;

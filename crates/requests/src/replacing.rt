@@ -1,5 +1,6 @@
-//! A file for a result, which takes its place when it is complete: what is written goes to a file beside it, so that
-//! neither a full disk nor a fault halfway loses what was there. It is tested, not proved.
+//! A file for a result, which replaces the old file only when it is complete: until then, everything is written to a
+//! temporary file beside it, so that neither a full disk nor a fault halfway loses the old contents. This is tested,
+//! not proved.
 
 use std::alloc::{AllocError, Global};
 use std::fmt::Write;
@@ -8,19 +9,19 @@ use std::io::{self, Read};
 use std::os::unix::fs::{MetadataExt, PermissionsExt, chown};
 use std::rt::Files;
 
-/// How many names are tried for a file beside another one.
-const MOST_NAMES: u32 = 1_000;
+/// How many names are tried for a temporary file.
+const MAX_NAMES: u32 = 1_000;
 
 /// How many symbolic links are followed from one to the next.
-const MOST_LINKS: u32 = 40;
+const MAX_LINKS: u32 = 40;
 
-/// Where Linux says how long a file of this program may become.
-static LIMITS: &str = "/proc/self/limits";
+/// Where Linux says how large a file this program may write.
+static LIMITS_PATH: &str = "/proc/self/limits";
 
-/// A file beside another one, which is removed unless it has taken the place of that one.
+/// A temporary file beside another file, which is removed unless it has replaced that file.
 struct TemporaryFile<'r, R: Files> {
     rt: &'r R,
-    /// Its name, which is empty when it has taken its place.
+    /// Its name, which is empty once it has replaced the other file.
     name: String,
 }
 
@@ -33,7 +34,7 @@ impl<R: Files> Drop for TemporaryFile<'_, R> {
     }
 }
 
-/// Adds the folder that a path names, with the slash after it, if it names one.
+/// Adds the folder in a path, with the slash after it, if the path has one.
 fn push_folder(text: &mut String, path: &str) -> Result<(), AllocError> {
     if let Some((folder, _)) = path.rsplit_once('/') {
         text.push_str(folder)?;
@@ -42,7 +43,7 @@ fn push_folder(text: &mut String, path: &str) -> Result<(), AllocError> {
     Ok(())
 }
 
-/// A name for a file beside another one.
+/// A name for a temporary file beside the file at this path.
 fn name_beside(alloc: Global, path: &str, number: u32) -> Result<String, AllocError> {
     let mut name = String::new(alloc);
     push_folder(&mut name, path)?;
@@ -52,18 +53,18 @@ fn name_beside(alloc: Global, path: &str, number: u32) -> Result<String, AllocEr
     }
 }
 
-/// What is said about memory that was refused, as a fault of a file.
+/// The I/O error for memory that was refused.
 fn no_memory(_refused: AllocError) -> io::Error {
     io::Error::from(io::ErrorKind::OutOfMemory)
 }
 
-/// Makes a file beside the one at a path, with a name that no file has.
+/// Creates a temporary file beside the file at this path, under a name that no file has.
 fn make_beside<'r, R: Files>(
     rt: &'r R,
     alloc: Global,
     path: &str,
 ) -> io::Result<(R::File, TemporaryFile<'r, R>)> {
-    for number in 0..MOST_NAMES {
+    for number in 0..MAX_NAMES {
         let name = name_beside(alloc, path, number).map_err(no_memory)?;
         let made = OpenOptions::new()
             .write(true)
@@ -78,7 +79,7 @@ fn make_beside<'r, R: Files>(
     Err(io::Error::from(io::ErrorKind::AlreadyExists))
 }
 
-/// Whether a path is that of a stream that is open, under the name that Linux gives it.
+/// Whether a path is a name that Linux gives to an open stream.
 fn is_stream(path: &str) -> bool {
     path.starts_with("/dev/fd/") || path.starts_with("/proc/")
 }
@@ -95,10 +96,10 @@ fn link_target<R: Files>(rt: &R, alloc: Global, link: &str) -> io::Result<String
     Ok(path)
 }
 
-/// Where the file with this name lies, after all symbolic links; nothing if no file beside it may take its place.
+/// The path of the file with this name, after all symbolic links; `None` if no temporary file may replace it.
 fn place_of<R: Files>(rt: &R, alloc: Global, name: &str) -> Result<Option<String>, AllocError> {
     let mut path = String::from_str(alloc, name)?;
-    for _ in 0..MOST_LINKS {
+    for _ in 0..MAX_LINKS {
         if is_stream(&path) || path.is_empty() || path.ends_with('/') {
             return Ok(None);
         }
@@ -113,7 +114,7 @@ fn place_of<R: Files>(rt: &R, alloc: Global, name: &str) -> Result<Option<String
     Ok(None)
 }
 
-/// Whether a file cannot be created since its folder is closed to this program.
+/// Whether a file cannot be created because this program may not write to its folder.
 fn is_forbidden(kind: io::ErrorKind) -> bool {
     matches!(
         kind,
@@ -121,7 +122,7 @@ fn is_forbidden(kind: io::ErrorKind) -> bool {
     )
 }
 
-/// Gives a file beside another one the owner and the permissions of that one.
+/// Gives a temporary file the owner, the group and the permissions of the file that it is to replace.
 fn copy_permissions<R: Files>(rt: &R, beside: &str, found: &Metadata) -> io::Result<()> {
     let made = fs::metadata(rt, beside)?;
     if made.uid() != found.uid() || made.gid() != found.gid() {
@@ -130,16 +131,16 @@ fn copy_permissions<R: Files>(rt: &R, beside: &str, found: &Metadata) -> io::Res
     fs::set_permissions(rt, beside, Permissions::from_mode(found.mode() & 0o7777))
 }
 
-/// The limit that a line of Linux's list of limits gives, if it is that on the length of files.
+/// The limit that a line of Linux's list of limits gives, if it is the limit on the size of files.
 fn limit_on(line: &str) -> Option<u64> {
     let limits = line.strip_prefix("Max file size")?;
     limits.split_whitespace().next()?.parse::<u64>().ok()
 }
 
-/// How long a file of this program may become: to write beyond that would end the program by a signal.
-fn longest_file<R: Files>(rt: &R) -> u64 {
+/// The most bytes that this program may write to a file: a write beyond that would end the program with a signal.
+fn file_size_limit<R: Files>(rt: &R) -> u64 {
     let mut text = [0; 2_048];
-    let Ok(mut file) = fs::open(rt, LIMITS) else {
+    let Ok(mut file) = fs::open(rt, LIMITS_PATH) else {
         return u64::MAX;
     };
     let Ok(count) = file.read(&mut text) else {
@@ -162,18 +163,22 @@ pub struct ResultFile<'r, R: Files> {
     rt: &'r R,
     alloc: Global,
     name: &'r str,
-    /// Where it lies, if a file beside it may take its place.
+    /// Its path after all symbolic links, if a temporary file may replace it.
     path: Option<String>,
-    /// The file beside it, when that is open.
+    /// The temporary file beside it, once that is open.
     beside: Option<TemporaryFile<'r, R>>,
-    /// What is written to, when it is open.
+    /// The open file that is written to, once there is one.
     file: Option<R::File>,
     /// How many bytes may still be written.
-    room: u64,
+    remaining_bytes: u64,
 }
 
 impl<'r, R: Files> ResultFile<'r, R> {
     /// The file with this name, which is not touched yet.
+    ///
+    /// # Errors
+    ///
+    /// `AllocError` if memory was refused.
     pub fn new(rt: &'r R, alloc: Global, name: &'r str) -> Result<ResultFile<'r, R>, AllocError> {
         Ok(ResultFile {
             rt,
@@ -182,11 +187,12 @@ impl<'r, R: Files> ResultFile<'r, R> {
             path: place_of(rt, alloc, name)?,
             beside: None,
             file: None,
-            room: u64::MAX,
+            remaining_bytes: u64::MAX,
         })
     }
 
-    /// Whether it is another thing than a file that is there or can be made, such as a pipe.
+    /// Whether its name stands for something other than a plain file, such as a pipe. A name that nothing has yet
+    /// counts as a plain file.
     fn is_device(&self) -> bool {
         match fs::metadata(self.rt, self.name) {
             Ok(found) => !found.is_file(),
@@ -194,7 +200,11 @@ impl<'r, R: Files> ResultFile<'r, R> {
         }
     }
 
-    /// Creates or empties the file. Anything that is not a plain file is open from now on.
+    /// Creates or empties the file. If it is not a plain file, or may not be replaced, it stays open for writing.
+    ///
+    /// # Errors
+    ///
+    /// Any error from creating the file.
     pub fn make_empty(&mut self) -> io::Result<()> {
         let file = fs::create(self.rt, self.name)?;
         if self.path.is_none() || self.is_device() {
@@ -203,8 +213,12 @@ impl<'r, R: Files> ResultFile<'r, R> {
         Ok(())
     }
 
-    /// Ensures that the file can be created or written, and leaves it as it is. Anything that is not a plain file is
-    /// opened.
+    /// Checks that the file can be created or written, and leaves it as it is. If it is not a plain file, or may not be
+    /// replaced, it is opened for writing.
+    ///
+    /// # Errors
+    ///
+    /// Any error from opening or creating the file, or from creating a temporary file beside it.
     pub fn check(&mut self) -> io::Result<()> {
         let Some(path) = &self.path else {
             return self.open_in_place();
@@ -222,14 +236,14 @@ impl<'r, R: Files> ResultFile<'r, R> {
         }
     }
 
-    /// Creates or empties the file, and writes to it from now on.
+    /// Creates or empties the file, and writes directly to it from now on.
     fn open_in_place(&mut self) -> io::Result<()> {
         self.file = Some(fs::create(self.rt, self.name)?);
         Ok(())
     }
 
-    /// Opens a file beside the one at a path, to which all is written from now on. If there is one that cannot be
-    /// replaced, that one is opened.
+    /// Opens a temporary file beside the file at this path, to which everything is written from now on. If there is a
+    /// file at the path that cannot be replaced, that file itself is opened.
     fn open_beside(&mut self, path: &str) -> io::Result<()> {
         let (file, beside) = match fs::metadata(self.rt, path) {
             Ok(found) => {
@@ -252,13 +266,13 @@ impl<'r, R: Files> ResultFile<'r, R> {
         Ok(())
     }
 
-    /// Opens what is written to, before the first piece of so many bytes.
+    /// Opens the file that is written to, before its first piece, which has `count` bytes.
     fn open(&mut self, count: u64) -> io::Result<()> {
         let device = self.is_device();
         if !device {
-            self.room = longest_file(self.rt);
+            self.remaining_bytes = file_size_limit(self.rt);
         }
-        if count > self.room {
+        if count > self.remaining_bytes {
             return Err(io::Error::from(io::ErrorKind::FileTooLarge));
         }
         match self.path.take() {
@@ -271,7 +285,11 @@ impl<'r, R: Files> ResultFile<'r, R> {
         }
     }
 
-    /// Puts what was written, which is complete, in its place. If nothing was written, nothing is done.
+    /// Puts the completely written result in its place. If nothing was written, nothing is done.
+    ///
+    /// # Errors
+    ///
+    /// Any error from copying the result, if it can be neither moved nor copied to its place.
     pub fn finish(&mut self) -> io::Result<()> {
         let Some(path) = &self.path else {
             return Ok(());
@@ -291,8 +309,11 @@ impl<'r, R: Files> ResultFile<'r, R> {
         }
     }
 
-    /// Puts what was written, which is complete, in its place. If nothing was written, the file is created or
-    /// emptied.
+    /// Puts the completely written result in its place. If nothing was written, the file is created or emptied.
+    ///
+    /// # Errors
+    ///
+    /// As for `finish` and `make_empty`.
     pub fn finish_or_empty(&mut self) -> io::Result<()> {
         if self.file.is_none() {
             return self.make_empty();
@@ -307,10 +328,10 @@ impl<R: Files> io::Write for ResultFile<'_, R> {
         if self.file.is_none() {
             self.open(count)?;
         }
-        if count > self.room {
+        if count > self.remaining_bytes {
             return Err(io::Error::from(io::ErrorKind::FileTooLarge));
         }
-        self.room -= count;
+        self.remaining_bytes -= count;
         match &mut self.file {
             Some(file) => file.write(buf),
             None => Ok(0),

@@ -1,8 +1,8 @@
-//! The files that `verify --save` writes, and when the answer is told.
+//! The files that `verify --save` writes, and when the answer is printed.
 
 use crate::files::{has_bytes, open_input};
 use crate::replacing::ResultFile;
-use crate::source_faults::tell_of;
+use crate::source_faults::report_file_fault;
 use command_line::{CERTIFICATE_ENDING, DECLARATION_ENDING, EVENTS_ENDING, SaveOptions};
 use command_parts::status::{DeviceFault, Fault, Status};
 use command_parts::visible::visible_text;
@@ -13,11 +13,11 @@ use std::rt::Files;
 use streams::standard::StdWriter;
 use streams::{put, read_at_most};
 
-/// What the first line of a certificate begins with, which says that a command of this program wrote it.
-static CERTIFICATE_MARK: &[u8] = b"PDP8-CERTIFICATE ";
+/// The beginning of the first line of each certificate that a command of this program writes.
+static CERTIFICATE_PREFIX: &[u8] = b"PDP8-CERTIFICATE ";
 
-/// How much of a file is looked at: the most that may be saved.
-const MOST: usize = 1_048_576;
+/// The most bytes of a file that are read, which is the most that may be saved.
+const READ_LIMIT: usize = 1_048_576;
 
 /// A text that is to be saved.
 #[derive(Drop)]
@@ -36,8 +36,8 @@ impl NamedText {
         Ok(NamedText { path, text })
     }
 
-    /// Whether its file is there and was not made by this program, as far as its bytes show: it is neither empty nor
-    /// a certificate, and says something else.
+    /// Whether its file exists and, as far as its bytes show, was not written by this program: it is not empty, is not
+    /// a certificate, and differs from the text.
     fn is_foreign<R: Files + Input>(&self, rt: &R, alloc: Global) -> bool {
         if !has_bytes(rt, &self.path) {
             return false;
@@ -45,13 +45,13 @@ impl NamedText {
         let Ok(mut input) = open_input(rt, &self.path) else {
             return false;
         };
-        match read_at_most(alloc, &mut input, MOST) {
-            Ok(bytes) => !bytes.starts_with(CERTIFICATE_MARK) && *bytes != *self.text,
+        match read_at_most(alloc, &mut input, READ_LIMIT) {
+            Ok(bytes) => !bytes.starts_with(CERTIFICATE_PREFIX) && *bytes != *self.text,
             Err(_) => true,
         }
     }
 
-    /// Writes it to its file, which is whole or as it was.
+    /// Writes it to its file, which is then either complete or as it was.
     fn write<R: Files>(&self, rt: &R, alloc: Global) -> Result<(), Fault> {
         let mut file = ResultFile::new(rt, alloc, &self.path)?;
         put(&mut StdWriter::new(&mut file), &self.text)?;
@@ -62,21 +62,21 @@ impl NamedText {
     }
 }
 
-/// Tells that a file stays as it is, since it was not written by the command.
-fn tell_kept<R: Eprint>(rt: &R, alloc: Global, path: &str) -> Status {
+/// Reports that a file is left as it is, because the command did not write it.
+fn report_kept_file<R: Eprint>(rt: &R, alloc: Global, path: &str) -> Status {
     let Ok(path) = visible_text(alloc, path) else {
         return Status::Usage;
     };
-    let told = eprintln!(rt;
+    let written = eprintln!(rt;
         "error: {path} is a file that this command did not write, so it is kept: give another '--save NAME', or use --force to replace it"
     );
-    match told {
+    match written {
         Ok(()) | Err(_) => Status::Usage,
     }
 }
 
-/// Writes these texts to their files, or none of them where one would replace a file that was not written by the
-/// command. The status is this one, or that of what is told.
+/// Writes these texts to their files, or none of them if one would replace a file that the command did not write.
+/// Returns the given status, or the status of the problem that was reported.
 fn save_all<R: Files + Input + Eprint>(
     rt: &R,
     alloc: Global,
@@ -84,56 +84,56 @@ fn save_all<R: Files + Input + Eprint>(
     saved: &[NamedText],
     status: Status,
 ) -> Status {
-    let forced = save.is_some_and(|asked| asked.forced);
-    for it in saved {
-        if !forced && it.is_foreign(rt, alloc) {
-            return tell_kept(rt, alloc, &it.path);
+    let forced = save.is_some_and(|options| options.forced);
+    for text in saved {
+        if !forced && text.is_foreign(rt, alloc) {
+            return report_kept_file(rt, alloc, &text.path);
         }
     }
-    for it in saved {
-        if let Err(fault) = it.write(rt, alloc) {
-            return tell_of(rt, alloc, fault, &it.path, "cannot be created or written");
+    for text in saved {
+        if let Err(fault) = text.write(rt, alloc) {
+            return report_file_fault(rt, alloc, fault, &text.path, "cannot be created or written");
         }
     }
     status
 }
 
 /// Writes an answer to standard output.
-fn tell_answer<R: Print>(rt: &R, told: &[u8]) -> Result<(), Fault> {
-    Ok(put(&mut StdWriter::new(io::writer(rt)), told)?)
+fn print_answer<R: Print>(rt: &R, lines: &[u8]) -> Result<(), Fault> {
+    Ok(put(&mut StdWriter::new(io::writer(rt)), lines)?)
 }
 
-/// Tells an answer, and writes these texts to their files. A yes is told once they are written, so it is not told
-/// where one of them cannot be; the other answers are told first. The status is that of the answer, or of what is said
-/// about a file.
-fn tell_and_save<R: Files + Input + Print + Eprint>(
+/// Prints an answer, and writes these texts to their files. A yes is printed only once they are written, and not at all
+/// if one of them cannot be; any other answer is printed first. Returns the status of the answer, or of the problem
+/// with a file.
+fn print_and_save<R: Files + Input + Print + Eprint>(
     rt: &R,
     alloc: Global,
     save: &Option<SaveOptions<'_>>,
     saved: &[NamedText],
     status: Status,
-    told: &[u8],
+    lines: &[u8],
 ) -> Result<Status, Fault> {
     if status != Status::Done {
-        tell_answer(rt, told)?;
+        print_answer(rt, lines)?;
         return Ok(save_all(rt, alloc, save, saved, status));
     }
     let after = save_all(rt, alloc, save, saved, status);
     if after == Status::Done {
-        tell_answer(rt, told)?;
+        print_answer(rt, lines)?;
     }
     Ok(after)
 }
 
 /// Adds a text that is to be saved.
-fn push_saved(saved: &mut Vec<NamedText>, it: NamedText) -> Result<(), Fault> {
-    match saved.push(it) {
+fn push_saved(saved: &mut Vec<NamedText>, text: NamedText) -> Result<(), Fault> {
+    match saved.push(text) {
         Ok(()) => Ok(()),
         Err(_) => Err(Fault::NoMemory),
     }
 }
 
-/// Adds what an answer shows: a certificate after a yes, the events of a run after a no.
+/// Adds the evidence for an answer: a certificate for a yes, the events of a run for a no.
 fn push_answer(
     alloc: Global,
     name: &str,
@@ -158,49 +158,49 @@ fn push_answer(
     Ok(())
 }
 
-/// Tells an answer by this text, and writes what it shows, if that is to be saved: after a yes, which is told once that
-/// is written, the certificate, after a no the events. Returns the status of the command: that of the answer, or of
-/// what is said about a file.
+/// Prints an answer as this text and, if that is requested, saves the evidence for it: for a yes, which is printed only
+/// once its evidence is written, the certificate; for a no, the events. Returns the status of the command: that of the
+/// answer, or that of a problem with a file.
 ///
 /// # Errors
 ///
-/// `Device` if the answer cannot be written, and `NoMemory`.
-pub fn tell_answer_and_save<R: Files + Input + Print + Eprint>(
+/// `Device` if the answer cannot be written, and `NoMemory` if memory was refused.
+pub fn print_answer_and_save<R: Files + Input + Print + Eprint>(
     rt: &R,
     alloc: Global,
     save: &Option<SaveOptions<'_>>,
     answer: &Answer<Global>,
-    told: &[u8],
+    lines: &[u8],
 ) -> Result<Status, Fault> {
     let mut saved = Vec::new(alloc);
-    if let Some(asked) = save {
-        push_answer(alloc, asked.name, answer, &mut saved)?;
+    if let Some(options) = save {
+        push_answer(alloc, options.name, answer, &mut saved)?;
     }
-    tell_and_save(rt, alloc, save, &saved, answer_status(answer), told)
+    print_and_save(rt, alloc, save, &saved, answer_status(answer), lines)
 }
 
-/// The same of an answer about a declaration that was proposed, which is saved with what the answer shows.
+/// Does the same for an answer about a proposed declaration, which is saved with the evidence.
 ///
 /// # Errors
 ///
-/// As for [`tell_answer_and_save`].
-pub fn tell_proposed_and_save<R: Files + Input + Print + Eprint>(
+/// As for [`print_answer_and_save`].
+pub fn print_proposed_and_save<R: Files + Input + Print + Eprint>(
     rt: &R,
     alloc: Global,
     save: &Option<SaveOptions<'_>>,
     proposed: &ProposalAnswer<Global>,
-    told: &[u8],
+    lines: &[u8],
 ) -> Result<Status, Fault> {
     let mut saved = Vec::new(alloc);
-    if let Some(asked) = save {
+    if let Some(options) = save {
         let mut text = Vec::new(alloc);
         text.extend_from_slice(&proposed.text)?;
         push_saved(
             &mut saved,
-            NamedText::new(alloc, asked.name, DECLARATION_ENDING, text)?,
+            NamedText::new(alloc, options.name, DECLARATION_ENDING, text)?,
         )?;
-        push_answer(alloc, asked.name, &proposed.answer, &mut saved)?;
+        push_answer(alloc, options.name, &proposed.answer, &mut saved)?;
     }
     let status = answer_status(&proposed.answer);
-    tell_and_save(rt, alloc, save, &saved, status, told)
+    print_and_save(rt, alloc, save, &saved, status, lines)
 }

@@ -1,4 +1,4 @@
-//! What is said about the faults of a source.
+//! Messages about the faults of a source.
 
 use crate::telling::{tell, tell_with};
 use command_parts::status::{Fault, Status};
@@ -8,14 +8,15 @@ use pal_asm::PalFault;
 use pal_diagnostics::push_faults;
 use std::alloc::{AllocError, Global};
 
-/// What is said about a source that is assembled to no word.
-pub const NO_WORD: &str = "the source generates no word: list shows what it contains\n";
+/// The message about a source that assembles to no words.
+pub const NO_WORD: &str = "the source generates no word: `pdp8 list` shows what it contains
+";
 
 /// Names of files as they are shown to people.
 ///
 /// # Errors
 ///
-/// Memory was refused.
+/// `AllocError` if memory was refused.
 pub fn visible_names(alloc: Global, names: &[&str]) -> Result<Vec<String>, AllocError> {
     let mut shown = Vec::new(alloc);
     for name in names {
@@ -26,17 +27,17 @@ pub fn visible_names(alloc: Global, names: &[&str]) -> Result<Vec<String>, Alloc
     Ok(shown)
 }
 
-/// The same names, lent.
+/// The same names as slices.
 ///
 /// # Errors
 ///
-/// Memory was refused.
+/// `AllocError` if memory was refused.
 pub fn name_slices<'n>(alloc: Global, names: &'n [String]) -> Result<Vec<&'n str>, AllocError> {
-    let mut lent = Vec::new(alloc);
+    let mut slices = Vec::new(alloc);
     for name in names {
-        lent.push(name.as_str())?;
+        slices.push(name.as_str())?;
     }
-    Ok(lent)
+    Ok(slices)
 }
 
 /// An input as it is named in a sentence.
@@ -49,34 +50,41 @@ pub fn output_name<'n>(name: &'n str) -> &'n str {
     if name == "-" { "standard output" } else { name }
 }
 
-/// The name of the part that cannot be opened, after the ones that are open.
-pub fn unopened<'n>(names: &'n [&'n str], opened: usize) -> &'n str {
+/// The name of the part that could not be opened, if `opened` parts were opened before it.
+pub fn unopened_part<'n>(names: &'n [&'n str], opened: usize) -> &'n str {
     match names.get(opened) {
         Some(name) => input_name(name),
         None => "a source",
     }
 }
 
-/// Writes the line of a fault to standard error, and below it, if a device failed, of which file.
-pub fn tell_of<R: Eprint>(
+/// Writes the line of a fault to standard error and, if a device failed, a line below it that says which file it was.
+/// Returns the status of the fault.
+pub fn report_file_fault<R: Eprint>(
     rt: &R,
     alloc: Global,
     fault: Fault,
     name: &str,
-    happened: &str,
+    problem: &str,
 ) -> Status {
     let status = tell(rt, fault);
     if status != Status::Device {
         return status;
     }
     if let Ok(name) = visible_text(alloc, name) {
-        let _ = eprintln!(rt; "{name} {happened}");
+        let _ = eprintln!(rt; "{name} {problem}");
     }
     status
 }
 
-/// Writes the line of the fault of a size to standard error, and below it what is too long or too many.
-pub fn tell_size<R: Eprint>(rt: &R, alloc: Global, fault: PalFault, names: &[&str]) -> Status {
+/// Writes the line of a fault about a size to standard error, and below it what is too large: the number of parts, or
+/// one of the parts. Returns the status of the fault.
+pub fn report_size_fault<R: Eprint>(
+    rt: &R,
+    alloc: Global,
+    fault: PalFault,
+    names: &[&str],
+) -> Status {
     let status = tell(rt, Fault::Source(fault));
     let count = names.len();
     let Some(name) = names.get(fault.part.wrapping_sub(1)) else {
@@ -87,7 +95,7 @@ pub fn tell_size<R: Eprint>(rt: &R, alloc: Global, fault: PalFault, names: &[&st
     };
     if let Ok(name) = visible_text(alloc, name) {
         let _ = eprintln!(rt;
-            "{name}: TL: the part has more than 65536 bytes\nsplit it into parts, in order, each except the last with PAUSE at its end"
+            "{name}: TL: the part has more than 65536 bytes\nsplit it into parts, in order, and end each part except the last with PAUSE"
         );
     }
     status
@@ -96,18 +104,18 @@ pub fn tell_size<R: Eprint>(rt: &R, alloc: Global, fault: PalFault, names: &[&st
 /// Adds what is wrong with a source whose parts have these names.
 fn push_source_faults(
     alloc: Global,
-    told: &mut String,
+    lines: &mut String,
     names: &[&str],
     parts: &[&[u8]],
     profile: Profile,
 ) -> Result<(), AllocError> {
     let shown = visible_names(alloc, names)?;
-    push_faults(alloc, told, &name_slices(alloc, &shown)?, parts, profile)
+    push_faults(alloc, lines, &name_slices(alloc, &shown)?, parts, profile)
 }
 
-/// Writes the line of a source's fault to standard error, and below it what is wrong, if that is
-/// requested.
-pub fn tell_source<R: Eprint>(
+/// Writes the line of a source's fault to standard error and, if that is requested, what is wrong below it. Returns the
+/// status of the fault.
+pub fn report_source_fault<R: Eprint>(
     rt: &R,
     alloc: Global,
     fault: PalFault,
@@ -120,9 +128,9 @@ pub fn tell_source<R: Eprint>(
         return tell(rt, Fault::Source(fault));
     }
     if fault.line == 0 {
-        return tell_size(rt, alloc, fault, names);
+        return report_size_fault(rt, alloc, fault, names);
     }
-    let mut told = String::new(alloc);
-    let _ = push_source_faults(alloc, &mut told, names, parts, profile);
-    tell_with(rt, Fault::Source(fault), &told)
+    let mut lines = String::new(alloc);
+    let _ = push_source_faults(alloc, &mut lines, names, parts, profile);
+    tell_with(rt, Fault::Source(fault), &lines)
 }

@@ -1,4 +1,4 @@
-//! Streams that may be left out, and standard error as a sink.
+//! Streams that a command line may leave out, and standard error as a sink.
 
 ghost use Rattle.std.specs.Prelude.{◌≡◌, false, IfOk};
 
@@ -9,10 +9,10 @@ use std::io::{self, Printer};
 use std::rt::Files;
 use streams::standard::{StdReader, StdWriter};
 
-/// What an input that is left out gives.
+/// The contents of an input that is left out.
 static NOTHING: &[u8] = b"";
 
-/// Takes bytes, which go nowhere.
+/// A sink that discards the bytes it is given.
 #[derive(Clone, Copy)]
 pub struct NullSink;
 
@@ -26,7 +26,7 @@ impl io::Write for NullSink {
     }
 }
 
-/// Standard error, for text.
+/// Standard error as a writer of text.
 #[derive(Drop)]
 pub struct StandardError<'r, R> {
     to: &'r R,
@@ -53,7 +53,11 @@ pub fn tell_to<'r, R: Eprint>(rt: &'r R) -> StdWriter<StandardError<'r, R>>
     StdWriter::new(StandardError { to: rt })
 }
 
-/// Opens an input that may be left out, and then gives no byte.
+/// Opens an input that may be left out. One that is left out gives no bytes.
+///
+/// # Errors
+///
+/// As for `open_input`.
 pub fn open_input_if<R: Files + Input>(
     rt: &R,
     name: Option<&str>,
@@ -66,7 +70,7 @@ pub fn open_input_if<R: Files + Input>(
     }
 }
 
-/// Where a report goes: to standard error, where something else has standard output.
+/// The sink for a report: standard error if standard output is taken by something else, otherwise standard output.
 pub fn report_to<'r, R: Print + Eprint>(
     rt: &'r R,
     is_taken: bool,

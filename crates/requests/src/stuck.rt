@@ -1,4 +1,4 @@
-//! What is said about a search for a certificate that is stuck. It is proved that the line of an answer comes first; the
+//! Messages about a search for a certificate that is stuck. It is proved that the line of an answer comes first; the
 //! lines after it are tested.
 
 ghost use Rattle.std.specs.Prelude.{IfOk};
@@ -28,32 +28,36 @@ pub struct StuckSearch<'x> {
     pub declaration: &'x Declaration<Global>,
     /// The address at which the search is stuck.
     pub at: Word,
-    /// What it had found.
+    /// The draft of a certificate that it had found.
     pub draft: &'x Certificate<Global>,
 }
 
-/// Adds the lines that say why a search is stuck, between what the tape and the declaration show by themselves, and
-/// what to do and what the draft says about the pointer there.
+/// Adds the lines about a stuck search: what the tape and the declaration show by themselves, why the search is stuck,
+/// what to do, and what the draft says about the pointer there.
+///
+/// # Errors
+///
+/// `AllocError` if memory was refused.
 #[inline(never)]
 pub fn push_stuck(
     alloc: Global,
-    told: &mut Message<Global>,
+    message: &mut Message<Global>,
     stuck: &StuckSearch<'_>,
     why: &Message<Global>,
 ) -> Result<(), AllocError> {
     let (image, declaration, at) = (stuck.image, stuck.declaration, stuck.at);
     let mut others = Message::new(alloc);
     push_omissions(&mut others, image, declaration, Some(at))?;
-    told.push_message(&others)?;
+    message.push_message(&others)?;
     if !others.is_empty() && !why.is_empty() {
-        told.push_text(b"where the search is stuck:\n")?;
+        message.push_text(b"where the search is stuck:\n")?;
     }
-    told.push_message(why)?;
-    push_stuck_remedy(told, image, declaration, at)?;
-    push_bound(alloc, told, image, declaration, stuck.draft, at)
+    message.push_message(why)?;
+    push_stuck_remedy(message, image, declaration, at)?;
+    push_bound(alloc, message, image, declaration, stuck.draft, at)
 }
 
-/// The line of a search that is stuck.
+/// The first line of the message about a stuck search.
 fn stuck_line(alloc: Global, at: Word) -> Result<Message<Global>, AllocError> {
     let mut line = String::new(alloc);
     let fault = Fault::Guess(GuessFault::Stuck(at));
@@ -61,36 +65,48 @@ fn stuck_line(alloc: Global, at: Word) -> Result<Message<Global>, AllocError> {
     Ok(Message::of(alloc, line.into_bytes()))
 }
 
-/// What is said about a search that is stuck, after its line: why it is stuck, and what to do.
+/// The message about a stuck search after its first line: why it is stuck, and what to do.
 #[inline(never)]
 fn stuck_reasons(alloc: Global, stuck: &StuckSearch<'_>) -> Result<Message<Global>, AllocError> {
-    let mut told = Message::new(alloc);
+    let mut message = Message::new(alloc);
     let why = draft_message(alloc, stuck.image, stuck.declaration, stuck.draft, stuck.at)?;
-    push_stuck(alloc, &mut told, stuck, &why)?;
-    Ok(told)
+    push_stuck(alloc, &mut message, stuck, &why)?;
+    Ok(message)
 }
 
-/// Why a search is stuck, as its report says it.
+/// Why a search is stuck, as the report on it says.
+///
+/// # Errors
+///
+/// `AllocError` if memory was refused.
 #[inline(never)]
-pub fn stuck_why(alloc: Global, stuck: &StuckSearch<'_>) -> Result<Message<Global>, AllocError> {
+pub fn stuck_explanation(
+    alloc: Global,
+    stuck: &StuckSearch<'_>,
+) -> Result<Message<Global>, AllocError> {
     let (image, declaration, at) = (stuck.image, stuck.declaration, stuck.at);
-    let mut told = draft_message(alloc, image, declaration, stuck.draft, at)?;
-    push_bound(alloc, &mut told, image, declaration, stuck.draft, at)?;
-    Ok(told)
+    let mut message = draft_message(alloc, image, declaration, stuck.draft, at)?;
+    push_bound(alloc, &mut message, image, declaration, stuck.draft, at)?;
+    Ok(message)
 }
 
-/// What is said about a search that is stuck: its line, and after it why it is stuck, and what to do.
+/// The message about a stuck search: its first line, and after that why it is stuck and what to do.
+///
+/// # Errors
+///
+/// `AllocError` if memory was refused.
 #[inline(never)]
 pub fn stuck_message(
     alloc: Global,
     stuck: &StuckSearch<'_>,
 ) -> Result<Message<Global>, AllocError> {
-    let mut told = stuck_line(alloc, stuck.at)?;
-    told.push_message(&stuck_reasons(alloc, stuck)?)?;
-    Ok(told)
+    let mut message = stuck_line(alloc, stuck.at)?;
+    message.push_message(&stuck_reasons(alloc, stuck)?)?;
+    Ok(message)
 }
 
-/// What is said about an answer, after its line; where the search is stuck with all that is known about that.
+/// The message about an answer after its first line. If the search is stuck, it gives everything that is known about
+/// that.
 #[inline(never)]
 fn answer_reasons(
     alloc: Global,
@@ -98,7 +114,7 @@ fn answer_reasons(
     declaration: &Declaration<Global>,
     found: &AnswerMessage<Global>,
 ) -> Result<Message<Global>, AllocError> {
-    let mut told = Message::new(alloc);
+    let mut message = Message::new(alloc);
     match (&found.answer, &found.draft) {
         (Answer::NotKnown(InconclusiveReason::Stuck(at)), Some(draft)) => {
             let stuck = StuckSearch {
@@ -107,18 +123,18 @@ fn answer_reasons(
                 at: *at,
                 draft,
             };
-            push_stuck(alloc, &mut told, &stuck, &found.why)?;
+            push_stuck(alloc, &mut message, &stuck, &found.why)?;
         }
-        _ => told.push_message(&found.why)?,
+        _ => message.push_message(&found.why)?,
     }
-    Ok(told)
+    Ok(message)
 }
 
-/// What is said about an answer: its line, first and as it is, and after it why.
+/// The message about an answer: first its line, unchanged, and then the reasons for it.
 ///
 /// # Errors
 ///
-/// Memory was refused.
+/// `AllocError` if memory was refused.
 #[inline(never)]
 pub fn answer_message(
     alloc: Global,

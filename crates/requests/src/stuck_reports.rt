@@ -1,10 +1,10 @@
-//! The report of a search for a certificate that is stuck.
+//! The report on a search for a certificate that is stuck.
 
 use crate::files::{finish, is_read_once, open_output};
 use crate::named_files::NamedFiles;
 use crate::of_sources::assembled::AssembledSource;
-use crate::of_sources::source_lines::labelled;
-use crate::stuck::{StuckSearch, stuck_why};
+use crate::of_sources::source_lines::label_message;
+use crate::stuck::{StuckSearch, stuck_explanation};
 use command_line::{Destination, ProgramRequest};
 use command_parts::status::{DeviceFault, Fault, Status};
 use reports::drafting::draft_page;
@@ -14,8 +14,8 @@ use std::rt::Files;
 use streams::put;
 use streams::standard::StdWriter;
 
-/// Why a search is stuck, with what the source says about its addresses, if there is one.
-fn why_in(
+/// Why a search is stuck, with what the source says about the addresses; `None` if there is no source.
+fn explanation_with_labels(
     alloc: Global,
     stuck: &StuckSearch<'_>,
     source: Option<&AssembledSource>,
@@ -23,22 +23,26 @@ fn why_in(
     let Some(source) = source else {
         return Ok(None);
     };
-    Ok(Some(labelled(alloc, source, &stuck_why(alloc, stuck)?)?))
+    Ok(Some(label_message(alloc, source, &stuck_explanation(alloc, stuck)?)?))
 }
 
-/// Writes to a file what a search had found when it was stuck, with what the source says about addresses, if there is
-/// one.
+/// Writes to a file what a search had found when it got stuck, with what the source, if there is one, says about the
+/// addresses.
+///
+/// # Errors
+///
+/// `Device` if the file cannot be written, and `NoMemory` if memory was refused.
 #[inline(never)]
-pub fn report_stuck<R: Files + Print>(
+pub fn write_stuck_report<R: Files + Print>(
     rt: &R,
     alloc: Global,
-    asked: &ProgramRequest<'_>,
+    request: &ProgramRequest<'_>,
     stuck: &StuckSearch<'_>,
     name: &str,
     source: Option<&AssembledSource>,
 ) -> Result<(), Fault> {
-    let why = why_in(alloc, stuck, source)?;
-    let files = NamedFiles::of(rt, alloc, asked, None)?;
+    let why = explanation_with_labels(alloc, stuck, source)?;
+    let files = NamedFiles::of(rt, alloc, request, None)?;
     let mut file = open_output(rt, alloc, Destination::MadeLast(name))?;
     let bytes = draft_page(
         alloc,
@@ -59,12 +63,12 @@ pub fn report_stuck<R: Files + Print>(
     Ok(())
 }
 
-/// Ensures that these files can be read twice, as a search with a report needs it.
+/// Checks that these files can be read twice, which a search with a report requires.
 ///
 /// # Errors
 ///
 /// `Device` if one of them is standard input or a pipe.
-pub fn need_rereading<R: Files>(rt: &R, tape: &str, declaration: &str) -> Result<(), Fault> {
+pub fn check_rereadable<R: Files>(rt: &R, tape: &str, declaration: &str) -> Result<(), Fault> {
     if is_read_once(rt, tape) || is_read_once(rt, declaration) {
         return Err(Fault::Device(DeviceFault::Read));
     }

@@ -1,4 +1,4 @@
-//! What is told on standard error of a fault.
+//! Messages on standard error about faults and about misuse of the command line.
 
 ghost use Rattle.std.specs.Prelude.{◌≡◌};
 ghost use Rattle.command_parts.specs.Statuses.{status_of_fault};
@@ -7,7 +7,7 @@ ghost use Rattle.command_parts.specs.declared.status.Status.TheVariants.{Usage};
 use command_line::Misuse;
 use command_parts::status::{Fault, Status};
 
-/// Writes the line of a fault to standard error.
+/// Writes the line of a fault to standard error, and returns the status of the fault.
 pub fn tell<R: Eprint>(rt: &R, fault: Fault) -> Status
     ensures { result ≡ status_of_fault fault }
 {
@@ -16,7 +16,7 @@ pub fn tell<R: Eprint>(rt: &R, fault: Fault) -> Status
     }
 }
 
-/// Writes the line of a fault to standard error, and these lines below it.
+/// Writes the line of a fault to standard error, with these lines below it, and returns the status of the fault.
 pub fn tell_with<R: Eprint>(rt: &R, fault: Fault, lines: &str) -> Status
     ensures { result ≡ status_of_fault fault }
 {
@@ -25,12 +25,12 @@ pub fn tell_with<R: Eprint>(rt: &R, fault: Fault, lines: &str) -> Status
     status
 }
 
-/// Writes these lines to standard error, if it takes them.
+/// Writes these lines to standard error. A failure to write them is ignored.
 pub fn tell_lines<R: Eprint>(rt: &R, lines: &str) {
     let _ = rt.eprint(lines);
 }
 
-/// Says what is wrong with the command line.
+/// Writes to standard error what is wrong with the command line, and returns `Usage`.
 pub fn tell_misuse<R: Eprint>(rt: &R, misuse: &Misuse) -> Status
     ensures { result ≡ Usage }
 {

@@ -1,4 +1,4 @@
--- A no and a yes never stand on the same bytes, and `certify` says yes exactly where `check` does.
+-- The same bytes never get both a no and a yes, and `certify` says yes exactly when `check` does.
 use Rattle.std.proofs.Common.{ℕ, ◌≡◌, Bool, List, Option, Some, Result, Ok, Err, refl, sym, ap, ◌∙◌, subst, take}
 use Rattle.bin_tape.proofs.OneAnswer.{one_tape, no_fault}
 use Rattle.certificate_lines.specs.CertificateInCode as certified
@@ -28,7 +28,7 @@ yes_of : (j : Case) (verdict : Result (Unit {0}) Refusal) → IsVerdict j verdic
 yes_of j (Ok u) holds status = holds
 yes_of j (Err r) first status = cc
 
--- what is safe as it was read the one time is safe as it was read the other time
+-- what is safe as it was read once is safe as it was read another time
 safe_alike : (i k : List (Option ℕ)) (d e : Declaration) → i ≡ k → d ≡ e → IsSafe (image_of i) d → IsSafe (image_of k) e
 safe_alike i k d e words promised safe = rw (words, promised) at safe
 
@@ -65,7 +65,7 @@ module _ (tape declaration certificate line : List ℕ) (checked : IsCheckedSo (
   accepted : IsYes (checked_case checked.image checked.declaration checked.lines)
   accepted = yes_of _ checked.is.verdict checked.is.is checked.is.status_is
 
-  -- no condition fails of what is read
+  -- no condition fails for what is read
   holds : (p : Parts) → AreRead tape declaration certificate p → IsValid (case_of p)
   holds p read =
       let words : checked.image ≡ p.image = one_tape (take 65536 tape) checked.image p.image checked.tape read.is_tape in

@@ -34,14 +34,14 @@ extends_own d = record {
   abandon = λ v small is. is;
 }
 
--- so its text is that of an extension
+-- so its text is that of an extension of it
 pub own_extension : (d : Declaration) (text : List ℕ) → Declares text d → IsExtension (Some text) d text
 own_extension d text declares = record { declaration = d; declares = declares; extends = extends_own d; keeps = unchanged text }
 
 so_left : (a b : Bool) → a ≡ true → (a || b) ≡ true
 so_left a b is = rw is refl
 
--- and of what is added to the declaration, which is nothing
+-- and that of an addition to it, in which nothing is added
 pub own_addition : (given proposed : Declaration) (text : List ℕ) → Declares text given → IsAddition given proposed text
 own_addition given proposed text declares = record {
   declaration = given;
@@ -78,12 +78,12 @@ pub lacking_completes : (image : List (Option ℕ)) (source : Option (List ℕ))
     Completes source image given Refused text
 lacking_completes image source given text is = record { is = is; ends = inr refl; safe = λ done. refused_not_done done }
 
--- a text that was read up to one byte more than a declaration may have is all that its source had
+-- a text that was read up to one byte more than a declaration may have is everything that its source had
 pub whole_text : (had : Option (List ℕ)) (text : List ℕ) (d : Declaration) → IfSome had (λ bytes. text ≡ take 16385 bytes) → Declares text d → IfSome had (λ bytes. bytes ≡ text)
 whole_text had text d is declares =
     all_or_more (λ bytes. bytes ≡ text) had text 16384 is refl (λ bytes long more e. absurd (let short = declares.good.short in omega (arith, short, long)))
 
--- what keeps the lines of the text that a source had keeps those of the source
+-- a text that keeps the lines of what was read from a source keeps the lines of the source
 keeps_source : (source : Option (List ℕ)) (bytes text : List ℕ) → IfSome source (λ all. all ≡ bytes) → KeepsLines bytes text → IfSome source (λ all. KeepsLines all text)
 keeps_source None bytes text is keeps = tt
 keeps_source (Some all) bytes text is keeps = let P : List ℕ → Type 0 = λ t. KeepsLines t text in subst P (sym is) keeps

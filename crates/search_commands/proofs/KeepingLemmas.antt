@@ -11,7 +11,7 @@ use Rattle.search_commands.specs.Keeping.IsMark.{ranges, offsets}
 use Rattle.search_commands.specs.Keeping.AreAdded.{none, more}
 use Rattle.search_commands.specs.Keeping.KeepsLines.{unchanged, line, last, added}
 
--- nothing is left of a line but its comment, and the mark follows
+-- nothing is left of a line but its comment, and the mark comes next
 pub ends_marked : (left rest tail : List ℕ) → IsCommentOrEnd left → rest ≡ left ++ tail → IsMark tail → Grows left rest
 ends_marked left rest tail (inl empty) e m =
     let P : List ℕ → Type 0 = λ t. Grows t (t ++ tail) in
@@ -22,7 +22,7 @@ ends_marked left rest tail (inr (comment, is)) e m =
     let Q : List ℕ → Type 0 = λ t. Grows left t in
     subst Q (sym e) (subst P (sym is) (commented comment tail m))
 
--- a byte stands at the front of what is left, and is no slash
+-- a byte is the first of what is left, and is not a slash
 pub first_stands : (left others new : List ℕ) (first byte : ℕ) → left ≡ first ∷ others → first ≡ byte → (byte == 47) ≡ false → Grows others new → Grows left (byte ∷ new)
 first_stands left others new first byte e f slash h =
     let P : List ℕ → Type 0 = λ t. Grows t (byte ∷ new) in
@@ -43,20 +43,20 @@ pub none_added : (text : List ℕ) → length text ≡ 0 → AreAdded text
 none_added [] e = none
 none_added (x ∷ xs) e = absurd (omega (arith, e))
 
--- none of the lines to be kept is left
+-- none of the lines that are to be kept is left
 pub only_added : (old new : List ℕ) → length old ≡ 0 → AreAdded new → KeepsLines old new
 only_added [] new e are = added new are
 only_added (x ∷ xs) new e are = absurd (omega (arith, e))
 
--- a text is as it was
+-- a text is unchanged
 pub same_text : (old new : List ℕ) → bytes_eq old new ≡ true → KeepsLines old new
 same_text old new e = let P : List ℕ → Type 0 = λ t. KeepsLines old t in subst P ((bytes_eq-Decides old new).0 e) (unchanged old)
 
--- a line is as it was
+-- a line is unchanged
 pub same_line : (old new : List ℕ) → bytes_eq old new ≡ true → KeepsLine old new
 same_line old new e = inl ((bytes_eq-Decides old new).0 e)
 
--- a word is put in
+-- a word is inserted
 pub put_in : (old new others front rest : List ℕ) → new ≡ 32 ∷ others → others ≡ front ++ rest → list_all is_spelling front ≡ true → ends_word old ≡ true → Grows old rest → Grows old new
 put_in old new others front rest e f spelled ends h =
     let P : List ℕ → Type 0 = λ t. Grows old t in
@@ -69,13 +69,13 @@ put_shorter new others front rest e f =
     let parts : length others ≡ length front + length rest = ap (λ (t : List ℕ). length t) f ∙ length-append front rest in
     omega (arith, whole, parts)
 
--- a byte stands in both lines
+-- a byte is in both lines
 pub both_stand : (left others right more : List ℕ) (first byte : ℕ) → left ≡ first ∷ others → right ≡ byte ∷ more → first ≡ byte → (byte == 47) ≡ false → Grows others more → Grows left right
 both_stand left others right tail first byte e f same_byte slash h =
     let P : List ℕ → Type 0 = λ t. Grows left t in
     subst P (sym f) (first_stands left others tail first byte e same_byte slash h)
 
--- a byte less is left
+-- one byte less is left
 pub same_shorter : (right more : List ℕ) (byte : ℕ) → right ≡ byte ∷ more → length more < length right
 same_shorter right tail byte e = let whole : length right ≡ length {A = ℕ} (byte ∷ tail) = ap (λ (t : List ℕ). length t) e in omega (arith, whole)
 
@@ -92,25 +92,25 @@ named_offsets text front rest behind e f spaced others =
     let P : List ℕ → Type 0 = λ t. IsMark (mark ++ t) in
     subst P (sym (e ∙ ap (λ t. front ++ t) f)) (offsets front behind spaced others)
 
--- what marks a text that is this one
+-- a text that is equal to a mark is a mark
 pub mark_of : (text named : List ℕ) → text ≡ mark ++ named → IsMark (mark ++ named) → IsMark text
 mark_of text named e h = let P : List ℕ → Type 0 = λ t. IsMark t in subst P (sym e) h
 
--- a line more that is added
+-- one more added line
 pub one_more_added : (text first rest : List ℕ) → HasLine text → first ≡ first_line text → rest ≡ other_lines text → IsAdded first → AreAdded rest → AreAdded text
 one_more_added text first rest has e f is others =
     let P : List ℕ → Type 0 = λ t. IsAdded t in
     let Q : List ℕ → Type 0 = λ t. AreAdded t in
     more text has (subst P e is) (subst Q f others)
 
--- two lines of which the second keeps the first
+-- two lines, the second of which keeps the first
 kept_line : (old new a b : List ℕ) → a ≡ old → b ≡ new → KeepsLine a b → KeepsLine old new
 kept_line old new a b e f is =
     let P : List ℕ → Type 0 = λ t. KeepsLine t b in
     let Q : List ℕ → Type 0 = λ t. KeepsLine old t in
     subst Q f (subst P e is)
 
--- a line more that is kept
+-- one more kept line
 pub one_more_kept : (old new first rest first_of_new rest_of_new : List ℕ) → HasLine old → first ≡ first_line old → rest ≡ other_lines old
     → HasLine new → first_of_new ≡ first_line new → rest_of_new ≡ other_lines new → KeepsLine first first_of_new → KeepsLines rest rest_of_new → KeepsLines old new
 one_more_kept old new a r b s has e f has' e' f' is others =
@@ -118,7 +118,7 @@ one_more_kept old new a r b s has e f has' e' f' is others =
     let Q : List ℕ → Type 0 = λ t. KeepsLines (other_lines old) t in
     line old new has has' (kept_line (first_line old) (first_line new) a b e e' is) (subst Q f' (subst P f others))
 
--- the last line of a text, which a line feed need not end
+-- the last line of a text, which need not end with a line feed
 pub last_kept : (old new first rest : List ℕ) → HasLine new → first ≡ first_line new → rest ≡ other_lines new → KeepsLine old first → AreAdded rest
     → KeepsLines old new
 last_kept old new b s has e f is others =

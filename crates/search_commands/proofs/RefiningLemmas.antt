@@ -1,4 +1,4 @@
--- What is written of a declaration that is refined.
+-- What is written for a declaration that is refined.
 use Rattle.std.proofs.Common.{ℕ, ◌≡◌, List, Option, inl, inr, subst, sym}
 use Rattle.peripherals.specs.Loading.{image_of}
 use Rattle.declaration.specs.Declaration.{Declaration}
@@ -8,7 +8,7 @@ use Rattle.search_commands.specs.Keeping.{KeepsLines}
 use Rattle.search_commands.specs.Keeping.KeepsLines.{unchanged}
 use Rattle.search_commands.specs.Refining.{IsNoWider, IsRefined}
 
--- a text that declares something no wider, which is shown
+-- a text that declares something no wider, for which a certificate is found
 pub shown_change : (image : List (Option ℕ)) (text written : List ℕ) (given less : Declaration) → Declares text given → Declares written less → IsNoWider given less →
     IsSafe (image_of image) less → IsRefined image text written
 shown_change image text written given less first second is safe = inr (record { given = given; declares = first; is = record { declaration = less; declares = second; is = is; safe = safe } })

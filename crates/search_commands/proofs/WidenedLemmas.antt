@@ -1,4 +1,4 @@
--- What is settled of a proposal is settled of one before it.
+-- What is settled about a proposal is settled about the one before it.
 use Rattle.std.proofs.Common.{ℕ, ◌≡◌, ◌∙◌, List, Option, subst}
 use Rattle.peripherals.specs.declared.Event.{Event}
 use Rattle.declaration.specs.DeclarationInCode.{Kept, meaning}
@@ -20,7 +20,7 @@ settled_before image first given s start profile settled = record {
   reason = settled.reason;
 }
 
--- A run that is told breaks the declaration, and what is told of its events is so.
+-- The run that is reported violates the declaration, and what is reported about its events is true.
 pub broken_by : {A : Type 0} (image : List (Option ℕ)) (given : Kept) (w : Witness A) (o : Obstacle) (events : List Event) → events ≡ w.events.items → IsAnswer image (meaning given) (No w) → IsObstacle image (meaning given) events o →
     IsBroken image given w o
 broken_by image given w o events same answers obstacle = record {

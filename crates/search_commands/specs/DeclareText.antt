@@ -15,20 +15,19 @@ use Rattle.command_parts.specs.declared.status.Status.{Status}
 use Rattle.command_parts.specs.declared.status.Status.TheVariants.{Done, Refused}
 use Rattle.command_parts.specs.Inputs.{HasImage}
 
--- The text declares a program that starts where it was asked to, on the machine that was requested.
+-- The text declares a program with the requested start, on the requested machine.
 pub record IsDeclarationFor (options : DeclareOptions) (text : List ℕ) : Type 0 where
   pub declaration : Declaration
   pub declares : Declares text declaration
   pub start_is : declaration.start ≡ options.start
   pub profile_is : declaration.profile ≡ options.profile
 
--- The text declares a program that starts where it was asked to, on the machine that was requested, and it lists no
--- reads.
+-- The text declares a program with the requested start, on the requested machine, and it lists no reads.
 abbrev pub IsBare : DeclareOptions → List ℕ → Type 0
 IsBare options text = (is : IsDeclarationFor options text) × (is.declaration.reads ≡ None)
 
--- Every condition holds of some certificate, in the version of the declared machine or in version 3; and by its facts
--- some possible word may read each cell of the list of reads.
+-- Every condition holds for some certificate, in the version of the declared machine or in version 3, and by the facts
+-- of that certificate some possible word may read each cell of the list of reads.
 pub record ListsNeeded (image : List (Option ℕ)) (d : Declaration) : Type 0 where
   pub lines : Text
   pub lines_are : AreLines lines
@@ -36,8 +35,8 @@ pub record ListsNeeded (image : List (Option ℕ)) (d : Declaration) : Type 0 wh
   pub valid : IsValid (checked_case image d lines)
   pub needed : ReadsAreNeeded (checked_case image d lines)
 
--- Every condition holds of some certificate, in the version of the declared machine or in version 3; and by its facts
--- some possible word may write each variable.
+-- Every condition holds for some certificate, in the version of the declared machine or in version 3, and by the facts
+-- of that certificate some possible word may write each variable.
 pub record WritesVariables (image : List (Option ℕ)) (d : Declaration) : Type 0 where
   pub lines : Text
   pub lines_are : AreLines lines
@@ -45,8 +44,9 @@ pub record WritesVariables (image : List (Option ℕ)) (d : Declaration) : Type 
   pub valid : IsValid (checked_case image d lines)
   pub written : VariablesAreWritten (checked_case image d lines)
 
--- The text is such a declaration; where the command is done, no run of the program with these words breaks it, each variable may be
--- written, and if a list of reads was requested it has one, whose cells are needed. Else it has none, and the command is refused.
+-- The text is such a declaration, and the command is done or refused. If it is done, no run of the program with these
+-- words violates the declaration, and each variable may be written. There is a list of reads if the command is done and
+-- a list was requested, and then its cells are needed; otherwise there is none.
 pub record IsProposalOf (options : DeclareOptions) (image : List (Option ℕ)) (status : Status) (text : List ℕ) : Type 0 where
   pub is : IsDeclarationFor options text
   pub ends : (status ≡ Done) ⊎ (status ≡ Refused)

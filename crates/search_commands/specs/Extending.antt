@@ -4,17 +4,17 @@ use Rattle.wordset.specs.Words.{Words, IsWithin}
 use Rattle.declaration.specs.Declaration.{Declaration}
 use Rattle.proposer.specs.Widths.{KeepsCell}
 
--- Where reads are not listed they still are not, and where they are listed each cell is listed still.
+-- If reads are not listed, they still are not; if they are listed, each listed cell is still listed.
 abbrev pub KeepsReads : Option Words → Option Words → Type 0
 KeepsReads None more = more ≡ None
 KeepsReads (Some cells) None = ⊥
 KeepsReads (Some cells) (Some more) = IsWithin cells more
 
--- The second declaration extends the first: start and machine are the same, and all that the first says of bodies,
--- routines, variables, halts, listed reads, entries in which their routines may store, and places for which calls may be
--- abandoned the second says too. It may say more of these. Since no cell is in two bodies, no entry is in a body or a
--- variable, and no stop is a pause, whatever has one of these roles keeps it. What is to hold at
--- places and at returns stands in lines of its own, which are kept as lines.
+-- The second declaration extends the first: the start and the machine are the same, and everything that the first says
+-- about bodies, routines, variables, halts, listed reads, entries in which their routines may store, and places for
+-- which calls may be abandoned, the second says too. It may say more about these. Since no cell is in two bodies, no
+-- entry is in a body or is a variable, and no stop is a pause, a cell that has one of these roles keeps it. What is to
+-- hold at places and at returns is in lines of its own, which are kept as lines.
 pub record Extends (given more : Declaration) : Type 0 where
   pub start_is : more.start ≡ given.start
   pub profile_is : more.profile ≡ given.profile

@@ -1,4 +1,4 @@
--- What the answers of several calls on the same bytes say of one another.
+-- What the answers to several calls on the same bytes say about one another.
 use Rattle.std.specs.Prelude.{ℕ, ◌≡◌, Bool, List, Some}
 use Rattle.command_parts.specs.declared.status.Status.TheVariants.{Done}
 use Rattle.judge.specs.Certifying.{AreRead, IsRefused, Parts, case_of, declaration_of, words_of}
@@ -11,22 +11,22 @@ use Rattle.search_commands.specs.VerifyText.{IsVerified}
 use Rattle.search_commands.specs.declared.verifying.Answer.TheVariants.{No}
 use Rattle.diagnostics.specs.CheckText.{IsCheckedSo, yes_text}
 
--- Where `verify` says no to the bytes of a tape and of a declaration, `check` says yes to no certificate of them: a no and a
--- yes never stand on the same bytes.
+-- If `verify` says no to the bytes of a tape and a declaration, `check` says yes to no certificate for them: the same
+-- bytes never get both a no and a yes.
 abbrev pub NoIsNeverYes : Type 0 → Type 0
 NoIsNeverYes A =
     (w : Witness A) (tape declaration certificate told line : List ℕ) (explained : Bool) →
     IsVerified (Some tape) (Some declaration) explained (No w) told →
     IsCheckedSo (Some tape) (Some declaration) (Some certificate) line Done → ⊥
 
--- Where `certify` says yes, `check` says yes: of the parts that are read every condition holds and the program is safe, and the
--- verdict on the same bytes is the yes about that declaration.
+-- If `certify` says yes, `check` says yes: every condition holds for the parts that are read, the program is safe, and
+-- the verdict on the same bytes is the yes about that declaration.
 abbrev pub CertifiedIsChecked : Type 0
 CertifiedIsChecked =
     (tape declaration certificate : List ℕ) (p : Parts) → AreRead tape declaration certificate p → IsValid (case_of p) →
     IsSafe (words_of p) (declaration_of p) → IsCheckedSo (Some tape) (Some declaration) (Some certificate) (yes_text (declaration_of p)) Done
 
--- Where `check` says yes, `certify` has no reason to say no but that memory is refused.
+-- If `check` says yes, the only reason that `certify` may have to say no is that memory is refused.
 abbrev pub CheckedIsCertified : Type 0
 CheckedIsCertified =
     (tape declaration certificate line : List ℕ) (why : CertifyFault) →

@@ -6,22 +6,23 @@ use Rattle.declaration.specs.Text.{Declares}
 use Rattle.policy.specs.Runs.{IsSafe}
 use Rattle.search_commands.specs.Adding.{AddsOnly}
 
--- The second declaration is no wider than the first: start and machine are the same, it allows nothing that the first does not, and
--- it lists reads exactly where the first does. Nothing is said here of what is to hold.
+-- The second declaration is no wider than the first: the start and the machine are the same, it allows nothing that the
+-- first does not allow, and it lists reads exactly if the first does. Nothing is said here about what is to hold.
 pub record IsNoWider (given less : Declaration) : Type 0 where
   pub start_is : less.start ≡ given.start
   pub profile_is : less.profile ≡ given.profile
   pub adds : AddsOnly given given less
   pub listed : is_some less.reads ≡ is_some given.reads
 
--- The text declares something that is no wider than a declaration, and no run of the program with these words breaks it.
+-- The text declares something that is no wider than a declaration, and no run of the program with these words violates
+-- it.
 pub record IsShownNoWider (image : List (Option ℕ)) (given : Declaration) (text : List ℕ) : Type 0 where
   pub declaration : Declaration
   pub declares : Declares text declaration
   pub is : IsNoWider given declaration
   pub safe : IsSafe (image_of image) declaration
 
--- The first text declares a program, and what the second one declares is no wider, and is shown.
+-- The first text declares a program, and what the second one declares is no wider and is shown to be safe.
 pub record IsShownChange (image : List (Option ℕ)) (text written : List ℕ) : Type 0 where
   pub given : Declaration
   pub declares : Declares text given

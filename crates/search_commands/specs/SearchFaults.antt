@@ -1,4 +1,4 @@
--- Which faults a search may have once its inputs are good.
+-- The faults that a search may have once its inputs are good.
 use Rattle.declaration.specs.declared.DeclarationFault.TheVariants as declaration_fault
 use Rattle.turns.specs.declared.GuessFault.TheVariants as guess_fault
 use Rattle.turns.specs.declared.ProposeFault.TheVariants as propose_fault

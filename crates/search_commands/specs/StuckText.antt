@@ -1,4 +1,4 @@
--- What `guess --why` reports of a search that is stuck: the line of the fault, and after it the lines of `check --why`.
+-- What `guess --why` reports about a search that is stuck: the line of the fault, and then the lines of `check --why`.
 use Rattle.std.specs.Prelude.{ℕ, ◌≡◌, List, [], Option, Some, None, IfNone, IfSome, Err}
 use Rattle.instruct.specs.declared.Profile.{Profile}
 use Rattle.certificate_lines.specs.Reading.{Text}
@@ -13,14 +13,15 @@ use Rattle.diagnostics.specs.ReasonContexts.{IsTellingOf}
 use Rattle.diagnostics.specs.WhyText.{why_text}
 use Rattle.diagnostics.specs.declared.verdicts.reason_context.ReasonContext.{ReasonContext}
 
--- The lines of the condition that is told, if one is.
+-- The lines about the condition that is reported, if one is.
 abbrev pub told_text : Profile → List (Option ℕ) → Option (Refusal × Reason × ReasonContext) → List ℕ
 told_text profile image None = []
 told_text profile image (Some found) = why_text profile image (Err found.0) (Some found.1) found.2
 
--- This is told of an address at which a search is stuck, by a draft of a certificate. The condition fails by the draft at that
--- address, since what is told is so, and not because a line is missing or too narrow; none that is asked before it fails there
--- except for that. If none is told, each that fails there does so for that alone.
+-- This is reported about an address at which a search is stuck, given the draft of a certificate. The condition fails
+-- for the draft at that address because what is reported is true, and not because a line is missing or too narrow; no
+-- condition that is checked before it fails there, except for that reason. If no condition is reported, each one that
+-- fails there does so for that reason alone.
 pub record IsTold (j : Case) (at : ℕ) (told : Option (Refusal × Reason × ReasonContext)) : Type 0 where
   pub why : IfSome told (λ found. Explains j found.0.condition found.0.address found.1)
   pub place : IfSome told (λ found. IsToldOf at found.0 found.1)
@@ -28,7 +29,7 @@ pub record IsTold (j : Case) (at : ℕ) (told : Option (Refusal × Reason × Rea
   pub first : IfSome told (λ found. NoneFailsBefore j at found.0.condition)
   pub none : IfNone told (EachFailsByLinesAlone j at)
 
--- These lines say why a search is stuck at an address, by a draft of a certificate.
+-- These lines say why a search is stuck at an address, given the draft of a certificate.
 pub record IsToldOfDraft (image : List (Option ℕ)) (d : Declaration) (draft : Text) (at : ℕ) (lines : List ℕ) : Type 0 where
   pub told : Option (Refusal × Reason × ReasonContext)
   pub is : IsTold (checked_case image d draft) at told

@@ -21,60 +21,61 @@ use Rattle.search_commands.specs.declared.verifying.Answer.TheVariants.{Yes, No,
 use Rattle.search_commands.specs.declared.verifying.ProposalAnswer.{ProposalAnswer}
 use Rattle.search_commands.specs.WidenedText.{HasReason, reason_text}
 
--- The answer is true of a tape's words and a declaration. After a yes every condition holds of the certificate, and so no
--- run of the program violates the declaration. After a no the run breaks it: its last event is the first step that is not
--- legal, and its text is read as these events. Where it is not known nothing is said.
+-- The answer is true for the words of a tape and a declaration. After a yes, every condition holds for the certificate,
+-- and so no run of the program violates the declaration. After a no, the run violates it: its last event is the first
+-- step that is not legal, and its text is read as these events. If it is not known, nothing is said.
 abbrev pub IsAnswer : {A : Type 0} → List (Option ℕ) → Declaration → Answer A → Type 0
 IsAnswer image d (Yes c) = IsYes (checked_case image d (meaning c)) × AreLines (meaning c)
 IsAnswer image d (No w) = Breaks (image_of image) d w × IsSpelled w × IsLast w
 IsAnswer image d (NotKnown lack) = ⊤
 
--- The line of a run whose event n violates rule r.
+-- The line about a run whose event n violates rule r.
 abbrev pub no_text : ℕ → Rule → List ℕ
 no_text n r = codes "no: event " ++ decimal n ++ codes " rule " ++ decimal (number_of r) ++ codes "\n"
 
--- The line that says why it is not known.
+-- The line that says why the answer is not known.
 abbrev pub lack_text : InconclusiveReason → List ℕ
 lack_text (Stuck at) = (codes "not known: stuck at " ++ octal_text at) ++ codes "\n"
 lack_text TurnsSpent = codes "not known: turns spent" ++ codes "\n"
 
--- The line of an answer. That of a yes is the line of `check`.
+-- The line of an answer. The line of a yes is that of `check`.
 abbrev pub answer_text : {A : Type 0} → Declaration → Answer A → List ℕ
 answer_text d (Yes c) = yes_text d
 answer_text d (No w) = no_text w.event w.rule
 answer_text d (NotKnown lack) = lack_text lack
 
--- The line of an answer about a declaration that is proposed, made of the line of the same answer about one that is given. A
--- yes says in place of its first word that it is about the proposal, so nobody takes it for a yes about a declaration of
--- their own; the other lines are the same.
+-- The line of an answer about a proposed declaration, made from the line of the same answer about a given one. In place
+-- of its first word, a yes says that it is about the proposal, so that nobody takes it for a yes about a declaration of
+-- their own. The other lines are the same.
 abbrev pub proposed_text : {A : Type 0} → Answer A → List ℕ → List ℕ
 proposed_text (Yes c) line = codes "yes, of the declaration proposed" ++ drop 3 line
 proposed_text _ line = line
 
--- Only a yes is done.
+-- The status of an answer: only a yes is done.
 abbrev pub answer_status : {A : Type 0} → Answer A → Status
 answer_status (Yes c) = Done
 answer_status _ = Refused
 
--- What is told of an answer with this line: the line comes first and as it is, and after it stand, only if the answer is to
--- be explained, some lines more, of which nothing is said here.
+-- What is reported for an answer with this line: the line comes first and is unchanged; if the answer is to be
+-- explained, and only then, more lines may follow, about which nothing is said here.
 pub record IsTold (line : List ℕ) (explained : Bool) (told : List ℕ) : Type 0 where
   pub why : List ℕ
   pub plain : explained ≡ false → why ≡ []
   pub told_is : told ≡ line ++ why
 
--- The answer is true of a tape's words and a declaration, and this is told of it.
+-- The answer is true for the words of a tape and a declaration, and this is reported for it.
 pub record IsVerifiedOf {A : Type 0} (explained : Bool) (image : List (Option ℕ)) (declaration : Declaration) (answer : Answer A) (told : List ℕ) : Type 0 where
   pub answers : IsAnswer image declaration answer
   pub is : IsTold (answer_text declaration answer) explained told
 
--- The frames are a tape and the text is that of a declaration; the answer is true of them, and this is told of it.
+-- The frames are a tape and the text is that of a declaration; the answer is true for them, and this is reported for
+-- it.
 abbrev pub IsVerified : {A : Type 0} → Option (List ℕ) → Option (List ℕ) → Bool → Answer A → List ℕ → Type 0
 IsVerified frames text explained answer told = OfProgram frames text (IsVerifiedOf explained) answer told
 
--- The text that is proposed declares a program that starts where it was asked to, on the machine that was requested; the answer
--- is true of the words and of what is declared. Its line is told, behind a no why no declaration allows what the run does, and
--- after that, only if it is to be explained, some lines more, of which nothing is said here.
+-- The proposed text declares a program with the requested start, on the requested machine, and the answer is true for
+-- the words and for what is declared. The line of the answer is reported; after a no, why no declaration allows what
+-- the run does; and after that, only if the answer is to be explained, more lines, about which nothing is said here.
 pub record IsProposedAnswerOf {A : Type 0} (options : VerifyOptions) (image : List (Option ℕ)) (p : ProposalAnswer A) (told : List ℕ) : Type 0 where
   pub declaration : Declaration
   pub declares : Declares p.text.items declaration

@@ -1,4 +1,4 @@
--- What `verify` says of a tape alone, why no declaration allows what a run does.
+-- What `verify` says about a tape alone: why no declaration allows what a run does.
 use Rattle.std.specs.Prelude.{ℕ, ◌≡◌, ◌++◌, ⊤, Bool, false, codes, List, [], Option, Some, None}
 use Rattle.word12.specs.Words.{octal_text}
 use Rattle.declaration.specs.Declaration.{Declaration}
@@ -11,14 +11,14 @@ use Rattle.search_commands.specs.declared.verifying.Answer.TheVariants.{Yes, No,
 -- What a run does that no declaration allows; an address comes after it.
 abbrev pub obstacle_words : Obstacle → List ℕ
 obstacle_words (Unsupported at) = codes "the machine does not support the word at "
-obstacle_words (Unset at) = codes "control comes to a cell that has no word from the tape or the program: "
-obstacle_words (RunsEntry at) = codes "control comes to the word that a JMS stores at "
+obstacle_words (Unset at) = codes "control reaches a cell that has no word from the tape or the program, at "
+obstacle_words (RunsEntry at) = codes "control reaches the word that a JMS stores at "
 obstacle_words (Shared at) = codes "two routines execute the word at "
 obstacle_words (CallsBody at) = codes "a JMS stores into the code at "
 obstacle_words (CallsVariable at) = codes "instructions other than JMS also store at "
 obstacle_words (CallsPointer at) = codes "a JMS stores into the auto-index cell "
 obstacle_words (StoresInEntry at) = codes "instructions other than JMS also store at "
-obstacle_words (ReturnsForAnother at) = codes "a call other than the last one returns through the JMP at "
+obstacle_words (ReturnsForAnother at) = codes "a routine other than the one called last returns through the JMP at "
 obstacle_words (ReturnsFar at) = codes "a routine returns to an address outside the 64 words after its call, through the JMP at "
 
 -- The address at which an obstacle is seen.
@@ -36,14 +36,15 @@ obstacle_place (ReturnsFar at) = at
 
 -- The line that says why no declaration allows what a run does.
 abbrev pub obstacle_text : Obstacle → List ℕ
-obstacle_text o = codes "no declaration allows what the run does: " ++ obstacle_words o ++ octal_text (obstacle_place o) ++ codes "\n"
+obstacle_text o = codes "no declaration allows what the runs do: " ++ obstacle_words o ++ octal_text (obstacle_place o) ++ codes "\n"
 
--- The same, if there is one.
+-- The line for an obstacle, if there is one.
 abbrev pub reason_text : Option Obstacle → List ℕ
 reason_text None = []
 reason_text (Some o) = obstacle_text o
 
--- A no comes with the reason why no declaration allows what the run does, which is so, and no other answer does.
+-- A no comes with the reason why no declaration allows what the run does, and the reason is true. No other answer has
+-- one.
 abbrev pub HasReason : {A : Type 0} → List (Option ℕ) → Declaration → Answer A → Option Obstacle → Type 0
 HasReason image d (No w) (Some o) = IsObstacle image d w.events.items o
 HasReason image d (No w) None = ⊥

@@ -1,4 +1,4 @@
-//! Whether nothing is allowed beyond a declaration but what is proposed.
+//! Whether nothing is allowed beyond a declaration except what is proposed.
 
 ghost use Rattle.std.specs.Prelude.{ℕ, ◌≡◌, ◌<◌, ◌||◌, true};
 ghost use Rattle.declaration.specs.Declaration.{Routine};
@@ -9,7 +9,7 @@ use declaration::{Declaration, Owner};
 use std::alloc::Allocator;
 use word12::Word;
 
-/// Whether the body that has a cell has it in one of two other declarations.
+/// Whether a cell is in the same body in one of two other declarations, if it is in a body at all.
 fn body_is_known<A: Allocator, B: Allocator, C: Allocator>(
     given: &Declaration<A>,
     proposed: &Declaration<B>,
@@ -28,7 +28,8 @@ fn body_is_known<A: Allocator, B: Allocator, C: Allocator>(
     }
 }
 
-/// Whether the routine of an entry may return at each offset in one of two other declarations.
+/// Whether each offset at which the routine of an entry may return is one at which it may return in one of two other
+/// declarations.
 fn offsets_are_known<A: Allocator, B: Allocator, C: Allocator>(
     given: &Declaration<A>,
     proposed: &Declaration<B>,
@@ -60,15 +61,14 @@ fn is_listed<A: Allocator>(declaration: &Declaration<A>, at: Word) -> bool
     }
 }
 
-/// Whether something that holds of a cell is known of it.
+/// Whether something that is true of a cell in the last declaration is true of it in one of the other two.
 fn is_known(more: bool, given: bool, proposed: bool) -> bool
     ensures { result ≡ true → more ≡ true → given || proposed ≡ true }
 {
     !more || given || proposed
 }
 
-/// Whether a cell is an entry, a variable, a halt or a cell to be read in one of two other declarations where it is
-/// one.
+/// Whether a cell that is an entry, a variable, a halt or a listed read is one in one of two other declarations too.
 fn roles_are_known<A: Allocator, B: Allocator, C: Allocator>(
     given: &Declaration<A>,
     proposed: &Declaration<B>,
@@ -109,8 +109,8 @@ fn roles_are_known<A: Allocator, B: Allocator, C: Allocator>(
     )
 }
 
-/// Whether a routine may store in its entry, and calls may be abandoned for a cell, only if they may in one of two other
-/// declarations.
+/// Whether a routine may store in its entry, and calls may be abandoned for a cell, only if that is allowed in one of
+/// two other declarations.
 fn leave_is_known<A: Allocator, B: Allocator, C: Allocator>(
     given: &Declaration<A>,
     proposed: &Declaration<B>,
@@ -132,7 +132,7 @@ fn leave_is_known<A: Allocator, B: Allocator, C: Allocator>(
     )
 }
 
-/// Whether nothing is allowed of a cell but what one of two other declarations allows.
+/// Whether everything that is allowed for a cell is allowed in one of two other declarations.
 fn adds_to_cell<A: Allocator, B: Allocator, C: Allocator>(
     given: &Declaration<A>,
     proposed: &Declaration<B>,
@@ -154,7 +154,7 @@ fn adds_to_cell<A: Allocator, B: Allocator, C: Allocator>(
     roles_are_known(given, proposed, more, at)
 }
 
-/// Whether the last declaration allows nothing but what one of the other two allows.
+/// Whether everything that the last declaration allows is allowed by one of the other two.
 pub(crate) fn adds_only<A: Allocator, B: Allocator, C: Allocator>(
     given: &Declaration<A>,
     proposed: &Declaration<B>,

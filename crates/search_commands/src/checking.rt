@@ -18,7 +18,11 @@ use judge::{JudgeWorkspace, judge};
 use std::alloc::Allocator;
 use streams::{ByteSink, ByteSource};
 
-/// The verdict on a certificate of a program: its line, and its status.
+/// The verdict on a certificate for a program: its line, and its status.
+///
+/// # Errors
+///
+/// `NoMemory` if memory was refused.
 pub fn verdict_of<A: Allocator + Copy>(
     alloc: A,
     certified: &ProgramWithCertificate<A>,
@@ -42,16 +46,16 @@ pub fn verdict_of<A: Allocator + Copy>(
     Ok(CommandResult { text, status })
 }
 
-/// Checks a certificate of a tape and a declaration, and writes the verdict: yes, with the numbers of
-/// cells in bodies, of variables, of entries, of declared halts and, where they are listed, of cells
-/// that may be read; or the first condition that fails and its address, and then the status is
-/// `Refused`. After a yes the program keeps its declaration in every run.
+/// Checks a certificate for a tape and a declaration, and writes the verdict. A yes comes with the numbers of cells in
+/// bodies, of variables, of entries, of declared halts and, if reads are listed, of cells that may be read. Otherwise
+/// the verdict is the first condition that fails and its address, and the status is `Refused`. After a yes, the program
+/// complies with its declaration in every run.
 ///
 /// # Errors
 ///
-/// The fault of the tape, of the declaration or of the certificate's text: each is read and, if it
-/// has a fault, refused before the next is read; `Device` where a read or a write failed, after
-/// which a prefix of the line went out; `NoMemory`.
+/// The fault of the tape, of the declaration or of the certificate's text: each of them is read and, if it has a fault,
+/// refused before the next is read; `Device` if a read failed, or if a write failed after a prefix of the line had gone
+/// out; `NoMemory` if memory was refused.
 pub fn check<A: Allocator + Copy, R: ByteSource, D: ByteSource, C: ByteSource, W: ByteSink>(
     alloc: A,
     tape: &mut R,
@@ -68,7 +72,7 @@ pub fn check<A: Allocator + Copy, R: ByteSource, D: ByteSource, C: ByteSource, W
         (OfCertified (R.remaining tape.old) (D.remaining declaration.old)
         (C.remaining certificate.old) IsVerdictOf)
         (output (W.mark out.new) (W.taken out.old) (W.taken out.new)) result }
-    // The inputs are read in order; after good ones a write may fail, or memory be refused.
+    // The inputs are read in order. If all of them are good, a write may fail, or memory may be refused.
     ensures reads { ReadsCertified (IsLaterFault IsMemoryFault)
         (input (R.mark tape.new) (R.remaining tape.old) (R.remaining tape.new))
         (input (D.mark declaration.new) (D.remaining declaration.old) (D.remaining declaration.new))

@@ -1,4 +1,4 @@
-//! The command that adds to a declaration what is missing there.
+//! The command that adds what is missing to a declaration.
 
 ghost use Rattle.std.specs.Prelude.{◌≡◌, ◌⊎◌, false, Ok, Err, Some, None, IfSome, IfOk, IfErr, ℕ, List, Option};
 ghost use Rattle.command_parts.specs.Answers.{IsLaterFault, IsMemoryFault, NeverFails, OfProgram, ReadsTwo, WritesAnswer, output};
@@ -37,8 +37,7 @@ use streams::{ByteSink, ByteSource, read_at_most};
 use turns::{ProposeFault, Turns};
 use wordset::WordSet;
 
-/// One byte more than the text of a declaration may have, so that a longer one is seen to be too
-/// long.
+/// One byte more than the text of a declaration may have, so that a longer text is seen to be too long.
 const MOST_BYTES: usize = 16_385;
 
 /// A declaration and its text.
@@ -55,14 +54,14 @@ struct ParsedProgram<A: Allocator> {
     given: ParsedDeclaration<A>,
 }
 
-/// What is found of a text that may complete a declaration.
+/// What is found about a text that may complete a declaration.
 #[derive(Clone, Copy, PartialEq, Eq, Debug)]
 pub(crate) enum CompletionResult {
     /// It extends the declaration, and the program complies with it.
     Shown,
-    /// It extends the declaration, and no certificate is found.
+    /// It extends the declaration, but no certificate is found.
     Lacking(InconclusiveReason),
-    /// It is not text that extends the declaration.
+    /// It is not a text that extends the declaration.
     Unfit,
 }
 
@@ -90,7 +89,7 @@ fn given_from<A: Allocator + Copy, R: ByteSource>(
     }
 }
 
-/// Reads a tape, and after a good one a declaration, whose text it keeps.
+/// Reads a tape and, if that has no fault, a declaration, whose text it keeps.
 fn given_program_from<A: Allocator + Copy, R: ByteSource, D: ByteSource>(
     alloc: A,
     tape: &mut R,
@@ -135,8 +134,8 @@ pub(crate) fn lack_in<A: Allocator + Copy, D: Allocator>(
     }
 }
 
-/// What a text declares, if it keeps the lines of a declaration that is given, and extends it by what is proposed and by
-/// nothing else.
+/// What a text declares, if it keeps the lines of a given declaration and extends that declaration by what is proposed
+/// and by nothing else.
 fn extension<A: Allocator + Copy, D: Allocator>(
     alloc: A,
     bytes: &[u8],
@@ -170,7 +169,7 @@ fn extension<A: Allocator + Copy, D: Allocator>(
     }
 }
 
-/// What is found of a text that may complete a declaration.
+/// What is found about a text that may complete a declaration.
 fn tried<A: Allocator + Copy, D: Allocator>(
     alloc: A,
     image: &Image,
@@ -192,7 +191,7 @@ fn tried<A: Allocator + Copy, D: Allocator>(
     }
 }
 
-/// Ends the last line of a text, if it lacks its end.
+/// Ends the last line of a text with a line feed, if it lacks one.
 pub(crate) fn end_text<A: Allocator>(text: &mut Vec<u8, A>) -> Result<(), AllocError> {
     match text.last() {
         None | Some(b'\n') => Ok(()),
@@ -200,8 +199,8 @@ pub(crate) fn end_text<A: Allocator>(text: &mut Vec<u8, A>) -> Result<(), AllocE
     }
 }
 
-/// A text, and after it comments that say what is missing, and in which runs it was seen what the program does, if
-/// what is written is by them.
+/// A text, followed by comments that say what is missing and, if what is written depends on what the program was seen
+/// to do, in which runs that was seen.
 fn with_remarks<A: Allocator + Copy>(
     alloc: A,
     text: &[u8],
@@ -217,7 +216,7 @@ fn with_remarks<A: Allocator + Copy>(
     Ok(more)
 }
 
-/// A text that extends a declaration, with comments after it where there is room for them.
+/// A text that extends a declaration, with comments after it if there is room for them.
 fn remarked<A: Allocator + Copy, D: Allocator>(
     alloc: A,
     bytes: &[u8],
@@ -243,8 +242,8 @@ fn remarked<A: Allocator + Copy, D: Allocator>(
     }
 }
 
-/// What is proposed for a tape with the start and the machine of a declaration, with a list of reads
-/// where the declaration has one and that is requested.
+/// What is proposed for a tape with the start and the machine of a declaration, with a list of reads if the declaration
+/// has one and that is requested.
 fn proposal_by<A: Allocator + Copy>(
     alloc: A,
     image: &Image,
@@ -261,7 +260,7 @@ fn proposal_by<A: Allocator + Copy>(
     proposal_for(alloc, image, &options, &mut Turns::new(MOST_TURNS))
 }
 
-/// What is written of a text that extends a declaration if no certificate is found.
+/// What is written for a text that extends a declaration if no certificate is found.
 fn lacking<A: Allocator + Copy, D: Allocator>(
     alloc: A,
     bytes: &[u8],
@@ -287,8 +286,7 @@ fn lacking<A: Allocator + Copy, D: Allocator>(
     })
 }
 
-/// The text that completes a declaration for which no certificate is found, by what is proposed for the
-/// tape.
+/// The text that completes a declaration for which no certificate is found, with what is proposed for the tape.
 fn completed<A: Allocator + Copy>(
     alloc: A,
     image: &Image,
@@ -323,7 +321,7 @@ fn completed<A: Allocator + Copy>(
     }
 }
 
-/// What is written where nothing is added to the text that is given, so that nothing is by what runs did.
+/// What is written if nothing is added to the given text. In this case nothing depends on what runs did.
 fn as_given<A: Allocator + Copy>(
     alloc: A,
     given: &ParsedDeclaration<A>,
@@ -367,20 +365,20 @@ fn completion_of<A: Allocator + Copy>(
     completed(alloc, &image, &given, lack, &proposal)
 }
 
-/// Adds to a declaration what is missing there, by the tape, and writes its text. What was written there stays: each
-/// line as it is, but that the line of a routine may get ranges and offsets, with a comment that names them;
-/// other lines come at the end, each with the comment `/ added`. A declaration for which a certificate is found is written
-/// as it is. `Done` says that no run of the program violates what is written. Otherwise it is `Refused`: no
-/// certificate is found that shows this. Comments after the text say why then, if there is room for them. What is
-/// added is what `declare` proposes for the tape, the start and the machine, except what has another role already;
-/// also cells that may be read if reads are listed and `reads` asks for it. Which cells these are, and what the
-/// comments say, is tested, not proved.
+/// Adds to a declaration what it lacks according to the tape, and writes its text. What it said before is kept: each
+/// line stays unchanged, except that the line of a routine may get ranges and offsets, with a comment that names them;
+/// other lines come at the end, each with the comment `/ added`. A declaration for which a certificate is found is
+/// written unchanged. The status `Done` means that no run of the program violates what is written. Otherwise the status
+/// is `Refused`: no certificate that would show this is found, and comments after the text say why, if there is room
+/// for them. What is added is what `declare` proposes for the tape, the start and the machine, except for what has
+/// another role already; cells that may be read are added too, if reads are listed and `reads` is set. Which cells
+/// these are, and what the comments say, is tested, not proved.
 ///
 /// # Errors
 ///
-/// The fault of the tape or of the declaration: each is read and, if it has a fault, refused before the next is read;
-/// `Declare` if what is found cannot be declared; `Device` if a read or a write failed, after which a prefix of the
-/// text went out; `NoMemory`. Nothing is written unless a write failed.
+/// The fault of the tape or of the declaration: each of them is read and, if it has a fault, refused before the next is
+/// read; `Declare` if what is found cannot be declared; `Device` if a read failed, or if a write failed after a prefix
+/// of the text had gone out; `NoMemory` if memory was refused. Nothing is written unless a write failed.
 pub fn complete<A: Allocator + Copy, R: ByteSource, D: ByteSource, W: ByteSink>(
     alloc: A,
     tape: &mut R,
@@ -391,14 +389,14 @@ pub fn complete<A: Allocator + Copy, R: ByteSource, D: ByteSource, W: ByteSink>(
     requires readable { R.mark tape.old ≡ false }
     requires declaration_readable { D.mark declaration.old ≡ false }
     requires writable { W.mark out.old ≡ false }
-    // What is written declares a program, it extends the declaration that is read, and it keeps its lines in their order, behind
-    // which there are only comments and lines that end with `/ added`; and where the command is done no run of the tape's
-    // program breaks what is written.
+    // What is written declares a program, extends the declaration that is read, and keeps its lines in their order,
+    // after which there are only comments and lines that end with `/ added`. If the command is done, no run of the
+    // tape's program violates what is written.
     ensures completed { WritesAnswer
         (OfProgram (R.remaining tape.old) (D.remaining declaration.old)
         (Completes (D.remaining declaration.old)))
         (output (W.mark out.new) (W.taken out.old) (W.taken out.new)) result }
-    // The inputs are read in order; after good ones what was found may be undeclarable, or a write fail.
+    // The inputs are read in order. If both are good, what was found may be undeclarable, or a write may fail.
     ensures reads { ReadsTwo (IsLaterFault IsProposeFault)
         (input (R.mark tape.new) (R.remaining tape.old) (R.remaining tape.new))
         (input (D.mark declaration.new) (D.remaining declaration.old) (D.remaining declaration.new))

@@ -25,7 +25,7 @@ use streams::{ByteSink, ByteSource};
 use turns::{ProposeFault, Turns};
 use wordset::WordSet;
 
-/// How many turns a proposal has at most.
+/// The maximum number of turns for a proposal.
 pub(crate) const MOST_TURNS: u32 = 300_000;
 
 /// Adds a comment for each address at which control is not followed.
@@ -58,7 +58,7 @@ pub(crate) fn push_inconclusive_reason<A: Allocator>(
     text.extend_from_slice(b".\n")
 }
 
-/// The same, if none is.
+/// Adds the same comment for a verdict without a certificate; nothing for a verdict with one.
 fn push_verdict<A: Allocator, B: Allocator>(
     text: &mut Vec<u8, A>,
     verdict: &Verdict<B>,
@@ -70,7 +70,7 @@ fn push_verdict<A: Allocator, B: Allocator>(
     }
 }
 
-/// Adds a comment that says in which runs it was seen what the program does, if it was.
+/// Adds a comment that says in which runs the behaviour of the program was seen, if it was.
 pub(crate) fn push_seen<A: Allocator>(
     text: &mut Vec<u8, A>,
     seen: Option<ObservedRuns>,
@@ -85,7 +85,7 @@ pub(crate) fn push_seen<A: Allocator>(
     text.extend_from_slice(b" steps in all, but not proved.\n")
 }
 
-/// What is proposed for a tape's words, with a list of reads if one was requested.
+/// The proposal for a tape's words, with a list of reads if one is requested.
 pub(crate) fn proposal_for<A: Allocator + Copy>(
     alloc: A,
     image: &Image,
@@ -119,7 +119,7 @@ pub(crate) fn copy_of<A: Allocator>(alloc: A, text: &[u8]) -> Result<Vec<u8, A>,
     Ok(copy)
 }
 
-/// The text of a proposal after comments that say what is missing.
+/// Comments that say what is missing, followed by the text of a proposal.
 fn remarks_and_text<A: Allocator + Copy>(
     alloc: A,
     proposal: &Proposal<A>,
@@ -132,7 +132,7 @@ fn remarks_and_text<A: Allocator + Copy>(
     Ok(text)
 }
 
-/// Whether a text declares a program for what was asked, without a list of reads.
+/// Whether a text declares a program with the requested start and machine, without a list of reads.
 fn declares_for<A: Allocator + Copy>(
     alloc: A,
     text: &[u8],
@@ -155,7 +155,7 @@ fn declares_for<A: Allocator + Copy>(
     }
 }
 
-/// The text of a proposal without a list of reads, after the remarks where there is room for them.
+/// The text of a proposal without a list of reads, with the comments before it if there is room for them.
 fn remarked<A: Allocator + Copy>(
     alloc: A,
     proposal: &Proposal<A>,
@@ -186,6 +186,10 @@ fn text_of<A: Allocator>(proposal: Proposal<A>) -> Vec<u8, A>
 }
 
 /// What is proposed for a tape's words: the text of a declaration, and whether compliance with it is shown.
+///
+/// # Errors
+///
+/// `Declare` if what is found cannot be declared; `NoMemory` if memory was refused.
 pub fn proposed<A: Allocator + Copy>(
     alloc: A,
     image: &Image,
@@ -208,15 +212,16 @@ pub fn proposed<A: Allocator + Copy>(
     Ok(CommandResult { text, status })
 }
 
-/// Proposes what the program of a tape may do, by the tape, its start and the machine alone, and writes the text of
-/// that declaration. `Done` says that no run of the program violates it. Otherwise it is `Refused`: no certificate is
-/// found that shows this. Comments in front of the text say why then, if there is room for them; what they say is
-/// tested, not proved.
+/// Proposes what the program of a tape may do, from the tape, its start and the machine alone, and writes this as the
+/// text of a declaration. The status `Done` means that no run of the program violates the declaration. Otherwise the
+/// status is `Refused`: no certificate that would show this is found, and comments before the text say why, if there is
+/// room for them. What the comments say is tested, not proved.
 ///
 /// # Errors
 ///
-/// The fault of the tape; `Declare` if what is found cannot be declared; `Device` if a read or a write failed, after
-/// which a prefix of the text went out; `NoMemory`. Nothing is written unless a write failed.
+/// The fault of the tape; `Declare` if what is found cannot be declared; `Device` if a read failed, or if a write
+/// failed after a prefix of the text had gone out; `NoMemory` if memory was refused. Nothing is written unless a write
+/// failed.
 pub fn declare<A: Allocator + Copy, R: ByteSource, W: ByteSink>(
     alloc: A,
     tape: &mut R,
@@ -225,13 +230,12 @@ pub fn declare<A: Allocator + Copy, R: ByteSource, W: ByteSink>(
 ) -> Result<Status, Fault>
     requires readable { R.mark tape.old ≡ false }
     requires writable { W.mark out.old ≡ false }
-    // What is written declares a program from that start, on that machine; and where the command is
-    // done the tape's program is safe, its variables are cells that by the facts of a certificate some
-    // possible word may write, and there is a list of reads if one was requested, of cells that some
-    // possible word may read. Else there is no list.
+    // What is written declares a program with that start, on that machine. If the command is done, the tape's program
+    // is safe, its variables are cells that some possible word may write by the facts of a certificate, and if a list
+    // of reads was requested, there is one, of cells that some possible word may read. Otherwise there is no list.
     ensures declared { WritesAnswer (IsProposal options (R.remaining tape.old))
         (output (W.mark out.new) (W.taken out.old) (W.taken out.new)) result }
-    // The tape is read; after a good one what was found may be undeclarable, or a write fail.
+    // The tape is read. If it is good, what was found may be undeclarable, or a write may fail.
     ensures reads { ReadsOne (IsLaterFault IsProposeFault)
         (input (R.mark tape.new) (R.remaining tape.old) (R.remaining tape.new)) result }
 {

@@ -12,7 +12,7 @@ use proposer::{is_alike, keeps_cells};
 use std::alloc::Allocator;
 use wordset::WordSet;
 
-/// Whether each cell that may be read may be read still, if reads are listed, and else they still are not.
+/// Whether each listed read is still listed, if reads are listed, and reads are still not listed otherwise.
 fn keeps_reads(given: Option<&WordSet>, more: Option<&WordSet>) -> bool
     ensures { result ≡ true → KeepsReads
         (option_map (λ set. words set.now) given.entry)
@@ -27,7 +27,7 @@ fn keeps_reads(given: Option<&WordSet>, more: Option<&WordSet>) -> bool
     }
 }
 
-/// Whether variables and halts stay what they are.
+/// Whether all variables and halts are kept.
 fn keeps_sets<A: Allocator, B: Allocator>(given: &Declaration<A>, more: &Declaration<B>) -> bool
     ensures variables { result ≡ true →
         IsWithin (meaning given.now).variable (meaning more.now).variable }
@@ -39,7 +39,7 @@ fn keeps_sets<A: Allocator, B: Allocator>(given: &Declaration<A>, more: &Declara
         && given.pauses().is_subset(more.pauses())
 }
 
-/// Whether routines may still move their return words, and calls be abandoned, where they might.
+/// Whether routines may still move their return words, and calls may still be abandoned, wherever that was allowed.
 fn keeps_leave<A: Allocator, B: Allocator>(given: &Declaration<A>, more: &Declaration<B>) -> bool
     ensures moves { result ≡ true →
         IsWithin (meaning given.now).moves (meaning more.now).moves }

@@ -1,4 +1,4 @@
-//! Whether a text keeps the lines of a text to which something is added.
+//! Whether a text keeps the lines of another text that something is added to.
 
 ghost use Rattle.std.specs.Prelude.{◌≡◌, ◌<◌, ◌+◌, ℕ, List, ◌∷◌, ◌++◌, IfSome, Some, true, length, take, drop};
 ghost use Rattle.std.specs.List.{list_all, position};
@@ -9,7 +9,7 @@ ghost use Rattle.search_commands.specs.Keeping.{AreAdded, Grows, HasLine, IsAdde
 /// The comment that marks what is added.
 const MARK: &[u8] = b" / added";
 
-/// The word that stands in it before offsets.
+/// The word in this comment that comes before offsets.
 const RETURNS: &[u8] = b"returns";
 
 /// The first line of a text, and what follows it.
@@ -19,7 +19,7 @@ struct FirstLine<'a> {
     rest: &'a [u8],
 }
 
-/// The first line of a text, if a line feed ends it, and what follows the line feed.
+/// The first line of a text and what follows it, if the line ends with a line feed.
 fn front_line<'a>(text: &'a [u8]) -> Option<FirstLine<'a>>
     ensures has { IfSome result (λ it. HasLine text.now) }
     ensures line { IfSome result (λ it. it.line.now ≡ first_line text.now) }
@@ -33,7 +33,7 @@ fn front_line<'a>(text: &'a [u8]) -> Option<FirstLine<'a>>
     })
 }
 
-/// The place of the first line feed of a text.
+/// The index of the first line feed of a text.
 fn feed_in(text: &[u8]) -> Option<usize>
     ensures { result ≡ position is_feed text.now }
 {
@@ -50,28 +50,28 @@ fn without_return(line: &[u8]) -> &[u8]
     }
 }
 
-/// Whether ranges and offsets are spelled by a byte.
+/// Whether ranges and offsets are spelled with this byte.
 fn is_spelling(byte: u8) -> bool
     ensures { result ≡ is_spelling byte }
 {
     byte.is_ascii_digit() || byte == b'-'
 }
 
-/// Whether a word is spelled as a range or an offset.
+/// Whether a word is spelled like a range or an offset.
 fn are_spelling(word: &[u8]) -> bool
     ensures { result ≡ list_all is_spelling word.now }
 {
     word.iter().all(|byte| is_spelling(*byte))
 }
 
-/// Whether ranges and offsets in a row are spelled by a byte.
+/// Whether a row of ranges and offsets is spelled with this byte.
 fn is_spaced(byte: u8) -> bool
     ensures { result ≡ is_spaced byte }
 {
     is_spelling(byte) || byte == b' '
 }
 
-/// Whether a text is ranges and offsets in a row.
+/// Whether a text is a row of ranges and offsets.
 fn are_spaced(text: &[u8]) -> bool
     ensures { result ≡ list_all is_spaced text.now }
 {
@@ -85,7 +85,7 @@ fn is_end(byte: u8) -> bool
     byte == b' ' || byte == b'\t' || byte == b'/'
 }
 
-/// Whether a word that stands before a text has ended.
+/// Whether a word that comes before this text has ended.
 fn ends_word(text: &[u8]) -> bool
     ensures { result ≡ ends_word text.now }
 {
@@ -102,7 +102,7 @@ struct Parted<'a> {
     rest: &'a [u8],
 }
 
-/// The place at which the first word of a text ends, if something follows.
+/// The index at which the first word of a text ends, if something follows it.
 fn place_of_end(text: &[u8]) -> Option<usize>
     ensures { result ≡ position is_end text.now }
 {
@@ -125,12 +125,12 @@ fn first_word(text: &[u8]) -> Parted<'_>
     }
 }
 
-/// The place of the first byte by which ranges and offsets in a row are not spelled.
+/// The index of the first byte that a row of ranges and offsets is not spelled with.
 fn place_of_other(text: &[u8]) -> Option<usize> {
     text.iter().position(|byte| !is_spaced(*byte))
 }
 
-/// The ranges and offsets at the front of a text, and what follows them.
+/// The ranges and offsets at the beginning of a text, and what follows them.
 fn first_ranges(text: &[u8]) -> Parted<'_>
     ensures { text.now ≡ result.front.now ++ result.rest.now }
 {
@@ -146,8 +146,8 @@ fn first_ranges(text: &[u8]) -> Parted<'_>
     }
 }
 
-/// Whether ranges and the word `returns` with offsets are named by a text, or ranges alone, behind the words that mark what is
-/// added.
+/// Whether a text that comes after the beginning of the marking comment names ranges, and perhaps offsets after the
+/// word `returns`.
 fn are_named(text: &[u8]) -> bool
     ensures { result ≡ true → IsMark (mark ++ text.now) }
 {
@@ -161,7 +161,7 @@ fn are_named(text: &[u8]) -> bool
     }
 }
 
-/// Whether a text is the comment that marks what is added, and names it.
+/// Whether a text is the comment that marks what is added and names it.
 fn is_mark(text: &[u8]) -> bool
     ensures { result ≡ true → IsMark text.now }
 {
@@ -178,7 +178,7 @@ fn is_same(left: &[u8], right: &[u8]) -> bool
     left == right
 }
 
-/// Whether nothing is left of a line, or its comment alone.
+/// Whether nothing is left of a line except perhaps its comment.
 fn is_comment_or_end(left: &[u8]) -> bool
     ensures { result ≡ true → IsCommentOrEnd left.now }
 {
@@ -188,8 +188,8 @@ fn is_comment_or_end(left: &[u8]) -> bool
     }
 }
 
-/// Whether a line ends here: nothing is left of it but its comment, which stays, and the comment follows that marks what
-/// is added.
+/// Whether a line ends here: nothing is left of it but its comment, which is unchanged, followed by the comment that
+/// marks what is added.
 fn ends_here(left: &[u8], rest: &[u8]) -> bool
     ensures { result ≡ true → Grows left.now rest.now }
 {
@@ -202,7 +202,7 @@ fn ends_here(left: &[u8], rest: &[u8]) -> bool
     }
 }
 
-/// What is left of a line, and of the one to which it has grown.
+/// What is left of a line, and of the line that it has grown to.
 #[derive(Clone, Copy)]
 struct Growth<'a> {
     old: &'a [u8],
@@ -217,7 +217,8 @@ fn has_next(line: &[u8], word: &[u8]) -> bool {
     }
 }
 
-/// What is left where a range or an offset is put in after a space, and is not the next word of the line anyhow.
+/// What is left after a range or an offset that was inserted after a space, if the word is not simply the next word of
+/// the line.
 fn behind_put<'a>(old: &'a [u8], new: &'a [u8]) -> Option<Growth<'a>>
     ensures grows { IfSome result (λ left.
         Grows left.old.now left.new.now → Grows old.now new.now) }
@@ -242,7 +243,7 @@ fn behind_put<'a>(old: &'a [u8], new: &'a [u8]) -> Option<Growth<'a>>
     })
 }
 
-/// What is left where a byte stands in both lines.
+/// What is left after a byte that is in both lines.
 fn behind_same<'a>(old: &'a [u8], new: &'a [u8]) -> Option<Growth<'a>>
     ensures grows { IfSome result (λ left.
         Grows left.old.now left.new.now → Grows old.now new.now) }
@@ -266,7 +267,7 @@ fn behind_same<'a>(old: &'a [u8], new: &'a [u8]) -> Option<Growth<'a>>
     None
 }
 
-/// What is left behind the next piece of a line that has grown.
+/// What is left after the next piece of a line that has grown.
 fn behind_piece<'a>(old: &'a [u8], new: &'a [u8]) -> Option<Growth<'a>>
     ensures grows { IfSome result (λ left.
         Grows left.old.now left.new.now → Grows old.now new.now) }
@@ -278,7 +279,7 @@ fn behind_piece<'a>(old: &'a [u8], new: &'a [u8]) -> Option<Growth<'a>>
     }
 }
 
-/// Whether the second line is the first one with ranges and offsets put in and a mark after them.
+/// Whether the second line is the first one with ranges and offsets inserted and a mark after them.
 fn grows(old: &[u8], new: &[u8]) -> bool
     ensures { result ≡ true → Grows old.now new.now }
 {
@@ -294,7 +295,7 @@ fn grows(old: &[u8], new: &[u8]) -> bool
     ends_here(left, rest)
 }
 
-/// Whether a line is kept: it is as it was, or has grown.
+/// Whether a line is kept: it is unchanged, or has grown.
 fn keeps_line(old: &[u8], new: &[u8]) -> bool
     ensures { result ≡ true → KeepsLine old.now new.now }
 {
@@ -321,7 +322,7 @@ fn is_comment(line: &[u8]) -> bool
     }
 }
 
-/// Whether a line is one of those that are added: it ends with the comment that marks it, or is a comment.
+/// Whether a line is an added line: it ends with the comment that marks it, or is a comment.
 fn is_added(line: &[u8]) -> bool
     ensures { result ≡ true → IsAdded line.now }
 {
@@ -331,7 +332,7 @@ fn is_added(line: &[u8]) -> bool
     is_comment(line)
 }
 
-/// Whether each line of a text is one that is added.
+/// Whether each line of a text is an added line.
 fn are_added(text: &[u8]) -> bool
     ensures { result ≡ true → AreAdded text.now }
 {
@@ -348,7 +349,7 @@ fn are_added(text: &[u8]) -> bool
     true
 }
 
-/// Whether the last line of a text is kept, and the lines after it are added.
+/// Whether the last line of a text is kept, and all lines after it are added lines.
 fn keeps_last(old: &[u8], new: &[u8], rest: &[u8]) -> bool
     ensures kept { result ≡ true → KeepsLine old.now new.now }
     ensures added { result ≡ true → AreAdded rest.now }
@@ -359,7 +360,7 @@ fn keeps_last(old: &[u8], new: &[u8], rest: &[u8]) -> bool
     are_added(rest)
 }
 
-/// Whether a text has the lines of another one, each as it was or grown, and after them only lines that are added.
+/// Whether a text has the lines of another one, each of them unchanged or grown, and after them only added lines.
 pub(crate) fn keeps_lines(given: &[u8], text: &[u8]) -> bool
     ensures { result ≡ true → KeepsLines given.now text.now }
 {

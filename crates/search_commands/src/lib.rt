@@ -1,5 +1,5 @@
-//! The commands that check, migrate and search for a certificate, that search for a declaration, and that say whether a
-//! program complies with one.
+//! The commands that check a certificate, migrate one or search for one, that search for a declaration, and that say
+//! whether a program complies with its declaration.
 #![tactic(auto)]
 
 mod adding;

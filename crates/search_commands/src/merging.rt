@@ -1,4 +1,4 @@
-//! The text of a declaration with what another declaration has and it lacks.
+//! The text of a declaration, with what it lacks of another declaration added.
 
 use control_flow::{above_seven, push_range, push_skips};
 use declaration::{Declaration, Offsets, Routine};
@@ -7,10 +7,10 @@ use streams::text::{self, Words};
 use word12::Word;
 use wordset::WordSet;
 
-/// How many ranges an added line has at most, where there may be several of its kind.
+/// The maximum number of ranges in an added line, if there may be several lines of its kind.
 const MOST_RANGES: usize = 7;
 
-/// What a declaration says about cells, as far as it tells what may be added.
+/// What a declaration says about cells, as far as it decides what may be added.
 #[derive(Clone, Copy)]
 struct DeclaredCells {
     bodies: WordSet,
@@ -25,7 +25,7 @@ struct Addition {
     offsets: WordSet,
 }
 
-/// The cells of main's body and of those of some routines.
+/// The cells of the main body and of the bodies of some routines.
 fn bodies(main: &WordSet, routines: &[Routine]) -> WordSet {
     let mut cells = *main;
     for routine in routines {
@@ -71,7 +71,7 @@ pub(crate) fn set_of(offsets: &Offsets) -> WordSet {
     set
 }
 
-/// The offsets at which a declared routine may return, of whatever lines.
+/// The offsets at which a declared routine may return, whichever lines declare them.
 fn offsets_of<A: Allocator>(declaration: &Declaration<A>, entry: Word) -> WordSet {
     let mut set = WordSet::empty();
     for index in 0..64usize {
@@ -84,7 +84,7 @@ fn offsets_of<A: Allocator>(declaration: &Declaration<A>, entry: Word) -> WordSe
 }
 
 impl DeclaredCells {
-    /// What a declaration says.
+    /// What this declaration says.
     fn by<A: Allocator>(declaration: &Declaration<A>) -> DeclaredCells {
         DeclaredCells {
             bodies: bodies(declaration.main(), declaration.routines()),
@@ -93,12 +93,12 @@ impl DeclaredCells {
         }
     }
 
-    /// The cells that are in no body and no entry.
+    /// The cells of a body that are in no declared body and are no declared entry.
     fn free(&self, body: &WordSet) -> WordSet {
         body.minus(&self.bodies).minus(&self.entries)
     }
 
-    /// Whether a routine may be added: its entry has no other role, and its body a free cell.
+    /// Whether a routine may be added: its entry has no other role, and its body has a free cell.
     fn admits(&self, routine: &Routine) -> bool {
         let entry = routine.entry();
         if self.entries.contains(entry) || self.bodies.contains(entry) {
@@ -107,8 +107,8 @@ impl DeclaredCells {
         !self.variables.contains(entry) && !self.free(routine.body()).is_empty()
     }
 
-    /// The variables that may be added. A cell of a body becomes one only if it is in a body of the
-    /// other declaration too.
+    /// The variables that may be added. A cell of a body becomes a variable only if it is in a body of the other
+    /// declaration too.
     fn added_variables<A: Allocator>(&self, proposed: &Declaration<A>) -> WordSet {
         let code = bodies(proposed.main(), proposed.routines());
         let kept = self.bodies.minus(&code).union(&self.entries);
@@ -116,7 +116,7 @@ impl DeclaredCells {
     }
 }
 
-/// The entry of a routine's line, if a line is one.
+/// The entry on this line, if it is the line of a routine.
 fn entry_on(line: &[u8]) -> Option<Word> {
     let mut words = Words::of(line);
     match words.next() {
@@ -173,12 +173,12 @@ pub(crate) fn push_offsets<A: Allocator>(
     Ok(())
 }
 
-/// Ends a line that is added.
+/// Ends an added line.
 pub(crate) fn end_line<A: Allocator>(text: &mut Vec<u8, A>) -> Result<(), AllocError> {
     text.extend_from_slice(b" / added\n")
 }
 
-/// Begins an added line after so many ranges, if there is none yet or the last is full.
+/// Begins an added line if there is none yet, or if the last one is full; `ranges` is the number of ranges so far.
 fn push_line_break<A: Allocator>(
     text: &mut Vec<u8, A>,
     kind: &[u8],
@@ -193,7 +193,7 @@ fn push_line_break<A: Allocator>(
     text.extend_from_slice(kind)
 }
 
-/// Adds lines of a kind with the ranges of a set, if it has a word.
+/// Adds lines of a kind with the ranges of a set, if the set is not empty.
 fn push_cells<A: Allocator>(
     text: &mut Vec<u8, A>,
     kind: &[u8],
@@ -225,7 +225,7 @@ fn push_halts<A: Allocator>(
     Ok(())
 }
 
-/// Adds the line of a routine, with those cells of its body that are free.
+/// Adds the line of a routine, with the free cells of its body.
 fn push_routine<A: Allocator>(
     text: &mut Vec<u8, A>,
     held: &DeclaredCells,
@@ -254,7 +254,7 @@ fn push_routines<A: Allocator>(
     Ok(())
 }
 
-/// The words of a part of a line, up to its comment, and what comes after them.
+/// The words of a part of a line, without its comment, and what comes after them.
 pub(crate) fn parted(part: &[u8]) -> (&[u8], &[u8]) {
     let front = match part.iter().position(|byte| *byte == b'/') {
         None => part,
@@ -286,7 +286,7 @@ fn push_end<A: Allocator>(
     push_offsets(text, &addition.offsets)
 }
 
-/// Adds a routine's line with what is added to it. Its first letter `r` is that of `returns`.
+/// Adds a routine's line with what is added to it. The first letter `r` in the line is that of `returns`.
 fn push_extended<A: Allocator>(
     text: &mut Vec<u8, A>,
     line: &[u8],
@@ -302,7 +302,7 @@ fn push_extended<A: Allocator>(
     push_end(text, &line[at..], addition)
 }
 
-/// Adds a line that is given, without its end, and what is added to it.
+/// Adds a given line, without its line feed, and what is added to it.
 fn push_line<A: Allocator>(
     text: &mut Vec<u8, A>,
     line: &[u8],
@@ -320,7 +320,7 @@ fn push_line<A: Allocator>(
     }
 }
 
-/// Takes a byte of the given text: at the end of a line adds the line.
+/// Takes a byte of the given text. At the end of a line, the line is added.
 fn take_byte<A: Allocator, B: Allocator>(
     text: &mut Vec<u8, A>,
     line: &mut Vec<u8, A>,
@@ -337,7 +337,7 @@ fn take_byte<A: Allocator, B: Allocator>(
     text.extend_from_slice(b"\n")
 }
 
-/// Adds the lines that are given, with what is added to them.
+/// Adds the given lines, with what is added to them.
 fn push_given<A: Allocator, B: Allocator>(
     text: &mut Vec<u8, A>,
     line: &mut Vec<u8, A>,
@@ -368,7 +368,7 @@ fn push_all_halts<A: Allocator, B: Allocator>(
     push_halts(text, b"pause", &proposed.pauses().meet(&open))
 }
 
-/// The offsets above 7 by which the routine of an entry may return.
+/// The offsets above 7 at which the routine of an entry may return.
 fn further_offsets<A: Allocator>(declaration: &Declaration<A>, entry: Word) -> WordSet {
     let mut offsets = WordSet::empty();
     for skips in declaration.skips() {
@@ -379,7 +379,7 @@ fn further_offsets<A: Allocator>(declaration: &Declaration<A>, entry: Word) -> W
     above_seven(&offsets)
 }
 
-/// Adds the lines with offsets above 7 by which routines may return.
+/// Adds the lines with the offsets above 7 at which routines may return.
 fn push_all_skips<A: Allocator, B: Allocator>(
     text: &mut Vec<u8, A>,
     given: &Declaration<B>,
@@ -396,7 +396,7 @@ fn push_all_skips<A: Allocator, B: Allocator>(
     Ok(())
 }
 
-/// The entries of the routines that are there when all are added that may be.
+/// The entries of all routines, including those that may be added.
 fn all_entries<A: Allocator>(held: &DeclaredCells, proposed: &Declaration<A>) -> WordSet {
     let mut entries = held.entries;
     for routine in proposed.routines() {
@@ -407,8 +407,8 @@ fn all_entries<A: Allocator>(held: &DeclaredCells, proposed: &Declaration<A>) ->
     entries
 }
 
-/// Adds the lines that say by which other offsets routines return, which of them store in their entries, and for which places of
-/// main all calls may be abandoned.
+/// Adds the lines that say at which other offsets routines may return, which of them may store in their entries, and
+/// for which places of main all calls may be abandoned.
 fn push_permissions<A: Allocator, B: Allocator>(
     text: &mut Vec<u8, A>,
     given: &Declaration<B>,
@@ -424,7 +424,7 @@ fn push_permissions<A: Allocator, B: Allocator>(
     push_cells(text, b"abandon", &abandons)
 }
 
-/// Adds the lines of the cells that may be read and are not listed yet, if reads are listed.
+/// Adds the lines of the cells that may be read and are not yet listed, if reads are listed.
 fn push_reads<A: Allocator, B: Allocator>(
     text: &mut Vec<u8, A>,
     given: &Declaration<B>,
@@ -439,8 +439,9 @@ fn push_reads<A: Allocator, B: Allocator>(
     push_cells(text, b"read", &cells.minus(listed))
 }
 
-/// The text of a declaration with what another one has and it lacks: ranges and offsets in the lines of its routines,
-/// and lines at the end, each marked by a comment. What is in a body, an entry or a halt stays so.
+/// The text of a declaration, with what it lacks of another one: ranges and offsets are added to the lines of its
+/// routines, and lines at the end, each marked by a comment. A cell that is in a body, or is an entry or a halt, stays
+/// so.
 pub(crate) fn merged<A: Allocator + Copy, B: Allocator>(
     alloc: A,
     bytes: &[u8],

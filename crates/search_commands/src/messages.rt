@@ -1,5 +1,5 @@
-//! Whether a program complies with its declaration, and why, with the addresses of what is told marked for whoever
-//! has the program's source. The commands write the same as plain text.
+//! Whether a program complies with its declaration, and why. The addresses in these messages are marked, for readers
+//! who have the source of the program. The commands write the same as plain text.
 
 ghost use Rattle.std.specs.Prelude.{◌≡◌, ◌++◌, false, [], IfOk, IfErr};
 ghost use Rattle.declaration.specs.DeclarationInCode.{meaning};
@@ -36,14 +36,14 @@ use std::alloc::{AllocError, Allocator};
 use turns::Turns;
 use word12::Word;
 
-/// An answer, and what the search for a certificate had found where it was stuck, if that is known.
+/// An answer, and what the search for a certificate had found when it got stuck, if that is known.
 #[derive(Drop)]
 struct AnswerWithDraft<A: Allocator> {
     answer: Answer<A>,
     draft: Option<Certificate<A>>,
 }
 
-/// An answer, its line, and why.
+/// An answer, its line, and the reasons for it.
 #[derive(Drop)]
 pub struct AnswerMessage<A: Allocator> {
     /// Whether the program complies with its declaration.
@@ -52,11 +52,11 @@ pub struct AnswerMessage<A: Allocator> {
     pub line: Vec<u8, A>,
     /// The lines that say why, if that is requested.
     pub why: Message<A>,
-    /// What the search had found where it was stuck, if that is the answer and it is to be explained.
+    /// What the search had found when it got stuck, if that is the answer and it is to be explained.
     pub draft: Option<Certificate<A>>,
 }
 
-/// An answer on a declaration that is proposed, its line, and why.
+/// An answer about a proposed declaration, its line, and the reasons for it.
 #[derive(Drop)]
 pub struct ProposalMessage<A: Allocator> {
     /// The declaration, and whether the program complies with it.
@@ -91,7 +91,8 @@ fn refuted<A: Allocator + Copy, D: Allocator>(
     }
 }
 
-/// The same, with what the search for a certificate had found, if that is known.
+/// Searches for a run that violates a declaration, and keeps what the search for a certificate had found, if that is
+/// known.
 fn answer_on<A: Allocator + Copy, D: Allocator>(
     alloc: A,
     image: &Image,
@@ -110,7 +111,7 @@ fn answer_on<A: Allocator + Copy, D: Allocator>(
     }
 }
 
-/// The same by the fault of the search for a certificate.
+/// The answer after a search for a certificate that ended with this fault.
 fn answer_after<A: Allocator + Copy, D: Allocator>(
     alloc: A,
     image: &Image,
@@ -128,7 +129,7 @@ fn answer_after<A: Allocator + Copy, D: Allocator>(
     }
 }
 
-/// The answer for a declaration that was given.
+/// The answer about a given declaration.
 fn answer_of<A: Allocator + Copy, D: Allocator>(
     alloc: A,
     image: &Image,
@@ -148,7 +149,7 @@ fn answer_of<A: Allocator + Copy, D: Allocator>(
     }
 }
 
-/// The answer by what a search for a certificate came to.
+/// The answer after a search for a certificate that came to this result.
 fn answer_by_attempt<A: Allocator + Copy, D: Allocator>(
     alloc: A,
     image: &Image,
@@ -174,8 +175,8 @@ fn answer_by_attempt<A: Allocator + Copy, D: Allocator>(
     }
 }
 
-/// The answer for a declaration that was given, with the draft of a search that is stuck. One search is made for a
-/// certificate.
+/// The answer about a given declaration, with the draft of a search that is stuck. Only one search for a certificate is
+/// made.
 fn answer_with_draft<A: Allocator + Copy, D: Allocator>(
     alloc: A,
     image: &Image,
@@ -192,7 +193,7 @@ fn answer_with_draft<A: Allocator + Copy, D: Allocator>(
     }
 }
 
-/// The line that says why it is not known.
+/// The line that says why the answer is not known.
 fn lack_line<A: Allocator>(alloc: A, lack: InconclusiveReason) -> Result<Vec<u8, A>, AllocError>
     ensures { IfOk result (λ text. text.items ≡ lack_text lack) }
 {
@@ -205,7 +206,7 @@ fn lack_line<A: Allocator>(alloc: A, lack: InconclusiveReason) -> Result<Vec<u8,
     Ok(text)
 }
 
-/// The line of a run that violates the declaration.
+/// The line about a run that violates the declaration.
 fn no_line<A: Allocator>(alloc: A, event: usize, rule: Rule) -> Result<Vec<u8, A>, AllocError>
     ensures { IfOk result (λ text. text.items ≡ no_text event rule) }
 {
@@ -234,7 +235,7 @@ fn answer_line<A: Allocator + Copy, D: Allocator>(
     }
 }
 
-/// The line of an answer about a declaration that is proposed, by its line about one that is given.
+/// The line of an answer about a proposed declaration, made from the line of the same answer about a given one.
 fn proposed_line<A: Allocator + Copy>(
     alloc: A,
     answer: &Answer<A>,
@@ -253,7 +254,7 @@ fn proposed_line<A: Allocator + Copy>(
     Ok(text)
 }
 
-/// What the search for a certificate lacks, by what it had found: the lines of `guess --why` after its first one.
+/// What the search for a certificate lacks, given what it had found: the lines of `guess --why` after its first one.
 fn lacking_message<A: Allocator + Copy, D: Allocator>(
     alloc: A,
     image: &Image,
@@ -270,7 +271,7 @@ fn lacking_message<A: Allocator + Copy, D: Allocator>(
     }
 }
 
-/// The same, by the draft if that is known; else by another search.
+/// The same lines, from the draft if that is known, and otherwise from another search.
 fn stuck_message<A: Allocator + Copy, D: Allocator>(
     alloc: A,
     image: &Image,
@@ -284,7 +285,7 @@ fn stuck_message<A: Allocator + Copy, D: Allocator>(
     }
 }
 
-/// What the last step of a run is about to do that violates a rule.
+/// What the last step of a run, which violates a rule, is about to do.
 fn violation_message<A: Allocator + Copy, D: Allocator>(
     alloc: A,
     image: &Image,
@@ -299,9 +300,9 @@ fn violation_message<A: Allocator + Copy, D: Allocator>(
     Ok(violation_lines(alloc, image, declaration, events, watched, true)?)
 }
 
-/// The lines after an answer that say why: after a yes what of the declaration is wider than the certificate needs, and what routines
-/// return with; or what the step is about to do that violates a rule, or what the search for a certificate lacks. There are none if
-/// they are not asked for.
+/// The lines after an answer that say why: after a yes, what in the declaration is wider than the certificate needs,
+/// and what routines return with; otherwise what the step that violates a rule is about to do, or what the search for a
+/// certificate lacks. There are no such lines if they are not requested.
 fn why_message<A: Allocator + Copy, D: Allocator>(
     alloc: A,
     image: &Image,
@@ -325,7 +326,7 @@ fn why_message<A: Allocator + Copy, D: Allocator>(
     }
 }
 
-/// An answer with its line, and why.
+/// An answer with its line, and the reasons for it.
 fn message_of<A: Allocator + Copy, D: Allocator>(
     alloc: A,
     image: &Image,
@@ -357,7 +358,7 @@ fn message_of<A: Allocator + Copy, D: Allocator>(
 ///
 /// # Errors
 ///
-/// `NoMemory`.
+/// `NoMemory` if memory was refused.
 #[inline(never)]
 pub fn verify_message<A: Allocator + Copy, D: Allocator>(
     alloc: A,
@@ -365,7 +366,7 @@ pub fn verify_message<A: Allocator + Copy, D: Allocator>(
     declaration: &Declaration<D>,
     options: &RefuteOptions,
 ) -> Result<AnswerMessage<A>, Fault>
-    // The answer is true of the image and the declaration, and the line and the text after it tell it.
+    // The answer is true for the image and the declaration, and the line and the text after it report the answer.
     ensures told { IfOk result (λ told. IsVerifiedOf options.now.explained image.now
         (meaning declaration.now) told.answer (told.line.items ++ plain told.why)) }
     ensures line { IfOk result (λ told.
@@ -384,15 +385,15 @@ pub fn verify_message<A: Allocator + Copy, D: Allocator>(
 ///
 /// # Errors
 ///
-/// `Declare` if what is found cannot be declared; `NoMemory`.
+/// `Declare` if what is found cannot be declared; `NoMemory` if memory was refused.
 #[inline(never)]
 pub fn verify_proposed_message<A: Allocator + Copy>(
     alloc: A,
     image: &Image,
     options: &VerifyOptions,
 ) -> Result<ProposalMessage<A>, Fault>
-    // The text declares a program from that start, on that machine, the answer is true of it, and the
-    // line and the text after it tell it.
+    // The text declares a program with that start, on that machine; the answer is true for it; and the line and the
+    // text after it report the answer.
     ensures told { IfOk result (λ told. IsProposedAnswerOf options.now image.now told.proposed
         (told.line.items ++ plain told.why)) }
     ensures faults { IfErr result IsProposeFault }

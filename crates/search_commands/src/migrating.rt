@@ -18,14 +18,13 @@ use diagnostics::verdicts::certificates::{certificate_from, write_certificate};
 use std::alloc::Allocator;
 use streams::{ByteSink, ByteSource};
 
-/// Migrates a certificate to version 2 and writes its text. It claims what it claimed before; of MQ
-/// a certificate of version 1 says then that it may hold any word. One of version 2 or 3 is written as
-/// it is.
+/// Migrates a certificate to version 2, and writes its text. It claims what it claimed before; a certificate of version
+/// 1 then also says that MQ may hold any word. A certificate of version 2 or 3 is written unchanged.
 ///
 /// # Errors
 ///
-/// The fault of the certificate's text, and then nothing is written; `Device` where a read failed,
-/// or where a write failed, after which a prefix of the text went out; `NoMemory`.
+/// The fault of the certificate's text, and then nothing is written; `Device` if a read failed, or if a write failed
+/// after a prefix of the text had gone out; `NoMemory` if memory was refused.
 pub fn migrate<A: Allocator + Copy, C: ByteSource, W: ByteSink>(
     alloc: A,
     certificate: &mut C,
@@ -37,7 +36,7 @@ pub fn migrate<A: Allocator + Copy, C: ByteSource, W: ByteSink>(
     ensures migrated { WritesAnswer
         (λ status text. (status ≡ Done) × IsMigrated (C.remaining certificate.old) text)
         (output (W.mark out.new) (W.taken out.old) (W.taken out.new)) result }
-    // The certificate is read, and after a good one a write may fail.
+    // The certificate is read. If it is good, a write may fail.
     ensures reads { ReadsCertificate
         (input (C.mark certificate.new) (C.remaining certificate.old) (C.remaining certificate.new))
         ⊤ (FailsBy (IsLaterFault NeverFails)) result }
@@ -47,7 +46,8 @@ pub fn migrate<A: Allocator + Copy, C: ByteSource, W: ByteSink>(
     write_certificate(&migrated, out)
 }
 
-/// A certificate in version 3: as it is if it is of that version, and else with the sites by a declaration.
+/// A certificate in version 3: unchanged if it is of that version, and otherwise with the sites that a declaration
+/// gives.
 fn sited<A: Allocator + Copy, D: Allocator>(
     alloc: A,
     declaration: &Declaration<D>,
@@ -66,16 +66,16 @@ fn sited<A: Allocator + Copy, D: Allocator>(
     }
 }
 
-/// Migrates a certificate to version 3 and writes its text: each fact gets the sites of the routine in whose
-/// body its address is by a declaration, and each exit those of its routine. All else that is claimed stays.
-/// One of version 3 is written as it is. It is not promised that a certificate which is accepted is accepted
-/// in version 3 too.
+/// Migrates a certificate to version 3, and writes its text. Each fact gets the sites of the routine whose body has its
+/// address in the declaration, and each exit gets those of its routine. Everything else that is claimed stays the same.
+/// A certificate of version 3 is written unchanged. It is not promised that an accepted certificate is accepted in
+/// version 3 too.
 ///
 /// # Errors
 ///
-/// The fault of the declaration or of the certificate's text: each is read and, if it has a fault, refused
-/// before the next is read, and then nothing is written; `Device` where a read failed, or where a write
-/// failed, after which a prefix of the text went out; `NoMemory`.
+/// The fault of the declaration or of the certificate's text: each of them is read and, if it has a fault, refused
+/// before the next is read, and then nothing is written; `Device` if a read failed, or if a write failed after a prefix
+/// of the text had gone out; `NoMemory` if memory was refused.
 pub fn migrate_with_sites<A: Allocator + Copy, D: ByteSource, C: ByteSource, W: ByteSink>(
     alloc: A,
     declaration: &mut D,
@@ -90,7 +90,7 @@ pub fn migrate_with_sites<A: Allocator + Copy, D: ByteSource, C: ByteSource, W: 
         (λ status text. (status ≡ Done) ×
         IsSited (D.remaining declaration.old) (C.remaining certificate.old) text)
         (output (W.mark out.new) (W.taken out.old) (W.taken out.new)) result }
-    // The inputs are read in order; after good ones a write may fail, or memory be refused.
+    // The inputs are read in order. If both are good, a write may fail, or memory may be refused.
     ensures reads { ReadsDeclaration
         (input (D.mark declaration.new) (D.remaining declaration.old) (D.remaining declaration.new))
         (certificate.new ≡ certificate.old)

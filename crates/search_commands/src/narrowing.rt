@@ -1,4 +1,4 @@
-//! The text of a declaration without what a certificate shows to be needless.
+//! The text of a declaration without what a certificate shows to be unnecessary.
 
 use crate::merging::{parted, push_offsets, push_ranges, routine_of, set_of};
 use crate::returning::push_digits;
@@ -12,30 +12,30 @@ use usage::{Register, Surplus, returned, surplus_of};
 use word12::Word;
 use wordset::WordSet;
 
-/// How many offsets there are by which a routine may be declared to return.
+/// The number of offsets at which a routine may be declared to return.
 const OFFSETS: usize = 64;
 
-/// A program with its declaration and a certificate, and what of the declaration is left out.
+/// A program with its declaration and a certificate, and the parts of the declaration that are left out.
 #[derive(Drop)]
 struct Needless<'a, D: Allocator, C: Allocator> {
     image: &'a Image,
     declaration: &'a Declaration<D>,
     certificate: &'a Certificate<C>,
     surplus: Surplus,
-    /// The cells that bodies lose.
+    /// The cells that are left out of bodies.
     cells: WordSet,
-    /// The entries of the routines that go.
+    /// The entries of the routines that are left out.
     entries: WordSet,
 }
 
-/// How the cells of a line are spelled.
+/// How the cells on a line are written.
 #[derive(Clone, Copy, PartialEq, Eq)]
 enum Spelling {
-    /// As ranges, and the line goes with its last cell.
+    /// As ranges. The line is left out with its last cell.
     Ranges,
-    /// As ranges, and the line stays without a cell.
+    /// As ranges. The line stays even without a cell.
     RangesOrNone,
-    /// One by one, and the line goes with its last cell.
+    /// One by one. The line is left out with its last cell.
     Addresses,
 }
 
@@ -57,8 +57,8 @@ fn asserted_entries<D: Allocator>(declaration: &Declaration<D>) -> WordSet {
     entries
 }
 
-/// The entries of the routines that go: they are never called, their bodies lose all cells, and nothing is declared to hold at their
-/// returns.
+/// The entries of the routines that are left out: they are never called, their bodies lose all cells, and nothing is
+/// declared to hold at their returns.
 fn entries_without_use<D: Allocator>(
     declaration: &Declaration<D>,
     uncalled: &WordSet,
@@ -76,7 +76,7 @@ fn entries_without_use<D: Allocator>(
     entries
 }
 
-/// The cells of a word that is an address, or a range of them.
+/// The cells that a word names, if it is an address or a range of addresses.
 fn range_of(word: &[u8]) -> Option<WordSet> {
     let Some(at) = word.iter().position(|byte| *byte == b'-') else {
         return octal_word(word).map(WordSet::one);
@@ -89,7 +89,7 @@ fn range_of(word: &[u8]) -> Option<WordSet> {
     Some(WordSet::range(low, high))
 }
 
-/// The cells that the words of a line spell.
+/// The cells that the words of a line name.
 fn cells_of(rest: Words<'_>) -> WordSet {
     let mut words = rest;
     let mut cells = WordSet::empty();
@@ -125,13 +125,13 @@ fn push_offset_ranges<A: Allocator>(
     Ok(())
 }
 
-/// Adds a line as it is.
+/// Adds a line unchanged.
 fn push_whole<A: Allocator>(text: &mut Vec<u8, A>, line: &[u8]) -> Result<(), AllocError> {
     text.extend_from_slice(line)?;
     text.extend_from_slice(b"\n")
 }
 
-/// Adds a line of cells without those that go, and the whole line if none goes.
+/// Adds a line of cells without those that are left out, or the line unchanged if it keeps all of them.
 fn push_cells<A: Allocator>(
     text: &mut Vec<u8, A>,
     line: &[u8],
@@ -159,8 +159,8 @@ fn push_cells<A: Allocator>(
 }
 
 impl<'a, D: Allocator, C: Allocator> Needless<'a, D, C> {
-    /// What a certificate shows to be needless. What is declared to hold stays, and with it the cells and the routines of which it
-    /// speaks.
+    /// The parts that a certificate shows to be unnecessary. What is declared to hold stays, and so do the cells and
+    /// the routines that it names.
     fn of(
         image: &'a Image,
         declaration: &'a Declaration<D>,
@@ -179,7 +179,7 @@ impl<'a, D: Allocator, C: Allocator> Needless<'a, D, C> {
         }
     }
 
-    /// Whether a routine returns by an offset.
+    /// Whether a routine returns at an offset.
     fn returns_by(&self, entry: Word, offset: usize) -> bool {
         if offset >= OFFSETS {
             return false;
@@ -195,7 +195,7 @@ impl<'a, D: Allocator, C: Allocator> Needless<'a, D, C> {
         .is_empty()
     }
 
-    /// The offsets by which a routine never returns.
+    /// The offsets at which a routine never returns.
     fn idle_offsets(&self, entry: Word) -> WordSet {
         let mut offsets = WordSet::empty();
         for offset in 0..OFFSETS {
@@ -206,7 +206,7 @@ impl<'a, D: Allocator, C: Allocator> Needless<'a, D, C> {
         offsets
     }
 
-    /// What the body of a routine that stays keeps: a body has a cell.
+    /// What is kept of the body of a routine that stays: a body has at least one cell.
     fn kept_body(&self, routine: &Routine) -> WordSet {
         let kept = routine.body().minus(&self.cells);
         if kept.is_empty() {
@@ -216,7 +216,7 @@ impl<'a, D: Allocator, C: Allocator> Needless<'a, D, C> {
         }
     }
 
-    /// Adds the line of a routine without what goes.
+    /// Adds the line of a routine without what is left out.
     fn push_routine<A: Allocator>(
         &self,
         text: &mut Vec<u8, A>,
@@ -243,7 +243,7 @@ impl<'a, D: Allocator, C: Allocator> Needless<'a, D, C> {
         push_whole(text, rest)
     }
 
-    /// Adds the line of a routine, the first word behind `sub` being its entry.
+    /// Adds the line of a routine, whose entry is the first word after `sub`.
     fn push_sub<A: Allocator>(
         &self,
         text: &mut Vec<u8, A>,
@@ -259,7 +259,7 @@ impl<'a, D: Allocator, C: Allocator> Needless<'a, D, C> {
         }
     }
 
-    /// Adds a line of further offsets without what goes.
+    /// Adds a line of further offsets without what is left out.
     fn push_further<A: Allocator>(
         &self,
         text: &mut Vec<u8, A>,
@@ -285,7 +285,7 @@ impl<'a, D: Allocator, C: Allocator> Needless<'a, D, C> {
         push_whole(text, comment)
     }
 
-    /// Adds a line that gives permissions to entries or cells, or another line, without what goes of it.
+    /// Adds a line that gives permissions to entries or cells, or any other line, without what is left out of it.
     fn push_permission<A: Allocator>(
         &self,
         text: &mut Vec<u8, A>,
@@ -307,7 +307,7 @@ impl<'a, D: Allocator, C: Allocator> Needless<'a, D, C> {
         push_whole(text, line)
     }
 
-    /// Adds a line without what goes of it.
+    /// Adds a line without what is left out of it.
     fn push_line<A: Allocator>(
         &self,
         text: &mut Vec<u8, A>,
@@ -338,7 +338,7 @@ impl<'a, D: Allocator, C: Allocator> Needless<'a, D, C> {
     }
 }
 
-/// The text of a declaration without what a certificate shows to be needless.
+/// The text of a declaration without what a certificate shows to be unnecessary.
 pub(crate) fn narrowed<A: Allocator + Copy, D: Allocator, C: Allocator>(
     alloc: A,
     bytes: &[u8],
@@ -351,7 +351,7 @@ pub(crate) fn narrowed<A: Allocator + Copy, D: Allocator, C: Allocator>(
     for line in bytes.split(|byte| *byte == b'\n') {
         needless.push_line(&mut text, line)?;
     }
-    // Behind the last line feed there is no line.
+    // There is no line after the last line feed.
     let _ = text.pop();
     Ok(text)
 }

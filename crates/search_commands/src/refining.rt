@@ -1,5 +1,5 @@
-//! What `declare` makes of a declaration for which a certificate is found: it leaves out what is needless, and adds with what routines
-//! return.
+//! What `declare` makes of a declaration for which a certificate is found: it leaves out what is unnecessary, and adds
+//! what routines return with.
 
 ghost use Rattle.std.specs.Prelude.{ℕ, ◌≡◌, true, is_some, List, Option, IfOk, IfErr, IfSome};
 ghost use Rattle.command_parts.specs.Answers.{IsMemoryFault};
@@ -26,48 +26,48 @@ use std::alloc::{AllocError, Allocator};
 use word12::Word;
 use wordset::WordSet;
 
-/// How many offsets there are by which a routine may be declared to return.
+/// The number of offsets at which a routine may be declared to return.
 const OFFSETS: usize = 64;
 
-/// What is told if nothing is left out since no certificate is found.
+/// The message if nothing is left out because no certificate is found.
 const NOT_SHOWN: &[u8] =
     b"--tight leaves nothing out: no certificate is found for the declaration\n";
 
-/// What is told if nothing is left out since no certificate is found for what would be left.
+/// The message if nothing is left out because no certificate is found for what would remain.
 const NOT_SHOWN_NARROWER: &[u8] =
     b"--tight leaves nothing out: without the parts that are not needed, no certificate is found for the declaration\n";
 
-/// What is told if nothing is needless but what is declared to hold.
+/// The message if nothing is unnecessary except what is declared to hold.
 const ALL_NEEDED: &[u8] =
-    b"--tight leaves nothing out: the certificate needs everything that the declaration lists, or a `holds` or `returns` line names it\n";
+    b"--tight leaves nothing out: everything that it could leave out is needed by the certificate or named by a `holds` or `returns` line\n";
 
-/// What is told if no return is added since no certificate is found.
+/// The message if no return is added because no certificate is found.
 const NO_RETURNS_SHOWN: &[u8] =
     b"--exits adds nothing: no certificate is found for the declaration\n";
 
-/// What is told if there is no return to be added.
+/// The message if there is no return to add.
 const NO_RETURNS: &[u8] =
-    b"--exits adds nothing: the declaration already says all that is shown about AC and the link when routines return\n";
+    b"--exits adds nothing: the declaration already says everything that is shown about AC and the link at the returns of routines\n";
 
-/// What is told if returns cannot be added.
+/// The message if returns cannot be added.
 const TOO_MANY_RETURNS: &[u8] =
     b"--exits adds nothing: the declaration would become too long, or no certificate is found for it\n";
 
-/// A declaration that was changed, or not, and what is told of that.
+/// A declaration that was changed or kept, and the message about that.
 #[derive(Drop)]
 pub struct Refinement<A: Allocator> {
     /// The text of the declaration.
     pub text: Vec<u8, A>,
-    /// What is told on standard error.
+    /// The message on standard error.
     pub told: Message<A>,
 }
 
-/// Whether the same is to hold at places in two declarations.
+/// Whether two declarations require the same to hold at places.
 fn holds_alike<A: Allocator, B: Allocator>(given: &Declaration<A>, less: &Declaration<B>) -> bool {
     less.holds() == given.holds()
 }
 
-/// Whether what is to hold at returns in a declaration comes first in what is to hold there in another one.
+/// Whether what is to hold at returns in one declaration comes first among what is to hold there in another one.
 fn keeps_returns<A: Allocator, B: Allocator>(
     given: &Declaration<A>,
     less: &Declaration<B>,
@@ -75,7 +75,7 @@ fn keeps_returns<A: Allocator, B: Allocator>(
     less.returns().starts_with(given.returns())
 }
 
-/// Whether a declaration has the start and the machine of another one, and lists reads where it does.
+/// Whether a declaration has the same start and machine as another one, and lists reads exactly if the other one does.
 fn is_alike<A: Allocator, B: Allocator>(given: &Declaration<A>, less: &Declaration<B>) -> bool
     ensures start { result ≡ true → (meaning less.now).start ≡ (meaning given.now).start }
     ensures profile { result ≡ true → (meaning less.now).profile ≡ (meaning given.now).profile }
@@ -156,7 +156,7 @@ fn shown_no_wider<A: Allocator + Copy, D: Allocator>(
     }
 }
 
-/// A certificate for a program, if one is found.
+/// A certificate for a program and its declaration, if one is found.
 fn certificate_for<A: Allocator + Copy, D: Allocator>(
     alloc: A,
     image: &Image,
@@ -173,7 +173,7 @@ fn certificate_for<A: Allocator + Copy, D: Allocator>(
     }
 }
 
-/// The text that is given, and why it is not changed.
+/// The given text, and why it is not changed.
 #[tactic(auto, using(crate::proofs::RefiningLemmas::same_text_is_refined, crate::proofs::RefiningLemmas::same_text_keeps))]
 fn unchanged<A: Allocator + Copy>(alloc: A, text: &[u8], why: &[u8]) -> Result<Refinement<A>, Fault>
     ensures refined { (image : List (Option ℕ)) →
@@ -205,7 +205,7 @@ fn entries_of<D: Allocator>(declaration: &Declaration<D>) -> WordSet {
     entries
 }
 
-/// The cells on the list of reads, none where there is no list.
+/// The cells on the list of reads, or no cells if there is no list.
 fn reads_of<D: Allocator>(declaration: &Declaration<D>) -> WordSet {
     match declaration.reads() {
         Some(cells) => *cells,
@@ -213,7 +213,7 @@ fn reads_of<D: Allocator>(declaration: &Declaration<D>) -> WordSet {
     }
 }
 
-/// The offsets by which a routine may return in one declaration and not in another one.
+/// The offsets at which a routine may return in one declaration but not in another one.
 fn lost_offsets<A: Allocator, B: Allocator>(
     given: &Declaration<A>,
     less: &Declaration<B>,
@@ -229,7 +229,7 @@ fn lost_offsets<A: Allocator, B: Allocator>(
     offsets
 }
 
-/// Adds the offsets that routines lose which stay.
+/// Adds the offsets that are left out of routines that stay.
 fn push_lost_offsets<L: MessageWriter, A: Allocator, B: Allocator>(
     told: &mut L,
     given: &Declaration<A>,
@@ -248,7 +248,7 @@ fn push_lost_offsets<L: MessageWriter, A: Allocator, B: Allocator>(
     Ok(())
 }
 
-/// Adds what a declaration has of the other things and another one lacks.
+/// Adds the halts and the permissions that one declaration has and another one lacks.
 fn push_lost_leave<L: MessageWriter, A: Allocator, B: Allocator>(
     told: &mut L,
     given: &Declaration<A>,
@@ -273,7 +273,7 @@ fn push_lost_leave<L: MessageWriter, A: Allocator, B: Allocator>(
     )
 }
 
-/// Adds what a declaration has and another one lacks.
+/// Adds what one declaration has and another one lacks.
 fn push_lost<L: MessageWriter, A: Allocator, B: Allocator>(
     told: &mut L,
     given: &Declaration<A>,
@@ -303,7 +303,7 @@ fn push_lost<L: MessageWriter, A: Allocator, B: Allocator>(
     push_lost_leave(told, given, less)
 }
 
-/// What is told of a declaration from which something was left out, or nothing.
+/// The message about a declaration from which something, or nothing, was left out.
 fn told_of<A: Allocator + Copy, D: Allocator, E: Allocator>(
     alloc: A,
     given: &Declaration<D>,
@@ -317,12 +317,13 @@ fn told_of<A: Allocator + Copy, D: Allocator, E: Allocator>(
     Ok(told)
 }
 
-/// The text of a declaration without what a certificate shows to be needless, if one is found for the declaration and one for what is
-/// left of it; else the text as it is. What is declared to hold stays. What goes is told.
+/// The text of a declaration without what a certificate shows to be unnecessary, if a certificate is found for the
+/// declaration and another for what remains of it; otherwise the text unchanged. What is declared to hold stays. The
+/// message says what is left out.
 ///
 /// # Errors
 ///
-/// `Declaration` if the text declares nothing; `NoMemory`.
+/// `Declared` if the text does not declare a program; `NoMemory` if memory was refused.
 pub fn tightened<A: Allocator + Copy>(
     alloc: A,
     image: &Image,
@@ -342,7 +343,7 @@ pub fn tightened<A: Allocator + Copy>(
     Ok(Refinement { text: less, told })
 }
 
-/// A text, and behind it the lines that say with what routines return.
+/// A text, followed by the lines that say what routines return with.
 fn text_with_returns<A: Allocator + Copy, D: Allocator, C: Allocator>(
     alloc: A,
     text: &[u8],
@@ -356,13 +357,13 @@ fn text_with_returns<A: Allocator + Copy, D: Allocator, C: Allocator>(
     Ok(more)
 }
 
-/// The text of a declaration, and behind it a line for each return of a routine that says what AC has by a certificate, and one that
-/// says what the link is, if a certificate is found for the declaration and one for what is written; else the text as it is. What is
-/// not added is told.
+/// The text of a declaration, followed by a line for each return of a routine that says which words AC may hold
+/// according to a certificate, and a line that says what the link may be, if a certificate is found for the declaration
+/// and another for what is written; otherwise the text unchanged. The message says why nothing is added.
 ///
 /// # Errors
 ///
-/// `Declaration` if the text declares nothing; `NoMemory`.
+/// `Declared` if the text does not declare a program; `NoMemory` if memory was refused.
 pub fn with_returns<A: Allocator + Copy>(
     alloc: A,
     image: &Image,

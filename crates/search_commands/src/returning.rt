@@ -1,4 +1,4 @@
-//! Lines that say with what routines return.
+//! Lines that say what routines return with.
 
 use crate::merging::end_line;
 use bin_tape::Image;
@@ -10,10 +10,10 @@ use usage::{Register, returned};
 use word12::Word;
 use wordset::WordSet;
 
-/// How many offsets there are by which a routine may be declared to return.
+/// The number of offsets at which a routine may be declared to return.
 const OFFSETS: usize = 64;
 
-/// A program with its declaration, and a certificate which shows that it complies with it.
+/// A program with its declaration, and a certificate that shows that the program complies with it.
 #[derive(Drop)]
 struct Shown<'a, D: Allocator, C: Allocator> {
     image: &'a Image,
@@ -21,7 +21,7 @@ struct Shown<'a, D: Allocator, C: Allocator> {
     certificate: &'a Certificate<C>,
 }
 
-/// A return of a routine, and a register.
+/// A register at a return of a routine.
 #[derive(Clone, Copy)]
 struct RegisterAtReturn {
     entry: Word,
@@ -38,7 +38,7 @@ impl RegisterAtReturn {
         }
     }
 
-    /// Whether the register may hold any word.
+    /// Whether these words are all that the register can hold.
     fn is_free(&self, words: &WordSet) -> bool {
         match self.register {
             Register::Accumulator => words.is_all(),
@@ -46,7 +46,7 @@ impl RegisterAtReturn {
         }
     }
 
-    /// Whether a line says of this return that the register holds one of these words, or says more.
+    /// Whether a line says that the register holds only words from this set at this return.
     fn is_asserted_by(&self, line: &ReturnAssertion, words: &WordSet) -> bool {
         let assertion = line.assertion();
         let is_subject = match self.register {
@@ -60,7 +60,7 @@ impl RegisterAtReturn {
     }
 }
 
-/// Adds an offset or a link: one digit, or two of them.
+/// Adds an offset or a link, as one digit or two.
 pub(crate) fn push_digits<A: Allocator>(
     text: &mut Vec<u8, A>,
     word: Word,
@@ -79,7 +79,7 @@ fn push_spaced_digits<A: Allocator>(text: &mut Vec<u8, A>, word: Word) -> Result
     push_digits(text, word)
 }
 
-/// Adds the words that a register holds: the link as a digit.
+/// Adds the words that a register holds; the link is written as a digit.
 fn push_words<A: Allocator>(
     text: &mut Vec<u8, A>,
     register: Register,
@@ -111,7 +111,7 @@ impl<D: Allocator, C: Allocator> Shown<'_, D, C> {
         )
     }
 
-    /// Whether the declaration says already that a register holds one of these words.
+    /// Whether the declaration already says that a register holds only words from this set.
     fn is_asserted(&self, place: &RegisterAtReturn, words: &WordSet) -> bool {
         self.declaration
             .returns()
@@ -119,8 +119,8 @@ impl<D: Allocator, C: Allocator> Shown<'_, D, C> {
             .any(|line| place.is_asserted_by(line, words))
     }
 
-    /// Adds the line that says what a register holds at a return, unless the routine never returns so, the register may hold any
-    /// word, or the declaration says it already.
+    /// Adds the line that says what a register holds at a return, unless the routine never returns there, the register
+    /// may hold any word, or the declaration already says it.
     fn push_register<A: Allocator>(
         &self,
         text: &mut Vec<u8, A>,
@@ -138,7 +138,7 @@ impl<D: Allocator, C: Allocator> Shown<'_, D, C> {
         end_line(text)
     }
 
-    /// Adds the lines of the returns of a routine.
+    /// Adds the lines about the returns of a routine.
     fn push_returns<A: Allocator>(
         &self,
         text: &mut Vec<u8, A>,
@@ -162,8 +162,8 @@ impl<D: Allocator, C: Allocator> Shown<'_, D, C> {
     }
 }
 
-/// Adds to a text whose last line has its end a line for each return of a routine, of whatever offset, that says which words AC has by
-/// the certificate, and one that says what the link is.
+/// Adds to a text, whose last line has ended, a line for each return of a routine at any offset that says which words
+/// AC may hold according to the certificate, and a line that says what the link may be.
 pub(crate) fn push_all_returns<A: Allocator, D: Allocator, C: Allocator>(
     text: &mut Vec<u8, A>,
     image: &Image,

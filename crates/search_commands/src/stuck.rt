@@ -19,7 +19,7 @@ use reasons::{Reason, ReasonWorkspace, why_stuck};
 use std::alloc::{AllocError, Allocator};
 use word12::Word;
 
-/// Adds the lines of the condition that is told, if one is.
+/// Adds the lines about the condition that is reported, if one is.
 fn push_told<L: MessageWriter>(
     text: &mut L,
     profile: Profile,
@@ -43,7 +43,8 @@ fn push_told<L: MessageWriter>(
     }
 }
 
-/// Why a search is stuck at an address, by the draft of what it found, and how that is told.
+/// Why a search is stuck at an address, given the draft of a certificate that it found, and the context that is needed
+/// to report it.
 fn told_of<D: Allocator, C: Allocator, M: Allocator>(
     image: &Image,
     declaration: &Declaration<D>,
@@ -64,11 +65,11 @@ fn told_of<D: Allocator, C: Allocator, M: Allocator>(
     }
 }
 
-/// Why a search is stuck at an address, by the draft of what it found.
+/// Why a search is stuck at an address, given the draft of a certificate that it found.
 ///
 /// # Errors
 ///
-/// Memory was refused.
+/// `AllocError` if memory was refused.
 pub fn draft_message<A: Allocator + Copy, D: Allocator, C: Allocator>(
     alloc: A,
     image: &Image,

@@ -13,7 +13,7 @@ use refuter::Witness;
 use std::alloc::Allocator;
 use word12::Word;
 
-/// How many turns a proposal has at most.
+/// The maximum number of turns for a proposal.
 pub(crate) const MOST_TURNS: u32 = 2_000_000;
 
 /// Why it is not known whether a program complies with its declaration.
@@ -21,7 +21,7 @@ pub(crate) const MOST_TURNS: u32 = 2_000_000;
 pub enum InconclusiveReason {
     /// The search for a certificate is stuck at an instruction that the judge would refuse.
     Stuck(Word),
-    /// The limit of turns of the search for a certificate was reached.
+    /// The search for a certificate reached its limit of turns.
     TurnsSpent,
 }
 
@@ -32,7 +32,7 @@ pub enum Answer<A: Allocator> {
     Yes(Certificate<A>),
     /// It does not: this run violates the declaration.
     No(Witness<A>),
-    /// Neither was found.
+    /// Neither a certificate nor such a run was found.
     NotKnown(InconclusiveReason),
 }
 
@@ -43,7 +43,7 @@ pub struct ProposalAnswer<A: Allocator> {
     pub text: Vec<u8, A>,
     /// Whether the program complies with it.
     pub answer: Answer<A>,
-    /// After a no why no declaration allows what the run does.
+    /// After a no, the reason why no declaration allows what the run does.
     pub obstacle: Option<Obstacle>,
 }
 
@@ -57,7 +57,7 @@ pub fn answer_status<A: Allocator>(answer: &Answer<A>) -> Status
     }
 }
 
-/// Why it is not known, where no certificate was found; a want of memory is told as one.
+/// Why the answer is not known if no certificate was found. Refused memory is a fault instead.
 pub(crate) fn inconclusive_reason_of(fault: GuessFault) -> Result<InconclusiveReason, Fault>
     ensures { IfErr result IsMemoryFault }
 {

@@ -1,4 +1,4 @@
-//! The answer on a tape alone: what is proposed is widened as long as runs leave it.
+//! The answer for a tape alone: the proposal is widened as long as runs leave it.
 
 ghost use Rattle.std.specs.Prelude.{◌≡◌, ◌++◌, false, None, IfOk, IfErr};
 ghost use Rattle.command_parts.specs.Answers.{IsMemoryFault};
@@ -22,11 +22,11 @@ use std::alloc::{AllocError, Allocator};
 use turns::Turns;
 use word12::Word;
 
-/// How often a proposal is widened at most.
+/// How many times a proposal is widened at most.
 const MOST_WIDENINGS: usize = 256;
 
-/// The declaration that is proposed in the end, its text, whether the program keeps it, and after a no why no declaration
-/// allows what the run does.
+/// The declaration that is finally proposed, its text, whether the program complies with it and, after a no, why no
+/// declaration allows what the run does.
 #[derive(Drop)]
 pub(crate) struct FinalProposal<A: Allocator> {
     pub(crate) declaration: Declaration<A>,
@@ -38,20 +38,20 @@ pub(crate) struct FinalProposal<A: Allocator> {
 /// How the search for a run that leaves a proposal ended.
 #[derive(Drop)]
 enum Ending<A: Allocator> {
-    /// None was found that tells how to widen the proposal, or there is a certificate.
+    /// No run was found that shows how to widen the proposal, or there is a certificate.
     Open,
-    /// This one was found, and no declaration allows what it does.
+    /// This run was found, and no declaration allows what it does.
     Broken(Witness<A>, Obstacle),
 }
 
-/// What comes after a proposal.
+/// The next step after a proposal.
 #[derive(Drop)]
 enum WideningStep<A: Allocator> {
     Wider(Proposal<A>),
     Ended(Ending<A>),
 }
 
-/// The answer by a verdict alone.
+/// The answer that a verdict alone gives.
 fn answer_by<A: Allocator>(
     image: &Image,
     declaration: &Declaration<A>,
@@ -69,7 +69,7 @@ fn answer_by<A: Allocator>(
     }
 }
 
-/// What is said of a proposal in the end.
+/// What is finally said about a proposal.
 fn conclude<A: Allocator>(
     image: &Image,
     proposal: Proposal<A>,
@@ -105,7 +105,7 @@ fn conclude<A: Allocator>(
     }
 }
 
-/// What comes after a proposal that a run leaves.
+/// The next step after a proposal that a run leaves.
 fn after_run<A: Allocator + Copy>(
     alloc: A,
     image: &Image,
@@ -126,7 +126,7 @@ fn after_run<A: Allocator + Copy>(
     }
 }
 
-/// Looks for a run that leaves a proposal without a certificate, and widens it by that.
+/// Searches for a run that leaves a proposal without a certificate, and widens the proposal by what that run does.
 fn next_after<A: Allocator + Copy>(
     alloc: A,
     image: &Image,
@@ -149,7 +149,7 @@ fn next_after<A: Allocator + Copy>(
     }
 }
 
-/// Widens a proposal as long as runs leave it, within the steps that there are, and says what is known of the last one.
+/// Widens a proposal as long as runs leave it, within the limit of steps, and says what is known about the last one.
 #[tactic(auto, using(crate::proofs::WidenedLemmas::settled_before))]
 pub(crate) fn settle<A: Allocator + Copy>(
     alloc: A,
@@ -193,15 +193,15 @@ fn obstacle_words(obstacle: &Obstacle) -> &'static [u8]
     match obstacle {
         Obstacle::Unsupported(_) => b"the machine does not support the word at ",
         Obstacle::Unset(_) =>
-            b"control comes to a cell that has no word from the tape or the program: ",
-        Obstacle::RunsEntry(_) => b"control comes to the word that a JMS stores at ",
+            b"control reaches a cell that has no word from the tape or the program, at ",
+        Obstacle::RunsEntry(_) => b"control reaches the word that a JMS stores at ",
         Obstacle::Shared(_) => b"two routines execute the word at ",
         Obstacle::CallsBody(_) => b"a JMS stores into the code at ",
         Obstacle::CallsVariable(_) => b"instructions other than JMS also store at ",
         Obstacle::CallsPointer(_) => b"a JMS stores into the auto-index cell ",
         Obstacle::StoresInEntry(_) => b"instructions other than JMS also store at ",
         Obstacle::ReturnsForAnother(_) =>
-            b"a call other than the last one returns through the JMP at ",
+            b"a routine other than the one called last returns through the JMP at ",
         Obstacle::ReturnsFar(_) =>
             b"a routine returns to an address outside the 64 words after its call, through the JMP at ",
     }
@@ -230,7 +230,7 @@ fn obstacle_line<A: Allocator>(alloc: A, obstacle: &Obstacle) -> Result<Vec<u8, 
     ensures { IfOk result (λ text. text.items ≡ obstacle_text obstacle.now) }
 {
     let mut text = Vec::new(alloc);
-    text.extend_from_slice(b"no declaration allows what the run does: ")?;
+    text.extend_from_slice(b"no declaration allows what the runs do: ")?;
     push_place(
         &mut text,
         obstacle_words(obstacle),
@@ -240,7 +240,7 @@ fn obstacle_line<A: Allocator>(alloc: A, obstacle: &Obstacle) -> Result<Vec<u8, 
     Ok(text)
 }
 
-/// The line of an answer, and after it why no declaration allows what the run does, if none does.
+/// The line of an answer, followed by why no declaration allows what the run does, if that is so.
 pub(crate) fn with_reason<A: Allocator + Copy>(
     alloc: A,
     line: Vec<u8, A>,

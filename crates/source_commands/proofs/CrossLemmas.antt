@@ -1,4 +1,4 @@
--- The lines of a table, one after another, and why there is none.
+-- The lines of a table, one after another, and why there is no table.
 use Rattle.std.proofs.Common.{◌≡◌, ◌∙◌, sym, ap, subst, refl, ℕ, ◌+◌, ◌<◌, ◌≤◌, List, [], ◌∷◌, ◌++◌, append_assoc, length, get_or, drop}
 use Rattle.std.specs.Prelude.{codes, slice_get, Bool, false, Option, Some}
 use Rattle.std.proofs.lemmas.List.{drop_more, drop_all, append-nil}
@@ -13,7 +13,8 @@ use Rattle.source_commands.specs.SourceTexts.{AreRead, is_bad_number}
 use Rattle.source_commands.specs.declared.cross.Entry.{Entry}
 use Rattle.source_commands.specs.Cross.{AddsLines, AreLines, entries_of, next_line, no_line, head_text}
 
--- What was put behind a text is the lines of the entries before this one: with the lines of the others behind it, it has those of all.
+-- What was added to a text are the lines of the entries before this one: with the lines of the others after it, the
+-- text has the lines of all entries.
 abbrev pub LinesBefore : List Entry → ℕ → List ℕ → List ℕ → Type 0
 LinesBefore entries i old text =
     (more : List ℕ) → AreLines (drop i entries) more → (whole : List ℕ) × (AreLines entries whole × (text ++ more ≡ old ++ whole))
@@ -25,7 +26,7 @@ behind_all : (a h t n m : List ℕ) → (((a ++ h) ++ t) ++ n) ++ m ≡ a ++ (((
 behind_all a h t n m =
     ap (λ (l : List ℕ). (l ++ n) ++ m) (append_assoc a h t) ∙ (ap (λ (l : List ℕ). l ++ m) (append_assoc a (h ++ t) n) ∙ append_assoc a ((h ++ t) ++ n) m)
 
--- a line more, put there piece by piece
+-- one more line, added piece by piece
 pub lines_on : (entries : List Entry) (i : ℕ) (d : Entry) (old text headed told_too new told : List ℕ) → i < length entries → headed ≡ text ++ head_text (get_or entries i d) → told_too ≡ headed ++ told → new ≡ told_too ++ codes "\n" →
     LinesBefore entries i old text → LinesBefore entries (i + 1) old new
 lines_on entries i d old text headed told_too new told h e f n before = λ more are.
@@ -46,7 +47,7 @@ lines_end entries i old text h before =
 some_is : {X : Type 0} (x y : X) → Some x ≡ Some y → x ≡ y
 some_is x y e = cc
 
--- a symbol more among the entries
+-- one more symbol among the entries
 pub entry_on : (own : List (Name × ℕ)) (i : ℕ) (n : Name) (v : ℕ) (old new : List Entry) → slice_get own i ≡ Some (n, v) → new ≡ old ++ (record { name = n; value = v }) ∷ [] → new ++ entries_of (drop (i + 1) own) ≡ old ++ entries_of (drop i own)
 entry_on own i n v old new h e =
     let below : i < length own = slice_get_within own i (n, v) h in
@@ -56,7 +57,7 @@ entry_on own i n v old new h e =
     ap (λ (l : List Entry). l ++ rest) e ∙ append_assoc old ((record { name = n; value = v }) ∷ []) rest
     ∙ ap (λ (l : List Entry). old ++ l) (sym (ap entries_of (drop_more own i (n, v) below) ∙ ap (λ (s : Name × ℕ). entries_of (s ∷ drop (i + 1) own)) is))
 
--- why the parts of sources aren't assembled is why the sources have no listing
+-- the fault that keeps the parts from being assembled is also why the sources have no listing
 pub not_listed : (profile : Profile) (marks : List Bool) (sources left : List (Option (List ℕ))) (parts : List (List ℕ)) (fault : Fault) →
     is_bad_number (length sources) ≡ false → AreRead sources parts → IsAssemblyFault profile parts fault → IsListFault profile marks sources left fault
 not_listed profile marks sources left parts (Source fault) number read is = record { parts = parts; read = read; is = is }

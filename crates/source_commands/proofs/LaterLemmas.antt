@@ -16,7 +16,7 @@ nothing_left (suc n) = refl
 later_by : {S : Type 0} (n m : ℕ) (s : S) (ss : List S) → drop (n + m) ss ≡ drop (suc n + m) (s ∷ ss)
 later_by n m s ss = let next : suc n + m ≡ suc (n + m) = omega arith in rw next refl
 
--- what is dropped in two goes
+-- what is dropped in two steps
 dropped : {S : Type 0} (n m : ℕ) (ss : List S) → drop m (drop n ss) ≡ drop (n + m) ss
 dropped zero m ss = rw (zero-add m) refl
 dropped (suc n) m [] = nothing_left m ∙ sym (nothing_left (suc n + m))
@@ -27,11 +27,11 @@ later_same ss os i at within same =
     let sum : i + (at + 1 - i) ≡ at + 1 = omega (arith, within) in
     ap (λ k. drop k ss) (sym sum) ∙ sym (dropped i (at + 1 - i) ss) ∙ ap (drop (at + 1 - i)) same ∙ dropped i (at + 1 - i) os ∙ ap (λ k. drop k os) sum
 
--- a source that is read last leaves those after it
+-- the source that is read last leaves those after it as they were
 later_set : {S : Type 0} (ss os : List S) (i at : ℕ) (new : S) → i ≤ at → drop i ss ≡ drop i os → LeavesThoseAfter at os (slice_set ss i new)
 later_set ss os i at new within same = drop-set-lt (at + 1) ss i new (omega (arith, within)) ∙ later_same ss os i at within same
 
--- none of those that were read is too long,
+-- none of the sources that were read is too long,
 short_there : (xs : List (Option (List ℕ))) (i at : ℕ) (part : List ℕ) → AllByRecursion (λ source. IfSome source IsShort) (take i xs) →
     at < i → slice_get xs at ≡ Some (Some part) → IsShort part
 short_there xs zero at part all within there = absurd (omega (arith, within))
@@ -40,7 +40,7 @@ short_there (x ∷ xs) (suc i) zero part all within there =
     let is : x ≡ Some part = cc in (rw is at all.0)
 short_there (x ∷ xs) (suc i) (suc at) part all within there = short_there xs i at part all.1 (omega (arith, within)) there
 
--- and of none a read failed
+-- and no read of them failed
 unmarked_there : (bs : List Bool) (i at : ℕ) → list_any (λ b. b) (take i bs) ≡ false → at < i → slice_get bs at ≡ Some true → ⊥
 unmarked_there bs zero at none within there = absurd (omega (arith, within))
 unmarked_there [] (suc i) at none within there = cc
@@ -82,7 +82,7 @@ unread_failed mark ss os i new at within none same there = elim (cases_lt at i) 
   | inr past ↦ later_set ss os i at new past same
 ]
 
--- of those that were read nothing is left
+-- nothing is left of the sources that were read,
 ended_there : (xs ys : List (Option (List ℕ))) (i at : ℕ) (part : List ℕ) (next : ℕ) (more : List ℕ) → AreEnded (take i xs) (take i ys) → at < i →
     slice_get xs at ≡ Some (Some part) → slice_get ys at ≡ Some (Some (next ∷ more)) → ⊥
 ended_there xs ys zero at part next more all within there still = absurd (omega (arith, within))
@@ -100,7 +100,7 @@ not_left : {S : Type 0} (remaining : S → Option (List ℕ)) (ss os : List S) (
 not_left remaining ss os i at all within has =
     ended_there (map remaining os) (map remaining ss) i at has.part has.next has.more (rw (take-map remaining i os, take-map remaining i ss) all) within has.there has.still
 
--- and those after one that has some left are as they were
+-- and the sources after one that has some bytes left are as they were
 pub unread_left : {S : Type 0} (remaining : S → Option (List ℕ)) (ss os : List S) (i : ℕ) (new : S) (at : ℕ) →
     AreEnded (map remaining (take i os)) (map remaining (take i ss)) → drop i ss ≡ drop i os →
     HasLeft (map remaining os) (map remaining (slice_set ss i new)) at → LeavesThoseAfter at os (slice_set ss i new)
@@ -116,7 +116,7 @@ left_whole remaining ss os i at past all has =
     let within : at < i = omega (arith, is, past, length-map os remaining) in
     absurd (not_left remaining ss os i at all within has)
 
--- where all are read
+-- and the same holds when all sources are read, since none of them is too long then
 pub read_whole : {S V : Type 0} (remaining : S → Option (List ℕ)) (items : V → List ℕ) (ss os : List S) (i : ℕ) (vs : List V) (at : ℕ) →
     length os ≤ i → AreRead (map remaining (take i os)) (map items vs) → AllByRecursion IsShort (map items vs) →
     IsLongAt (map remaining os) at → LeavesThoseAfter at os ss

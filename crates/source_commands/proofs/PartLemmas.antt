@@ -1,4 +1,4 @@
--- Sizes of parts, and which read failed.
+-- The sizes of parts, and which read failed.
 use Rattle.std.proofs.Common.{ℕ, ◌≡◌, ◌+◌, ◌<◌, ◌≤◌, Bool, true, false, ◌||◌, if◌then◌else◌, List, [], ◌∷◌, ◌++◌, map, take, drop, get_or, length, slice_set, refl, sym, ◌∙◌, ap, subst, arith, inl, inr}
 use Rattle.std.specs.Prelude.{Option, Some, None, Err, IfSome, slice_get, option_map}
 use Rattle.std.specs.List.{AllByRecursion, list_any}
@@ -28,7 +28,7 @@ pub none_marked : {S : Type 0} (mark : S → Bool) (ss : List S) → AllByRecurs
 none_marked mark [] all = refl
 none_marked mark (s ∷ ss) all = rw all.0 (none_marked mark ss all.1)
 
--- of sources before and after which none failed, this one tells whether one did
+-- if no read failed before or after this source, the source says whether one failed
 pub one_tells : {S : Type 0} (mark : S → Bool) (ss : List S) (i : ℕ) (new : S) → i < length ss →
     list_any mark (take i ss) ≡ false → AllByRecursion (λ s. mark s ≡ false) (drop i ss) → list_any mark (slice_set ss i new) ≡ mark new
 one_tells mark ss i new within before after =
@@ -39,7 +39,7 @@ one_tells mark ss i new within before after =
     ap (list_any mark) (set_split ss i new within) ∙ list_any-append mark (take i ss) (new ∷ rest)
     ∙ ap (λ b. b || list_any mark (new ∷ rest)) before ∙ ap (λ b. mark new || b) none ∙ or-false (mark new)
 
--- and of those before it
+-- and if none failed up to and including this source, none did among those read so far
 pub none_more : {S : Type 0} (mark : S → Bool) (ss : List S) (i : ℕ) (new : S) → i < length ss →
     list_any mark (take i ss) ≡ false → mark new ≡ false → list_any mark (take (i + 1) (slice_set ss i new)) ≡ false
 none_more mark ss i new within before good =
@@ -50,7 +50,7 @@ short_source : (x : Option (List ℕ)) (y : List ℕ) → IfSome x (λ bytes. y 
 short_source None y is short = tt
 short_source (Some bytes) y is short = subst IsShort is short
 
--- bytes that were read up to one more than the limit are all, where they aren't more than the limit
+-- bytes that were read up to one more than the limit are all the bytes, if there are no more than the limit
 all_of : (bytes text : List ℕ) (most : ℕ) → text ≡ take (most + 1) bytes → length text ≤ most → text ≡ bytes
 all_of bytes text most is short = elim (cases_lt most (length bytes)) [
   | inl long ↦ (let taken : length (take (most + 1) bytes) ≡ most + 1 = length-take-le (most + 1) bytes (omega arith) in let same : length text ≡ length (take (most + 1) bytes) = ap length is in absurd (omega (arith, taken, same, short)))
@@ -119,7 +119,7 @@ fails_to_read_part mark remaining items ss os i d new vs short within same numbe
       gave = subst (λ s. Gave (remaining s) (remaining new) IsShort) (same_there ss os i d short within same) gave;
     }
 
--- what is read of a source, if nothing hinders
+-- what is read from a source if nothing prevents it
 part_of : Option (List ℕ) → List ℕ
 part_of None = []
 part_of (Some bytes) = bytes
@@ -164,7 +164,7 @@ bad_size parts bad = told_first _ _ _ bad
 long_size : (n : ℕ) (parts : List (List ℕ)) → is_bad_number (length parts) ≡ false → first_long 1 parts ≡ Some (fault_at TooLong n 0) → size_fault parts ≡ Some (fault_at TooLong n 0)
 long_size n parts good long = told_second _ _ _ good ∙ long
 
--- a bad number of parts
+-- a wrong number of parts is a fault of the parts
 pub bad_number : {S : Type 0} (remaining : S → Option (List ℕ)) (marks : List Bool) (left : List (Option (List ℕ))) (os : List S) → is_bad_number (length os) ≡ true →
     ArePartsFault marks (map remaining os) left (Source (fault_at TooLong 0 0))
 bad_number remaining marks left os bad =
@@ -189,7 +189,7 @@ long_part remaining items marks left os i d vs part within number reads all is l
     first_after 1 (map items vs) part (map part_of later) all long ∙ ap (λ (m : ℕ). Some (fault_at TooLong m 0)) (omega (arith, length-map vs items)) in
     (parts, read, long_size (length vs + 1) parts (ap is_bad_number many ∙ number) first)
 
--- why there are no parts, where this one isn't read
+-- why there are no parts, if this one cannot be read
 pub parts_fault : (T : Type 0) {S V : Type 0} (mark : S → Bool) (remaining : S → Option (List ℕ)) (items : V → List ℕ) (ss os : List S) (i : ℕ) (d new : S) (vs : List V) (f : Fault) →
     i < length ss → i < length os → drop i ss ≡ drop i os → is_bad_number (length os) ≡ false →
     AreRead (map remaining (take i os)) (map items vs) → AllByRecursion IsShort (map items vs) →

@@ -15,7 +15,7 @@ are_read_push [] (z ∷ ys) x y reads is = absurd reads
 are_read_push (w ∷ xs) [] x y reads is = absurd reads
 are_read_push (w ∷ xs) (z ∷ ys) x y reads is = (reads.0, are_read_push xs ys x y reads.1 is)
 
--- one part more was read
+-- one more part was read
 pub reads_next : {S V : Type 0} (remaining : S → Option (List ℕ)) (items : V → List ℕ) (ss os : List S) (i : ℕ) (d : S) (vs : List V) (v : V) →
     i < length ss → i < length os → drop i ss ≡ drop i os → AreRead (map remaining (take i os)) (map items vs) →
     IfSome (remaining (get_or ss i d)) (λ bytes. items v ≡ bytes) →
@@ -34,7 +34,7 @@ pub same_next : {S : Type 0} (ss os : List S) (i : ℕ) (new : S) → i < length
 same_next ss os i new within short same =
     drop-set-lt (i + 1) ss i new (omega arith) ∙ ap (drop 1) (sym (drop_more ss i new within) ∙ same ∙ drop_more os i new short)
 
--- those that were read have nothing left, as far as they tell it
+-- the sources that were read have nothing left, as far as their bytes are known
 abbrev pub AreEnded : List (Option (List ℕ)) → List (Option (List ℕ)) → Type 0
 AreEnded [] left = Unit {0}
 AreEnded (had ∷ sources) [] = Unit {0}
@@ -57,7 +57,7 @@ ended_next remaining ss os i d new short within same all ended =
     let next : suc i ≡ i + 1 = omega arith in
     subst (λ k. AreEnded (map remaining (take k os)) (map remaining (take k (slice_set ss i new)))) next (ended_more remaining ss os i d new short within same all ended)
 
--- nothing was taken of any
+-- nothing was taken from any source
 untaken : (most : ℕ) (source : Option (List ℕ)) → TakesAtMost most source source
 untaken most None = tt
 untaken most (Some bytes) = ([], refl, omega arith)
@@ -66,7 +66,7 @@ pub none_taken : (most : ℕ) (sources : List (Option (List ℕ))) → EachTakes
 none_taken most [] = tt
 none_taken most (source ∷ sources) = (untaken most source, none_taken most sources)
 
--- one source more was read
+-- one more source was read
 pub takes_next : {S : Type 0} (most : ℕ) (remaining : S → Option (List ℕ)) (ss os : List S) (i : ℕ) (d new : S) → i < length ss → i < length os → drop i ss ≡ drop i os →
     EachTakesAtMost most (map remaining os) (map remaining ss) → TakesAtMost most (remaining (get_or ss i d)) (remaining new) →
     EachTakesAtMost most (map remaining os) (map remaining (slice_set ss i new))

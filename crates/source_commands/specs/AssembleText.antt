@@ -15,13 +15,15 @@ use Rattle.command_parts.specs.declared.status.Fault.TheVariants as fault
 use Rattle.command_parts.specs.declared.status.DeviceFault.TheVariants.{Read, Write}
 use Rattle.source_commands.specs.SourceTexts.{AreRead, is_bad_number, FailsToReadPart}
 
--- Sources with these bytes, as far as they are known, are these parts, which mean these symbols and this image.
+-- The sources, whose bytes are given as far as they are known, are read as these parts, which mean these symbols and
+-- this image.
 pub record Assembles (profile : Profile) (sources : List (Option (List ℕ))) (symbols : List (Name × ℕ)) (image : List (Option ℕ)) : Type 0 where
   pub parts : List (List ℕ)
   pub read : AreRead sources parts
   pub means : Means (permanent_symbols profile) parts symbols image
 
--- The sources are assembled, and this is the tape of their image, which has a word: it reads back as that image.
+-- The sources are assembled, and this is the tape of their image, which has at least one word. The tape reads back as
+-- that image.
 pub record IsAssembled (profile : Profile) (sources : List (Option (List ℕ))) (tape : List ℕ) : Type 0 where
   pub symbols : List (Name × ℕ)
   pub image : List (Option ℕ)
@@ -39,7 +41,7 @@ pub record IsListing (profile : Profile) (sources : List (Option (List ℕ))) (t
   pub means : Means (permanent_symbols profile) parts symbols image
   pub lists : Lists (permanent_symbols profile) parts symbols text
 
--- The source means an image without a word.
+-- The sources mean an image without words.
 pub record MeansNothing (profile : Profile) (sources : List (Option (List ℕ))) : Type 0 where
   pub symbols : List (Name × ℕ)
   pub image : List (Option ℕ)
@@ -58,8 +60,8 @@ IsAssemblyFault profile parts (Source fault) = IsFault (permanent_symbols profil
 IsAssemblyFault profile parts fault.NoMemory = Unit {0}
 IsAssemblyFault profile parts _ = ⊥
 
--- Why a source has no listing. The sources have these marks, had these bytes, and have those left. The fault of a read, and
--- that memory was refused, are told only if there is a good number of sources.
+-- Why a source has no listing. The sources have these marks, had these bytes, and have those bytes left. A failed read,
+-- and memory that was refused, are reported only if there is a valid number of sources.
 abbrev pub IsListFault : Profile → List Bool → List (Option (List ℕ)) → List (Option (List ℕ)) → Fault → Type 0
 IsListFault profile marks sources left (Source fault) = HasFault profile sources fault
 IsListFault profile marks sources left (Device Read) = FailsToReadPart marks sources left
@@ -67,7 +69,7 @@ IsListFault profile marks sources left (Device Write) = Unit {0}
 IsListFault profile marks sources left fault.NoMemory = is_bad_number (length sources) ≡ false
 IsListFault profile marks sources left _ = ⊥
 
--- Why a source has no tape: what keeps it from a listing too, or that its image has no word.
+-- Why a source has no tape: it has no listing for the same reason, or its image has no words.
 abbrev pub IsSourceFault : Profile → List Bool → List (Option (List ℕ)) → List (Option (List ℕ)) → Fault → Type 0
 IsSourceFault profile marks sources left EmptyImage = MeansNothing profile sources
 IsSourceFault profile marks sources left fault = IsListFault profile marks sources left fault

@@ -15,34 +15,35 @@ abbrev pub entries_of : List (Name × ℕ) → List Entry
 entries_of [] = []
 entries_of (s ∷ ss) = (record { name = s.0; value = s.1 }) ∷ entries_of ss
 
--- What stands in front of a line of the table: the symbol, with spaces after fewer than six characters, and its value.
+-- The beginning of a line of the table: the symbol, padded with spaces to six characters, and its value.
 abbrev pub head_text : Entry → List ℕ
 head_text e = e.name.letters ++ codes "  " ++ octal_text e.value
 
--- A line of the table for each of these entries, in their order: its head, and what the statements do with it.
+-- A line of the table for each of these entries, in their order: its beginning, and what the statements do with the
+-- symbol.
 pub data AreLines : List Entry → List ℕ → Type 0 where
   no_line : AreLines [] []
   next_line : (entry : Entry) (entries : List Entry) (told more : List ℕ) → AreLines entries more → AreLines (entry ∷ entries) (head_text entry ++ told ++ codes "\n" ++ more)
 
--- Lines for these entries were put after a text.
+-- The lines for these entries were added to a text.
 pub record AddsLines (entries : List Entry) (old new : List ℕ) : Type 0 where
   pub text : List ℕ
   pub lines : AreLines entries text
   pub added : new ≡ old ++ text
 
--- The text is a table of these symbols: it has a line for each of them, and no other.
+-- The text is a table of these symbols: it has one line for each of them, and no other line.
 pub record IsTable (own : List (Name × ℕ)) (text : List ℕ) : Type 0 where
   pub entries : List Entry
   pub same : IsPermutation (entries_of own) entries
   pub lines : AreLines entries text
 
--- The text is this listing, and after it, after an empty line, a table of these symbols.
+-- The text is this listing, then an empty line, then a table of these symbols.
 pub record HasTable (own : List (Name × ℕ)) (listing text : List ℕ) : Type 0 where
   pub table : List ℕ
   pub is_table : IsTable own table
   pub text_is : text ≡ listing ++ codes "\n" ++ table
 
--- The sources mean an image and have this listing, and after it, after an empty line, a table of their symbols.
+-- The sources mean an image, and the text is their listing, then an empty line, then a table of their symbols.
 pub record IsCrossListing (profile : Profile) (sources : List (Option (List ℕ))) (text : List ℕ) : Type 0 where
   pub symbols : List (Name × ℕ)
   pub image : List (Option ℕ)

@@ -10,23 +10,24 @@ use Rattle.command_parts.specs.declared.status.Fault.TheVariants.{Source, Device
 use Rattle.command_parts.specs.declared.status.Fault.TheVariants as fault
 use Rattle.command_parts.specs.declared.status.DeviceFault.TheVariants.{Read}
 
--- These are the parts that sources with these bytes hold: each source one, as far as it tells its bytes.
+-- These are the parts that sources with these bytes hold: one part for each source, equal to its bytes as far as they
+-- are known.
 abbrev pub AreRead : List (Option (List ℕ)) → List (List ℕ) → Type 0
 AreRead [] [] = Unit {0}
 AreRead [] (part ∷ parts) = ⊥
 AreRead (source ∷ sources) [] = ⊥
 AreRead (source ∷ sources) (part ∷ parts) = IfSome source (λ bytes. part ≡ bytes) × AreRead sources parts
 
--- There are no parts, or more than 16.
+-- Whether there are no parts, or more than 16.
 abbrev pub is_bad_number : ℕ → Bool
 is_bad_number n = nat_lt n 1 || nat_lt 16 n
 
--- A part with these bytes is not too long.
+-- A part with these bytes is not too long: it has at most 65,536 bytes.
 abbrev pub IsShort : List ℕ → Type 0
 IsShort bytes = length bytes ≤ 65536
 
--- Of sources with these marks, which had these bytes and have those left, the read of one failed: their number is good,
--- none before it is too long, and the bytes that it gave until then are not too many.
+-- Among sources that have these marks, had these bytes and have those bytes left, the read of one failed. The number of
+-- sources is valid, none before it is too long, and the bytes that it gave until then are not too many.
 pub record FailsToReadPart (marks : List Bool) (sources left : List (Option (List ℕ))) : Type 0 where
   pub at : ℕ
   pub failed : slice_get marks at ≡ Some true
@@ -44,15 +45,15 @@ pub record IsLong (had : Option (List ℕ)) : Type 0 where
   pub is : IfSome had (λ bytes. part ≡ bytes)
   pub long : 65536 < length part
 
--- Why the part of this number is not read from a source that had these bytes and has those left: it is too long, its read
--- failed, or memory was refused.
+-- Why the part with this number is not read from a source that had these bytes and has those bytes left: it is too
+-- long, its read failed, or memory was refused.
 abbrev pub IsPartFault : ℕ → Option (List ℕ) → Option (List ℕ) → Fault → Type 0
 IsPartFault n had has (Source fault) = (fault ≡ fault_at TooLong n 0) × IsLong had
 IsPartFault n had has (Device Read) = Gave had has IsShort
 IsPartFault n had has fault.NoMemory = Unit {0}
 IsPartFault n had has _ = ⊥
 
--- Why there are no parts: the sources have a fault of sizes, a read failed, or memory was refused.
+-- Why there are no parts: the sources have a fault of their sizes, a read failed, or memory was refused.
 abbrev pub ArePartsFault : List Bool → List (Option (List ℕ)) → List (Option (List ℕ)) → Fault → Type 0
 ArePartsFault marks sources left (Source fault) =
     (parts : List (List ℕ)) × AreRead sources parts × (size_fault parts ≡ Some fault)
@@ -60,19 +61,19 @@ ArePartsFault marks sources left (Device Read) = FailsToReadPart marks sources l
 ArePartsFault marks sources left fault.NoMemory = is_bad_number (length sources) ≡ false
 ArePartsFault marks sources left _ = ⊥
 
--- Of each of these sources, which had these bytes and have those left, so many bytes at most were taken.
+-- At most this many bytes were taken from each of these sources, which had these bytes and have those bytes left.
 abbrev pub EachTakesAtMost : ℕ → List (Option (List ℕ)) → List (Option (List ℕ)) → Type 0
 EachTakesAtMost most [] left = Unit {0}
 EachTakesAtMost most (had ∷ sources) [] = ⊥
 EachTakesAtMost most (had ∷ sources) (has ∷ left) = TakesAtMost most had has × EachTakesAtMost most sources left
 
--- Of sources with these bytes, this one holds a part that is too long.
+-- Among sources with these bytes, this one holds a part that is too long.
 pub record IsLongAt (sources : List (Option (List ℕ))) (at : ℕ) : Type 0 where
   pub part : List ℕ
   pub there : slice_get sources at ≡ Some (Some part)
   pub long : 65536 < length part
 
--- Of sources that had these bytes and have those left, this one has some left.
+-- Among sources that had these bytes and have those bytes left, this one has some left.
 pub record HasLeft (sources left : List (Option (List ℕ))) (at : ℕ) : Type 0 where
   pub part : List ℕ
   pub there : slice_get sources at ≡ Some (Some part)

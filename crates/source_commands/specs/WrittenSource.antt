@@ -13,15 +13,15 @@ pub record IsTapeSource (profile : Profile) (frames : Option (List ℕ)) (text :
   pub tape : HasImage frames image
   pub source : IsSourceOf profile image text
 
--- The frames are a tape and the promise a declaration's text, and the source means the image of the tape on the declared
--- machine.
+-- The frames are a tape, the promise is the text of a declaration, and the source means the image of the tape on the
+-- declared machine.
 pub record IsDeclaredSource (frames promise : Option (List ℕ)) (text : List ℕ) : Type 0 where
   pub declaration : Declaration
   pub declares : HasDeclaration promise declaration
   pub source : IsTapeSource declaration.profile frames text
 
--- Why there is no source by a declaration: the tape's fault; after a good tape the declaration's; and after a good
--- declaration a write failed or memory was refused.
+-- Why there is no source with a declaration: the fault of the tape; after a good tape, that of the declaration; and
+-- after a good declaration, that a write failed or memory was refused.
 abbrev pub IsDeclaredSourceFault : Input → Input → Fault → Type 0
 IsDeclaredSourceFault tape promise fault =
     IsTapeInputFault tape fault ⊎ (IsGoodTape tape.had × (IsDeclarationInputFault promise fault ⊎ (IsGoodDeclaration promise.had × IsRunFault fault)))

@@ -24,7 +24,7 @@ use pal_diagnostics::push_faults;
 use std::alloc::{AllocError, Allocator};
 use streams::{ByteSink, ByteSource, WriteFault};
 
-/// Adds the lines on the faults of a source to what is told, where names of its parts are given.
+/// Adds the lines about the faults of a source to `told`, if the names of its parts are given.
 fn tell_faults<A: Allocator + Copy>(
     alloc: A,
     parts: &[&[u8]],
@@ -40,7 +40,7 @@ fn tell_faults<A: Allocator + Copy>(
     }
 }
 
-/// What the parts of a source mean.
+/// Translates the parts of a source into what they mean.
 fn translation_of<A: Allocator + Copy>(
     alloc: A,
     parts: &[&[u8]],
@@ -90,16 +90,16 @@ pub(crate) fn program_of<A: Allocator + Copy>(
     }
 }
 
-/// Assembles a source of one part or more, in order, and writes its tape. Where the names of the parts are
-/// given and the source is refused, though not for its size, lines on all its faults are added to what is
-/// told: of each its place, what is wrong, and what to change. These lines are tested and not proved.
+/// Assembles a source of one or more parts, in order, and writes its tape. If the names of the parts are given and the
+/// source is refused, except for its size, lines about all its faults are added to `told`: for each fault its place,
+/// what is wrong, and what to change. These lines are tested, not proved.
 ///
 /// # Errors
 ///
-/// `Source` with the first fault of the source: that of the number of parts before any is read, that
-/// of a part that is too long before the next is read, and any other once all are read;
-/// `EmptyImage` where it has no word, and then nothing is written; `Device` where a read failed, or
-/// where a write failed, after which a prefix of the tape went out; `NoMemory`.
+/// `Source` with the first fault of the source: a wrong number of parts is reported before any part is read, a part
+/// that is too long before the next is read, and any other fault once all parts are read; `EmptyImage` if the source
+/// has no words, and then nothing is written; `Device` if a read failed, or if a write failed after a prefix of the
+/// tape had gone out; `NoMemory` if memory was refused.
 pub fn assemble<A: Allocator + Copy, R: ByteSource, W: ByteSink>(
     alloc: A,
     sources: &mut [R],
@@ -114,8 +114,8 @@ pub fn assemble<A: Allocator + Copy, R: ByteSource, W: ByteSink>(
     ensures done { IfOk result (λ status. status ≡ Done) }
     ensures tape { OnOk result (Writes (IsAssembled profile (map R.remaining sources.old))
         (W.taken out.old) (W.taken out.new)) }
-    // A fault of the source is its one fault; that of a read comes only if the number of sources is
-    // good and those before it are not too long.
+    // A fault of the source is its only fault. A failed read is reported only if the number of sources is valid and
+    // those before the failed one are not too long.
     ensures faults { IfErr result (IsSourceFault profile (map R.mark sources.new)
         (map R.remaining sources.old) (map R.remaining sources.new)) }
     // If a write failed, a prefix of that tape went out,
@@ -127,7 +127,7 @@ pub fn assemble<A: Allocator + Copy, R: ByteSource, W: ByteSink>(
     // A write failed if and only if the answer says so, and so did a read.
     ensures marks { W.mark out.new ≡ fails_to_write result }
     ensures reads { list_any R.mark sources.new ≡ fails_to_read result }
-    // A bad number of sources is told, and nothing is read.
+    // A wrong number of sources is reported, and nothing is read.
     ensures number { is_bad_number (length sources.old) ≡ true →
         (result ≡ Err (Source (fault_at TooLong 0 0))) × (sources.new ≡ sources.old) }
     // The sources after one that is too long, or whose read failed, are not read.
@@ -135,14 +135,14 @@ pub fn assemble<A: Allocator + Copy, R: ByteSource, W: ByteSink>(
         LeavesThoseAfter at sources.old sources.new }
     ensures unread_after_failure { (at : ℕ) → slice_get (map R.mark sources.new) at ≡ Some true →
         LeavesThoseAfter at sources.old sources.new }
-    // A source is read only where those before it are read to their ends.
+    // A source is read only if those before it are read to their ends.
     ensures unread_after { (at : ℕ) →
         HasLeft (map R.remaining sources.old) (map R.remaining sources.new) at →
         LeavesThoseAfter at sources.old sources.new }
-    // Of a source no more is taken than a part may have and a byte.
+    // From a source, at most one byte more is taken than a part may have.
     ensures takes { EachTakesAtMost 65537 (map R.remaining sources.old)
         (map R.remaining sources.new) }
-    // No lines are told but of faults, and none if no names are given.
+    // Lines are added only about faults, and only if names are given.
     ensures untold { OnOk result (told.new ≡ told.old) }
     ensures unasked { names.entry ≡ None → told.new ≡ told.old }
 {
@@ -157,11 +157,11 @@ pub fn assemble<A: Allocator + Copy, R: ByteSource, W: ByteSink>(
     }
 }
 
-/// Assembles a source of one part or more, in order, and writes its listing.
+/// Assembles a source of one or more parts, in order, and writes its listing.
 ///
 /// # Errors
 ///
-/// As for [`assemble`], but that a source without a word has a listing too.
+/// As for [`assemble`], except that a source without words has a listing too.
 pub fn list<A: Allocator + Copy, R: ByteSource, W: ByteSink>(
     alloc: A,
     sources: &mut [R],

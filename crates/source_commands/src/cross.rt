@@ -20,7 +20,8 @@ pub struct Entry {
     pub value: Word,
 }
 
-/// What is done with a symbol, in the order of a line, and what comes before the first place where it is done.
+/// What may be done with a symbol, in the order in which a line shows it, and the text before the first place where it
+/// is done.
 const ROLES: [(Role, &str); 9] = [
     (Role::Defines, "  line "),
     (Role::Calls, "; called "),
@@ -33,7 +34,7 @@ const ROLES: [(Role, &str); 9] = [
     (Role::Computes, "; used in line "),
 ];
 
-/// What places are told by: the source's own symbols, its tags, and how many parts it has.
+/// What is needed to name places: the source's own symbols, its tags, and how many parts it has.
 #[derive(Clone, Copy)]
 pub struct PlaceNames<'s, A: Allocator + Copy> {
     /// The symbols.
@@ -50,8 +51,8 @@ fn push_number<A: Allocator>(text: &mut Vec<u8, A>, number: usize) -> Result<(),
     text.extend_from_slice(digits.format(number).as_bytes())
 }
 
-/// Adds where something is done: the number of the line, with that of its part where there are several, or the address
-/// by its tag.
+/// Adds where something is done: the number of the line, with that of its part if there are several, or the address by
+/// its tag.
 fn push_site<A: Allocator + Copy>(
     alloc: A,
     places: &PlaceNames<'_, A>,
@@ -71,7 +72,7 @@ fn push_site<A: Allocator + Copy>(
     }
 }
 
-/// Adds where one thing is done with a symbol, each place once; nothing if it is done nowhere.
+/// Adds the places where one thing is done with a symbol, each place once; nothing if there are none.
 fn push_role<A: Allocator + Copy>(
     alloc: A,
     places: &PlaceNames<'_, A>,
@@ -93,7 +94,7 @@ fn push_role<A: Allocator + Copy>(
     Ok(())
 }
 
-/// What is done with this symbol.
+/// The mentions of this symbol.
 fn mentions_with<A: Allocator + Copy>(
     alloc: A,
     name: Name,
@@ -108,7 +109,7 @@ fn mentions_with<A: Allocator + Copy>(
     Ok(found)
 }
 
-/// What is told of a symbol behind its value.
+/// What a line of the table says about a symbol after its value.
 fn told_of<A: Allocator + Copy>(
     alloc: A,
     places: &PlaceNames<'_, A>,
@@ -169,19 +170,19 @@ fn entries_of<A: Allocator + Copy>(
     Ok(entries)
 }
 
-/// The table of the symbols of a source, sorted by their names: of each its value, and where the statements define it
-/// and use it.
+/// The table of the symbols of a source, sorted by name: for each symbol its value, and where the statements define and
+/// use it.
 ///
 /// # Errors
 ///
-/// Memory was refused.
+/// `AllocError` if memory was refused.
 pub fn table_of<A: Allocator + Copy>(
     alloc: A,
     places: &PlaceNames<'_, A>,
     mentions: &[Mention],
 ) -> Result<Vec<u8, A>, AllocError>
-    // Each symbol has a line with its value, and there is no other line. The order of the lines, and what is told
-    // behind the values, is tested.
+    // Each symbol has a line with its value, and there is no other line. The order of the lines, and what follows the
+    // values, are tested.
     ensures { IfOk result (λ text. IsTable places.now.own.now.entries text.items) }
 {
     let mut entries = entries_of(alloc, places.own)?;

@@ -25,7 +25,7 @@ use pal_asm::{AssembleFault, Program, SourceMap, map_source};
 use std::alloc::{AllocError, Allocator};
 use streams::{ByteSink, ByteSource, Failed, put};
 
-/// Takes a text, and fails where memory is refused.
+/// A sink that collects a text, and fails if memory is refused.
 #[derive(Drop)]
 struct TextSink<A: Allocator> {
     text: Vec<u8, A>,
@@ -69,7 +69,8 @@ fn listing_of<A: Allocator + Copy>(alloc: A, program: &Program<A>) -> Result<Vec
     }
 }
 
-/// What the source says of each word. The source has no fault, so none is told.
+/// The map of the source, which says where each word comes from. The source has no fault at this point, so none is
+/// reported.
 fn map_of<A: Allocator + Copy>(
     alloc: A,
     parts: &[&[u8]],
@@ -121,7 +122,7 @@ fn with_table<A: Allocator + Copy>(
     Ok(text)
 }
 
-/// What is written of a program that was assembled from these parts.
+/// The text that is written for a program that was assembled from these parts.
 fn crossed<A: Allocator + Copy>(
     alloc: A,
     parts: &[&[u8]],
@@ -139,7 +140,7 @@ fn crossed<A: Allocator + Copy>(
     }
 }
 
-/// Assembles a source of one part or more, in order, and writes its listing, an empty line, and a table of its symbols
+/// Assembles a source of one or more parts, in order, and writes its listing, an empty line, and a table of its symbols
 /// with what the statements do with each.
 ///
 /// # Errors

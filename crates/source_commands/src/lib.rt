@@ -1,5 +1,5 @@
-//! The commands that assemble and list a source, with a table of its symbols if that is requested, and the one that writes a source of a
-//! tape.
+//! The commands that assemble and list a source, with a table of its symbols if that is requested, and the command that
+//! writes a source for a tape.
 #![tactic(auto)]
 
 pub mod assembling;

@@ -16,23 +16,23 @@ use word12::Word;
 /// What a statement does with a symbol.
 #[derive(Clone, Copy, PartialEq, Eq, Debug)]
 pub enum Role {
-    /// It gives it its value, as a tag or by an assignment.
+    /// It gives the symbol its value, as a tag or by an assignment.
     Defines,
-    /// It calls it by JMS.
+    /// It calls the symbol's address with JMS.
     Calls,
-    /// It jumps to it by JMP.
+    /// It jumps to the symbol's address with JMP.
     JumpsTo,
-    /// It uses its cell as a pointer.
+    /// It uses the symbol's cell as a pointer.
     Points,
-    /// It sets its cell by DCA.
+    /// It sets the symbol's cell with DCA.
     Sets,
-    /// It adds 1 to its cell by ISZ.
+    /// It adds 1 to the symbol's cell with ISZ.
     Counts,
-    /// It reads its cell by AND or TAD.
+    /// It reads the symbol's cell with AND or TAD.
     Reads,
-    /// Its word holds the value, or is computed by it.
+    /// Its word holds the symbol's value, or is computed from it.
     Holds,
-    /// It computes an origin or the value of another symbol by it.
+    /// It computes an origin, or the value of another symbol, from the symbol.
     Computes,
 }
 
@@ -45,18 +45,18 @@ pub enum Site {
     Word(Word),
 }
 
-/// A symbol in a statement, and what that does with it.
+/// A symbol in a statement, and what the statement does with it.
 #[derive(Clone, Copy)]
 pub struct Mention {
     /// The symbol.
     pub name: Name,
-    /// What is done with it.
+    /// What the statement does with it.
     pub role: Role,
-    /// Where.
+    /// Where the statement is found.
     pub site: Site,
 }
 
-/// Where a statement is found: by its line, and if it is a word by the address of that.
+/// Where a statement is found: by its line and, if it is a word, by the address of that word.
 #[derive(Clone, Copy)]
 pub struct StatementSites {
     /// Its line.
@@ -113,7 +113,7 @@ fn is_space(kind: TokenKind) -> bool
     matches!(kind, TokenKind::Space)
 }
 
-/// The name of a symbol's token.
+/// The name of the symbol that a token is.
 fn name_of(source: &[u8], token: Token) -> Name
     requires { IsWithin (length source.now) token }
     ensures { result ≡ name_of source.now token }
@@ -140,7 +140,7 @@ fn direct_role(name: Name) -> Option<Role>
     }
 }
 
-/// Whether a space and this symbol stand at the front of tokens.
+/// Whether these tokens begin with a space and this symbol.
 fn begins_with(mark: Name, source: &[u8], tokens: &[Token]) -> bool
     requires { AllByRecursion (IsWithin (length source.now)) tokens.now }
     ensures { result ≡ begins_with mark source.now tokens.now }
@@ -153,7 +153,7 @@ fn begins_with(mark: Name, source: &[u8], tokens: &[Token]) -> bool
     }
 }
 
-/// The tokens behind the first two.
+/// The tokens after the first two.
 fn behind_two(tokens: &[Token]) -> &[Token]
     ensures { result.now ≡ drop 2 tokens.now }
 {
@@ -163,7 +163,7 @@ fn behind_two(tokens: &[Token]) -> &[Token]
     }
 }
 
-/// Whether what follows an operation says that the reference is indirect.
+/// Whether what follows an operation makes the reference indirect.
 fn is_indirect(source: &[u8], rest: &[Token]) -> bool
     requires { AllByRecursion (IsWithin (length source.now)) rest.now }
     ensures { result ≡ is_indirect source.now rest.now }
@@ -206,8 +206,7 @@ fn is_own<S: Allocator + Copy>(own: &SymbolTable<S>, source: &[u8], token: Token
     is_symbol(token.kind) && own.get(&name_of(source, token)).is_some()
 }
 
-/// Adds what a token does with a symbol, if it is one of the source's own, and returns whether it
-/// is.
+/// Adds what a token does, if it is one of the source's own symbols, and returns whether it is one.
 fn push_use<A: Allocator, S: Allocator + Copy>(
     own: &SymbolTable<S>,
     source: &[u8],
@@ -232,15 +231,15 @@ fn push_use<A: Allocator, S: Allocator + Copy>(
     Ok(true)
 }
 
-/// What is done with the next symbol behind a token, that is one of the source's own or not.
+/// What is done with the next symbol after a token, depending on whether that token is one of the source's own symbols.
 fn role_behind(is_own: bool, role: Role, later: Role) -> Role
     ensures { result ≡ role_behind is_own role later }
 {
     if is_own { later } else { role }
 }
 
-/// Adds what tokens do with the source's own symbols among them: one thing with the first of these, and another with
-/// each later one.
+/// Adds what tokens do with the source's own symbols among them: one role for the first of these symbols, and another
+/// for each later one.
 fn push_uses<A: Allocator, S: Allocator + Copy>(
     own: &SymbolTable<S>,
     source: &[u8],
@@ -262,7 +261,7 @@ fn push_uses<A: Allocator, S: Allocator + Copy>(
     Ok(())
 }
 
-/// The first of some tokens, if there is one.
+/// The first of these tokens, if there is one.
 fn front_of(tokens: &[Token]) -> &[Token]
     ensures { result.now ≡ take 1 tokens.now }
 {
@@ -282,7 +281,7 @@ fn behind_one(tokens: &[Token]) -> &[Token]
     }
 }
 
-/// Adds what an assignment does: it defines its symbol, and computes by the others.
+/// Adds what an assignment does: it defines its symbol, and computes with the others.
 fn push_assignment<A: Allocator, S: Allocator + Copy>(
     own: &SymbolTable<S>,
     source: &[u8],
@@ -331,7 +330,7 @@ fn push_word_uses<A: Allocator, S: Allocator + Copy>(
     push_uses(own, source, word, role, Role::Holds, body, mentions)
 }
 
-/// Adds what a statement does behind its tags.
+/// Adds what a statement does after its tags.
 fn push_body<A: Allocator, S: Allocator + Copy>(
     own: &SymbolTable<S>,
     source: &[u8],
@@ -363,7 +362,7 @@ fn push_body<A: Allocator, S: Allocator + Copy>(
     }
 }
 
-/// Adds what a statement with so many tags does with the source's own symbols.
+/// Adds what a statement does with the source's own symbols. The first `tags` of its tokens are its tags.
 fn push_statement<A: Allocator, S: Allocator + Copy>(
     own: &SymbolTable<S>,
     source: &[u8],
@@ -391,7 +390,7 @@ fn push_statement<A: Allocator, S: Allocator + Copy>(
     push_body(own, source, standing, form, &tokens[tags..], mentions)
 }
 
-/// The address of the next word, if there is one.
+/// The address of the next word, or 0 if there is none.
 fn next_at(words: &[PlacedWord]) -> Word {
     match words {
         [word, ..] => word.at,
@@ -399,7 +398,7 @@ fn next_at(words: &[PlacedWord]) -> Word {
     }
 }
 
-/// The words behind a statement of this form: the first one is its own, if it is a word.
+/// The words after a statement of this form; the first of the words is its own, if it is a word.
 fn words_behind(form: Form, words: &[PlacedWord]) -> &[PlacedWord] {
     match (form, words) {
         (Form::Word, [_, more @ ..]) => more,
@@ -407,14 +406,14 @@ fn words_behind(form: Form, words: &[PlacedWord]) -> &[PlacedWord] {
     }
 }
 
-/// How many of the tokens of a statement are its tags, each with a comma.
+/// How many of a statement's tokens belong to its tags, each of which has a comma.
 fn tag_tokens(statement: Statement, tokens: &[Token]) -> usize
     ensures { result ≤ length tokens.now }
 {
     statement.tags.saturating_mul(2).min(tokens.len())
 }
 
-/// Adds what a statement does that stands on a line of the part of this number and whose word is at this address.
+/// Adds what a statement does, which is in the part with this number and has its word, if it is one, at this address.
 fn push_placed<A: Allocator + Copy, S: Allocator + Copy>(
     own: &SymbolTable<S>,
     number: usize,
@@ -446,8 +445,8 @@ fn push_placed<A: Allocator + Copy, S: Allocator + Copy>(
     )
 }
 
-/// Adds what the statements of the part of this number do, of whose words these come next, and tells the words after
-/// them.
+/// Adds what the statements of the part with this number do. `words` are the words of the source from this part on;
+/// those after this part are returned.
 fn push_statements<'w, A: Allocator + Copy, S: Allocator + Copy>(
     own: &SymbolTable<S>,
     number: usize,
@@ -466,8 +465,12 @@ fn push_statements<'w, A: Allocator + Copy, S: Allocator + Copy>(
     Ok(left)
 }
 
-/// What the statements of a source do with its own symbols, in their order. These are its words, in the order of the
-/// source. That all statements are taken, each with its word, is tested.
+/// What the statements of a source do with its own symbols, in order; `words` are its words, in the order of the
+/// source. That all statements are covered, each with its word, is tested.
+///
+/// # Errors
+///
+/// `AllocError` if memory was refused.
 pub fn mentions_of<A: Allocator + Copy, S: Allocator + Copy>(
     alloc: A,
     own: &SymbolTable<S>,

@@ -1,4 +1,4 @@
-//! The parts of a source, read.
+//! Reads the parts of a source.
 
 ghost use Rattle.std.specs.Prelude.{◌≡◌, Err, true, false, length, map, IfOk, IfErr, IfSome, List, ℕ, Some, slice_get};
 ghost use Rattle.std.specs.List.{AllByRecursion, list_any};
@@ -15,20 +15,20 @@ use pal_asm::{FaultCode, PalFault};
 use std::alloc::{AllocError, Allocator};
 use streams::{ByteSource, read_at_most};
 
-/// How many parts a source may have.
+/// The maximum number of parts that a source may have.
 const MOST_PARTS: usize = 16;
 
 /// One byte more than a part may have, so that a longer one is seen to be too long.
 const MOST_PART: usize = 65_537;
 
-/// There are no parts, or too many.
+/// Whether there are no parts, or too many.
 fn is_bad_number(count: usize) -> bool
     ensures { result ≡ is_bad_number count }
 {
     count == 0 || count > MOST_PARTS
 }
 
-/// The fault of a part that is too long; with the number 0, that of the number of parts.
+/// The fault of the part with this number, which is too long; number 0 stands for a wrong number of parts.
 fn too_long(part: usize) -> Fault
     ensures { result ≡ Source (fault_at TooLong part 0) }
 {
@@ -39,7 +39,7 @@ fn too_long(part: usize) -> Fault
     })
 }
 
-/// Reads the part of a source that has this number.
+/// Reads the part with this number from its source.
 fn read_part<A: Allocator, R: ByteSource>(
     alloc: A,
     source: &mut R,
@@ -53,7 +53,7 @@ fn read_part<A: Allocator, R: ByteSource>(
         (IsPartFault number (R.remaining source.old) (R.remaining source.new)) }
     ensures marks { R.mark source.new ≡ fails_to_read result }
     ensures takes { TakesAtMost 65537 (R.remaining source.old) (R.remaining source.new) }
-    // A part that is read has come whole.
+    // A part that is read is read to its end.
     ensures ended { IfOk result (λ _.
         IfSome (R.remaining source.old) (λ _. IsAtEnd (R.remaining source.new))) }
 {
@@ -64,8 +64,8 @@ fn read_part<A: Allocator, R: ByteSource>(
     Ok(part)
 }
 
-/// Reads the parts of a source, in order, up to the first that is too long or whose read fails. The
-/// number of parts is looked at before the first is read.
+/// Reads the parts of a source, in order, up to the first that is too long or whose read fails. The number of parts is
+/// checked before the first is read.
 #[tactic(auto, using(crate::proofs::SourceLemmas::none_taken))]
 pub(crate) fn read_parts<A: Allocator + Copy, R: ByteSource>(
     alloc: A,
@@ -78,7 +78,7 @@ pub(crate) fn read_parts<A: Allocator + Copy, R: ByteSource>(
     ensures faults { IfErr result (ArePartsFault (map R.mark sources.new)
         (map R.remaining sources.old) (map R.remaining sources.new)) }
     ensures marks { list_any R.mark sources.new ≡ fails_to_read result }
-    // A bad number of parts is told, and nothing is read.
+    // A wrong number of parts is reported, and nothing is read.
     ensures told { is_bad_number (length sources.old) ≡ true →
         (result ≡ Err (Source (fault_at TooLong 0 0))) × (sources.new ≡ sources.old) }
     // The sources after one that is too long, or whose read failed, are not read.
@@ -86,11 +86,11 @@ pub(crate) fn read_parts<A: Allocator + Copy, R: ByteSource>(
         LeavesThoseAfter at sources.old sources.new }
     ensures unread_after_failure { (at : ℕ) → slice_get (map R.mark sources.new) at ≡ Some true →
         LeavesThoseAfter at sources.old sources.new }
-    // A source is read only where those before it are read to their ends.
+    // A source is read only if those before it are read to their ends.
     ensures unread_after { (at : ℕ) →
         HasLeft (map R.remaining sources.old) (map R.remaining sources.new) at →
         LeavesThoseAfter at sources.old sources.new }
-    // Of a part no more is taken than it may have and a byte, which tells that it is too long.
+    // From a source, at most one byte more is taken than a part may have, which shows that the part is too long.
     ensures takes { EachTakesAtMost 65537 (map R.remaining sources.old)
         (map R.remaining sources.new) }
 {
@@ -111,7 +111,7 @@ pub(crate) fn read_parts<A: Allocator + Copy, R: ByteSource>(
     Ok(parts)
 }
 
-/// The bytes of parts, lent.
+/// The bytes of the parts, as slices.
 pub(crate) fn byte_slices<'t, A: Allocator + Copy>(
     alloc: A,
     parts: &'t [Vec<u8, A>],

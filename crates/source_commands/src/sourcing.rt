@@ -1,4 +1,4 @@
-//! The command that writes a source of a tape.
+//! The command that writes a source for a tape.
 
 ghost use Rattle.std.specs.Prelude.{◌≡◌, ◌||◌, ◌⊎◌, false, true, IfOk, IfErr, OnErr, OnOk};
 ghost use Rattle.command_parts.specs.Faults.{IsTapeFault, is_fault_of_tape, fails_to_read, fails_to_write};
@@ -15,13 +15,13 @@ use std::alloc::Allocator;
 use streams::{ByteSink, ByteSource, put};
 use word12::Word;
 
-/// Writes a source of a tape, whose program starts at an address and is for a machine. `assemble` makes the
-/// same words of it.
+/// Writes a source for a tape, whose program starts at the given address and is for the given machine. `assemble` makes
+/// the same words from it.
 ///
 /// # Errors
 ///
-/// The fault of the tape, and then nothing is written; `Device` where a read failed, or where a write
-/// failed, after which a prefix of the source went out; `NoMemory`. A tape that is read has a source.
+/// The fault of the tape, and then nothing is written; `Device` if a read failed, or if a write failed after a prefix
+/// of the source had gone out; `NoMemory` if memory was refused. Every tape that can be read has a source.
 pub fn source<A: Allocator + Copy, R: ByteSource, W: ByteSink>(
     alloc: A,
     tape: &mut R,
@@ -35,7 +35,7 @@ pub fn source<A: Allocator + Copy, R: ByteSource, W: ByteSink>(
     ensures done { IfOk result (λ status. status ≡ Done) }
     ensures source { OnOk result (Writes (IsTapeSource profile (R.remaining tape.old))
         (W.taken out.old) (W.taken out.new)) }
-    // After a tape without a fault only a write that failed or a want of memory is one.
+    // After a tape without a fault, only a failed write or refused memory is a fault.
     ensures faults { IfErr result (IsTapeFault
         (input (R.mark tape.new) (R.remaining tape.old) (R.remaining tape.new))) }
     // If a write failed, a prefix of such a source went out,
@@ -56,14 +56,14 @@ pub fn source<A: Allocator + Copy, R: ByteSource, W: ByteSink>(
     Ok(Status::Done)
 }
 
-/// Writes a source of a tape, whose program has a declaration. `assemble` makes the same words of it, for
-/// the declared machine.
+/// Writes a source for a tape, whose program has a declaration. `assemble` makes the same words from it, for the
+/// declared machine.
 ///
 /// # Errors
 ///
-/// The fault of the tape or of the declaration: each is read and, if it has a fault, refused before the
-/// next is read, and then nothing is written; `Device` where a read failed, or where a write failed,
-/// after which a prefix of the source went out; `NoMemory`.
+/// The fault of the tape or of the declaration: each of them is read and, if it has a fault, refused before the next is
+/// read, and then nothing is written; `Device` if a read failed, or if a write failed after a prefix of the source had
+/// gone out; `NoMemory` if memory was refused.
 pub fn declared_source<A: Allocator + Copy, R: ByteSource, D: ByteSource, W: ByteSink>(
     alloc: A,
     tape: &mut R,
@@ -78,7 +78,7 @@ pub fn declared_source<A: Allocator + Copy, R: ByteSource, D: ByteSource, W: Byt
     ensures source { OnOk result (Writes
         (IsDeclaredSource (R.remaining tape.old) (D.remaining declaration.old))
         (W.taken out.old) (W.taken out.new)) }
-    // After inputs without a fault only a write that failed or a want of memory is one.
+    // After inputs without a fault, only a failed write or refused memory is a fault.
     ensures faults { IfErr result (IsDeclaredSourceFault
         (input (R.mark tape.new) (R.remaining tape.old) (R.remaining tape.new))
         (input (D.mark declaration.new) (D.remaining declaration.old)
@@ -96,7 +96,7 @@ pub fn declared_source<A: Allocator + Copy, R: ByteSource, D: ByteSource, W: Byt
     ensures unread { IfErr result (λ fault. is_fault_of_tape fault ≡ true →
         declaration.new ≡ declaration.old) }
     ensures unread_after_failure { R.mark tape.new ≡ true → declaration.new ≡ declaration.old }
-    // but only after a good tape.
+    // and it is read only after a good tape.
     ensures declaration_after_tape { (declaration.new ≡ declaration.old) ⊎
         IsGoodTape (R.remaining tape.old) }
     // No input is read past its limit.

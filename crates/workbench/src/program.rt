@@ -1,4 +1,4 @@
-//! The program: from its arguments to its status.
+//! The program, from its arguments to its exit status.
 
 ghost use Rattle.std.specs.Prelude.{◌≤◌};
 
@@ -26,23 +26,22 @@ use std::{env, io};
 use streams::put;
 use streams::standard::StdWriter;
 
-/// The arguments that stand for none at all.
+/// The arguments that are used if none are given.
 static RUN_STANDARD_INPUT: [&str; 3] = ["pdp8", "run", "-"];
 
-/// What is said where nothing is requested and a person would have to type a tape.
+/// What is said if nothing is requested and a person would have to type a tape.
 const WAITING: &str = "pdp8 waits for a tape on standard input; pdp8 help lists the commands\n";
 
-/// Does what the program's arguments ask for, and says with which status it ends: 0 done, 1 refused, 2
-/// a bad command line, 3 a device's fault, 4 want of memory. Without arguments it runs the tape on
-/// standard input. Faults and what is wrong with a command line go to standard error, help to standard
-/// output; where standard error fails, the status is the same. But the summary of `--teletype` and of
-/// `teletype`, and the line of `refute` whose events go to standard output, go to standard error too, and
-/// where that fails the status is 3.
+/// Carries out the program's arguments, and returns its exit status: 0 done, 1 refused, 2 a misused command line, 3 a
+/// failed device, 4 memory refused. Without arguments, it runs the tape on standard input. Faults and misuse go to
+/// standard error, and help goes to standard output; if standard error fails, the status stays the same. There are
+/// exceptions: the summary of `--teletype` and of `teletype`, and the line of `refute` if its events go to standard
+/// output, also go to standard error, and if that fails, the status is 3.
 ///
-/// Where standard input is a terminal, it says that it waits for a tape if there are no arguments, and which key ends a session
-/// at the teletype.
+/// If standard input is a terminal, it says that it waits for a tape if there are no arguments, and says which key ends
+/// a session at the teletype.
 ///
-/// That the status is at most 4 is proved; all else said here is tested.
+/// It is proved that the status is at most 4; everything else that is said here is tested.
 pub fn exit_status<R: Env + Files + Input + Print + Eprint + AllocGlobal>(
     rt: &R,
     at_terminal: bool,
@@ -71,9 +70,10 @@ pub fn exit_status<R: Env + Files + Input + Print + Eprint + AllocGlobal>(
     }
 }
 
-/// Carries out a command line whose files are none twice, and tells the fault that stops it: first its line, since the file that has it is
-/// looked at once more for those below, of which the last says so if it was given in the place of another. Of an answer that is no fault it
-/// says what the command does not.
+/// Carries out a command line, unless one of its files is used twice, and reports the fault that stops it. The line of
+/// the fault is written first, because the faulty file is read again for the lines below it; the last of these says so
+/// if a file was given in place of one of another kind. If the request is refused without a fault, it says what the
+/// command itself does not.
 #[inline(never)]
 fn carry_out<R: Files + Input + Print + Eprint>(
     rt: &R,
@@ -103,7 +103,7 @@ fn carry_out<R: Files + Input + Print + Eprint>(
     }
 }
 
-/// Why the arguments were not copied: one is not a text, or memory was refused.
+/// Why the arguments could not be copied: one of them is not text, or memory was refused.
 fn refusal_of(kind: ErrorKind) -> CommandLineFault {
     match kind {
         ErrorKind::InvalidData => CommandLineFault::Misuse(Misuse::NotText),
@@ -111,7 +111,7 @@ fn refusal_of(kind: ErrorKind) -> CommandLineFault {
     }
 }
 
-/// Says why the command line is bad, or gives the help that it asks for.
+/// Reports why the command line cannot be used, or gives the help that it requests, and returns the status.
 #[inline(never)]
 fn refuse<R: Print + Eprint>(rt: &R, alloc: Global, refused: CommandLineFault) -> Status {
     let told = match refused {
@@ -132,7 +132,7 @@ fn refuse<R: Print + Eprint>(rt: &R, alloc: Global, refused: CommandLineFault) -
     }
 }
 
-/// Says what is wrong with the command line, on standard error, or gives help, on standard output.
+/// Writes to standard error what is wrong with the command line, or writes help to standard output.
 fn say<R: Print + Eprint>(rt: &R, alloc: Global, text: &Error) -> Status {
     if text.use_stderr() {
         say_error(rt, alloc, text);
@@ -144,8 +144,8 @@ fn say<R: Print + Eprint>(rt: &R, alloc: Global, text: &Error) -> Status {
     }
 }
 
-/// The lines of an error as they are shown, each with its end, without a tip that would lead astray and the empty line
-/// below it.
+/// The lines of an error as they are shown, each with the line feed that ends it. A misleading tip is left out, with
+/// the empty line below it.
 fn visible_lines(alloc: Global, error: &str) -> Result<String, AllocError> {
     let mut shown = String::new(alloc);
     let mut is_dropped = false;
@@ -160,7 +160,7 @@ fn visible_lines(alloc: Global, error: &str) -> Result<String, AllocError> {
     Ok(shown)
 }
 
-/// Says what is wrong with the command line, which may quote an argument.
+/// Writes to standard error what is wrong with the command line. The text may quote an argument.
 fn say_error<R: Eprint>(rt: &R, alloc: Global, text: &Error) {
     let mut lines = String::new(alloc);
     if write!(lines, "{text}").is_err() {
@@ -171,8 +171,8 @@ fn say_error<R: Eprint>(rt: &R, alloc: Global, text: &Error) {
     }
 }
 
-/// Opens the files of a request, in the order of its operands, and carries it out. Each command has a
-/// frame of its own on the stack, since they are large.
+/// Opens the files of a request, in the order of its operands, and carries it out. Each command has a stack frame of
+/// its own, since these frames are large.
 #[inline(never)]
 fn answer<R: Files + Input + Print + Eprint>(
     rt: &R,
@@ -195,7 +195,7 @@ fn answer<R: Files + Input + Print + Eprint>(
     }
 }
 
-/// A code, with its number if that is a word of its own: `rule 2`.
+/// A code with its number, if the number is an argument of its own, as in `rule 2`.
 fn whole_code(alloc: Global, code: &str, number: Option<&str>) -> Result<String, AllocError> {
     let mut whole = String::new(alloc);
     whole.push_str(code)?;
@@ -206,7 +206,7 @@ fn whole_code(alloc: Global, code: &str, number: Option<&str>) -> Result<String,
     Ok(whole)
 }
 
-/// Says what is meant by a code, or which codes there are. A code that there is not is a bad command line.
+/// Explains a code, or lists all codes. An unknown code is a misuse of the command line.
 #[inline(never)]
 fn explain_code<R: Print + Eprint>(
     rt: &R,

@@ -74,7 +74,7 @@ const VERSION_OF_CERTIFICATE: Argument = Argument {
     name: "certificate",
     short: None,
     form: Form::Value("V"),
-    help: "the version that is written, 2 or 3; 2 by default. Version 3 needs the option --declaration",
+    help: "the version to write, 2 or 3; 2 by default. Version 3 needs the option --declaration",
 };
 
 const VERSION_OF_GUESS: Argument = Argument {
@@ -130,14 +130,14 @@ const DECLARATION_OUT: Argument = Argument {
     name: "OUT",
     short: None,
     form: Form::ResultOrSource,
-    help: "where the declaration goes, or - for standard output. With --source, OUT is given by -o",
+    help: "where the declaration goes, or - for standard output. With --source, give OUT with -o",
 };
 
 const FROM: Argument = Argument {
     name: "from",
     short: None,
     form: Form::Value("FILE"),
-    help: "a declaration, or - for standard input: its lines are kept (but see --tight), what is missing is added, and its start and machine are used",
+    help: "a declaration, or - for standard input: keeps its lines (but see --tight), adds what is missing, and uses its start and machine",
 };
 
 const SOURCE_OUT: Argument = Argument {
@@ -165,14 +165,14 @@ const GUESSED_OUT: Argument = Argument {
     name: "OUT",
     short: None,
     form: Form::ResultOrSource,
-    help: "where the certificate goes, or - for standard output; the file is emptied first; with --source, it is emptied after the source and the declaration are read",
+    help: "where the certificate goes, or - for standard output; the text below says when the file is emptied",
 };
 
 const REPORT_OUT: Argument = Argument {
     name: "OUT",
     short: None,
     form: Form::ResultOrSource,
-    help: "where the report goes, or - for standard output. With --source, OUT is given by -o",
+    help: "where the report goes, or - for standard output. With --source, give OUT with -o",
 };
 
 const REPORT_STUCK: Argument = Argument {
@@ -200,7 +200,7 @@ const OUTPUT: Argument = Argument {
     name: "output",
     short: Some('o'),
     form: Form::Value("OUT"),
-    help: "where the result goes, or - for standard output; OUT is then not an operand. The file is created when there is a result, and otherwise stays as it was",
+    help: "where the result goes, or - for standard output; OUT is then not an operand. The file is created or replaced when there is a result; otherwise nothing happens to it",
 };
 
 const CODE: Argument = Argument {
@@ -235,7 +235,7 @@ const ROUNDS: Argument = Argument {
     name: "steps",
     short: None,
     form: Form::Value("N"),
-    help: "the maximum number of rounds, each of which is one instruction and what the devices then do; 100000 by default",
+    help: "the maximum number of rounds (a round is one instruction and what the devices do after it); 100000 by default",
 };
 
 const CONTINUE: Argument = Argument {
@@ -277,11 +277,11 @@ const READER: Argument = Argument {
     name: "reader",
     short: None,
     form: Form::Value("FILE"),
-    help: "the frames in the high-speed reader, or - for standard input",
+    help: "the file whose bytes are the frames in the high-speed reader, or - for standard input",
 };
 
 const READER_BESIDE_KEYS: Argument = Argument {
-    help: "the frames in the high-speed reader; standard input is the keyboard",
+    help: "the file whose bytes are the frames in the high-speed reader; standard input is the keyboard",
     ..READER
 };
 
@@ -296,7 +296,7 @@ const KEYS: Argument = Argument {
     name: "keys",
     short: None,
     form: Form::Value("FILE"),
-    help: "the keys that are struck, or - for standard input",
+    help: "the file whose bytes are the keys that are struck, or - for standard input",
 };
 
 const MARK: Argument = Argument {
@@ -317,14 +317,14 @@ const RAW: Argument = Argument {
     name: "raw",
     short: None,
     form: Form::Flag,
-    help: "strikes each byte as it is: a line feed does not become a carriage return, and channel 8 is not set",
+    help: "sends each byte to the program unchanged: a line feed does not become a carriage return, and channel 8 is not set",
 };
 
 const INTERRUPT: Argument = Argument {
     name: "interrupt",
     short: None,
     form: Form::Value("K"),
-    help: "the key that ends the session if it comes when the program asks for a key: an octal number, such as 5 for ^E, or off for none. If the option is not given, it is ^E at a terminal without --raw, and otherwise none",
+    help: "the key that ends the session if it is the next one when the program asks for a key: an octal number, such as 5 for ^E, or off for none. By default it is ^E at a terminal without --raw; otherwise there is none",
 };
 
 const SWITCHES: Argument = Argument {
@@ -392,7 +392,7 @@ const EXITS: Argument = Argument {
     name: "exits",
     short: None,
     form: Form::Flag,
-    help: "adds, for each routine, what AC and the link are shown to be when it returns",
+    help: "adds, for each routine, what AC and the link are shown to hold when it returns",
 };
 
 const READS: Argument = Argument {
@@ -427,7 +427,7 @@ const FORCE_SAVE: Argument = Argument {
     name: "force",
     short: None,
     form: Form::Flag,
-    help: "--save also replaces files that this command did not write",
+    help: "with --save, also replaces files that this command did not write",
 };
 
 const FORCE_SOURCE: Argument = Argument {
@@ -448,14 +448,14 @@ const WHY_CHECK: Argument = Argument {
     name: "why",
     short: Some('w'),
     form: Form::Flag,
-    help: "also says what violates the condition; after a yes, says what the declaration lists but the certificate does not need",
+    help: "after a no, also says what the condition requires and what violates it; after a yes, says what the declaration lists but the certificate does not need",
 };
 
 const WHY_GUESS: Argument = Argument {
     name: "why",
     short: Some('w'),
     form: Form::Flag,
-    help: "if the search is stuck, writes what the condition requires and what violates it, if such a reason is found",
+    help: "if the search is stuck, writes which condition cannot be shown, what it requires and what violates it, as far as this is found",
 };
 
 const WHY_BROKEN: Argument = Argument {
@@ -474,14 +474,19 @@ const WHY_SOURCE: Argument = Argument {
     name: "why",
     short: Some('w'),
     form: Form::Flag,
-    help: "after a fault, writes all faults that are found, with their lines and what to change",
+    help: "after a fault, writes the faults that are found, at most twenty, with their lines and what to change",
 };
 
 const WHY_INPUT: Argument = Argument {
     name: "why",
     short: Some('w'),
     form: Form::Flag,
-    help: "if an input is refused, writes what is wrong with it",
+    help: "if an input is refused, says what is wrong with it",
+};
+
+const WHY_RUN: Argument = Argument {
+    help: "if an input is refused, says what is wrong with it; if the run ends at a word that the machine does not support, says what the word may be",
+    ..WHY_INPUT
 };
 
 pub(crate) const VERIFY_ARGUMENTS: [Argument; 10] = [
@@ -517,7 +522,7 @@ pub(crate) const RUN_ARGUMENTS: [Argument; 20] = [
     UNTIL_READ,
     LAST,
     SHOW,
-    WHY_INPUT,
+    WHY_RUN,
 ];
 
 pub(crate) const TELETYPE_ARGUMENTS: [Argument; 16] = [
@@ -536,7 +541,7 @@ pub(crate) const TELETYPE_ARGUMENTS: [Argument; 16] = [
     UNTIL_READ,
     LAST,
     SHOW,
-    WHY_INPUT,
+    WHY_RUN,
 ];
 
 pub(crate) const DUMP_ARGUMENTS: [Argument; 5] = [TAPE_OR_SOURCE, PARTS, FULL, PROFILE, WHY_INPUT];

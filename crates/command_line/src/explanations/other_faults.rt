@@ -8,7 +8,7 @@ static OTHER_FAULTS: [Explanation; 26] = [
         code: "BadLine",
         subject: Subject::Fault("declaration: BadLine 2"),
         meaning: "the line is not a line of a declaration",
-        advice: "write line n as one of these lines (docs/DECLARATIONS.md):\naddresses are in octal, ranges ascend, and letters are in lower case; the\noffsets of a `sub` line are 0 to 7, and those of a `returns` line 0 to 77, each\nwritten out; after `link` comes 0 or 1",
+        advice: "write the line in one of the forms that a declaration has\n(docs/DECLARATIONS.md): addresses are in octal, ranges ascend, and letters are\nin lower case; the offsets of a `sub` line are 0 to 7, and those of a `returns`\nline 0 to 77, listed one by one and not as ranges; after `link` comes 0 or 1",
     },
     Explanation {
         code: "TwoStarts",
@@ -55,7 +55,7 @@ static OTHER_FAULTS: [Explanation; 26] = [
     Explanation {
         code: "Misplaced",
         subject: Subject::Fault("declaration: Misplaced 0204"),
-        meaning: "a line names an address that it must not name: `skips`, `moves` and `returns` name entries, `abandon` names cells of main's body, and `holds` names cells of bodies",
+        meaning: "a line names an address that it must not name: `skips`, `moves` and `returns` may name only entries, `abandon` only cells of main's body, and `holds` only cells of bodies",
         advice: "correct the address, or declare the routine or the body to which it\nbelongs",
     },
     Explanation {
@@ -86,7 +86,7 @@ static OTHER_FAULTS: [Explanation; 26] = [
         code: "BadLine",
         subject: Subject::Fault("events: BadLine 2"),
         meaning: "the line is not an event",
-        advice: "write line n as a line of events (docs/FORMATS.md)",
+        advice: "write the line in one of the forms that a list of events has\n(docs/FORMATS.md)",
     },
     Explanation {
         code: "TooMany",
@@ -104,13 +104,13 @@ static OTHER_FAULTS: [Explanation; 26] = [
         code: "BadLine",
         subject: Subject::Fault("certificate: BadLine 2"),
         meaning: "the line is not allowed there, is not spelled as required, does not end with a line feed, or is missing",
-        advice: "write each line in its only spelling: `0000-0001`, not `0000,0001`,\nwith one space between words and no carriage return; the last line must be\n`end`",
+        advice: "write each line in the one spelling that is allowed: `0000-0001`,\nnot `0000,0001`, with one space between words and no carriage return; the last\nline must be `end`",
     },
     Explanation {
         code: "Order",
         subject: Subject::Fault("certificate: Order 9"),
-        meaning: "the line is out of order or a duplicate line",
-        advice: "write routines, facts and exits by ascending address, `cell` before\n`equal`, and nothing twice",
+        meaning: "the line is out of order, or is a duplicate",
+        advice: "write routine lines first, then facts, then exits, each in\nascending order of address, and nothing twice; below a fact or an exit, `cell`\nlines come before `equal` or `sum` lines, and `func` lines come last",
     },
     Explanation {
         code: "TooMany",
@@ -121,8 +121,8 @@ static OTHER_FAULTS: [Explanation; 26] = [
     Explanation {
         code: "Stuck",
         subject: Subject::Fault("guess: Stuck 0203"),
-        meaning: "no certificate was found; usually, given what the search knows, `check` would refuse the instruction at this address; if calls form a cycle, this is the lowest address of a call in the cycle",
-        advice: "add `--why`: it names the condition that cannot be shown there, and\nsays what violates it",
+        meaning: "no certificate was found; usually a condition of `check` fails at this address, given what the search has found; if calls form a cycle, this is the lowest address of a call in the cycle",
+        advice: "add `--why`: it usually names the condition that cannot be shown\nthere, and says what violates it",
     },
     Explanation {
         code: "TurnsSpent",
@@ -134,7 +134,7 @@ static OTHER_FAULTS: [Explanation; 26] = [
         code: "Undeclarable",
         subject: Subject::Fault("declare: Undeclarable TooMany"),
         meaning: "the proposal is not a valid declaration; the name of its fault follows",
-        advice: "write the declaration by hand; NAME says what is wrong with the\nproposal",
+        advice: "write the declaration by hand; the name after `Undeclarable` says\nwhat is wrong with the proposal",
     },
     Explanation {
         code: "Mismatch",
@@ -146,13 +146,13 @@ static OTHER_FAULTS: [Explanation; 26] = [
         code: "ReadFault",
         subject: Subject::Fault("device: ReadFault"),
         meaning: "an input cannot be opened or read",
-        advice: "check the name of the file, its permissions and the room on the\ndisk; `--why` names the file, or both files if there are two outputs",
+        advice: "check the name of the file and its permissions; if the input is a\nfile, the line below the fault names it",
     },
     Explanation {
         code: "WriteFault",
         subject: Subject::Fault("device: WriteFault"),
-        meaning: "an output cannot be created or written, or a pipe was closed, as by `head`",
-        advice: "check the name of the file, its permissions and the room on the\ndisk; `--why` names the file, or both files if there are two outputs",
+        meaning: "an output cannot be created or written, or a pipe was closed, for example by `head`",
+        advice: "check the name of the file, its permissions and the room on the\ndisk; the line below the fault names the file, or both files if there are two\noutputs",
     },
     Explanation {
         code: "NoMemory",

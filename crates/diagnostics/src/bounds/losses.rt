@@ -34,7 +34,7 @@ impl PrecisionLoss {
             PrecisionLoss::Call => b"the routine may write this cell",
             PrecisionLoss::Store => b"the store through a pointer may reach this cell",
             PrecisionLoss::Meeting =>
-                b"if the next address is reached on another path, this cell may hold other words",
+                b"the pointer may hold more words at the next address if that address can also be reached on another path",
         }
     }
 }

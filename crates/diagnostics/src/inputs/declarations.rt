@@ -24,7 +24,7 @@ pub(crate) fn push_declaration<A: Allocator>(
         DeclarationFault::NoStart => push_said(
             text,
             file,
-            "a line such as `start 0200` is missing; in a source it is `/: start 0200`",
+            "a line such as `start 0200` is missing; in a source, write it as `/: start 0200`",
         ),
         DeclarationFault::Overlap(at) => push_overlap(text, file, at),
         DeclarationFault::EntryInAutoIndex(at) => push_auto_index_entry(text, file, at),
@@ -65,7 +65,7 @@ fn push_overlap<A: Allocator>(
     let cell = at.value();
     writeln!(
         text,
-        "{name}: {cell:04o} has two roles that exclude each other: it is in two bodies, or it is an entry and also a variable, in a body, or the entry of another routine, or it is both a stop and a pause; remove one of the roles"
+        "{name}: {cell:04o} has two roles that exclude each other. Either it is in two bodies; or it is an entry and also a variable, a cell of a body or the entry of another routine; or it is both a stop and a pause. Remove one of the roles"
     )
     .map_err(|_| NoMemory)
 }

@@ -427,13 +427,13 @@ fn push_remedy<L: MessageWriter>(
         Omission::NoWord => text.push_text(
             b"remove it from the body, or end the program before it",
         ),
-        Omission::Unsupported => text.push_text(b"if it is data, remove it from the body"),
-        Omission::OfThe8e => text.push_text(b"add `profile 8e` if the program is for one"),
+        Omission::Unsupported => text.push_text(b"if this word is data, remove it from the body"),
+        Omission::OfThe8e => text.push_text(b"add `profile 8e` if the program is for a PDP-8/E"),
         Omission::Stores(cell) | Omission::Steps(cell) => {
             push_advice(text, b"add `var ", *cell, b"`")
         }
         Omission::StoresInEntry(_) => text.push_text(
-            b"only these may write there: a JMS that calls the routine, an ISZ of the routine itself and, with a `moves` line, a DCA of it",
+            b"only a JMS that calls the routine, an ISZ in the routine and, with a `moves` line, a DCA in the routine may write there",
         ),
         Omission::StoresInOwn(entry) => push_advice(text, b"add `moves ", *entry, b"`"),
         Omission::Calls(entry) => push_advice(text, b"add `sub ", *entry, b" body .. returns ..`"),
@@ -443,7 +443,7 @@ fn push_remedy<L: MessageWriter>(
             *entry,
             b" body .. returns ..`, and remove the entry from the body and the variables",
         ),
-        Omission::CallsAutoIndex(_) => text.push_text(b"no routine can begin in 0010 to 0017"),
+        Omission::CallsAutoIndex(_) => text.push_text(b"no routine can begin at 0010 to 0017"),
         Omission::Jumps(_) => text.push_text(b"add that address to the body"),
         Omission::JumpsAcross(_) => {
             text.push_text(b"call a routine with a JMS, and leave it with a return")
@@ -514,11 +514,10 @@ fn push_stuck<L: MessageWriter>(
     ensures { OnOk result (L.text text.new ≡ L.text text.old ++ stuck_line at omission.now) }
 {
     match omission {
-        Omission::NoWord | Omission::Unsupported | Omission::OfThe8e => {
-            push_omission(text, at, omission)
-        }
+        Omission::NoWord | Omission::OfThe8e => push_omission(text, at, omission),
         Omission::StoresInOwn(_) | Omission::JumpsToMain(_) => Ok(()),
-        Omission::StoresInEntry(_)
+        Omission::Unsupported
+        | Omission::StoresInEntry(_)
         | Omission::CallsAutoIndex(_)
         | Omission::JumpsAcross(_)
         | Omission::GoesAcross(_) => push_remedy_line(text, b"", at, omission),
@@ -570,7 +569,9 @@ fn push_found<L: MessageWriter, D: Allocator>(
         OnOk result (SaysOmissions image.now (meaning declaration.now) before (L.text text.new)) }
 {
     if is_first {
-        text.push_text(b"no certificate is possible if a run reaches any of these:\n")?;
+        text.push_text(
+            b"with this declaration, no certificate is possible if a run reaches any of these:\n",
+        )?;
     }
     text.push_instruction(at, image.get(at), declaration.profile())?;
     push_omission(text, at, omission)?;
@@ -604,7 +605,7 @@ pub fn push_omissions<L: MessageWriter, D: Allocator>(
             continue;
         };
         if found == MOST {
-            text.push_text(b"and more\n")?;
+            text.push_text(b"and other instructions\n")?;
             return Ok(());
         }
         push_found(text, image, declaration, found == 0, at, &omission)?;

@@ -27,13 +27,13 @@ pub(crate) fn push_tape<A: Allocator>(
         TapeFault::NoOrigin => push_said(
             text,
             file,
-            "a data word comes first; the first word must say where the next ones go, and its first frame is 100 to 177",
+            "a data word comes first; the first word must say where the next ones go, and its first frame must be from 100 to 177",
         ),
         TapeFault::BadFrame(place) => push_frame(
             text,
             file,
             place,
-            "a word begins with a frame from 000 to 177, and its second frame is from 000 to 077; 200 is leader before the first word and ends the tape after it, 300 may stand between words, and frames between two rubouts (377) are skipped",
+            "a word is two frames, from 000 to 177 and then from 000 to 077; before the first word, 200 is leader; after a word, 200 ends the tape; 300 may stand between words; frames between two rubouts (377) are skipped",
         ),
         TapeFault::WrongField(place) => push_frame(
             text,

@@ -2,7 +2,7 @@
 
 ghost use Rattle.std.specs.Prelude.{◌≡◌, ◌++◌, codes, OnOk};
 ghost use Rattle.diagnostics.specs.CheckText.{condition_text};
-ghost use Rattle.diagnostics.specs.WhyText.{asked_by, reason_line, reason_text, which_text, why_text, word_shown};
+ghost use Rattle.diagnostics.specs.WhyText.{around, asked_by, reason_line, reason_text, which_text, why_text, word_shown};
 
 mod asked;
 mod landing;
@@ -51,7 +51,7 @@ fn push_reason<L: MessageWriter>(
     match reason {
         Reason::AtStart(landing) => push_start(text, landing),
         Reason::LineAtNoEntry => text.push_text(
-            b"a routine or exit line names the address, which is not an entry",
+            b"a routine or exit line names this address, which is not an entry",
         ),
         Reason::InNoBody => {
             text.push_text(b"there is a fact at this address, which is not in any body")

@@ -231,7 +231,7 @@ fn push_unused<L: MessageWriter>(text: &mut L, surplus: &Surplus) -> Result<(), 
     )?;
     push_cells(
         text,
-        b"Routines in `moves` lines that do not store their return word",
+        b"Routines that `moves` lines name but that do not store their return word",
         &surplus.unmoved,
     )
 }
@@ -255,7 +255,7 @@ fn push_idle_offsets<L: MessageWriter, D: Allocator, C: Allocator>(
     }
     push_routine_offsets(
         text,
-        b"Offsets in `returns` lines by which the routine ",
+        b"Offsets that `returns` lines name but by which the routine ",
         entry,
         &shown.asserted_offsets(entry).minus(&found),
     )
@@ -281,7 +281,11 @@ fn push_accumulator<L: MessageWriter>(text: &mut L, set: &WordSet) -> Result<(),
     if set.is_all() {
         return text.push_text(b"; AC may be any word");
     }
-    text.push_text(b"; AC may be")?;
+    if set.only().is_some() {
+        text.push_text(b"; AC is")?;
+    } else {
+        text.push_text(b"; AC may be")?;
+    }
     push_words(text, set)
 }
 

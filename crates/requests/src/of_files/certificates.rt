@@ -8,34 +8,38 @@ use std::alloc::Global;
 use std::rt::Files;
 use streams::standard::StdWriter;
 
-/// Migrates the certificate of a file to version 3. The declaration is opened first.
+/// Migrates the certificate in a file to version 3. The declaration is opened first.
 #[inline(never)]
 fn migrate_by<R: Files + Input + Print>(
     rt: &R,
     alloc: Global,
-    asked: &MigrateRequest<'_>,
+    request: &MigrateRequest<'_>,
     declaration: &str,
 ) -> Result<Status, Fault> {
-    let mut promise = open_input(rt, declaration)?;
-    let mut text = open_input(rt, asked.certificate)?;
-    let mut file = open_output(rt, alloc, asked.out)?;
+    let mut declaration_input = open_input(rt, declaration)?;
+    let mut text = open_input(rt, request.certificate)?;
+    let mut file = open_output(rt, alloc, request.out)?;
     let mut out = StdWriter::new(&mut file);
-    let status = migrate_with_sites(alloc, &mut promise, &mut text, &mut out)?;
+    let status = migrate_with_sites(alloc, &mut declaration_input, &mut text, &mut out)?;
     finish(&mut file, status)
 }
 
-/// Migrates the certificate of a file, to version 3 if there is a declaration, and else to version 2.
+/// Migrates the certificate in a file: to version 3 if there is a declaration, otherwise to version 2.
+///
+/// # Errors
+///
+/// As for `migrate` and `migrate_with_sites`, and `Device` if a file cannot be opened, created or put in its place.
 #[inline(never)]
 pub fn migrate_from<R: Files + Input + Print>(
     rt: &R,
     alloc: Global,
-    asked: &MigrateRequest<'_>,
+    request: &MigrateRequest<'_>,
 ) -> Result<Status, Fault> {
-    if let Some(declaration) = asked.declaration {
-        return migrate_by(rt, alloc, asked, declaration);
+    if let Some(declaration) = request.declaration {
+        return migrate_by(rt, alloc, request, declaration);
     }
-    let mut text = open_input(rt, asked.certificate)?;
-    let mut file = open_output(rt, alloc, asked.out)?;
+    let mut text = open_input(rt, request.certificate)?;
+    let mut file = open_output(rt, alloc, request.out)?;
     let status = migrate(alloc, &mut text, &mut StdWriter::new(&mut file))?;
     finish(&mut file, status)
 }

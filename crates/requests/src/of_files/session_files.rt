@@ -24,8 +24,8 @@ use streams::{ByteSink, ByteSource};
 /// Where the punched bytes go: to a file, or nowhere.
 type Punch<'r, R> = Either<ResultFile<'r, R>, NullSink>;
 
-/// Sees to it that the punch's file can be made or written, and leaves it as it is; where it is left out, what is punched
-/// goes nowhere.
+/// Checks that the file for the punch can be created or written, and leaves it as it is. Without a file, what is
+/// punched is discarded.
 fn open_punch<'r, R: Files>(
     rt: &'r R,
     alloc: Global,
@@ -41,8 +41,8 @@ fn open_punch<'r, R: Files>(
     }
 }
 
-/// Puts what was punched in its place. It goes out by one write before the summary, so it is whole even if that
-/// fails; a run that punched nothing leaves an empty file.
+/// Puts what was punched in its place. It is written in one piece before the summary, so it is complete even if the
+/// summary cannot be written. A run that punched nothing leaves an empty file.
 fn finish_punch<R: Files>(
     punch: &mut Punch<'_, R>,
     failed: bool,
@@ -64,7 +64,7 @@ fn finish_punch<R: Files>(
     }
 }
 
-/// Where the characters of a session go: to standard output or nowhere.
+/// Where the characters that a session prints go: to standard output, or nowhere.
 fn type_to<'r, R: Print>(rt: &'r R, teletype: bool) -> StdWriter<Either<Printer<'r, R>, NullSink>>
     ensures { result.failed ≡ false }
 {
@@ -75,7 +75,7 @@ fn type_to<'r, R: Print>(rt: &'r R, teletype: bool) -> StdWriter<Either<Printer<
     }
 }
 
-/// The name of the punch's file as it is shown.
+/// The name of the file for the punch, as it is shown.
 fn shown_name(alloc: Global, name: Option<&str>) -> Result<Option<String>, AllocError> {
     match name {
         Some(name) => Ok(Some(visible_text(alloc, name)?)),
@@ -83,7 +83,7 @@ fn shown_name(alloc: Global, name: Option<&str>) -> Result<Option<String>, Alloc
     }
 }
 
-/// The form of a summary that tells the punch's file by this name.
+/// The same form of a summary, with this name for the file of the punch.
 fn form_with<'n>(form: SummaryForm<'_>, name: &'n Option<String>) -> SummaryForm<'n> {
     SummaryForm {
         apart: form.apart,
@@ -95,7 +95,7 @@ fn form_with<'n>(form: SummaryForm<'_>, name: &'n Option<String>) -> SummaryForm
     }
 }
 
-/// Runs a tape with an operator, up to where it is stopped, and shows its last instructions if that is requested.
+/// Runs a tape with an operator until it is stopped, and shows its last instructions if that is requested.
 fn follow_session<
     R: ByteSource,
     F: ByteSource,
@@ -129,12 +129,12 @@ fn follow_session<
     }
 }
 
-/// Runs a tape with these frames and with an operator. The files are opened in this order: the reader's frames and the
-/// keys, and then it is seen that the punch's can be made.
+/// Runs the tape of these frames with an operator. The reader's frames are opened first and then the keys; after that,
+/// it is checked that the file for the punch can be written.
 ///
 /// # Errors
 ///
-/// As for `run_session`, and `Device` where a file cannot be opened or made.
+/// As for `run_session`, and `Device` if a file cannot be opened or created.
 #[inline(never)]
 pub(crate) fn hold_session_on<R: Files + Input + Print + Eprint, S: ByteSource>(
     rt: &R,
@@ -176,11 +176,12 @@ pub(crate) fn hold_session_on<R: Files + Input + Print + Eprint, S: ByteSource>(
     finish_punch(&mut punch, failed, answer)
 }
 
-/// Runs the tape of a file with an operator. The tape is opened first.
+/// Runs the tape in a file with an operator. The tape is opened first.
 ///
 /// # Errors
 ///
 /// As for [`hold_session_on`].
+#[inline(never)]
 pub fn hold_session<R: Files + Input + Print + Eprint>(
     rt: &R,
     alloc: Global,
@@ -190,41 +191,41 @@ pub fn hold_session<R: Files + Input + Print + Eprint>(
     hold_session_on(rt, alloc, session, &mut frames)
 }
 
-/// The key that interrupts a session at a terminal where no other is requested: ^E.
-const USUAL_KEY: u8 = 5;
+/// The key that interrupts a session at a terminal if no other key is requested: ^E.
+const DEFAULT_INTERRUPT_KEY: u8 = 5;
 
 /// The byte of the key that interrupts a session, if one does.
 fn interrupt_key(interrupt: Interrupt, at_terminal: bool) -> Option<u8> {
     match interrupt {
-        Interrupt::Usual if at_terminal => Some(USUAL_KEY),
+        Interrupt::Usual if at_terminal => Some(DEFAULT_INTERRUPT_KEY),
         Interrupt::Usual | Interrupt::Off => None,
         Interrupt::Key(byte) => Some(byte),
     }
 }
 
-/// Says which key interrupts the session, if one does.
-fn tell_key<R: Eprint>(rt: &R, key: Option<u8>) {
+/// Says on standard error which key interrupts the session, if one does.
+fn report_interrupt_key<R: Eprint>(rt: &R, key: Option<u8>) {
     let Some(byte) = key else {
         return;
     };
-    let told = if byte < 0o40 {
+    let written = if byte < 0o40 {
         let letter = char::from(byte + 0o100);
         eprintln!(rt; "^{letter} ends the session when the program asks for a key")
     } else {
         eprintln!(rt; "key {byte:03o} ends the session when the program asks for a key")
     };
-    match told {
+    match written {
         Ok(()) | Err(_) => {}
     }
 }
 
-/// Holds a session at the teletype with the tape of these frames: keys come from standard input, what is printed goes to
-/// standard output, and the summary to standard error. The reader's frames are opened first, and then it is seen that
-/// the punch's file can be made.
+/// Holds a session at the teletype with the tape of these frames: keys come from standard input, what is printed goes
+/// to standard output, and the summary goes to standard error. The reader's frames are opened first; after that, it is
+/// checked that the file for the punch can be written.
 ///
 /// # Errors
 ///
-/// As for `teletype`, and `Device` where a file cannot be opened or made.
+/// As for `teletype`, and `Device` if a file cannot be opened or created.
 #[inline(never)]
 pub(crate) fn hold_teletype_session_on<R: Files + Input + Print + Eprint, S: ByteSource>(
     rt: &R,
@@ -237,7 +238,7 @@ pub(crate) fn hold_teletype_session_on<R: Files + Input + Print + Eprint, S: Byt
 {
     let key = interrupt_key(session.interrupt, at_terminal);
     if at_terminal {
-        tell_key(rt, key);
+        report_interrupt_key(rt, key);
     }
     let name = shown_name(alloc, session.punch)?;
     let form = form_with(session.summary, &name);
@@ -270,11 +271,12 @@ pub(crate) fn hold_teletype_session_on<R: Files + Input + Print + Eprint, S: Byt
     finish_punch(&mut punch, failed, answer)
 }
 
-/// Holds a session at the teletype with the tape of a file, which is opened first.
+/// Holds a session at the teletype with the tape in a file, which is opened first.
 ///
 /// # Errors
 ///
 /// As for [`hold_teletype_session_on`].
+#[inline(never)]
 pub fn hold_teletype_session<R: Files + Input + Print + Eprint>(
     rt: &R,
     alloc: Global,

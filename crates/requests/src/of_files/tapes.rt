@@ -25,7 +25,7 @@ use streams::standard::StdWriter;
 use streams::{ByteSource, put};
 use word12::Word;
 
-/// The words of an image, with whole addresses.
+/// A line for each word of an image, with full addresses.
 fn full_words(alloc: Global, image: &Image, profile: Profile) -> Result<Vec<u8>, AllocError> {
     let mut text = Vec::new(alloc);
     for index in 0..4096 {
@@ -41,7 +41,7 @@ fn full_words(alloc: Global, image: &Image, profile: Profile) -> Result<Vec<u8>,
     Ok(text)
 }
 
-/// Names the words of the tape of a file, with whole addresses.
+/// Lists the words of a tape with their names, with full addresses.
 fn dump_full<R: Print, S: ByteSource>(
     rt: &R,
     alloc: Global,
@@ -56,34 +56,38 @@ fn dump_full<R: Print, S: ByteSource>(
     Ok(Status::Done)
 }
 
-/// Names the words of the tape of a file.
+/// Lists the words of the tape in a file with their names.
+///
+/// # Errors
+///
+/// As for `dump`, and `Device` if the file cannot be opened.
 #[inline(never)]
 pub fn dump_from<R: Files + Input + Print>(
     rt: &R,
     alloc: Global,
-    asked: &DumpRequest<'_>,
+    request: &DumpRequest<'_>,
 ) -> Result<Status, Fault> {
-    let mut frames = open_input(rt, asked.tape.unwrap_or("-"))?;
-    if asked.full {
-        return dump_full(rt, alloc, &mut frames, asked.profile);
+    let mut frames = open_input(rt, request.tape.unwrap_or("-"))?;
+    if request.full {
+        return dump_full(rt, alloc, &mut frames, request.profile);
     }
     let mut out = StdWriter::new(io::writer(rt));
-    dump(alloc, &mut frames, asked.profile, &mut out)
+    dump(alloc, &mut frames, request.profile, &mut out)
 }
 
-/// Runs a tape with these frames, in rounds or by the events of a file, up to where it is stopped, and writes the long
+/// Runs the tape of these frames, in rounds or with the events of a file, until it is stopped, and writes the long
 /// trace.
 fn run_long<R: Files + Input + Print, S: ByteSource, N: Statements>(
     rt: &R,
     alloc: Global,
-    asked: &RunRequest<'_>,
+    request: &RunRequest<'_>,
     frames: &mut S,
     statements: &N,
 ) -> Result<Status, Fault>
     requires { S.mark frames.old ≡ false }
 {
-    let (options, stops) = (asked.options, stops_of(asked));
-    let Some(events) = asked.events else {
+    let (options, stops) = (request.options, stops_of(request));
+    let Some(events) = request.events else {
         let mut out = StdWriter::new(io::writer(rt));
         return run_with_long_trace(alloc, frames, options, &stops, statements, &mut out);
     };
@@ -94,37 +98,37 @@ fn run_long<R: Files + Input + Print, S: ByteSource, N: Statements>(
     )
 }
 
-/// Where a run is stopped.
-fn stops_of(asked: &RunRequest<'_>) -> Stops {
-    match &asked.stopping {
+/// The stops of a run.
+fn stops_of(request: &RunRequest<'_>) -> Stops {
+    match &request.stopping {
         None => no_stops(),
         Some(stopping) => stopping.stops,
     }
 }
 
-/// Runs a tape in rounds up to where it is stopped.
+/// Runs a tape in rounds until it is stopped.
 fn run_rounds_until<R: Print, S: ByteSource>(
     rt: &R,
     alloc: Global,
-    asked: &RunRequest<'_>,
+    request: &RunRequest<'_>,
     frames: &mut S,
     stopping: &StopOptions,
 ) -> Result<Status, Fault>
     requires { S.mark frames.old ≡ false }
 {
     let mut out = StdWriter::new(io::writer(rt));
-    let (options, stops) = (asked.options, &stopping.stops);
+    let (options, stops) = (request.options, &stopping.stops);
     match stopping.last {
         None => run_with_stops(alloc, frames, options, stops, &mut out),
         Some(most) => run_with_last(alloc, frames, options, stops, most, &mut out),
     }
 }
 
-/// Runs a tape by the events of a file up to where it is stopped.
+/// Runs a tape with the events of a file until it is stopped.
 fn run_events_until<R: Files + Input + Print, S: ByteSource>(
     rt: &R,
     alloc: Global,
-    asked: &RunRequest<'_>,
+    request: &RunRequest<'_>,
     frames: &mut S,
     events: &str,
     stopping: &StopOptions,
@@ -133,7 +137,7 @@ fn run_events_until<R: Files + Input + Print, S: ByteSource>(
 {
     let mut list = open_input(rt, events)?;
     let mut out = StdWriter::new(io::writer(rt));
-    let (options, stops) = (asked.options, &stopping.stops);
+    let (options, stops) = (request.options, &stopping.stops);
     match stopping.last {
         None => run_events_with_stops(alloc, frames, &mut list, options, stops, &mut out),
         Some(most) => {
@@ -142,71 +146,84 @@ fn run_events_until<R: Files + Input + Print, S: ByteSource>(
     }
 }
 
-/// Runs a tape with these frames, in rounds or by the events of a file, up to where it is stopped if that is
-/// requested. In a long trace its instructions read as these statements.
+/// Runs the tape of these frames, in rounds or with the events of a file, and with stops if they are requested. A long
+/// trace shows its instructions as these statements.
 ///
 /// # Errors
 ///
-/// As of the command, and `Device` if the file of events cannot be opened.
+/// As for the command, and `Device` if the file of events cannot be opened.
 pub(crate) fn run_on<R: Files + Input + Print, S: ByteSource, N: Statements>(
     rt: &R,
     alloc: Global,
-    asked: &RunRequest<'_>,
+    request: &RunRequest<'_>,
     frames: &mut S,
     statements: &N,
 ) -> Result<Status, Fault>
     requires { S.mark frames.old ≡ false }
 {
-    if asked.long {
-        return run_long(rt, alloc, asked, frames, statements);
+    if request.long {
+        return run_long(rt, alloc, request, frames, statements);
     }
-    if let Some(stopping) = &asked.stopping {
-        return match asked.events {
-            None => run_rounds_until(rt, alloc, asked, frames, stopping),
-            Some(events) => run_events_until(rt, alloc, asked, frames, events, stopping),
+    if let Some(stopping) = &request.stopping {
+        return match request.events {
+            None => run_rounds_until(rt, alloc, request, frames, stopping),
+            Some(events) => run_events_until(rt, alloc, request, frames, events, stopping),
         };
     }
-    let Some(events) = asked.events else {
+    let Some(events) = request.events else {
         let mut out = StdWriter::new(io::writer(rt));
-        return run(alloc, frames, asked.options, &mut out);
+        return run(alloc, frames, request.options, &mut out);
     };
     let mut list = open_input(rt, events)?;
     let mut out = StdWriter::new(io::writer(rt));
-    run_events(alloc, frames, &mut list, asked.options, &mut out)
+    run_events(alloc, frames, &mut list, request.options, &mut out)
 }
 
-/// Runs the tape of a file, in rounds or by the events of a file, up to where it is stopped if that is requested.
+/// Runs the tape in a file, in rounds or with the events of another file, and with stops if they are requested.
+///
+/// # Errors
+///
+/// As for the command, and `Device` if a file cannot be opened.
 #[inline(never)]
 pub fn run_from<R: Files + Input + Print>(
     rt: &R,
     alloc: Global,
-    asked: &RunRequest<'_>,
+    request: &RunRequest<'_>,
 ) -> Result<Status, Fault> {
-    let mut frames = open_input(rt, asked.tape.unwrap_or("-"))?;
+    let mut frames = open_input(rt, request.tape.unwrap_or("-"))?;
     let statements = MnemonicStatements {
-        profile: asked.options.profile,
+        profile: request.options.profile,
     };
-    run_on(rt, alloc, asked, &mut frames, &statements)
+    run_on(rt, alloc, request, &mut frames, &statements)
 }
 
-/// Writes a source of the tape of a file. A declaration is opened before the file that the source goes
-/// to is made.
+/// Writes a source for the tape in a file. A declaration, if there is one, is opened before the file for the source.
+///
+/// # Errors
+///
+/// As for `source` and `declared_source`, and `Device` if a file cannot be opened, created or put in its place.
 #[inline(never)]
 pub fn source_from<R: Files + Input + Print>(
     rt: &R,
     alloc: Global,
-    asked: &SourceRequest<'_>,
+    request: &SourceRequest<'_>,
 ) -> Result<Status, Fault> {
-    let mut frames = open_input(rt, asked.tape)?;
-    let Some(declaration) = asked.declaration else {
-        let mut file = open_output(rt, alloc, asked.out)?;
+    let mut frames = open_input(rt, request.tape)?;
+    let Some(declaration) = request.declaration else {
+        let mut file = open_output(rt, alloc, request.out)?;
         let mut text = StdWriter::new(&mut file);
-        let status = source(alloc, &mut frames, asked.start, asked.profile, &mut text)?;
+        let status = source(
+            alloc,
+            &mut frames,
+            request.start,
+            request.profile,
+            &mut text,
+        )?;
         return finish(&mut file, status);
     };
-    let mut promise = open_input(rt, declaration)?;
-    let mut file = open_output(rt, alloc, asked.out)?;
+    let mut declaration_input = open_input(rt, declaration)?;
+    let mut file = open_output(rt, alloc, request.out)?;
     let mut text = StdWriter::new(&mut file);
-    let status = declared_source(alloc, &mut frames, &mut promise, &mut text)?;
+    let status = declared_source(alloc, &mut frames, &mut declaration_input, &mut text)?;
     finish(&mut file, status)
 }

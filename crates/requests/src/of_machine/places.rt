@@ -7,10 +7,10 @@ use std::alloc::Global;
 use word12::Word;
 use wordset::WordSet;
 
-/// Reads addresses as a declaration of a source does that has these symbols.
+/// Reads addresses as in a declaration of a source that has these symbols.
 #[derive(Clone, Copy)]
 pub(crate) struct SymbolicAddresses<'s> {
-    pub(crate) own: &'s SymbolTable<Global>,
+    pub(crate) symbols: &'s SymbolTable<Global>,
 }
 
 /// Cells as a set.
@@ -21,7 +21,7 @@ fn set_of(cells: Cells) -> WordSet {
     }
 }
 
-/// The address that cells are; none if they are a range.
+/// The address, if the cells are a single address and not a range.
 fn one_of(cells: Cells) -> Option<Word> {
     match cells {
         Cells::One(at) => Some(at),
@@ -31,35 +31,35 @@ fn one_of(cells: Cells) -> Option<Word> {
 
 impl AddressReader for SymbolicAddresses<'_> {
     fn cells(&self, word: &[u8]) -> Option<WordSet> {
-        match cells_of(self.own, word) {
+        match cells_of(self.symbols, word) {
             Ok(cells) => Some(set_of(cells)),
             Err(_) => None,
         }
     }
 
     fn place(&self, word: &[u8]) -> Option<Word> {
-        match cells_of(self.own, word) {
+        match cells_of(self.symbols, word) {
             Ok(cells) => one_of(cells),
             Err(_) => None,
         }
     }
 }
 
-/// What the options of a request name.
+/// The cells and places that the options of a request name.
 #[derive(Clone, Copy)]
 pub(crate) struct ResolvedPlaces {
     /// The cells that are shown.
     pub(crate) show: WordSet,
-    /// How the run is followed, if it may be stopped.
+    /// The options for stopping the run, if it may be stopped.
     pub(crate) stopping: Option<StopOptions>,
 }
 
-/// What these options name, where the source has these symbols of its own.
-pub(crate) fn named_in(
-    own: &SymbolTable<Global>,
+/// The cells and places that these options name, with the symbols of the source.
+pub(crate) fn resolve_places(
+    symbols: &SymbolTable<Global>,
     places: &PlaceOptions<'_>,
 ) -> Result<ResolvedPlaces, Misuse> {
-    let reader = SymbolicAddresses { own };
+    let reader = SymbolicAddresses { symbols };
     Ok(ResolvedPlaces {
         show: places.shown(&reader)?,
         stopping: places.stopping(&reader)?,

@@ -8,13 +8,13 @@ use reports::reporting::SourceNote;
 use std::alloc::{AllocError, Allocator, Global};
 use word12::Word;
 
-/// Adds a piece behind two spaces.
+/// Adds a piece after two spaces.
 fn push_apart(text: &mut Vec<u8>, piece: &[u8]) -> Result<(), AllocError> {
     text.extend_from_slice(b"  ")?;
     text.extend_from_slice(piece)
 }
 
-/// Adds what the source says about a word: the last tag before it, and of the first word of a line the line.
+/// Adds what the source says about a word: the last tag before it and, for the first word of a line, the line itself.
 fn push_note(text: &mut Vec<u8>, note: SourceNote<'_>) -> Result<(), AllocError> {
     let is_tagged = note.is_first && begins_with_tag(note);
     if !note.label.is_empty() && !is_tagged {
@@ -45,7 +45,8 @@ fn push_line(
     text.extend_from_slice(b"\n")
 }
 
-/// A line for each word of a source's program, by rising address: address, word, its name, and what the source says.
+/// A line for each word of a source's program, in order of address: the address, the word, its name, and what the
+/// source says about it.
 pub(crate) fn words_of(
     alloc: Global,
     source: &AssembledSource,
@@ -62,7 +63,7 @@ pub(crate) fn words_of(
     Ok(text)
 }
 
-/// Instructions read as in a source.
+/// Shows instructions as the source writes them.
 #[derive(Clone, Copy)]
 pub(crate) struct SourceStatements<'s> {
     /// The source that was assembled.
@@ -71,7 +72,7 @@ pub(crate) struct SourceStatements<'s> {
     pub(crate) profile: Profile,
 }
 
-/// A line's text without the tag at its front.
+/// A line's text without the tag at its beginning.
 fn without_tag(note: SourceNote<'_>) -> &[u8] {
     if !begins_with_tag(note) {
         return note.text;

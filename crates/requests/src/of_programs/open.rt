@@ -1,4 +1,4 @@
-//! Programs whose files are open: the one way to read a program and its declaration.
+//! Programs whose files are open, and the only way to read a program and its declaration.
 
 use crate::files::input_of;
 use crate::of_sources::assembled::AssembledSource;
@@ -13,13 +13,13 @@ use std::io::Read;
 use std::rt::Files;
 use streams::standard::StdReader;
 
-/// What a file gives, or what is in memory.
+/// An input that comes from a file, or from memory.
 pub(crate) type ProgramInput<'x, I> = Either<I, &'x [u8]>;
 
-/// What a declaration gives that is left out.
+/// The contents of a declaration that is left out.
 static NOTHING: &[u8] = b"";
 
-/// A program that is open: its tape and its declaration, which are those of files or those that a source means.
+/// A program that is open: its tape and its declaration, which come from files or from a source that was assembled.
 #[derive(Drop)]
 pub(crate) struct OpenProgram<'x, I> {
     /// The frames of the tape.
@@ -28,7 +28,7 @@ pub(crate) struct OpenProgram<'x, I> {
     pub(crate) text: ProgramInput<'x, I>,
     /// Whether there is a declaration; otherwise one is to be proposed.
     pub(crate) is_declared: bool,
-    /// The source that the program is given by.
+    /// The source, if the program is given as one.
     pub(crate) source: Option<&'x AssembledSource>,
 }
 
@@ -47,12 +47,12 @@ impl<'x, I: Read + Drop> OpenProgram<'x, I> {
         }
     }
 
-    /// The source, if what it says about addresses is to be told.
+    /// The source, if an explanation is to show what it says about addresses.
     pub(crate) fn labels(&self, explained: bool) -> Option<&'x AssembledSource> {
         if explained { self.source } else { None }
     }
 
-    /// Reads the tape, and after a good one the declaration.
+    /// Reads the tape and, if it has no fault, the declaration.
     ///
     /// # Errors
     ///

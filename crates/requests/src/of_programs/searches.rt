@@ -4,10 +4,10 @@
 use crate::files::{ResultSink, finish, open_output};
 use crate::of_programs::open::OpenProgram;
 use crate::of_sources::assembled::AssembledSource;
-use crate::of_sources::source_lines::{labelled, lines_of};
+use crate::of_sources::source_lines::{label_message, lines_of};
 use crate::standard_error::{report_to, tell_to};
 use crate::stuck::{StuckSearch, stuck_message};
-use crate::stuck_reports::report_stuck;
+use crate::stuck_reports::write_stuck_report;
 use crate::telling::tell_lines;
 use analyser::{Attempt, guess, guess_or_draft, guess_version, guess_version_or_draft};
 use bin_tape::Image;
@@ -31,8 +31,8 @@ use streams::standard::{StdReader, StdWriter};
 use streams::{ByteSink, put, read_at_most};
 use turns::GuessFault;
 
-/// One frame more than the tape is read, so that a longer one is seen to be too long.
-const MOST_FRAMES: usize = 65_537;
+/// The most frames that are read: one more than a tape may have, so that a longer tape is seen to be too long.
+const FRAME_READ_LIMIT: usize = 65_537;
 
 /// Writes a certificate that was found.
 fn write_found<R: Files + Print>(
@@ -43,31 +43,31 @@ fn write_found<R: Files + Print>(
     finish(file, status)
 }
 
-/// Tells on standard error why a search is stuck, and writes a report of its draft, each if it is requested.
+/// Reports on standard error why a search is stuck, and writes a report on its draft, each if it is requested.
 #[inline(never)]
-fn tell_stuck<R: Files + Print + Eprint>(
+fn report_stuck_search<R: Files + Print + Eprint>(
     rt: &R,
     alloc: Global,
-    asked: &ProgramRequest<'_>,
+    request: &ProgramRequest<'_>,
     source: Option<&AssembledSource>,
     stuck: &StuckSearch<'_>,
     report: Option<&str>,
 ) -> Result<Status, Fault> {
-    if asked.explained {
-        let told = stuck_message(alloc, stuck)?;
-        let _ = put(&mut tell_to(rt), &lines_of(alloc, source, &told)?);
+    if request.explained {
+        let message = stuck_message(alloc, stuck)?;
+        let _ = put(&mut tell_to(rt), &lines_of(alloc, source, &message)?);
     }
     if let Some(name) = report {
-        report_stuck(rt, alloc, asked, stuck, name, source)?;
+        write_stuck_report(rt, alloc, request, stuck, name, source)?;
     }
-    if asked.explained {
+    if request.explained {
         return Ok(Status::Refused);
     }
     Err(Fault::Guess(GuessFault::Stuck(stuck.at)))
 }
 
-/// Searches for a certificate, of a version if one is requested.
-fn found_for(
+/// Searches for a certificate, of the requested version if there is one.
+fn find_certificate(
     alloc: Global,
     image: &Image,
     declaration: &Declaration<Global>,
@@ -79,8 +79,8 @@ fn found_for(
     }
 }
 
-/// Searches for a certificate, of a version if one is requested, or for the draft of one.
-fn attempt_for(
+/// Searches for a certificate, of the requested version if there is one. If the search is stuck, it returns the draft.
+fn find_certificate_or_draft(
     alloc: Global,
     image: &Image,
     declaration: &Declaration<Global>,
@@ -92,14 +92,14 @@ fn attempt_for(
     }
 }
 
-/// Searches for a certificate, of a version if one is requested. If the search is stuck, it says why on standard error and writes a report,
-/// each if it is requested: one search is made for all of them.
+/// Searches for a certificate, of the requested version if there is one. If the search is stuck, it says why on
+/// standard error and writes a report, each if it is requested. One search serves all of these.
 #[inline(never)]
-pub(crate) fn guessed<R: Files + Print + Eprint, I: Read + Drop>(
+pub(crate) fn run_guess<R: Files + Print + Eprint, I: Read + Drop>(
     rt: &R,
     alloc: Global,
     opened: &mut OpenProgram<'_, I>,
-    asked: &ProgramRequest<'_>,
+    request: &ProgramRequest<'_>,
     out: Destination<'_>,
     report: Option<&str>,
     version: Option<Version>,
@@ -107,10 +107,13 @@ pub(crate) fn guessed<R: Files + Print + Eprint, I: Read + Drop>(
     let mut file = open_output(rt, alloc, out)?;
     let source = opened.source;
     let ProgramWithDeclaration { image, declaration } = opened.read(alloc)?;
-    if !asked.explained && report.is_none() {
-        return write_found(&mut file, &found_for(alloc, &image, &declaration, version)?);
+    if !request.explained && report.is_none() {
+        return write_found(
+            &mut file,
+            &find_certificate(alloc, &image, &declaration, version)?,
+        );
     }
-    match &attempt_for(alloc, &image, &declaration, version)? {
+    match &find_certificate_or_draft(alloc, &image, &declaration, version)? {
         Attempt::Found(found) => write_found(&mut file, found),
         Attempt::Stuck(at, draft) => {
             let stuck = StuckSearch {
@@ -119,14 +122,15 @@ pub(crate) fn guessed<R: Files + Print + Eprint, I: Read + Drop>(
                 at: *at,
                 draft,
             };
-            tell_stuck(rt, alloc, asked, source, &stuck, report)
+            report_stuck_search(rt, alloc, request, source, &stuck, report)
         }
     }
 }
 
-/// Searches for a run that violates the declaration. Its events are in their place before the line on them is written.
+/// Searches for a run that violates the declaration. The events of the run are in their place before the line about
+/// them is written.
 #[inline(never)]
-pub(crate) fn refuted<R: Files + Print + Eprint, I: Read + Drop>(
+pub(crate) fn run_refute<R: Files + Print + Eprint, I: Read + Drop>(
     rt: &R,
     alloc: Global,
     opened: &mut OpenProgram<'_, I>,
@@ -144,7 +148,8 @@ pub(crate) fn refuted<R: Files + Print + Eprint, I: Read + Drop>(
     Ok(status)
 }
 
-/// Adds a declaration that is proposed for the program of a tape, or its own completed.
+/// Adds the declaration that is proposed for the program of a tape or, if the program has a declaration, that
+/// declaration completed.
 fn push_proposal<I: Read + Drop>(
     alloc: Global,
     opened: &mut OpenProgram<'_, I>,
@@ -166,9 +171,9 @@ fn push_proposal<I: Read + Drop>(
     answer
 }
 
-/// What is said if cells that may be read are to be listed, and the declaration that is completed has no list.
+/// The message if cells that may be read are to be listed, but the declaration that is completed has no list of them.
 const NO_LIST: &str =
-    "--reads adds nothing: the declaration has no `read` line, so any cell may be read; to have a list, add a line that says `read`\n";
+    "--reads adds nothing: the declaration has no `read` line, so any cell may be read; to have a list, first add a `read` line\n";
 
 /// Whether a declaration lists the cells that may be read.
 fn lists_reads(text: &[u8]) -> bool {
@@ -176,16 +181,16 @@ fn lists_reads(text: &[u8]) -> bool {
         .any(|line| line.trim_ascii().starts_with(b"read"))
 }
 
-/// A declaration that was proposed or completed, the status of the command, and what is told of how it was refined.
+/// A declaration that was proposed or completed, the status of the command, and the message about how it was refined.
 #[derive(Drop)]
 struct Proposal {
     text: Vec<u8>,
     status: Status,
-    told: Vec<u8>,
+    message: Vec<u8>,
 }
 
 impl Proposal {
-    /// Leaves out what is needless, if that is requested.
+    /// Leaves out what is not needed, if that is requested.
     fn tighten_if(
         &mut self,
         is_requested: bool,
@@ -200,7 +205,7 @@ impl Proposal {
         self.replace(alloc, refined, source)
     }
 
-    /// Adds with what routines return, if that is requested.
+    /// Adds what the routines return with, if that is requested.
     fn add_returns_if(
         &mut self,
         is_requested: bool,
@@ -215,20 +220,23 @@ impl Proposal {
         self.replace(alloc, refined, source)
     }
 
-    /// Takes another text, and what is told of it.
+    /// Takes the refined text in place of its own, and adds the message about it.
     fn replace(
         &mut self,
         alloc: Global,
         refined: Refinement<Global>,
         source: Option<&AssembledSource>,
     ) -> Result<(), Fault> {
-        let Refinement { text, told } = refined;
+        let Refinement {
+            text,
+            told: message,
+        } = refined;
         self.text = text;
         match source {
             Some(source) => self
-                .told
-                .extend_from_slice(&labelled(alloc, source, &told)?)?,
-            None => self.told.extend_from_slice(told.as_bytes())?,
+                .message
+                .extend_from_slice(&label_message(alloc, source, &message)?)?,
+            None => self.message.extend_from_slice(message.as_bytes())?,
         }
         Ok(())
     }
@@ -248,8 +256,8 @@ impl Proposal {
     }
 }
 
-/// A proposal for the program of a tape, as it is refined.
-fn refined(
+/// A proposal for the program of a tape, refined as requested.
+fn refine_proposal(
     alloc: Global,
     given: Proposal,
     tape: &[u8],
@@ -265,7 +273,8 @@ fn refined(
     Ok(proposal)
 }
 
-/// A declaration that is proposed for a program, or its own completed, as it is refined; of a source with its symbols.
+/// The declaration that is proposed for a program or, if the program has a declaration, that declaration completed. It
+/// is refined as requested and, for a source, written with its symbols.
 fn proposal_for<I: Read + Drop>(
     alloc: Global,
     opened: &mut OpenProgram<'_, I>,
@@ -273,33 +282,38 @@ fn proposal_for<I: Read + Drop>(
     refinements: Refinements,
 ) -> Result<Proposal, Fault> {
     let source = opened.source;
-    let tape = read_at_most(alloc, &mut StdReader::new(&mut opened.frames), MOST_FRAMES)?;
+    let tape = read_at_most(
+        alloc,
+        &mut StdReader::new(&mut opened.frames),
+        FRAME_READ_LIMIT,
+    )?;
     let mut text = Vec::new(alloc);
     let status = push_proposal(alloc, opened, &tape, options, &mut text)?;
     let given = Proposal {
         text,
         status,
-        told: Vec::new(alloc),
+        message: Vec::new(alloc),
     };
-    let mut proposal = refined(alloc, given, &tape, refinements, source)?;
+    let mut proposal = refine_proposal(alloc, given, &tape, refinements, source)?;
     if let Some(source) = source {
         proposal.text = source.with_symbols(alloc, &proposal.text)?;
     }
     Ok(proposal)
 }
 
-/// Says on standard error, if it takes it, how a declaration was refined, and that no reads are added to it, if that is so.
-fn tell_of<R: Eprint>(rt: &R, found: &Proposal, lacks_list: bool) {
-    let _ = put(&mut tell_to(rt), &found.told);
-    if lacks_list {
+/// Says on standard error how a declaration was refined and, if `is_list_missing`, that no reads are added to it. A
+/// failure to write is ignored.
+fn report_refinement<R: Eprint>(rt: &R, found: &Proposal, is_list_missing: bool) {
+    let _ = put(&mut tell_to(rt), &found.message);
+    if is_list_missing {
         tell_lines(rt, NO_LIST);
     }
 }
 
-/// Writes a declaration that is proposed for a program, or its own completed, as it is refined. Says what is left out, and if no reads
-/// are added to it that should be.
+/// Writes the declaration that is proposed for a program or, if the program has a declaration, that declaration
+/// completed, refined as requested. Says what is left out, and if no reads are added although they were requested.
 #[inline(never)]
-pub(crate) fn declared<'r, R: Files + Print + Eprint, I: Read + Drop>(
+pub(crate) fn run_declare<'r, R: Files + Print + Eprint, I: Read + Drop>(
     rt: &'r R,
     alloc: Global,
     opened: &mut OpenProgram<'_, I>,
@@ -313,7 +327,7 @@ pub(crate) fn declared<'r, R: Files + Print + Eprint, I: Read + Drop>(
     let found = proposal_for(alloc, opened, options, refinements)?;
     put(&mut StdWriter::new(&mut file), &found.text)?;
     let status = finish(&mut file, found.status)?;
-    let lacks_list = is_completed && adds_reads && !lists_reads(&found.text);
-    tell_of(rt, &found, lacks_list);
+    let is_list_missing = is_completed && adds_reads && !lists_reads(&found.text);
+    report_refinement(rt, &found, is_list_missing);
     Ok(status)
 }

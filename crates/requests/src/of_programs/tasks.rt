@@ -2,10 +2,10 @@
 
 use crate::files::{finish, open_input, open_output};
 use crate::named_files::NamedFiles;
-use crate::of_machine::places::{ResolvedPlaces, named_in};
+use crate::of_machine::places::{ResolvedPlaces, resolve_places};
 use crate::of_programs::open::OpenProgram;
-use crate::of_programs::searches::{declared, guessed, refuted};
-use crate::of_programs::verified::verified;
+use crate::of_programs::searches::{run_declare, run_guess, run_refute};
+use crate::of_programs::verified::run_verify;
 use crate::of_sources::assembled::AssembledSource;
 use crate::of_sources::source_lines::lines_of;
 use crate::standard_error::open_input_if;
@@ -32,20 +32,20 @@ use streams::put;
 use streams::standard::StdWriter;
 use wordset::WordSet;
 
-/// Writes what is told to standard output, with what a source says about its addresses.
-fn tell_lines<R: Print>(
+/// Writes a message to standard output, with what the source, if there is one, says about its addresses.
+fn print_message<R: Print>(
     rt: &R,
     alloc: Global,
     source: Option<&AssembledSource>,
-    told: &Message<Global>,
+    message: &Message<Global>,
 ) -> Result<(), Fault> {
-    let lines = lines_of(alloc, source, told)?;
+    let lines = lines_of(alloc, source, message)?;
     Ok(put(&mut StdWriter::new(io::writer(rt)), &lines)?)
 }
 
-/// Checks the certificate of a file, and says why the verdict is no if that is requested.
+/// Checks the certificate in a file and, if that is requested, says why the verdict is no.
 #[inline(never)]
-fn checked<R: Files + Input + Print, I: Read + Drop>(
+fn run_check<R: Files + Input + Print, I: Read + Drop>(
     rt: &R,
     alloc: Global,
     opened: &mut OpenProgram<'_, I>,
@@ -66,17 +66,17 @@ fn checked<R: Files + Input + Print, I: Read + Drop>(
     }
     let ProgramWithDeclaration { image, declaration } = &certified.program;
     let verdict = check_message(alloc, image, declaration, &certified.certificate)?;
-    tell_lines(rt, alloc, source, &verdict.told)?;
+    print_message(rt, alloc, source, &verdict.told)?;
     Ok(verdict.status)
 }
 
-/// Writes what the certificate of a file says.
+/// Writes a report on what the certificate in a file says.
 #[inline(never)]
-fn reported<R: Files + Input + Print, I: Read + Drop>(
+fn run_report<R: Files + Input + Print, I: Read + Drop>(
     rt: &R,
     alloc: Global,
     opened: &mut OpenProgram<'_, I>,
-    asked: &ProgramRequest<'_>,
+    request: &ProgramRequest<'_>,
     certificate: &str,
     out: Destination<'_>,
     form: ReportForm,
@@ -90,13 +90,13 @@ fn reported<R: Files + Input + Print, I: Read + Drop>(
         program,
         certificate: found,
     };
-    let files = NamedFiles::of(rt, alloc, asked, Some(certificate))?;
+    let files = NamedFiles::of(rt, alloc, request, Some(certificate))?;
     let page = report_of(alloc, &certified, form, files.names(), notes);
     let status = deliver(page, &mut StdWriter::new(&mut file))?;
     finish(&mut file, status)
 }
 
-/// How a watched run is told that may be stopped.
+/// The options for watching a run that may be stopped.
 fn watch_options_of<'s>(
     stopping: &'s StopOptions,
     explained: bool,
@@ -110,47 +110,47 @@ fn watch_options_of<'s>(
     }
 }
 
-/// Watches a run by the events of a file.
+/// Watches a run with the events of a file.
 #[inline(never)]
-fn watched<R: Files + Input + Print, I: Read + Drop>(
+fn run_watch<R: Files + Input + Print, I: Read + Drop>(
     rt: &R,
     alloc: Global,
     opened: &mut OpenProgram<'_, I>,
     events: &str,
-    named: &ResolvedPlaces,
+    places: &ResolvedPlaces,
     explained: bool,
 ) -> Result<Status, Fault> {
     let mut list = open_input(rt, events)?;
     let source = opened.labels(explained);
     let ProgramWithDeclaration { image, declaration } = opened.read(alloc)?;
     let events = events_from(alloc, &mut list)?;
-    let show = &named.show;
-    let run = match &named.stopping {
+    let show = &places.show;
+    let run = match &places.stopping {
         None => watch_message(alloc, &image, &declaration, &events, explained, show)?,
         Some(stopping) => {
-            let telling = watch_options_of(stopping, explained, show);
-            watch_message_to_stop(alloc, &image, &declaration, &events, &telling)?
+            let options = watch_options_of(stopping, explained, show);
+            watch_message_to_stop(alloc, &image, &declaration, &events, &options)?
         }
     };
-    tell_lines(rt, alloc, source, &run.told)?;
+    print_message(rt, alloc, source, &run.told)?;
     Ok(run.status)
 }
 
 /// Watches a run with an operator.
 #[inline(never)]
-fn session_watched<R: Files + Input + Print, I: Read + Drop>(
+fn run_watch_session<R: Files + Input + Print, I: Read + Drop>(
     rt: &R,
     alloc: Global,
     opened: &mut OpenProgram<'_, I>,
     session: &WatchedSession<'_>,
-    named: &ResolvedPlaces,
+    places: &ResolvedPlaces,
 ) -> Result<Status, Fault> {
     let mut reader = open_input_if(rt, session.reader)?;
     let mut keys = open_input_if(rt, session.keys)?;
     let explained = session.explained;
     let options = &SessionOptions {
         run: RunOptions {
-            show: named.show,
+            show: places.show,
             ..session.options.run
         },
         ..session.options
@@ -160,7 +160,7 @@ fn session_watched<R: Files + Input + Print, I: Read + Drop>(
     let frames = bytes_from(alloc, &mut reader, options.run.rounds)?;
     let struck = bytes_from(alloc, &mut keys, options.run.rounds)?;
     let continues = session.continues;
-    let run = match &named.stopping {
+    let run = match &places.stopping {
         None => watch_session_message(
             alloc,
             &image,
@@ -179,15 +179,15 @@ fn session_watched<R: Files + Input + Print, I: Read + Drop>(
             &struck,
             options,
             continues,
-            &watch_options_of(stopping, explained, &named.show),
+            &watch_options_of(stopping, explained, &places.show),
         )?,
     };
-    tell_lines(rt, alloc, source, &run.told)?;
+    print_message(rt, alloc, source, &run.told)?;
     Ok(run.status)
 }
 
 /// Writes the declaration of a source in numbers.
-fn placed<R: Files + Print>(
+fn run_place<R: Files + Print>(
     rt: &R,
     alloc: Global,
     source: Option<&AssembledSource>,
@@ -200,7 +200,7 @@ fn placed<R: Files + Print>(
     finish(&mut file, Status::Done)
 }
 
-/// How a report looks.
+/// The form of a report: plain text, or a page.
 fn report_form(text: bool) -> ReportForm {
     if text {
         ReportForm::Text
@@ -209,19 +209,61 @@ fn report_form(text: bool) -> ReportForm {
     }
 }
 
-/// What the options of a watched run name: those of a source may do so by its symbols.
-fn named_of(
+/// The cells and places that the options of a watched run name. If the program is given as a source, they may be named
+/// by its symbols.
+fn resolve_task_places(
     source: Option<&AssembledSource>,
-    asked: &ProgramRequest<'_>,
-    named: ResolvedPlaces,
+    request: &ProgramRequest<'_>,
+    places: ResolvedPlaces,
 ) -> Result<ResolvedPlaces, Misuse> {
     match source {
-        None => Ok(named),
-        Some(source) => named_in(source.numbered.map.symbols(), &asked.places),
+        None => Ok(places),
+        Some(source) => resolve_places(source.numbered.map.symbols(), &request.places),
     }
 }
 
-/// Does what is requested with a program that is open. Each command has a frame of its own on the stack, since they are
+/// Watches a run by a list of events, with the cells that are shown and the stops as the symbols of the source say.
+///
+/// # Errors
+///
+/// The fault of the program, of the list of events or of a stream.
+fn resolve_and_watch<R: Files + Input + Print + Eprint, I: Read + Drop>(
+    rt: &R,
+    alloc: Global,
+    opened: &mut OpenProgram<'_, I>,
+    request: &ProgramRequest<'_>,
+    events: &str,
+    places: ResolvedPlaces,
+) -> Result<Status, Fault> {
+    match resolve_task_places(opened.source, request, places) {
+        Ok(places) => run_watch(rt, alloc, opened, events, &places, request.explained),
+        Err(misuse) => Ok(tell_misuse(rt, &misuse.with_symbols())),
+    }
+}
+
+/// Watches a run with an operator in the same way.
+///
+/// # Errors
+///
+/// The fault of the program, of another file or of a stream.
+fn resolve_and_watch_session<R: Files + Input + Print + Eprint, I: Read + Drop>(
+    rt: &R,
+    alloc: Global,
+    opened: &mut OpenProgram<'_, I>,
+    request: &ProgramRequest<'_>,
+    session: &WatchedSession<'_>,
+) -> Result<Status, Fault> {
+    let places = ResolvedPlaces {
+        show: session.options.run.show,
+        stopping: session.stopping,
+    };
+    match resolve_task_places(opened.source, request, places) {
+        Ok(places) => run_watch_session(rt, alloc, opened, session, &places),
+        Err(misuse) => Ok(tell_misuse(rt, &misuse.with_symbols())),
+    }
+}
+
+/// Carries out the request on a program that is open. Each command has a stack frame of its own, since these frames are
 /// large.
 ///
 /// # Errors
@@ -231,21 +273,21 @@ pub(crate) fn carry_out<R: Files + Input + Print + Eprint, I: Read + Drop>(
     rt: &R,
     alloc: Global,
     opened: &mut OpenProgram<'_, I>,
-    asked: &ProgramRequest<'_>,
+    request: &ProgramRequest<'_>,
 ) -> Result<Status, Fault> {
-    let explained = asked.explained;
-    match &asked.task {
-        Task::Verify { save, options } => verified(rt, alloc, opened, *save, options),
-        Task::Check { certificate } => checked(rt, alloc, opened, certificate, explained),
+    let explained = request.explained;
+    match &request.task {
+        Task::Verify { save, options } => run_verify(rt, alloc, opened, *save, options),
+        Task::Check { certificate } => run_check(rt, alloc, opened, certificate, explained),
         Task::Report {
             certificate,
             out,
             text,
-        } => reported(
+        } => run_report(
             rt,
             alloc,
             opened,
-            asked,
+            request,
             certificate,
             *out,
             report_form(*text),
@@ -255,36 +297,26 @@ pub(crate) fn carry_out<R: Files + Input + Print + Eprint, I: Read + Drop>(
             show,
             stopping,
         } => {
-            let named = ResolvedPlaces {
+            let places = ResolvedPlaces {
                 show: *show,
                 stopping: *stopping,
             };
-            match named_of(opened.source, asked, named) {
-                Ok(named) => watched(rt, alloc, opened, events, &named, explained),
-                Err(misuse) => Ok(tell_misuse(rt, &misuse.with_symbols())),
-            }
+            resolve_and_watch(rt, alloc, opened, request, events, places)
         }
         Task::WatchSession(session) => {
-            let named = ResolvedPlaces {
-                show: session.options.run.show,
-                stopping: session.stopping,
-            };
-            match named_of(opened.source, asked, named) {
-                Ok(named) => session_watched(rt, alloc, opened, session, &named),
-                Err(misuse) => Ok(tell_misuse(rt, &misuse.with_symbols())),
-            }
+            resolve_and_watch_session(rt, alloc, opened, request, session)
         }
         Task::Guess {
             out,
             report,
             version,
-        } => guessed(rt, alloc, opened, asked, *out, *report, *version),
-        Task::Refute { out, options } => refuted(rt, alloc, opened, *out, options),
+        } => run_guess(rt, alloc, opened, request, *out, *report, *version),
+        Task::Refute { out, options } => run_refute(rt, alloc, opened, *out, options),
         Task::Declare {
             out,
             options,
             refinements,
-        } => declared(rt, alloc, opened, *out, *options, *refinements),
-        Task::Place { out } => placed(rt, alloc, opened.source, *out),
+        } => run_declare(rt, alloc, opened, *out, *options, *refinements),
+        Task::Place { out } => run_place(rt, alloc, opened.source, *out),
     }
 }

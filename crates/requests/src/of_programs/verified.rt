@@ -1,9 +1,9 @@
 //! Whether a program that is open complies with its declaration.
 
 use crate::of_programs::open::OpenProgram;
-use crate::of_sources::proposed::tell_proposed;
+use crate::of_sources::proposed::report_proposed_declaration;
 use crate::of_sources::source_lines::lines_of;
-use crate::saving::{tell_answer_and_save, tell_proposed_and_save};
+use crate::saving::{print_answer_and_save, print_proposed_and_save};
 use crate::stuck::answer_message;
 use command_line::SaveOptions;
 use command_parts::message::Message;
@@ -17,7 +17,7 @@ use std::rt::Files;
 
 /// Says whether the program complies with the declaration that is given.
 #[inline(never)]
-fn verified_as_declared<R: Files + Input + Print + Eprint, I: Read + Drop>(
+fn run_verify_declared<R: Files + Input + Print + Eprint, I: Read + Drop>(
     rt: &R,
     alloc: Global,
     opened: &mut OpenProgram<'_, I>,
@@ -27,14 +27,15 @@ fn verified_as_declared<R: Files + Input + Print + Eprint, I: Read + Drop>(
     let source = opened.labels(options.search.explained);
     let ProgramWithDeclaration { image, declaration } = opened.read(alloc)?;
     let found = verify_message(alloc, &image, &declaration, &options.search)?;
-    let told = answer_message(alloc, &image, &declaration, &found)?;
-    let lines = lines_of(alloc, source, &told)?;
-    tell_answer_and_save(rt, alloc, save, &found.answer, &lines)
+    let message = answer_message(alloc, &image, &declaration, &found)?;
+    let lines = lines_of(alloc, source, &message)?;
+    print_answer_and_save(rt, alloc, save, &found.answer, &lines)
 }
 
-/// Says whether the program complies with the declaration that is proposed for it, and on standard error that it is.
+/// Says whether the program complies with the declaration that is proposed for it and, on standard error, that the
+/// declaration is proposed.
 #[inline(never)]
-fn verified_as_proposed<R: Files + Input + Print + Eprint, I: Read + Drop>(
+fn run_verify_proposed<R: Files + Input + Print + Eprint, I: Read + Drop>(
     rt: &R,
     alloc: Global,
     opened: &mut OpenProgram<'_, I>,
@@ -45,25 +46,28 @@ fn verified_as_proposed<R: Files + Input + Print + Eprint, I: Read + Drop>(
     let labels = opened.labels(options.search.explained);
     let image = opened.read_tape()?;
     let found = verify_proposed_message(alloc, &image, options)?;
-    let mut told = Message::of(alloc, found.line);
-    told.push_message(&found.why)?;
-    let lines = lines_of(alloc, labels, &told)?;
+    let mut message = Message::of(alloc, found.line);
+    message.push_message(&found.why)?;
+    let lines = lines_of(alloc, labels, &message)?;
     if let Some(source) = source {
-        tell_proposed(rt, &source.given.parts);
+        report_proposed_declaration(rt, &source.given.parts);
     }
-    let status = tell_proposed_and_save(rt, alloc, save, &found.proposed, &lines)?;
+    let status = print_proposed_and_save(rt, alloc, save, &found.proposed, &lines)?;
     if source.is_none() && save.is_none() {
-        let _ = eprintln!(rt; "the answer is about a proposed declaration: --save NAME writes it");
+        let _ = eprintln!(rt;
+            "the answer is about a proposed declaration; --save NAME saves that declaration"
+        );
     }
     Ok(status)
 }
 
-/// Says whether the program complies with its declaration, or with the one that is proposed, and saves what shows it.
+/// Says whether the program complies with its declaration, or with the one that is proposed, and saves the evidence if
+/// that is requested.
 ///
 /// # Errors
 ///
-/// The fault of the tape or of the declaration, of what was found, of a write, or of memory.
-pub(crate) fn verified<R: Files + Input + Print + Eprint, I: Read + Drop>(
+/// The fault of the tape, of the declaration or of what was found; `Device` if a write fails; and `NoMemory`.
+pub(crate) fn run_verify<R: Files + Input + Print + Eprint, I: Read + Drop>(
     rt: &R,
     alloc: Global,
     opened: &mut OpenProgram<'_, I>,
@@ -71,8 +75,8 @@ pub(crate) fn verified<R: Files + Input + Print + Eprint, I: Read + Drop>(
     options: &VerifyOptions,
 ) -> Result<Status, Fault> {
     if opened.is_declared {
-        verified_as_declared(rt, alloc, opened, &save, options)
+        run_verify_declared(rt, alloc, opened, &save, options)
     } else {
-        verified_as_proposed(rt, alloc, opened, &save, options)
+        run_verify_proposed(rt, alloc, opened, &save, options)
     }
 }

@@ -1,5 +1,4 @@
-//! A source that was assembled, and its declaration in numbers. What the source says about its addresses comes with
-//! it.
+//! A source that was assembled, its declaration in numbers, and what the source says about its addresses.
 
 use crate::of_sources::numbering::{DeclarationOrigin, SourceInput, byte_slices, says_something};
 use crate::source_faults::visible_names;
@@ -18,7 +17,7 @@ use std::alloc::{AllocError, Global};
 /// A source that was assembled, what it says about its addresses, and its declaration.
 #[derive(Drop)]
 pub struct AssembledSource {
-    /// The tape that it means, its declaration in numbers, and its lines.
+    /// Its tape, its declaration in numbers, and its lines.
     pub numbered: NumberedProgram<Global>,
     /// What it says about each address.
     pub notes: SourceNotes<Global>,
@@ -35,14 +34,15 @@ pub struct AssembledSource {
 impl AssembledSource {
     /// Whether there is a declaration; otherwise one is to be proposed.
     pub fn is_declared(&self) -> bool {
-        self.given.promise != DeclarationOrigin::Proposed
+        self.given.origin != DeclarationOrigin::Proposed
     }
 
-    /// A declaration in numbers with the symbols of the source, and of a declaration that was given as it was given.
+    /// A declaration in numbers, written with the symbols of the source. A line of the declaration that was given stays
+    /// as it was given where it means the same.
     ///
     /// # Errors
     ///
-    /// `NoMemory`, since the source has no fault.
+    /// Only `NoMemory`, since the source has no fault.
     pub fn with_symbols(&self, alloc: Global, numbers: &[u8]) -> Result<Vec<u8>, Fault> {
         let kept: &[u8] = if self.is_declared() {
             &self.written
@@ -58,7 +58,7 @@ impl AssembledSource {
     }
 }
 
-/// Notes the words that come next and stand at a place, and tells those after them.
+/// Notes the next words that stand at this place, and returns the words after them.
 fn note_words<'w>(
     notes: &mut SourceNotes<Global>,
     place: SourcePlace,
@@ -101,14 +101,14 @@ fn without_empty_lines(alloc: Global, text: &[u8]) -> Result<Vec<u8>, AllocError
     Ok(kept)
 }
 
-/// The text of a declaration as it is written for people: that of lines within a source has an empty line for
-/// each other line of the source, and those are left out.
-fn as_written(
+/// The text of a declaration as it is written for people. A declaration from lines within a source has an empty line
+/// for each other line of the source; these empty lines are left out.
+fn readable_text(
     alloc: Global,
     text: &[u8],
-    promise: DeclarationOrigin,
+    origin: DeclarationOrigin,
 ) -> Result<Vec<u8>, AllocError> {
-    if promise == DeclarationOrigin::Within {
+    if origin == DeclarationOrigin::Within {
         return without_empty_lines(alloc, text);
     }
     let mut whole = Vec::new(alloc);
@@ -118,17 +118,17 @@ fn as_written(
 
 /// The declaration with symbols as it is written for people. A line within a source that leaves out its address still
 /// does so here.
-fn written_by_people(alloc: Global, given: &SourceInput) -> Result<Vec<u8>, AllocError> {
-    if given.promise == DeclarationOrigin::Within {
+fn readable_declaration(alloc: Global, given: &SourceInput) -> Result<Vec<u8>, AllocError> {
+    if given.origin == DeclarationOrigin::Within {
         let parts = byte_slices(alloc, &given.parts)?;
         return without_empty_lines(alloc, &declared_lines(alloc, &parts)?);
     }
-    as_written(alloc, &given.text, given.promise)
+    readable_text(alloc, &given.text, given.origin)
 }
 
-/// The declaration in numbers of a source that has no fault and no word, and no tape.
+/// The declaration in numbers of a source that has no fault but assembles to no words, with an empty tape.
 #[inline(never)]
-fn wordless(
+fn number_wordless(
     alloc: Global,
     parts: &[&[u8]],
     declaration: &[u8],
@@ -147,8 +147,8 @@ fn wordless(
     }
 }
 
-/// The tape of a source and its declaration in numbers. If a declaration alone is requested, the source may have no
-/// word.
+/// The tape of a source and its declaration in numbers. If only the declaration is requested, the source may assemble
+/// to no words.
 fn number_for(
     alloc: Global,
     parts: &[&[u8]],
@@ -157,7 +157,7 @@ fn number_for(
 ) -> Result<NumberedProgram<Global>, NumberingFault> {
     match (number(alloc, parts, declaration), task) {
         (Err(NumberingFault::EmptyImage), Task::Place { .. }) if says_something(declaration) => {
-            wordless(alloc, parts, declaration)
+            number_wordless(alloc, parts, declaration)
         }
         (numbered, _) => numbered,
     }
@@ -167,9 +167,9 @@ fn number_for(
 ///
 /// # Errors
 ///
-/// As of `number`; but if a declaration alone is requested, the source may have no word.
+/// As for `number`, except that the source may assemble to no words if only the declaration is requested.
 #[inline(never)]
-pub fn numbered_from(
+pub fn number_source(
     alloc: Global,
     given: &SourceInput,
     task: &Task<'_>,
@@ -180,20 +180,20 @@ pub fn numbered_from(
     }
 }
 
-/// A source that has no fault and whose parts have these names, with what is said about it.
+/// A source that has no fault and whose parts have these names, with what it says about its addresses.
 ///
 /// # Errors
 ///
-/// Memory was refused.
-pub fn described(
+/// `AllocError` if memory was refused.
+pub fn describe_source(
     alloc: Global,
     given: SourceInput,
     numbered: NumberedProgram<Global>,
     names: &[&str],
 ) -> Result<AssembledSource, AllocError> {
     let notes = notes_of(alloc, &numbered.map)?;
-    let written = written_by_people(alloc, &given)?;
-    let shown = as_written(alloc, &numbered.declaration, given.promise)?;
+    let written = readable_declaration(alloc, &given)?;
+    let shown = readable_text(alloc, &numbered.declaration, given.origin)?;
     let names = visible_names(alloc, names)?;
     Ok(AssembledSource {
         numbered,

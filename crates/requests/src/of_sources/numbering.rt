@@ -1,9 +1,9 @@
-//! Sources and their declarations, read and written in numbers, and what is said about their faults.
+//! Reads sources and their declarations, and reports their faults.
 
 use crate::file_kinds::{declaration_hint, source_hint};
 use crate::files::open_input;
-use crate::of_sources::part_lines::{PartLine, behind_lines, line_counts, part_line_of};
-use crate::source_faults::{tell_of, tell_source, unopened};
+use crate::of_sources::part_lines::{PartLine, after_lines, line_counts, part_line_of};
+use crate::source_faults::{report_file_fault, report_source_fault, unopened_part};
 use crate::telling::{tell_lines, tell_misuse};
 use command_line::{Misuse, ProgramRequest, Task};
 use command_parts::status::{Fault, Status};
@@ -17,11 +17,11 @@ use std::rt::Files;
 use streams::read_at_most;
 use streams::text::{Lines, Words};
 
-/// A byte more than a part of a source may have.
-const MOST_PART: usize = 65_537;
+/// One byte more than a part of a source may have.
+const PART_READ_LIMIT: usize = 65_537;
 
-/// A byte more than a declaration may have.
-const MOST_DECLARATION: usize = 16_385;
+/// One byte more than a declaration may have.
+const DECLARATION_READ_LIMIT: usize = 16_385;
 
 /// Where a declaration comes from.
 #[derive(Clone, Copy, PartialEq, Eq, Debug)]
@@ -30,7 +30,7 @@ pub enum DeclarationOrigin {
     File,
     /// From lines within the source.
     Within,
-    /// It is proposed.
+    /// From nowhere: it is to be proposed.
     Proposed,
 }
 
@@ -41,21 +41,21 @@ pub struct SourceInput {
     pub parts: Vec<Vec<u8>>,
     /// The declaration with its symbols.
     pub text: Vec<u8>,
-    /// Where it comes from.
-    pub promise: DeclarationOrigin,
+    /// Where the declaration comes from.
+    pub origin: DeclarationOrigin,
 }
 
-/// What became of the files of a source and its declaration.
+/// The result of reading the files of a source and its declaration.
 #[derive(Drop)]
 pub enum SourceInputResult {
-    /// They cannot be taken, which has been told, and this is the status.
-    Told(Status),
+    /// They cannot be used, which has been reported, and this is the status.
+    Reported(Status),
     /// They were read.
     Read(SourceInput),
 }
 
-/// Reads the parts of a source in order, up to the first that cannot be read, and puts them after those that were
-/// read.
+/// Reads the parts of a source in order, up to the first that cannot be read, and appends them to the parts that were
+/// already read.
 pub(crate) fn read_parts<R: Files + Input>(
     rt: &R,
     alloc: Global,
@@ -64,7 +64,7 @@ pub(crate) fn read_parts<R: Files + Input>(
 ) -> Result<(), Fault> {
     for name in names {
         let mut input = open_input(rt, name)?;
-        let part = read_at_most(alloc, &mut input, MOST_PART)?;
+        let part = read_at_most(alloc, &mut input, PART_READ_LIMIT)?;
         if parts.push(part).is_err() {
             return Err(Fault::NoMemory);
         }
@@ -72,7 +72,11 @@ pub(crate) fn read_parts<R: Files + Input>(
     Ok(())
 }
 
-/// The bytes of parts, lent.
+/// The bytes of the parts, as slices.
+///
+/// # Errors
+///
+/// `AllocError` if memory was refused.
 pub fn byte_slices<'t>(alloc: Global, parts: &'t [Vec<u8>]) -> Result<Vec<&'t [u8]>, AllocError> {
     let mut slices = Vec::new(alloc);
     for part in parts {
@@ -81,7 +85,7 @@ pub fn byte_slices<'t>(alloc: Global, parts: &'t [Vec<u8>]) -> Result<Vec<&'t [u
     Ok(slices)
 }
 
-/// Whether a declaration says something, apart from comments.
+/// Whether a declaration has anything in it besides comments.
 pub(crate) fn says_something(declaration: &[u8]) -> bool {
     for line in Lines::of(declaration) {
         if Words::of(line).next().is_some() {
@@ -91,7 +95,7 @@ pub(crate) fn says_something(declaration: &[u8]) -> bool {
     false
 }
 
-/// The line that names a machine.
+/// The line of a declaration that names this machine.
 pub(crate) fn machine_line(profile: Profile) -> &'static [u8] {
     match profile {
         Profile::Pdp8I => b"profile 8i\n",
@@ -99,7 +103,7 @@ pub(crate) fn machine_line(profile: Profile) -> &'static [u8] {
     }
 }
 
-/// A declaration that is to be proposed, of which only the machine is known.
+/// The text of a declaration that is to be proposed, in which so far only the machine is known.
 fn unknown_declaration(alloc: Global, task: &Task<'_>) -> Result<Vec<u8>, AllocError> {
     let mut text = Vec::new(alloc);
     match task {
@@ -114,10 +118,11 @@ fn unknown_declaration(alloc: Global, task: &Task<'_>) -> Result<Vec<u8>, AllocE
 #[derive(Drop)]
 struct DeclarationInput {
     text: Vec<u8>,
-    promise: DeclarationOrigin,
+    origin: DeclarationOrigin,
 }
 
-/// Whether a declaration is proposed where no file is named, by what the source says about one.
+/// Whether a declaration is proposed if no file is named for it: the task can propose one, and the declaration within
+/// the source is empty.
 fn is_proposed(task: &Task<'_>, within: &[u8]) -> bool {
     match task {
         Task::Verify { .. } | Task::Declare { .. } => !says_something(within),
@@ -125,39 +130,40 @@ fn is_proposed(task: &Task<'_>, within: &[u8]) -> bool {
     }
 }
 
-/// The declaration of a source: that of the file, else its lines within the source.
-fn given_declaration<R: Files + Input>(
+/// Reads the declaration of a source: that of the file, if one is named, and otherwise its lines within the source, or
+/// one that is to be proposed.
+fn read_declaration<R: Files + Input>(
     rt: &R,
     alloc: Global,
-    asked: &ProgramRequest<'_>,
+    request: &ProgramRequest<'_>,
     parts: &[Vec<u8>],
 ) -> Result<DeclarationInput, Fault> {
-    if let Some(name) = asked.declaration {
+    if let Some(name) = request.declaration {
         let mut input = open_input(rt, name)?;
         return Ok(DeclarationInput {
-            text: read_at_most(alloc, &mut input, MOST_DECLARATION)?,
-            promise: DeclarationOrigin::File,
+            text: read_at_most(alloc, &mut input, DECLARATION_READ_LIMIT)?,
+            origin: DeclarationOrigin::File,
         });
     }
     let slices = byte_slices(alloc, parts)?;
     let text = declaration_within(alloc, &slices)?;
-    if is_proposed(&asked.task, &text) {
+    if is_proposed(&request.task, &text) {
         return Ok(DeclarationInput {
-            text: unknown_declaration(alloc, &asked.task)?,
-            promise: DeclarationOrigin::Proposed,
+            text: unknown_declaration(alloc, &request.task)?,
+            origin: DeclarationOrigin::Proposed,
         });
     }
     Ok(DeclarationInput {
         text,
-        promise: DeclarationOrigin::Within,
+        origin: DeclarationOrigin::Within,
     })
 }
 
 /// What is wrong with a line of a declaration that has symbols.
-fn said_of(fault: PlaceFault) -> &'static str {
+fn description_of(fault: PlaceFault) -> &'static str {
     match fault {
         PlaceFault::BadLine(_) =>
-            "a word with a capital letter must be a symbol, a symbol and + or - a number, or two addresses with - between them",
+            "a word with a capital letter must be a symbol such as LOOP, a symbol plus or minus a number such as LOOP+2, or a range of two addresses such as LOOP-LOOP+2",
         PlaceFault::NoSymbol(_) => "the source defines no such symbol",
         PlaceFault::PastMemory(_) => "an address must be from 0000 to 7777",
         PlaceFault::Backwards(_) => "the range ends below its first address",
@@ -166,8 +172,8 @@ fn said_of(fault: PlaceFault) -> &'static str {
     }
 }
 
-/// The number of the line that has a fault; 0 if it is not about a line.
-fn line_of(fault: PlaceFault) -> usize {
+/// The number of the line that has a fault; 0 if the fault is not about a line.
+fn place_fault_line(fault: PlaceFault) -> usize {
     match fault {
         PlaceFault::BadLine(number)
         | PlaceFault::NoSymbol(number)
@@ -178,28 +184,28 @@ fn line_of(fault: PlaceFault) -> usize {
 }
 
 /// Adds the line of a declaration that has a fault, and what is wrong.
-fn push_placing(
-    told: &mut String,
+fn push_place_fault(
+    lines: &mut String,
     fault: PlaceFault,
     part_line: &PartLine<'_>,
     text: &[u8],
 ) -> Result<(), AllocError> {
-    let (name, said) = (part_line.name, said_of(fault));
+    let (name, description) = (part_line.name, description_of(fault));
     if part_line.line == 0 {
-        return writeln!(told, "{name}: {said}").map_err(|_| AllocError);
+        return writeln!(lines, "{name}: {description}").map_err(|_| AllocError);
     }
     let file = FaultyFile {
         name,
-        bytes: behind_lines(text, line_of(fault).saturating_sub(part_line.line)),
+        bytes: after_lines(text, place_fault_line(fault).saturating_sub(part_line.line)),
     };
-    if push_numbered(told, &file, part_line.line).is_err() {
+    if push_numbered(lines, &file, part_line.line).is_err() {
         return Err(AllocError);
     }
-    writeln!(told, "{said}").map_err(|_| AllocError)
+    writeln!(lines, "{description}").map_err(|_| AllocError)
 }
 
-/// Tells the fault of a declaration with symbols, and below it the line and what is wrong, if that is requested.
-fn tell_placing<R: Eprint>(
+/// Reports the fault of a declaration with symbols and, if that is requested, the line and what is wrong below it.
+fn report_place_fault<R: Eprint>(
     rt: &R,
     alloc: Global,
     fault: PlaceFault,
@@ -207,8 +213,8 @@ fn tell_placing<R: Eprint>(
     text: &[u8],
     explained: bool,
 ) -> Status {
-    let told = eprintln!(rt; "pdp8: declaration: {fault}");
-    if !explained || told.is_err() {
+    let written = eprintln!(rt; "pdp8: declaration: {fault}");
+    if !explained || written.is_err() {
         return Status::Refused;
     }
     let Ok(name) = visible_text(alloc, part_line.name) else {
@@ -219,57 +225,58 @@ fn tell_placing<R: Eprint>(
         line: part_line.line,
     };
     let mut lines = String::new(alloc);
-    let _ = push_placing(&mut lines, fault, &shown, text);
+    let _ = push_place_fault(&mut lines, fault, &shown, text);
     tell_lines(rt, &lines);
     Status::Refused
 }
 
-/// Where the fault of a declaration with symbols stands: in its file, or in a part of the source.
-fn placing_spot<'n>(
+/// Where the fault of a declaration with symbols lies: in its file, or in a part of the source.
+fn place_fault_location<'n>(
     alloc: Global,
     fault: PlaceFault,
-    asked: &ProgramRequest<'n>,
+    request: &ProgramRequest<'n>,
     parts: &[&[u8]],
 ) -> Result<PartLine<'n>, AllocError> {
-    let line = line_of(fault);
-    if let Some(name) = asked.declaration {
+    let line = place_fault_line(fault);
+    if let Some(name) = request.declaration {
         return Ok(PartLine { name, line });
     }
     let counts = line_counts(alloc, parts)?;
-    Ok(part_line_of(asked.program.parts(), &counts, line))
+    Ok(part_line_of(request.program.parts(), &counts, line))
 }
 
-/// Tells that a source or its declaration is refused. A fault that is not about one of their lines is passed on.
+/// Reports that a source or its declaration is refused. A fault that is about neither of their texts is returned
+/// instead.
 ///
 /// # Errors
 ///
-/// `EmptyImage` and `NoMemory`.
-pub fn tell_refused<R: Eprint>(
+/// `EmptyImage` if the source assembles to no words, and `NoMemory`.
+pub fn report_numbering_fault<R: Eprint>(
     rt: &R,
     alloc: Global,
     fault: NumberingFault,
-    asked: &ProgramRequest<'_>,
+    request: &ProgramRequest<'_>,
     given: &SourceInput,
 ) -> Result<Status, Fault> {
     let parts = byte_slices(alloc, &given.parts)?;
     let text = given.text.as_slice();
-    let explained = asked.explained;
+    let explained = request.explained;
     match fault {
         NumberingFault::Source(fault) => {
-            let names = asked.program.parts();
+            let names = request.program.parts();
             let profile = labels::machine_of(text);
-            let status = tell_source(rt, alloc, fault, names, &parts, profile, explained);
-            let command = asked.task.command();
-            let hint = source_hint(alloc, command, asked.names(), names, fault, &parts);
+            let status = report_source_fault(rt, alloc, fault, names, &parts, profile, explained);
+            let command = request.task.command();
+            let hint = source_hint(alloc, command, request.names(), names, fault, &parts);
             tell_lines(rt, &hint);
             Ok(status)
         }
         NumberingFault::EmptyImage => Err(Fault::EmptyImage),
         NumberingFault::Placing(fault) => {
-            let part_line = placing_spot(alloc, fault, asked, &parts)?;
-            let status = tell_placing(rt, alloc, fault, &part_line, text, explained);
-            if let Some(name) = asked.declaration {
-                tell_lines(rt, &declaration_hint(alloc, asked, name, text));
+            let part_line = place_fault_location(alloc, fault, request, &parts)?;
+            let status = report_place_fault(rt, alloc, fault, &part_line, text, explained);
+            if let Some(name) = request.declaration {
+                tell_lines(rt, &declaration_hint(alloc, request, name, text));
             }
             Ok(status)
         }
@@ -286,15 +293,15 @@ pub fn tell_refused<R: Eprint>(
 pub fn read_all<R: Files + Input + Eprint>(
     rt: &R,
     alloc: Global,
-    asked: &ProgramRequest<'_>,
+    request: &ProgramRequest<'_>,
 ) -> Result<SourceInputResult, Fault> {
     let mut parts = Vec::new(alloc);
-    if let Err(fault) = read_parts(rt, alloc, asked.program.parts(), &mut parts) {
-        if !asked.explained {
+    if let Err(fault) = read_parts(rt, alloc, request.program.parts(), &mut parts) {
+        if !request.explained {
             return Err(fault);
         }
-        let name = unopened(asked.program.parts(), parts.len());
-        return Ok(SourceInputResult::Told(tell_of(
+        let name = unopened_part(request.program.parts(), parts.len());
+        return Ok(SourceInputResult::Reported(report_file_fault(
             rt,
             alloc,
             fault,
@@ -302,13 +309,13 @@ pub fn read_all<R: Files + Input + Eprint>(
             "cannot be opened or read",
         )));
     }
-    let DeclarationInput { text, promise } = given_declaration(rt, alloc, asked, &parts)?;
-    if asked.asked && promise == DeclarationOrigin::Within {
-        return Ok(SourceInputResult::Told(tell_misuse(rt, &Misuse::DeclarationAndStart)));
+    let DeclarationInput { text, origin } = read_declaration(rt, alloc, request, &parts)?;
+    if request.asked && origin == DeclarationOrigin::Within {
+        return Ok(SourceInputResult::Reported(tell_misuse(rt, &Misuse::DeclarationAndStart)));
     }
     Ok(SourceInputResult::Read(SourceInput {
         parts,
         text,
-        promise,
+        origin,
     }))
 }

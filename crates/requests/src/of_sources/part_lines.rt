@@ -1,19 +1,23 @@
-//! Where the lines of a declaration within a source stand: its lines count on from part to part.
+//! Where the lines of a declaration within a source lie. They are numbered on from part to part.
 
 use declaration::DeclarationFault;
 use labels::declared_lines;
 use std::alloc::{AllocError, Global};
 
-/// A part of a source, by its name, and a line of it.
+/// A line of a part of a source.
 #[derive(Clone, Copy)]
 pub struct PartLine<'n> {
-    /// The part's name, or words for all parts.
+    /// The part's name, or a phrase for all parts together.
     pub name: &'n str,
     /// The line's number, from 1; 0 if no line is meant.
     pub line: usize,
 }
 
-/// How many lines of a declaration each part of a source has.
+/// How many lines each part of a source contributes to its declaration.
+///
+/// # Errors
+///
+/// `AllocError` if memory was refused.
 pub fn line_counts(alloc: Global, parts: &[&[u8]]) -> Result<Vec<usize>, AllocError> {
     let mut counts = Vec::new(alloc);
     for part in parts {
@@ -23,11 +27,11 @@ pub fn line_counts(alloc: Global, parts: &[&[u8]]) -> Result<Vec<usize>, AllocEr
     Ok(counts)
 }
 
-/// What is named if no line is meant, and so no part of several.
+/// The name that is given if no line, and so none of several parts, is meant.
 const ALL_PARTS: &str = "the source";
 
-/// Where the line of this number stands, by the names of the parts and their counts of lines. Number 0 is of no
-/// line, and of the whole source.
+/// The part and the line in it that this line number of the declaration stands for, given the names of the parts and
+/// how many lines each contributes. Number 0 stands for no line and, if there are several parts, for the whole source.
 pub fn part_line_of<'n>(names: &[&'n str], counts: &[usize], number: usize) -> PartLine<'n> {
     if number == 0 && names.len() > 1 {
         return PartLine {
@@ -48,8 +52,8 @@ pub fn part_line_of<'n>(names: &[&'n str], counts: &[usize], number: usize) -> P
     }
 }
 
-/// A text without so many lines at its front.
-pub fn behind_lines(text: &[u8], count: usize) -> &[u8] {
+/// A text without its first `count` lines.
+pub fn after_lines(text: &[u8], count: usize) -> &[u8] {
     let mut rest = text;
     for _ in 0..count {
         match rest.iter().position(|byte| *byte == b'\n') {
@@ -60,8 +64,8 @@ pub fn behind_lines(text: &[u8], count: usize) -> &[u8] {
     rest
 }
 
-/// The number of the line that a fault is of; 0 if it is not about a line.
-pub fn line_of(fault: DeclarationFault) -> usize {
+/// The number of the line that a fault is about; 0 if it is not about a line.
+pub fn fault_line(fault: DeclarationFault) -> usize {
     match fault {
         DeclarationFault::BadLine(number)
         | DeclarationFault::TwoStarts(number)
@@ -70,7 +74,7 @@ pub fn line_of(fault: DeclarationFault) -> usize {
     }
 }
 
-/// The same fault of the line of another number, if it is about a line.
+/// The same fault with another line number, if it is about a line.
 pub fn on_line(fault: DeclarationFault, number: usize) -> DeclarationFault {
     match fault {
         DeclarationFault::BadLine(_) => DeclarationFault::BadLine(number),

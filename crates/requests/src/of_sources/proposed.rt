@@ -1,6 +1,6 @@
-//! What is said about a declaration that is proposed for a source.
+//! Messages about a declaration that is proposed for a source.
 
-/// Whether a line of a source has a comment in which blanks stand before a colon, so that it declares nothing.
+/// Whether a line of a source has a comment in which blanks come before a colon, so that it declares nothing.
 fn is_blanked_declaration(line: &[u8]) -> bool {
     let mut pieces = line.splitn(2, |byte| *byte == b'/');
     let _ = pieces.next();
@@ -21,11 +21,11 @@ fn has_blanked_declaration(parts: &[Vec<u8>]) -> bool {
     false
 }
 
-/// Says on standard error that the declaration of an answer is proposed, and why it is.
-pub(crate) fn tell_proposed<R: Eprint>(rt: &R, parts: &[Vec<u8>]) {
+/// Says on standard error that an answer is about a proposed declaration, and why.
+pub(crate) fn report_proposed_declaration<R: Eprint>(rt: &R, parts: &[Vec<u8>]) {
     let _ = if has_blanked_declaration(parts) {
         eprintln!(rt;
-            "no declaration is given, and the source has no /: line, but comments that begin with / and :, with a space between them: the answer is about a proposed declaration"
+            "no declaration is given, and the source has no /: line, although it has comments that begin with `/ :`, with a space: the answer is about a proposed declaration"
         )
     } else {
         eprintln!(rt;

@@ -1,5 +1,5 @@
-//! Where a source has what is named to people. It is proved that the first line of a text stays as it is; what is put
-//! after it is tested.
+//! Adds what a source says about addresses to texts for people. It is proved that the first line of a text stays as it
+//! is; what comes after it is tested.
 
 ghost use Rattle.std.specs.Prelude.{◌≡◌, IfOk, None};
 ghost use Rattle.std.specs.List.{position};
@@ -13,7 +13,7 @@ use reports::reporting::{LinePlace, SourceNote};
 use std::alloc::{AllocError, Global};
 use word12::Word;
 
-/// Adds what the source calls an address, or its digits where the source has no name for it.
+/// Adds the source's name for an address, or the digits of the address if the source has no name for it.
 fn push_label(
     text: &mut Vec<u8>,
     at: Word,
@@ -25,7 +25,7 @@ fn push_label(
     }
 }
 
-/// Adds in brackets what the source calls an address, if it does.
+/// Adds the source's name for an address in parentheses, if it has one.
 fn push_label_in_brackets(
     text: &mut Vec<u8>,
     note: Option<SourceNote<'_>>,
@@ -75,8 +75,8 @@ pub(crate) fn begins_with_tag(note: SourceNote<'_>) -> bool {
     }
 }
 
-/// Adds a piece of a text, and what the source says where it ends: after an address in brackets what the source calls
-/// it, in advice this in place of the address, and below an instruction its line.
+/// Adds a piece of a text, and what the source says about its end: after an address, the source's name for it in
+/// parentheses; in advice, that name in place of the address; and below an instruction, its line.
 fn push_piece(
     alloc: Global,
     text: &mut Vec<u8>,
@@ -100,14 +100,14 @@ fn push_piece(
     }
 }
 
-/// The place of the first end of a line, if there is one.
+/// The index of the first line feed, if there is one.
 fn place_of_line_end(text: &[u8]) -> Option<usize>
     ensures { result ≡ position is_line_end text.now }
 {
     text.iter().position(|byte| *byte == b'\n')
 }
 
-/// The first line of a text, with its end.
+/// The first line of a text, with the line feed that ends it.
 fn first_line(text: &[u8]) -> &[u8]
     ensures { result.now ≡ first_line text.now }
 {
@@ -118,25 +118,25 @@ fn first_line(text: &[u8]) -> &[u8]
 }
 
 /// A text for people, with what the source says about its addresses.
-pub(crate) fn labelled(
+pub(crate) fn label_message(
     alloc: Global,
     source: &AssembledSource,
-    told: &Message<Global>,
+    message: &Message<Global>,
 ) -> Result<Vec<u8>, AllocError> {
-    rest_with_source_lines(alloc, source, told, 0)
+    rest_with_source_lines(alloc, source, message, 0)
 }
 
-/// What comes after so many bytes of a text for people, with what the source says about its addresses.
+/// What comes after the first `from` bytes of a text for people, with what the source says about its addresses.
 fn rest_with_source_lines(
     alloc: Global,
     source: &AssembledSource,
-    told: &Message<Global>,
+    message: &Message<Global>,
     from: usize,
 ) -> Result<Vec<u8>, AllocError> {
-    let bytes = told.as_bytes();
+    let bytes = message.as_bytes();
     let mut text = Vec::new(alloc);
     let mut done = from;
-    for placed in told.marks() {
+    for placed in message.marks() {
         if placed.place > done {
             let piece = bytes.get(done..placed.place).unwrap_or(b"");
             push_piece(alloc, &mut text, piece, placed.mark, source)?;
@@ -147,12 +147,12 @@ fn rest_with_source_lines(
     Ok(text)
 }
 
-/// A text for people with what the source says about its addresses. Its first line, which is that of an answer, comes
-/// first and as it is.
+/// A text for people with what the source says about its addresses. Its first line, which is the line of the answer,
+/// comes first and is unchanged.
 ///
 /// # Errors
 ///
-/// Memory was refused.
+/// `AllocError` if memory was refused.
 pub fn with_source_lines(
     alloc: Global,
     source: &AssembledSource,
@@ -168,7 +168,7 @@ pub fn with_source_lines(
     Ok(text)
 }
 
-/// A text for people as it is, which begins with its first line.
+/// A text for people, unchanged.
 #[tactic(auto, using(crate::proofs::MessageLemmas::begins_with_line))]
 fn plain_text(alloc: Global, told: &Message<Global>) -> Result<Vec<u8>, AllocError>
     ensures whole { IfOk result (λ text. text.items ≡ plain told.now) }
@@ -179,19 +179,19 @@ fn plain_text(alloc: Global, told: &Message<Global>) -> Result<Vec<u8>, AllocErr
     Ok(text)
 }
 
-/// A text for people, with what a source says about its addresses if there is one. Its first line, which is that of an answer, comes
-/// first and as it is.
+/// A text for people, with what the source, if there is one, says about its addresses. Its first line, which is the
+/// line of the answer, comes first and is unchanged.
 ///
 /// # Errors
 ///
-/// Memory was refused.
+/// `AllocError` if memory was refused.
 pub fn lines_of(
     alloc: Global,
     source: Option<&AssembledSource>,
     told: &Message<Global>,
 ) -> Result<Vec<u8>, AllocError>
     ensures front { IfOk result (λ text. BeginsWith (first_line (plain told.now)) text.items) }
-    // Without a source it is the text as it is.
+    // Without a source, the text is unchanged.
     ensures whole { source.entry ≡ None → IfOk result (λ text. text.items ≡ plain told.now) }
 {
     match source {

@@ -1,8 +1,8 @@
-//! What is said about a source whose command is done, or has a fault that lies within the source.
+//! Messages about a source whose command is done, or whose command has a fault that lies within the source.
 
 use crate::of_sources::numbering::{DeclarationOrigin, SourceInput};
 use crate::of_sources::part_lines::{
-    PartLine, behind_lines, line_counts, line_of, on_line, part_line_of,
+    PartLine, after_lines, fault_line, line_counts, on_line, part_line_of,
 };
 use crate::source_faults::{name_slices, visible_names};
 use crate::telling::tell_with;
@@ -14,29 +14,29 @@ use diagnostics::inputs::{FaultyFile, push_fault};
 use pal_text::{Ending, statements};
 use std::alloc::{AllocError, Global};
 
-/// The lines on a fault of a declaration within a source, of which the line stands there.
+/// The lines about a fault of a declaration within a source, with the faulty line as it stands there.
 fn within_lines(
     alloc: Global,
     fault: &DeclarationFault,
     part_line: &PartLine<'_>,
     text: &[u8],
 ) -> String {
-    let behind = line_of(*fault).saturating_sub(part_line.line);
+    let lines_before = fault_line(*fault).saturating_sub(part_line.line);
     let shown = Fault::Declared(on_line(*fault, part_line.line));
-    let mut told = String::new(alloc);
+    let mut lines = String::new(alloc);
     let Ok(name) = visible_text(alloc, part_line.name) else {
-        return told;
+        return lines;
     };
     let file = FaultyFile {
         name: &name,
-        bytes: behind_lines(text, behind),
+        bytes: after_lines(text, lines_before),
     };
-    let _ = push_fault(&mut told, shown, &file);
-    told
+    let _ = push_fault(&mut lines, shown, &file);
+    lines
 }
 
-/// Tells the fault of a declaration that stands within a source, and below it where and why.
-fn tell_within<R: Eprint>(
+/// Reports the fault of a declaration within a source, and below it where it lies and why.
+fn report_declaration_fault<R: Eprint>(
     rt: &R,
     alloc: Global,
     fault: &DeclarationFault,
@@ -45,12 +45,12 @@ fn tell_within<R: Eprint>(
     text: &[u8],
 ) -> Result<Status, Fault> {
     let counts = line_counts(alloc, parts)?;
-    let part_line = part_line_of(names, &counts, line_of(*fault));
+    let part_line = part_line_of(names, &counts, fault_line(*fault));
     let lines = within_lines(alloc, fault, &part_line, text);
     Ok(tell_with(rt, Fault::Declared(*fault), &lines))
 }
 
-/// The declaration's fault, if it is one.
+/// The fault of the declaration, if the fault is one.
 fn declaration_fault(fault: &Fault) -> Option<DeclarationFault> {
     match fault {
         Fault::Declared(declared) => Some(*declared),
@@ -58,25 +58,25 @@ fn declaration_fault(fault: &Fault) -> Option<DeclarationFault> {
     }
 }
 
-/// Tells a fault of the command where it lies within the source; each other one is given on.
-pub(crate) fn tell_command<R: Eprint>(
+/// Reports a fault of the command that lies within the source, if it is to be explained. Any other fault is returned.
+pub(crate) fn report_command_fault<R: Eprint>(
     rt: &R,
     alloc: Global,
     fault: &Fault,
-    asked: &ProgramRequest<'_>,
+    request: &ProgramRequest<'_>,
     given: &SourceInput,
     parts: &[&[u8]],
 ) -> Result<Status, Fault> {
-    if given.promise == DeclarationOrigin::Within && asked.explained {
+    if given.origin == DeclarationOrigin::Within && request.explained {
         if let Some(declared) = declaration_fault(fault) {
-            let names = asked.program.parts();
-            return tell_within(rt, alloc, &declared, names, parts, &given.text);
+            let names = request.program.parts();
+            return report_declaration_fault(rt, alloc, &declared, names, parts, &given.text);
         }
     }
     Err(*fault)
 }
 
-/// The place of the first part that ends the program by `$`.
+/// The index of the first part that ends the program with `$`.
 fn ending_part(alloc: Global, parts: &[&[u8]]) -> Option<usize> {
     for (index, part) in parts.iter().enumerate() {
         if let Ok(read) = statements(alloc, part) {
@@ -92,20 +92,20 @@ fn ending_part(alloc: Global, parts: &[&[u8]]) -> Option<usize> {
 ///
 /// # Errors
 ///
-/// Memory was refused.
-pub(crate) fn tell_unread<R: Eprint>(
+/// `AllocError` if memory was refused.
+pub(crate) fn report_ignored_parts<R: Eprint>(
     rt: &R,
     alloc: Global,
     names: &[&str],
     parts: &[&[u8]],
 ) -> Result<(), AllocError> {
     let shown = visible_names(alloc, names)?;
-    tell_ignored(rt, alloc, &name_slices(alloc, &shown)?, parts);
+    eprint_ignored_parts(rt, alloc, &name_slices(alloc, &shown)?, parts);
     Ok(())
 }
 
-/// The same with the names as they are shown.
-fn tell_ignored<R: Eprint>(rt: &R, alloc: Global, names: &[&str], parts: &[&[u8]]) {
+/// Does the same with the names as they are shown.
+fn eprint_ignored_parts<R: Eprint>(rt: &R, alloc: Global, names: &[&str], parts: &[&[u8]]) {
     if names.len() < 2 {
         return;
     }

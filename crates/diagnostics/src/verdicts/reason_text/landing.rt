@@ -152,7 +152,7 @@ fn push_excluded<L: MessageWriter>(
 fn push_with_link<L: MessageWriter>(text: &mut L, link: Link) -> Result<(), AllocError>
     ensures { OnOk result (L.text text.new ≡ L.text text.old ++ with_link_text link) }
 {
-    text.push_text(b"with the link ")?;
+    text.push_text(b"if the link is ")?;
     push_link_digit(text, link)?;
     text.push_text(b", ")?;
     Ok(())

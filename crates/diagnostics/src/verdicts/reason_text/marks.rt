@@ -25,7 +25,11 @@ fn push_mark<L: MessageWriter>(text: &mut L, mark: &Distinction) -> Result<(), A
     ensures { OnOk result (L.text text.new ≡ L.text text.old ++ mark_text mark.now) }
 {
     match mark {
-        Distinction::CalledFrom(site) => push_text_and_address(text, b", called from ", *site),
+        Distinction::CalledFrom(site) => push_text_and_address(
+            text,
+            b", for the call from ",
+            *site,
+        ),
         Distinction::LinkClear => text.push_text(b", link 0"),
         Distinction::LinkSet => text.push_text(b", link 1"),
         Distinction::Accumulator(word) => push_text_and_word(text, b", AC = ", *word),

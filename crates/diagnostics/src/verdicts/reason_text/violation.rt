@@ -20,8 +20,8 @@ fn too_high(rules: &Rules) -> &'static [u8]
     ensures { result.now ≡ too_high_text rules.now }
 {
     match rules {
-        Rules::OfEquations => b", from an address above 7767",
-        Rules::OfSums => b", from an address above 7776",
+        Rules::OfEquations => b" from an address above 7767",
+        Rules::OfSums => b" from an address above 7776",
     }
 }
 
@@ -55,7 +55,7 @@ fn push_returned<L: MessageWriter>(
                 text,
                 b", which returns with offset ",
                 offset,
-                b" by exit line ",
+                b", according to exit line ",
             )?;
             push_number_and_colon(text, index)?;
             Ok(())
@@ -102,7 +102,7 @@ fn push_call<L: MessageWriter>(
             text,
             b", which may write ",
             *cell,
-            b", but the caller's written set does not contain it",
+            b", a cell that the caller's written set does not contain",
         ),
         CallViolation::EntryNotWritten => {
             text.push_text(b", which the caller's written set does not contain")
@@ -148,7 +148,9 @@ fn push_return<L: MessageWriter>(
     ensures { OnOk result (L.text text.new ≡ L.text text.old ++ return_text entry breach.now) }
 {
     match breach {
-        ReturnViolation::OtherRoutine => text.push_text(b", which is not its own entry"),
+        ReturnViolation::OtherRoutine => text.push_text(
+            b", which is not the entry of its own routine",
+        ),
         ReturnViolation::NotDeclared(offset) => {
             push_around_offset(text, b" with offset ", *offset, b"")?;
             push_undeclared(text, entry, *offset)?;
@@ -254,9 +256,9 @@ fn push_moving<L: MessageWriter>(
     push_around(text, b" in ", entry, b"")?;
     push_around(
         text,
-        b": this word is not 0 to 77 past the return address of the call at ",
+        b", but the word there must be the return address of the call at ",
         site,
-        b"",
+        b" plus 0 to 77",
     )?;
     Ok(())
 }
@@ -293,11 +295,11 @@ fn push_own_store<L: MessageWriter>(text: &mut L, entry: Word) -> Result<(), All
 /// Adds that a jump may leave a routine for main's body, and the `abandon` line that allows this.
 fn push_jump_to_main<L: MessageWriter>(text: &mut L, at: Word) -> Result<(), AllocError>
     ensures { OnOk result (L.text text.new ≡ L.text text.old
-        ++ advised_text (codes "it may continue at ") at (codes ", which is in main's body: add `abandon ")) }
+        ++ advised_text (codes "the run may continue at ") at (codes ", which is in main's body: add `abandon ")) }
 {
     push_address_and_advice(
         text,
-        b"it may continue at ",
+        b"the run may continue at ",
         at,
         b", which is in main's body: add `abandon ",
     )
@@ -375,7 +377,7 @@ pub fn push_violation<L: MessageWriter>(
         Violation::HaltsUndeclared => { text.push_text(b"it halts, and no halt is declared there") }
         Violation::CallsThroughIndex => { text.push_text(b"it calls through an auto-index cell") }
         Violation::Calls(entry, call) => {
-            push_text_and_address(text, b"it calls ", *entry)?;
+            push_text_and_address(text, b"the JMS calls ", *entry)?;
             push_call(text, rules, call)
         }
         Violation::Returns(entry, back) => {
@@ -383,7 +385,7 @@ pub fn push_violation<L: MessageWriter>(
             push_return(text, *entry, back)
         }
         Violation::GoesOn(at, landing) => {
-            push_around(text, b"it may continue at ", *at, b": ")?;
+            push_around(text, b"the run may continue at ", *at, b", and ")?;
             push_landing(text, landing)
         }
         Violation::JumpsToMain(at) => push_jump_to_main(text, *at),

@@ -1,5 +1,5 @@
 -- The run of a tape behind its long trace, of whose lines nothing is said here.
-use Rattle.std.specs.Prelude.{ℕ, ◌≡◌, ◌++◌, Bool, true, false, List, Option}
+use Rattle.std.specs.Prelude.{ℕ, ◌≡◌, ◌++◌, Bool, false, List, Option}
 use Rattle.std.specs.Io.KnownBytes.{Appends}
 use Rattle.peripherals.specs.declared.Event.{Event}
 use Rattle.command_parts.specs.declared.options.RunOptions.{RunOptions}

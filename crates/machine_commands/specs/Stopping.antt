@@ -1,5 +1,5 @@
 -- The run of a tape that may be stopped, and what it writes.
-use Rattle.std.specs.Prelude.{ℕ, ◌≡◌, Bool, true, false, ◌⊎◌, ◌++◌, List, Option, take}
+use Rattle.std.specs.Prelude.{ℕ, ◌≡◌, Bool, ◌⊎◌, ◌++◌, List, Option, take}
 use Rattle.wordset.specs.Lanes.{words}
 use Rattle.peripherals.specs.declared.Event.{Event}
 use Rattle.peripherals.specs.Devices.{WorldState}

@@ -7,8 +7,8 @@ ghost use Rattle.peripherals.specs.World.{view};
 ghost use Rattle.peripherals.specs.declared.Event.{Event};
 ghost use Rattle.machine_commands.specs.declared.follow.End.TheVariants as end;
 ghost use Rattle.machine_commands.specs.Course.{ends_at_halt, events_in};
-ghost use Rattle.machine_commands.specs.Running.{fresh, IsTraceOf};
-ghost use Rattle.machine_commands.specs.Stopping.{IsPartWithStops, IsRunWithStops, IsStoppedRun};
+ghost use Rattle.machine_commands.specs.Running.{fresh};
+ghost use Rattle.machine_commands.specs.Stopping.{IsPartWithStops, IsRunWithStops};
 ghost use Rattle.machine_commands.specs.Stops.{IsStop, StopsAfter};
 ghost use Rattle.command_parts.specs.declared.status.Status.TheVariants.{Done};
 

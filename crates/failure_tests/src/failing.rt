@@ -16,6 +16,7 @@ use instruct::Profile;
 use machine_commands::messages::watch_session_message;
 use machine_commands::running::{dump, run, run_events};
 use machine_commands::session::{Outputs, run_session};
+use machine_commands::stopping::no_stops;
 use machine_commands::watching::watch;
 use search_commands::checking::check;
 use search_commands::declaring::declare;
@@ -294,6 +295,7 @@ fn operated<A: Allocator + Copy>(alloc: A, heap: Global, plan: &Plan) -> Observe
         &mut plan.source(1, b"\x00\x01"),
         &mut plan.source(2, b"A"),
         session(),
+        &no_stops(),
         SummaryForm::WHOLE,
         &mut outputs,
     );

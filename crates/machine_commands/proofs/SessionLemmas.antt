@@ -402,14 +402,6 @@ sat_completed brings p trace first now after w x n old new told tells sat both =
       printed = rw (output_stays x.devices.printer.busy x.devices.printer) sat.printed;
     }
 
--- an event that carries out no instruction
-pub sat_still : {S : Type 0} (brings : S → Profile → WorldState → Extent → List Event → Type 0) (p : Profile) (trace : Bool) (first now after : S) (e : Event) (w x y : WorldState) (n : ℕ) (what : Seen) (old mid new told tmid tells : Option (List ℕ)) →
-    Sat brings p trace first now w x n old mid told tmid → IsNext brings now after x e → Played p trace x e what y mid new tmid tells → goes_on true what ≡ true → counted what ≡ 0 →
-    Sat brings p trace first after w y n old new told tells
-sat_still brings p trace first now after e w x y n what old mid new told tmid tells sat next played goes none =
-    let more : Sat brings p trace first after w y (n + counted what) old new told tells = sat_more brings p trace first now after e w x y n what old mid new told tmid tells sat next played goes in
-    rw (none, add-zero n) at more
-
 not_ran : (enabled : Bool) → seen.Ran ≡ device_seen enabled → ⊥
 not_ran true is = cc
 not_ran false is = cc

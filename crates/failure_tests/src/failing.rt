@@ -15,8 +15,8 @@ use diagnostics::verdicts::messages::check_message;
 use instruct::Profile;
 use machine_commands::running::{dump, run, run_events};
 use machine_commands::session::{Outputs, run_session};
-use machine_commands::stopped_session::no_stops;
 use machine_commands::stopped_watch::{WatchOptions, watch_session_message_to_stop};
+use machine_commands::stopping::no_stops;
 use machine_commands::watching::watch;
 use search_commands::checking::check;
 use search_commands::declaring::declare;
@@ -302,6 +302,7 @@ fn operated<A: Allocator + Copy>(alloc: A, heap: Global, plan: &Plan) -> Observe
         &mut plan.source(1, b"\x00\x01"),
         &mut plan.source(2, b"A"),
         session(),
+        &no_stops(),
         SummaryForm::WHOLE,
         &mut outputs,
     );

@@ -1,11 +1,19 @@
--- What stops change in a run: nothing up to the step that stops it.
-use Rattle.std.specs.Prelude.{ℕ, ◌≡◌, ◌+◌, Bool, List, ◌++◌, drop, take}
+-- What stops change in a run: nothing up to the step that stops it, and nothing at all where there are none.
+use Rattle.std.specs.Prelude.{ℕ, ◌≡◌, ◌+◌, Bool, false, List, ◌++◌, Option, None, drop, take}
 use Rattle.instruct.specs.declared.Profile.{Profile}
+use Rattle.wordset.specs.Lanes.{words}
+use Rattle.wordset.specs.Words.{nothing}
+use Rattle.command_parts.specs.declared.options.RunOptions.{RunOptions}
 use Rattle.command_parts.specs.declared.options.Stops.{Stops}
+use Rattle.command_parts.specs.declared.options.SummaryForm.{SummaryForm}
+use Rattle.command_parts.specs.declared.status.Status.{Status}
 use Rattle.peripherals.specs.declared.Event.{Event}
 use Rattle.peripherals.specs.Devices.{WorldState}
 use Rattle.machine_commands.specs.declared.follow.End.{End}
 use Rattle.machine_commands.specs.Follows.{Follows}
+use Rattle.machine_commands.specs.Schedule.{Extent}
+use Rattle.machine_commands.specs.Session.{IsHeld}
+use Rattle.machine_commands.specs.StoppedSession.{IsHeldToStop}
 use Rattle.machine_commands.specs.Stops.{NeverStops, StopsAfter}
 
 -- A run with this trace and so many instructions goes on from a world, by these events, to the end of another run: the other's trace
@@ -37,3 +45,17 @@ abbrev pub StoppedIsNotNever : Type 0
 StoppedIsNotNever =
     (stops : Stops) (profile : Profile) (ends_at_halt : Bool) (events : List Event) (w : WorldState) (count : ℕ) →
     StopsAfter stops profile ends_at_halt 0 events w count → NeverStops stops profile ends_at_halt 0 events w → ⊥
+
+-- There is no address at which these stop a run, and no cell.
+pub record AreNone (stops : Stops) : Type 0 where
+  pub place : stops.place ≡ None
+  pub written : words stops.written ≡ nothing
+  pub read : words stops.read ≡ nothing
+
+-- What is held by a schedule without stops, and by an operator who does not leave, is what the events that come lead to.
+abbrev pub HeldWithoutStops : Type 0
+HeldWithoutStops =
+    (comes : Profile → WorldState → Extent → List Event → Type 0) (options : RunOptions) (stops : Stops) (form : SummaryForm) (extent : Extent)
+    (image : List (Option ℕ)) (text printed punched : List ℕ) (status : Status) →
+    AreNone stops → IsHeldToStop comes options stops form extent false image text printed punched status →
+    IsHeld comes options form extent image text printed punched status

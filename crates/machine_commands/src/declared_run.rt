@@ -14,8 +14,8 @@ ghost use Rattle.machine_commands.specs.Trace.{trace_of};
 
 use crate::follow::{End, RunOutcome, advance};
 use crate::last::{KeptTrace, last_lines};
+use crate::session::visits_past;
 use crate::shown_cells::{first, happening};
-use crate::stopped_session::visits_past;
 use crate::summary::push_state;
 use bin_tape::Image;
 use command_parts::options::Stops;

@@ -1,6 +1,8 @@
 //! The run of an image up to where it is stopped.
 
-ghost use Rattle.std.specs.Prelude.{◌≡◌, ◌<◌, ◌/◌, ◌*◌, true, false, get_or, length, take, IfOk, IfErr, OnErr};
+ghost use Rattle.std.specs.Prelude.{◌≡◌, ◌<◌, ◌/◌, ◌*◌, true, false, None, get_or, length, take, IfOk, IfErr, OnErr};
+ghost use Rattle.wordset.specs.Lanes.{words};
+ghost use Rattle.wordset.specs.Words.{nothing};
 ghost use Rattle.command_parts.specs.Faults.{fails_to_write, IsRunFault};
 ghost use Rattle.command_parts.specs.Writes.{FrontOf, Writes};
 ghost use Rattle.peripherals.specs.World.{view};
@@ -22,6 +24,21 @@ use command_parts::status::{Fault, Status};
 use peripherals::{NoMemory, Start, World};
 use std::alloc::Allocator;
 use streams::{ByteSink, put};
+use wordset::WordSet;
+
+/// What never stops a run.
+pub fn no_stops() -> Stops
+    ensures place { result.place ≡ None }
+    ensures written { words result.written ≡ nothing }
+    ensures read { words result.read ≡ nothing }
+{
+    Stops {
+        place: None,
+        times: 1,
+        written: WordSet::empty(),
+        read: WordSet::empty(),
+    }
+}
 
 /// How many whole rounds come before an event of some rounds.
 fn rounds_before(rounds: u32, count: usize) -> u32

@@ -17,8 +17,7 @@ use machine_commands::long_trace::{
     MnemonicStatements, Statements, push_full_name, run_with_long_trace,
 };
 use machine_commands::running::{dump, run, run_events};
-use machine_commands::stopped_session::no_stops;
-use machine_commands::stopping::run_with_stops;
+use machine_commands::stopping::{no_stops, run_with_stops};
 use source_commands::sourcing::{declared_source, source};
 use std::alloc::{AllocError, Global};
 use std::io;

@@ -19,10 +19,10 @@ use command_parts::programs::ProgramWithDeclaration;
 use command_parts::status::{Fault, Status};
 use diagnostics::verdicts::certificates::{ProgramWithCertificate, certificate_from};
 use diagnostics::verdicts::messages::check_message;
-use machine_commands::stopped_session::no_stops;
 use machine_commands::stopped_watch::{
     WatchOptions, watch_message_to_stop, watch_session_message_to_stop,
 };
+use machine_commands::stopping::no_stops;
 use reports::reporting::{ReportForm, report_of};
 use search_commands::checking::verdict_of;
 use std::alloc::Global;

@@ -2,7 +2,7 @@ use Rattle.std.proofs.Common.{rules, ◌≡◌, true, false}
 use Rattle.machine_commands.specs.SessionParts.{is_step}
 use Rattle.machine_commands.proofs.StoppedLemmas.{passes_other, step_visits}
 use Rattle.peripherals.specs.World.{view, profile_of}
-use Rattle.machine_commands.proofs.stopped_session.visits_past.Goals as goal
+use Rattle.machine_commands.proofs.session.visits_past.Goals as goal
 
 pub returns-then-not-is_step-clause-passes : goal.returns-then-not-is_step-clause-passes
 returns-then-not-is_step-clause-passes g c =

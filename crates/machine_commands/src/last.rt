@@ -1,6 +1,6 @@
 //! The run of an image of which the last instructions are shown.
 
-ghost use Rattle.std.specs.Prelude.{◌≡◌, ◌++◌, [], true, false, IfOk, IfErr, OnErr};
+ghost use Rattle.std.specs.Prelude.{◌≡◌, ◌++◌, true, false, IfOk, IfErr, OnErr};
 ghost use Rattle.wordset.specs.Lanes.{words};
 ghost use Rattle.peripherals.specs.World.{view, profile_of};
 ghost use Rattle.command_parts.specs.Faults.{fails_to_write, IsRunFault};
@@ -18,52 +18,11 @@ use crate::summary::push_closing;
 use bin_tape::Image;
 use command_parts::options::{RunOptions, Stops};
 use command_parts::status::{Fault, Status};
+use command_parts::text_sink::TextSink;
 use peripherals::{NoMemory, Start, World};
 use std::alloc::{AllocError, Allocator};
-use streams::{ByteSink, Failed, put};
+use streams::{ByteSink, put};
 use wordset::WordSet;
-
-/// A trace that is kept in memory.
-#[derive(Drop)]
-pub(crate) struct KeptTrace<A: Allocator> {
-    pub(crate) text: Vec<u8, A>,
-    pub(crate) refused: bool,
-}
-
-impl<A: Allocator> KeptTrace<A> {
-    /// A trace without a line.
-    pub(crate) fn new(alloc: A) -> KeptTrace<A>
-        ensures text { result.text.items ≡ [] }
-        ensures room { result.refused ≡ false }
-    {
-        KeptTrace {
-            text: Vec::new(alloc),
-            refused: false,
-        }
-    }
-}
-
-impl<A: Allocator> ByteSink for KeptTrace<A> {
-    ghost use Rattle.std.specs.Prelude.{Some};
-
-    ghost taken = { λ sink. Some sink.text.items };
-
-    ghost mark = { λ sink. sink.refused };
-
-    fn write(&mut self, piece: &[u8]) -> Result<usize, Failed> {
-        match self.text.extend_from_slice(piece) {
-            Ok(()) => Ok(piece.len()),
-            Err(_) => {
-                self.refused = true;
-                Err(Failed)
-            }
-        }
-    }
-
-    fn failed(&self) -> bool {
-        self.refused
-    }
-}
 
 /// How many lines a text has.
 #[tactic(auto, using(crate::proofs::LastLemmas::line_more, crate::proofs::LastLemmas::line_same, crate::proofs::LastLemmas::lines_all))]
@@ -185,14 +144,13 @@ fn traced_run<A: Allocator, B: Allocator>(
         (events_in course.now) (view world.old) run.lines.items run.outcome.steps run.outcome.end
         (view world.new)) }
 {
-    let mut trace = KeptTrace::new(alloc);
+    let mut trace = TextSink::new(alloc);
     let Ok(outcome) = follow(world, &mut trace, true, course) else {
         return Err(NoMemory);
     };
-    let KeptTrace { text, .. } = trace;
     Ok(TracedRun {
         outcome,
-        lines: text,
+        lines: trace.into_text(),
     })
 }
 

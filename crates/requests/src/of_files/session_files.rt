@@ -97,6 +97,7 @@ fn form_with<'n>(form: SummaryForm<'_>, name: &'n Option<String>) -> SummaryForm
 
 /// Runs a tape with an operator, until it is stopped if that is requested, and shows its last instructions if that is
 /// requested.
+#[inline(never)]
 fn follow_session<
     R: ByteSource,
     F: ByteSource,
@@ -220,6 +221,7 @@ fn report_interrupt_key<R: Eprint>(rt: &R, key: Option<u8>) {
 
 /// Holds a session at the teletype, until it is stopped if that is requested, and shows its last instructions if that is
 /// requested.
+#[inline(never)]
 fn follow_typist<
     R: ByteSource,
     F: ByteSource,

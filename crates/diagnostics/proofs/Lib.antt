@@ -3,3 +3,4 @@ pub mod CheckLemmas
 pub mod ReasonLemmas
 pub mod TellingLemmas
 pub mod OmissionLemmas
+pub mod FaultTextLemmas

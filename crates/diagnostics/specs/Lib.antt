@@ -3,4 +3,5 @@ pub mod CertificateFaults
 pub mod CheckText
 pub mod ReasonContexts
 pub mod WhyText
+pub mod FaultText
 pub mod OmissionText

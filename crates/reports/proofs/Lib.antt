@@ -1,4 +1,5 @@
 pub mod HtmlLemmas
+pub mod CellItemLemmas
 pub mod ItemLemmas
 pub mod PieceLemmas
 pub mod RangeLemmas

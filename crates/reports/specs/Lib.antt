@@ -13,3 +13,4 @@ pub mod ItemText
 pub mod Labels
 pub mod RelationText
 pub mod SetText
+pub mod AbsenceText

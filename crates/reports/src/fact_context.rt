@@ -1,5 +1,14 @@
 //! What is known at an address, item by item, and what of it is the same as on the line above.
 
+ghost use Rattle.std.specs.Prelude.{◌≡◌, ◌||◌, ◌∷◌, [], if◌then◌else◌, not};
+ghost use Rattle.wordset.specs.Lanes.{words};
+ghost use Rattle.wordset.specs.Links.{links_of};
+ghost use Rattle.domain.specs.Locations.{Ac, Cell};
+ghost use Rattle.domain.specs.FactInCode.{fact_in_code};
+ghost use Rattle.reports.specs.FactText.{accumulator_item, cell_item, cells_items, fact_above, has_links_above, is_above, link_item, mq_items, register_items, sites_items, told_of_mq, told_of_sites};
+ghost use Rattle.reports.specs.ItemText.{WritesItems, has_same_words, is_all};
+ghost use Rattle.reports.specs.Writing.{form_of};
+
 use crate::cases::{FactDifferences, are_same_offsets};
 use crate::items::{
     has_same_links, has_same_words, is_all, link_text, write_cell_item, write_held, write_item,
@@ -26,7 +35,9 @@ pub(crate) struct FactContext<'a> {
 }
 
 /// Whether these are the words that AC may hold on the line above.
-fn has_accumulator(above: Option<&KnownFact>, set: &WordSet) -> bool {
+fn has_accumulator(above: Option<&KnownFact>, set: &WordSet) -> bool
+    ensures { result ≡ is_above (λ f. f.set Ac) (fact_above above.entry) (words set.now) }
+{
     match above {
         Some(above) => has_same_words(above.fact.accumulator(), set),
         None => false,
@@ -38,14 +49,19 @@ fn write_accumulator<A: Allocator>(
     writer: &mut ReportWriter<'_, A>,
     known: &KnownFact,
     above: Option<&KnownFact>,
-) {
+)
+    ensures { WritesItems writer.old writer.new
+        (accumulator_item (form_of writer.old) (fact_in_code known.now.fact) (fact_above above.entry) ∷ []) }
+{
     let set = known.fact.accumulator();
     let same = has_accumulator(above, set);
     write_item(writer, b"AC", set, same);
 }
 
 /// Whether these are the words that MQ may hold on the line above.
-fn has_mq(above: Option<&KnownFact>, set: &WordSet) -> bool {
+fn has_mq(above: Option<&KnownFact>, set: &WordSet) -> bool
+    ensures { result ≡ is_above (λ f. f.mq) (fact_above above.entry) (words set.now) }
+{
     match above {
         Some(above) => has_same_words(above.fact.mq(), set),
         None => false,
@@ -53,7 +69,9 @@ fn has_mq(above: Option<&KnownFact>, set: &WordSet) -> bool {
 }
 
 /// Whether something is known about MQ on the line above.
-fn is_mq_told(above: Option<&KnownFact>) -> bool {
+fn is_mq_told(above: Option<&KnownFact>) -> bool
+    ensures { result ≡ told_of_mq (fact_above above.entry) }
+{
     match above {
         Some(above) => !is_all(above.fact.mq()),
         None => false,
@@ -61,7 +79,9 @@ fn is_mq_told(above: Option<&KnownFact>) -> bool {
 }
 
 /// Whether there is an item on MQ, which may hold these words.
-fn tells_mq(above: Option<&KnownFact>, set: &WordSet) -> bool {
+fn tells_mq(above: Option<&KnownFact>, set: &WordSet) -> bool
+    ensures { result ≡ (not (is_all (words set.now)) || told_of_mq (fact_above above.entry)) }
+{
     !is_all(set) || is_mq_told(above)
 }
 
@@ -70,7 +90,9 @@ fn write_mq<A: Allocator>(
     writer: &mut ReportWriter<'_, A>,
     known: &KnownFact,
     above: Option<&KnownFact>,
-) {
+)
+    ensures { WritesItems writer.old writer.new (mq_items (form_of writer.old) (fact_in_code known.now.fact) (fact_above above.entry)) }
+{
     let set = known.fact.mq();
     let told = tells_mq(above, set);
     let same = has_mq(above, set);
@@ -80,7 +102,9 @@ fn write_mq<A: Allocator>(
 }
 
 /// Whether these are the links on the line above.
-fn has_links(above: Option<&KnownFact>, links: Links) -> bool {
+fn has_links(above: Option<&KnownFact>, links: Links) -> bool
+    ensures { result ≡ has_links_above (fact_above above.entry) (links_of links) }
+{
     match above {
         Some(above) => has_same_links(above.fact.link(), links),
         None => false,
@@ -92,7 +116,9 @@ fn write_link<A: Allocator>(
     writer: &mut ReportWriter<'_, A>,
     known: &KnownFact,
     above: Option<&KnownFact>,
-) {
+)
+    ensures { WritesItems writer.old writer.new (link_item (fact_in_code known.now.fact) (fact_above above.entry) ∷ []) }
+{
     let links = known.fact.link();
     let same = has_links(above, links);
     write_link_item(writer, links, same);
@@ -104,7 +130,10 @@ fn write_accumulator_unless<A: Allocator>(
     known: &KnownFact,
     above: Option<&KnownFact>,
     is_apart: bool,
-) {
+)
+    ensures { WritesItems writer.old writer.new
+        (if is_apart then [] else accumulator_item (form_of writer.old) (fact_in_code known.now.fact) (fact_above above.entry) ∷ []) }
+{
     if !is_apart {
         write_accumulator(writer, known, above);
     }
@@ -116,7 +145,10 @@ fn write_link_unless<A: Allocator>(
     known: &KnownFact,
     above: Option<&KnownFact>,
     is_apart: bool,
-) {
+)
+    ensures { WritesItems writer.old writer.new
+        (if is_apart then [] else link_item (fact_in_code known.now.fact) (fact_above above.entry) ∷ []) }
+{
     if !is_apart {
         write_link(writer, known, above);
     }
@@ -128,14 +160,19 @@ fn write_registers<A: Allocator>(
     known: &KnownFact,
     above: Option<&KnownFact>,
     apart: &FactDifferences,
-) {
+)
+    ensures { WritesItems writer.old writer.new
+        (register_items (form_of writer.old) apart.now (fact_in_code known.now.fact) (fact_above above.entry)) }
+{
     write_accumulator_unless(writer, known, above, apart.is_by(&Location::Accumulator));
     write_mq(writer, known, above);
     write_link_unless(writer, known, above, apart.link);
 }
 
 /// Whether these are the words that a cell may hold on the line above.
-fn has_cell(above: Option<&KnownFact>, cell: Word, set: &WordSet) -> bool {
+fn has_cell(above: Option<&KnownFact>, cell: Word, set: &WordSet) -> bool
+    ensures { result ≡ is_above (λ f. f.set (Cell cell)) (fact_above above.entry) (words set.now) }
+{
     match above {
         Some(above) => has_same_words(&above.set_of(&Location::Cell(cell)), set),
         None => false,
@@ -148,7 +185,9 @@ fn write_one_cell<A: Allocator>(
     known: &KnownFact,
     above: Option<&KnownFact>,
     cell: Word,
-) {
+)
+    ensures { WritesItems writer.old writer.new (cell_item (form_of writer.old) (fact_in_code known.now.fact) (fact_above above.entry) cell ∷ []) }
+{
     let set = known.set_of(&Location::Cell(cell));
     let same = has_cell(above, cell, &set);
     write_cell_item(writer, cell, &set, same);
@@ -161,7 +200,10 @@ fn write_cell_unless<A: Allocator>(
     above: Option<&KnownFact>,
     is_apart: bool,
     cell: Word,
-) {
+)
+    ensures { WritesItems writer.old writer.new
+        (if is_apart then [] else cell_item (form_of writer.old) (fact_in_code known.now.fact) (fact_above above.entry) cell ∷ []) }
+{
     if !is_apart {
         write_one_cell(writer, known, above, cell);
     }
@@ -174,7 +216,10 @@ fn write_items_on<A: Allocator>(
     above: Option<&KnownFact>,
     apart: &FactDifferences,
     cells: &WordSet,
-) {
+)
+    ensures { WritesItems writer.old writer.new
+        (cells_items (form_of writer.old) apart.now (fact_in_code known.now.fact) (fact_above above.entry) (words cells.now)) }
+{
     for cell in cells.iter() {
         write_cell_unless(
             writer,
@@ -192,7 +237,10 @@ fn write_cells<A: Allocator>(
     known: &KnownFact,
     above: Option<&KnownFact>,
     apart: &FactDifferences,
-) {
+)
+    ensures { WritesItems writer.old writer.new
+        (cells_items (form_of writer.old) apart.now (fact_in_code known.now.fact) (fact_above above.entry) (words known.now.cells)) }
+{
     write_items_on(writer, known, above, apart, &known.cells);
 }
 
@@ -443,7 +491,9 @@ fn write_counted<A: Allocator>(
 }
 
 /// Whether these are the sites on the line above.
-fn has_sites(above: Option<&KnownFact>, sites: &WordSet) -> bool {
+fn has_sites(above: Option<&KnownFact>, sites: &WordSet) -> bool
+    ensures { result ≡ is_above (λ f. f.sites) (fact_above above.entry) (words sites.now) }
+{
     match above {
         Some(above) => has_same_words(&above.sites(), sites),
         None => false,
@@ -451,7 +501,9 @@ fn has_sites(above: Option<&KnownFact>, sites: &WordSet) -> bool {
 }
 
 /// Whether the line above tells the sites, which are not all of the routine's there.
-fn are_sites_told(above: Option<&KnownFact>, all: &WordSet) -> bool {
+fn are_sites_told(above: Option<&KnownFact>, all: &WordSet) -> bool
+    ensures { result ≡ told_of_sites (words all.now) (fact_above above.entry) }
+{
     match above {
         Some(above) => !has_same_words(&above.sites(), all),
         None => false,
@@ -459,7 +511,9 @@ fn are_sites_told(above: Option<&KnownFact>, all: &WordSet) -> bool {
 }
 
 /// Whether there is an item on these sites.
-fn tells_sites(above: Option<&KnownFact>, all: &WordSet, sites: &WordSet) -> bool {
+fn tells_sites(above: Option<&KnownFact>, all: &WordSet, sites: &WordSet) -> bool
+    ensures { result ≡ (not (has_same_words (words sites.now) (words all.now)) || told_of_sites (words all.now) (fact_above above.entry)) }
+{
     !has_same_words(sites, all) || are_sites_told(above, all)
 }
 
@@ -469,7 +523,10 @@ fn write_sites<A: Allocator>(
     setting: &FactContext<'_>,
     known: &KnownFact,
     above: Option<&KnownFact>,
-) {
+)
+    ensures { WritesItems writer.old writer.new
+        (sites_items (form_of writer.old) (words setting.now.sites) (fact_in_code known.now.fact) (fact_above above.entry)) }
+{
     let sites = known.sites();
     let told = tells_sites(above, &setting.sites, &sites);
     let same = has_sites(above, &sites);

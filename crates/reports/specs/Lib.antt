@@ -14,3 +14,6 @@ pub mod Labels
 pub mod RelationText
 pub mod SetText
 pub mod AbsenceText
+pub mod FactItems
+pub mod RelationItems
+pub mod ToldCells

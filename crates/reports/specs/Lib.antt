@@ -13,3 +13,7 @@ pub mod ItemText
 pub mod Labels
 pub mod RelationText
 pub mod SetText
+pub mod AbsenceText
+pub mod FactItems
+pub mod RelationItems
+pub mod ToldCells

@@ -6,6 +6,7 @@ ghost use Rattle.facts.specs.Landing.{fact_at};
 ghost use Rattle.peripherals.specs.Loading.{image_of};
 ghost use Rattle.declaration.specs.DeclarationInCode.{meaning};
 ghost use Rattle.certificate_lines.specs.CertificateInCode.{claims};
+ghost use Rattle.reports.specs.AbsenceText.{SaysAbsence};
 ghost use Rattle.reports.specs.Kinds.{IsKind};
 ghost use Rattle.reports.specs.Shown.{ShowsFact, fact_of, is_even, unknown_of};
 
@@ -166,6 +167,7 @@ fn write_unknown<A: Allocator, B: Allocator, D: Allocator, C: Allocator>(
 )
     requires fact { (claims report.now.certificate.now).facts at ≡ [] }
     requires kind { IsKind report.now.image.now (meaning report.now.declaration.now) at kind.now }
+    ensures { SaysAbsence (unknown_of kind.now report.now.finding) writer.old writer.new }
 {
     match unknown_at(report, kind) {
         FactAbsence::NeverReached => writer.item(b"never reached"),

@@ -1,7 +1,7 @@
 //! The options of a run with an operator.
 
-ghost use Rattle.std.specs.Prelude.{◌≡◌, ◌||◌, IfOk, codes};
-ghost use Rattle.command_line.specs.Machines.{IsOperatedRunGiven, IsTeletypeGiven};
+ghost use Rattle.std.specs.Prelude.{◌≡◌, ◌||◌, IfOk, Some, codes};
+ghost use Rattle.command_line.specs.Machines.{IsOperatedRunGiven, IsTeletypeGiven, interrupt_given, interrupt_named};
 ghost use Rattle.command_line.specs.Options.{AreSessionOptions, AreTeletypeOptions, IsWatchedWithOperator, IsWordNamed, value};
 ghost use Rattle.command_line.specs.Requests.{IsSessionGiven};
 
@@ -295,16 +295,28 @@ fn teletype_options(
     })
 }
 
+/// The key that this text names, or none.
+fn interrupt_named(text: &str) -> Result<Interrupt, CommandLineFault>
+    ensures { IfOk result (λ interrupt. interrupt_named text.now ≡ Some interrupt) }
+{
+    if text == "off" {
+        return Ok(Interrupt::Off);
+    }
+    match octal_byte(text.as_bytes()) {
+        Some(byte) => Ok(Interrupt::Key(byte)),
+        None => Err(CommandLineFault::Misuse(Misuse::Interrupt)),
+    }
+}
+
 /// The key that interrupts a session, where the bytes of keys are struck as they come or are not.
-fn interrupt_of(found: &ArgMatches<'_>, raw: bool) -> Result<Interrupt, CommandLineFault> {
+fn interrupt_of(found: &ArgMatches<'_>, raw: bool) -> Result<Interrupt, CommandLineFault>
+    ensures { IfOk result (λ interrupt.
+        interrupt_given raw (value found.now (codes "interrupt")) ≡ Some interrupt) }
+{
     match found.get_str("interrupt") {
         None if raw => Ok(Interrupt::Off),
         None => Ok(Interrupt::Usual),
-        Some("off") => Ok(Interrupt::Off),
-        Some(text) => match octal_byte(text.as_bytes()) {
-            Some(byte) => Ok(Interrupt::Key(byte)),
-            None => Err(CommandLineFault::Misuse(Misuse::Interrupt)),
-        },
+        Some(text) => interrupt_named(text),
     }
 }
 

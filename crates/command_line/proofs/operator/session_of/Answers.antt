@@ -1,3 +1,4 @@
+use Rattle.std.proofs.Common.{refl}
 use Rattle.command_line.proofs.operator.session_of.Goals as goal
 
 pub returns : goal.returns
@@ -8,4 +9,5 @@ returns c = record {
   punch = c.in_ok-punch.ensures.named;
   teletype = c.is_given-teletype.ensures;
   options = c.in_ok-options.ensures;
+  summary = record { line = refl; printed = refl; punched = c.in_ok-punch.ensures.named };
 }

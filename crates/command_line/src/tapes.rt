@@ -60,7 +60,7 @@ pub(crate) fn run_request<'a>(
     found: &ArgMatches<'a>,
     places: &PlaceOptions<'a>,
 ) -> Result<RunRequest<'a>, CommandLineFault>
-    ensures { IfOk result (IsRunGiven found.now) }
+    ensures { IfOk result (IsRunGiven found.now places.now) }
 {
     let tape = tape_of(found)?;
     let events = found.get_str("events");

@@ -1,0 +1,47 @@
+-- The cells that names name, found one name after another.
+use Rattle.std.proofs.Common.{◌≡◌, ◌||◌, ◌∷◌, ◌∙◌, ◌+◌, ◌<◌, ℕ, zero, suc, Bool, true, false, List, [], ap, arith, drop, get_or, length, refl, subst, sym}
+use Rattle.std.specs.List.{AllZip, list_any}
+use Rattle.wordset.specs.Lanes.{words}
+use Rattle.wordset.specs.Words.{nothing, union}
+use Rattle.command_line.specs.Places.{AreCellsOf}
+
+-- A set has the cells of another one and those that some names name.
+pub record AreMoreCells (Names : List ℕ → List ℕ → Type 0) (names : List (List ℕ)) (before : List ℕ) (set : List ℕ) : Type 0 where
+  pub sets : List (List ℕ)
+  pub each : AllZip Names names sets
+  pub all : (v : ℕ) → words set v ≡ (words before v || list_any (λ one. words one v) sets)
+
+or_none : (a : Bool) → a ≡ (a || false)
+or_none true = refl
+or_none false = refl
+
+or_joined : (a b c : Bool) → ((a || b) || c) ≡ (a || (b || c))
+or_joined true b c = refl
+or_joined false b c = refl
+
+-- No names name no more cells.
+pub none_more : (Names : List ℕ → List ℕ → Type 0) (names : List (List ℕ)) (set : List ℕ) → names ≡ [] → AreMoreCells Names names set set
+none_more Names [] set e = record { sets = []; each = tt; all = λ v. or_none (words set v) }
+
+-- A name before others adds the cells that it names.
+pub one_before : (Names : List ℕ → List ℕ → Type 0) (name : List ℕ) (names all : List (List ℕ)) (before one after set : List ℕ)
+    → all ≡ name ∷ names → Names name one → words after ≡ union (words before) (words one) → AreMoreCells Names names after set → AreMoreCells Names all before set
+one_before Names name names all before one after set e r joined more = subst (λ l. AreMoreCells Names l before set) (sym e) (record {
+  sets = one ∷ more.sets;
+  each = (r, more.each);
+  all = λ v. more.all v ∙ (ap (λ s. s v || list_any (λ other. words other v) more.sets) joined ∙ or_joined (words before v) (words one v) (list_any (λ other. words other v) more.sets));
+})
+
+-- The texts from one on are this one and those behind it.
+pub text_on : {A : Type 0} (xs : List A) (i : ℕ) (x : A) → i < length xs → x ≡ get_or xs i x → drop i xs ≡ x ∷ drop (i + 1) xs
+text_on [] i x h at = absurd (omega arith)
+text_on (y ∷ ys) zero x h at = ap (λ k. k ∷ ys) (sym at)
+text_on (y ∷ ys) (suc i) x h at = text_on ys i x (omega arith) at
+
+-- What is added to no cell is all.
+pub from_none : (Names : List ℕ → List ℕ → Type 0) (names : List (List ℕ)) (before set : List ℕ) → words before ≡ nothing → AreMoreCells Names names before set → AreCellsOf Names names set
+from_none Names names before set e more = record {
+  sets = more.sets;
+  each = more.each;
+  all = λ v. more.all v ∙ ap (λ s. s v || list_any (λ other. words other v) more.sets) e;
+}

@@ -1,5 +1,6 @@
 -- The cells that names name, found one name after another.
-use Rattle.std.proofs.Common.{◌≡◌, ◌||◌, ◌∷◌, ◌∙◌, ◌+◌, ◌<◌, ℕ, zero, suc, Bool, true, false, List, [], ap, arith, drop, get_or, length, refl, subst, sym}
+use Rattle.std.proofs.Common.{◌≡◌, ◌||◌, ◌∷◌, ◌∙◌, ◌+◌, ◌<◌, ℕ, Bool, true, false, List, [], ap, drop, get_or, length, refl, subst, sym}
+use Rattle.std.proofs.lemmas.List.{drop_more}
 use Rattle.std.specs.List.{AllZip, list_any}
 use Rattle.wordset.specs.Lanes.{words}
 use Rattle.wordset.specs.Words.{nothing, union}
@@ -21,7 +22,7 @@ or_joined false b c = refl
 
 -- No names name no more cells.
 pub none_more : (Names : List ℕ → List ℕ → Type 0) (names : List (List ℕ)) (set : List ℕ) → names ≡ [] → AreMoreCells Names names set set
-none_more Names [] set e = record { sets = []; each = tt; all = λ v. or_none (words set v) }
+none_more Names names set e = subst (λ l. AreMoreCells Names l set set) (sym e) (record { sets = []; each = tt; all = λ v. or_none (words set v) })
 
 -- A name before others adds the cells that it names.
 pub one_before : (Names : List ℕ → List ℕ → Type 0) (name : List ℕ) (names all : List (List ℕ)) (before one after set : List ℕ)
@@ -34,9 +35,7 @@ one_before Names name names all before one after set e r joined more = subst (λ
 
 -- The texts from one on are this one and those behind it.
 pub text_on : {A : Type 0} (xs : List A) (i : ℕ) (x : A) → i < length xs → x ≡ get_or xs i x → drop i xs ≡ x ∷ drop (i + 1) xs
-text_on [] i x h at = absurd (omega arith)
-text_on (y ∷ ys) zero x h at = ap (λ k. k ∷ ys) (sym at)
-text_on (y ∷ ys) (suc i) x h at = text_on ys i x (omega arith) at
+text_on xs i x h at = drop_more xs i x h ∙ ap (λ y. y ∷ drop (i + 1) xs) (sym at)
 
 -- What is added to no cell is all.
 pub from_none : (Names : List ℕ → List ℕ → Type 0) (names : List (List ℕ)) (before set : List ℕ) → words before ≡ nothing → AreMoreCells Names names before set → AreCellsOf Names names set

@@ -6,5 +6,5 @@ use Rattle.command_line.proofs.place_options.cells_of_words.Given as goal
 
 -- what the words left add to the cells so far is all
 abbrev pub invariant-loop-word : goal.invariant-loop-word
-invariant-loop-word g l = (set : List ℕ) → AreMoreCells (g.C.AddressReader.names_cells l.reader.now) (words_left l.rest) l.set set
-    → AreCellsOf (g.C.AddressReader.names_cells l.reader.now) (words_left l.fn.words) set
+invariant-loop-word g l = (set : List ℕ) → AreMoreCells (g.C.AddressReader.names_cells l.reader) (words_left l.rest) l.set set
+    → AreCellsOf (g.C.AddressReader.names_cells l.reader) (words_left l.words) set

@@ -5,5 +5,5 @@ use Rattle.command_line.proofs.place_options.named_cells.Given as goal
 
 -- what the texts left add to the cells so far is all
 abbrev pub invariant-loop-text : goal.invariant-loop-text
-invariant-loop-text g l = (set : List ℕ) → AreMoreCells (AreCellsOfText (g.C.AddressReader.names_cells l.reader.now)) (map (λ text. text.now) (drop l.text-index l.texts)) l.set set
-    → AreCellsOfTexts (g.C.AddressReader.names_cells l.reader.now) (map (λ text. text.now) l.texts) set
+invariant-loop-text g l = (set : List ℕ) → AreMoreCells (AreCellsOfText (g.C.AddressReader.names_cells l.reader)) (map (λ text. text.now) (drop l.text-index l.texts)) l.set set
+    → AreCellsOfTexts (g.C.AddressReader.names_cells l.reader) (map (λ text. text.now) l.texts) set

@@ -1,6 +1,8 @@
 -- The cells that names name, found one name after another.
-use Rattle.std.proofs.Common.{◌≡◌, ◌||◌, ◌∷◌, ◌∙◌, ◌+◌, ◌<◌, ℕ, Bool, true, false, List, [], ap, drop, get_or, length, refl, subst, sym}
+use Rattle.std.proofs.Common.{◌≡◌, ◌||◌, ◌∷◌, ◌∙◌, ◌+◌, ◌<◌, ◌≤◌, ℕ, not, Bool, true, false, List, [], ap, drop, get_or, length, map, refl, subst, sym}
 use Rattle.std.proofs.lemmas.List.{drop_more}
+use Rattle.std.proofs.Math.ListN.{drop_of_length-le}
+use Rattle.std.specs.Borrow.{Bor}
 use Rattle.std.specs.List.{AllZip, list_any}
 use Rattle.wordset.specs.Lanes.{words}
 use Rattle.wordset.specs.Words.{nothing, union}
@@ -34,8 +36,24 @@ one_before Names name names all before one after set e r joined more = subst (λ
 })
 
 -- The texts from one on are this one and those behind it.
-pub text_on : {A : Type 0} (xs : List A) (i : ℕ) (x : A) → i < length xs → x ≡ get_or xs i x → drop i xs ≡ x ∷ drop (i + 1) xs
+text_on : (xs : List (Bor (List ℕ))) (i : ℕ) (x : Bor (List ℕ)) → i < length xs → x ≡ get_or xs i x → drop i xs ≡ x ∷ drop (i + 1) xs
 text_on xs i x h at = drop_more xs i x h ∙ ap (λ y. y ∷ drop (i + 1) xs) (sym at)
+
+-- A text whose bytes name cells adds them to those of the texts behind it.
+pub text_before : (Names : List ℕ → List ℕ → Type 0) (texts : List (Bor (List ℕ))) (i : ℕ) (text : Bor (List ℕ)) (bytes before one after set : List ℕ)
+    → i < length texts → text ≡ get_or texts i text → bytes ≡ text.now → Names bytes one → words after ≡ union (words before) (words one)
+    → AreMoreCells Names (map (λ it. it.now) (drop (i + 1) texts)) after set → AreMoreCells Names (map (λ it. it.now) (drop i texts)) before set
+text_before Names texts i text bytes before one after set h at same r joined more =
+    one_before Names text.now _ _ before one after set (ap (map (λ (it : Bor (List ℕ)). it.now)) (text_on texts i text h at)) (subst (λ b. Names b one) same r) joined more
+
+-- No text is left, which names no more cells.
+pub no_text : (Names : List ℕ → List ℕ → Type 0) (texts : List (Bor (List ℕ))) (i : ℕ) (set : List ℕ) → length texts ≤ i → AreMoreCells Names (map (λ it. it.now) (drop i texts)) set set
+no_text Names texts i set h = none_more Names _ set (ap (map (λ (it : Bor (List ℕ)). it.now)) (drop_of_length-le texts h))
+
+-- What is not true of a set without words is true of one that has some.
+pub some_of : (b : Bool) → false ≡ not b → b ≡ true
+some_of true e = refl
+some_of false e = e
 
 -- What is added to no cell is all.
 pub from_none : (Names : List ℕ → List ℕ → Type 0) (names : List (List ℕ)) (before set : List ℕ) → words before ≡ nothing → AreMoreCells Names names before set → AreCellsOf Names names set

@@ -1,9 +1,9 @@
 //! The cells and the places that options name.
 
-ghost use Rattle.std.specs.Prelude.{◌≡◌, ◌==◌, IfOk, IfSome, codes, is_some, map, option_map};
+ghost use Rattle.std.specs.Prelude.{◌≡◌, ◌==◌, IfOk, IfSome, Some, codes, is_some, map, option_map};
 ghost use Rattle.std.specs.List.{position};
 ghost use Rattle.command_line.specs.Options.{ArePlacesGiven, IsNumberNamed, value, values};
-ghost use Rattle.command_line.specs.Places.{AreCellsOf, AreCellsOfText, AreCellsOfTexts, AreShownOn, AreStopsNamed, IsFollowed, IsStoppedOn, IsVisitNamed, is_followed};
+ghost use Rattle.command_line.specs.Places.{AreCellsOf, AreCellsOfText, AreCellsOfTexts, AreShownOn, AreStopsNamed, IsFollowed, IsStoppedOn, IsUntilNamed, IsVisitNamed, is_followed};
 ghost use Rattle.command_line.specs.OctalPlaces.{cells_between, cells_of_word};
 ghost use Rattle.streams.specs.Text.{octal_word};
 ghost use Rattle.streams.specs.TextLeft.{words_left};
@@ -209,23 +209,27 @@ impl PlaceOptions<'_> {
     {
         let written = named_cells(reader, &self.written, Misuse::UntilWrite)?;
         let read = named_cells(reader, &self.read, Misuse::UntilRead)?;
-        let Some(text) = self.until else {
-            return Ok(Stops {
-                place: None,
-                times: 1,
-                written,
-                read,
-            });
-        };
-        let Some(visits) = visits_of(reader, text.as_bytes()) else {
-            return Err(Misuse::Until);
-        };
+        let stop = self.stop_place(reader)?;
         Ok(Stops {
-            place: Some(visits.place),
-            times: visits.times,
+            place: stop.place,
+            times: stop.times,
             written,
             read,
         })
+    }
+
+    /// The place at which a run is stopped, if it is stopped at one.
+    fn stop_place<C: AddressReader>(&self, reader: &C) -> Result<StopPlace, Misuse>
+        ensures { IfOk result (λ stop. IsUntilNamed (C.names_place reader.now)
+            (option_map (λ text. text.now) self.now.until) stop.place stop.times) }
+    {
+        match self.until {
+            None => Ok(StopPlace {
+                place: None,
+                times: 1,
+            }),
+            Some(text) => named_stop_place(reader, text),
+        }
     }
 
     /// How a run is followed, if it may be stopped or its last instructions are requested.
@@ -265,6 +269,13 @@ struct VisitCount {
     times: u32,
 }
 
+/// The address at which a run is stopped, if it is stopped at one, and how many steps come to it.
+#[derive(Clone, Copy)]
+struct StopPlace {
+    place: Option<Word>,
+    times: u32,
+}
+
 /// The first place of a comma.
 fn place_of_comma(word: &[u8]) -> Option<usize>
     ensures { result ≡ position (λ c. c == 44) word.now }
@@ -284,6 +295,20 @@ fn visits_of<C: AddressReader>(reader: &C, text: &[u8]) -> Option<VisitCount>
     let place = reader.place(&text[..at])?;
     let times = decimal_between(1, MOST_VISITS, &text[at + 1..])?;
     Some(VisitCount { place, times })
+}
+
+/// The place at which a run is stopped that is to be stopped at one.
+fn named_stop_place<C: AddressReader>(reader: &C, text: &str) -> Result<StopPlace, Misuse>
+    ensures { IfOk result (λ stop.
+        IsUntilNamed (C.names_place reader.now) (Some text.now) stop.place stop.times) }
+{
+    match visits_of(reader, text.as_bytes()) {
+        Some(visits) => Ok(StopPlace {
+            place: Some(visits.place),
+            times: visits.times,
+        }),
+        None => Err(Misuse::Until),
+    }
 }
 
 /// How a run is followed that may be stopped.
@@ -317,10 +342,10 @@ pub(crate) fn shown_on(
 ) -> Result<WordSet, CommandLineFault>
     ensures { IfOk result (AreShownOn (is_some tape.entry) places.now) }
 {
-    if tape.is_none() {
-        return Ok(WordSet::empty());
+    match tape {
+        None => Ok(WordSet::empty()),
+        Some(_) => Ok(places.shown(&OctalAddresses)?),
     }
-    Ok(places.shown(&OctalAddresses)?)
 }
 
 /// How the run of a tape is followed, if it may be stopped. Of a source that is not known yet.

@@ -100,13 +100,11 @@ pub fn parse_arguments<'a, S: AsStr>(
 {
     let table = command(alloc)?;
     let matches = table.try_get_matches_from(arguments)?;
-    match matches.subcommand() {
-        Some((name, found)) => {
-            let request = request_of(alloc, called_of(name), found)?;
-            let explained = is_given(found, "why");
-            Ok(CommandLine { request, explained })
-        }
+    let Some((name, found)) = matches.subcommand() else {
         // clap refuses a line without a command, so this is not reached.
-        None => Err(CommandLineFault::Memory),
-    }
+        return Err(CommandLineFault::Memory);
+    };
+    let request = request_of(alloc, called_of(name), found)?;
+    let explained = is_given(found, "why");
+    Ok(CommandLine { request, explained })
 }

@@ -1,6 +1,6 @@
 //! What may be requested with a source in place of a tape, without a declaration.
 
-ghost use Rattle.std.specs.Prelude.{◌≡◌, IfOk, Some, map};
+ghost use Rattle.std.specs.Prelude.{◌≡◌, IfOk, None, Some, map};
 ghost use Rattle.command_line.specs.Options.{ArePlacesGiven, sources_given};
 ghost use Rattle.command_line.specs.Sources.{IsMachineGiven, IsMachineTaskGiven, IsTapeTaskGiven};
 ghost use Rattle.command_line.specs.declared.command_name.MachineCommand.TheVariants.{Run};
@@ -162,9 +162,23 @@ pub(crate) fn machine_request<'a>(
 {
     let places = places_of(alloc, found)?;
     match found.get_strs("source") {
-        None => tape_request(called, found, &places),
+        None => unsourced_request(called, found, &places),
         Some(names) => sourced_request(alloc, called, found, names, places),
     }
+}
+
+/// The request of `run`, `teletype` or `dump` without a source.
+fn unsourced_request<'a>(
+    called: MachineCommand,
+    found: &ArgMatches<'a>,
+    places: &PlaceOptions<'a>,
+) -> Result<Request<'a>, CommandLineFault>
+    requires sources { sources_given found.now ≡ None }
+    requires places { ArePlacesGiven found.now places.now }
+    ensures { IfOk result (IsMachineGiven called found.now) }
+{
+    let requested = tape_request(called, found, places)?;
+    Ok(requested)
 }
 
 /// The request of `run`, `teletype` or `dump` with a source, which gives these parts.

@@ -2,15 +2,15 @@ use Rattle.std.proofs.Common.{subst}
 use Rattle.command_line.specs.CommandLines.{IsRequestGiven}
 use Rattle.command_line.proofs.requests.parse_arguments.Goals as goal
 
-pub returns-in-Some : goal.returns-in-Some
-returns-in-Some g c = record {
+pub returns : goal.returns
+returns g c = record {
   table = c.in_ok-table.table;
   matches = c.in_ok-matches.matches;
   parsed = c.in_ok-matches.ensures.matches;
   called = _;
   named = c.in-Some.ensures.name;
-  found = _;
+  found = c.in-Some.found.now;
   rows = c.in-Some.ensures.rows;
-  requested = subst (λ k. IsRequestGiven k _ _) c.called_of.ensures c.in_ok-request.ensures;
+  requested = subst (λ called. IsRequestGiven called c.in-Some.found.now _) c.called_of.ensures c.in_ok-request.ensures;
   explained = c.is_given-explained.ensures;
 }

@@ -35,16 +35,12 @@ one_before Names name names all before one after set e r joined more = subst (λ
   all = λ v. more.all v ∙ (ap (λ s. s v || list_any (λ other. words other v) more.sets) joined ∙ or_joined (words before v) (words one v) (list_any (λ other. words other v) more.sets));
 })
 
--- The texts from one on are this one and those behind it.
-text_on : (xs : List (Bor (List ℕ))) (i : ℕ) (x : Bor (List ℕ)) → i < length xs → x ≡ get_or xs i x → drop i xs ≡ x ∷ drop (i + 1) xs
-text_on xs i x h at = drop_more xs i x h ∙ ap (λ y. y ∷ drop (i + 1) xs) (sym at)
-
 -- A text whose bytes name cells adds them to those of the texts behind it.
-pub text_before : (Names : List ℕ → List ℕ → Type 0) (texts : List (Bor (List ℕ))) (i : ℕ) (text : Bor (List ℕ)) (bytes before one after set : List ℕ)
-    → i < length texts → text ≡ get_or texts i text → bytes ≡ text.now → Names bytes one → words after ≡ union (words before) (words one)
+pub text_before : (Names : List ℕ → List ℕ → Type 0) (texts : List (Bor (List ℕ))) (i : ℕ) (none : Bor (List ℕ)) (bytes before one after set : List ℕ)
+    → i < length texts → bytes ≡ (get_or texts i none).now → Names bytes one → words after ≡ union (words before) (words one)
     → AreMoreCells Names (map (λ it. it.now) (drop (i + 1) texts)) after set → AreMoreCells Names (map (λ it. it.now) (drop i texts)) before set
-text_before Names texts i text bytes before one after set h at same r joined more =
-    one_before Names text.now _ _ before one after set (ap (map (λ (it : Bor (List ℕ)). it.now)) (text_on texts i text h at)) (subst (λ b. Names b one) same r) joined more
+text_before Names texts i none bytes before one after set h same r joined more =
+    one_before Names (get_or texts i none).now _ _ before one after set (ap (map (λ (it : Bor (List ℕ)). it.now)) (drop_more texts i none h)) (subst (λ b. Names b one) same r) joined more
 
 -- No text is left, which names no more cells.
 pub no_text : (Names : List ℕ → List ℕ → Type 0) (texts : List (Bor (List ℕ))) (i : ℕ) (set : List ℕ) → length texts ≤ i → AreMoreCells Names (map (λ it. it.now) (drop i texts)) set set

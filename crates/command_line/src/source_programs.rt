@@ -190,7 +190,7 @@ fn sourced_request<'a>(
     places: PlaceOptions<'a>,
 ) -> Result<Request<'a>, CommandLineFault>
     requires sources { sources_given found.now ≡ Some (map (λ name. name.now) names.now) }
-    requires places { ArePlacesGiven found.now places.entry }
+    requires places { ArePlacesGiven found.now places }
     ensures { IfOk result (IsMachineGiven called found.now) }
 {
     let task = task_of(called, found, &places)?;

@@ -5,8 +5,8 @@ pub loop-text-init : goal.loop-text-init
 loop-text-init g c = λ set more. from_none _ _ _ set c.empty-set.ensures more
 
 pub loop-text-preserved : goal.loop-text-preserved
-loop-text-preserved g c = λ set more. c.loop-text.invariant set (text_before _ c.args.texts.now c.loop-text.text-index c.text-item.result _ _ _ _ set
-    c.loop-text-test.true c.text-item.is c.as_bytes.ensures.value c.in-Some.ensures c.union-set.ensures more)
+loop-text-preserved g c = λ set more. c.loop-text.invariant set (text_before _ c.args.texts.now c.loop-text.text-index _ _ _ _ _ set
+    c.loop-text-test.true c.as_bytes.ensures.value c.in-Some.ensures c.union-set.ensures more)
 
 pub returns : goal.returns
 returns g c = c.loop-text.invariant _ (no_text _ c.args.texts.now c.loop-text.text-index _ c.loop-text-test.false)

@@ -4,6 +4,6 @@ use Rattle.command_line.proofs.programs.followed_on.Goals as goal
 
 pub returns : goal.returns
 returns c = record {
-  shown = subst (λ is. AreShownOn is c.args.places.now _) c.tape-tape.ensures c.in_ok-show.ensures;
-  stopped = subst (λ is. IsStoppedOn is c.args.places.now _) c.tape-tape.ensures c.in_ok-stopping.ensures;
+  shown = subst (λ is. AreShownOn is c.args.places.now c.in_ok-show.show) c.tape-tape.ensures c.in_ok-show.ensures;
+  stopped = subst (λ is. IsStoppedOn is c.args.places.now c.in_ok-stopping.stopping) c.tape-tape.ensures c.in_ok-stopping.ensures;
 }

@@ -1,3 +1,4 @@
+pub mod BoundText
 pub mod CertificateInputs
 pub mod CertificateFaults
 pub mod CheckText

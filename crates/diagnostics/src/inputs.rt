@@ -16,6 +16,7 @@ use certificate_lines::CertificateFault;
 use command_parts::status::Fault;
 use lines::line_of;
 pub use lines::push_numbered;
+pub(crate) use omissions::is_in_body;
 pub use omissions::{push_omissions, push_stuck_remedy};
 use peripherals::{EventsFault, NoMemory};
 use std::alloc::Allocator;

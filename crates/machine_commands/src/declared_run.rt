@@ -108,10 +108,8 @@ fn go_through<A: Allocator, B: Allocator, D: Allocator>(
         let event = events[index];
         steps += go(world, declaration, &mut trace, event)?;
     }
-    Ok(DeclaredTrace {
-        steps,
-        lines: trace.into_text(),
-    })
+    let TextSink { text, .. } = trace;
+    Ok(DeclaredTrace { steps, lines: text })
 }
 
 /// Applies one event of a declared run.

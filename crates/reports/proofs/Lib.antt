@@ -3,7 +3,9 @@ pub mod AmountLemmas
 pub mod HtmlLemmas
 pub mod CellItemLemmas
 pub mod EachItemLemmas
+pub mod ExtendLemmas
 pub mod ItemLemmas
+pub mod KnownLemmas
 pub mod OffsetTextLemmas
 pub mod PieceLemmas
 pub mod RangeLemmas

@@ -17,3 +17,5 @@ pub mod AbsenceText
 pub mod FactItems
 pub mod RelationItems
 pub mod ToldCells
+pub mod KnownText
+pub mod ReportSetting

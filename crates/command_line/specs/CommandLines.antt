@@ -1,12 +1,18 @@
 -- What a command line asks for: the request of the command that it names, with the words that were given.
-use Rattle.std.specs.Prelude.{ℕ, ◌≡◌, List, Option, codes, option_map}
+use Rattle.std.specs.Prelude.{ℕ, ◌≡◌, List, Option, Some, codes, option_map}
+use Rattle.clap.specs.Matches.{found_of, subcommand_name_of}
+use Rattle.clap.specs.Simple.{HasMatchesOf, app_of, subcommand_rows_of}
+use Rattle.clap.specs.Walk.{rows_of}
+use Rattle.clap.specs.declared.builder.command.Command.{Command}
 use Rattle.clap.specs.declared.parser.matches.ArgMatches.{ArgMatches}
 use Rattle.command_line.specs.declared.command_name.CommandName.{CommandName}
 use Rattle.command_line.specs.declared.command_name.CommandName.TheVariants as name
+use Rattle.command_line.specs.declared.requests.CommandLine.{CommandLine}
 use Rattle.command_line.specs.declared.requests.Request.{Request}
 use Rattle.command_line.specs.declared.requests.Request.TheVariants as request
+use Rattle.command_line.specs.CommandNames.{called_of}
 use Rattle.command_line.specs.Machines.{IsMigrateGiven, IsSourceGiven}
-use Rattle.command_line.specs.Options.{value}
+use Rattle.command_line.specs.Options.{IsFlagGiven, value}
 use Rattle.command_line.specs.Requests.{IsProgramRequestGiven}
 use Rattle.command_line.specs.Sources.{IsAssembleGiven, IsListGiven, IsMachineGiven, IsPlaceGiven}
 
@@ -31,3 +37,16 @@ IsRequestGiven name.Place found (request.Program asked) = IsPlaceGiven found ask
 IsRequestGiven name.Explain found requested = IsExplainGiven found requested
 IsRequestGiven (name.Program command) found (request.Program asked) = IsProgramRequestGiven command found asked
 IsRequestGiven _ found _ = ⊥
+
+-- The request of a command line is that of the command which clap finds in the words, by some table of commands, with the operands and
+-- the options that it finds behind the command's name; and so is the flag `--why`.
+pub record IsLineGiven (words : List (List ℕ)) (line : CommandLine) : Type 0 where
+  pub table : Command
+  pub matches : ArgMatches
+  pub parsed : HasMatchesOf (app_of table) words matches
+  pub called : List ℕ
+  pub named : Some called ≡ subcommand_name_of matches
+  pub found : ArgMatches
+  pub rows : Some (rows_of (found_of found)) ≡ option_map (λ row. row.1) (subcommand_rows_of matches)
+  pub requested : IsRequestGiven (called_of called) found line.request
+  pub explained : IsFlagGiven found (codes "why") line.explained

@@ -1,7 +1,7 @@
 //! What the command line asks for.
 
-ghost use Rattle.std.specs.Prelude.{IfOk};
-ghost use Rattle.command_line.specs.CommandLines.{IsExplainGiven, IsRequestGiven};
+ghost use Rattle.std.specs.Prelude.{IfOk, map};
+ghost use Rattle.command_line.specs.CommandLines.{IsExplainGiven, IsLineGiven, IsRequestGiven};
 
 use crate::command_name::{CommandName, called_of};
 use crate::commands::command;
@@ -95,7 +95,9 @@ fn request_of<'a>(
 pub fn parse_arguments<'a, S: AsStr>(
     alloc: Global,
     arguments: &'a [S],
-) -> Result<CommandLine<'a>, CommandLineFault> {
+) -> Result<CommandLine<'a>, CommandLineFault>
+    ensures { IfOk result (IsLineGiven (map S.text arguments.now)) }
+{
     let table = command(alloc)?;
     let matches = table.try_get_matches_from(arguments)?;
     let Some((name, found)) = matches.subcommand() else {

@@ -84,6 +84,14 @@ fn stops_of(request: &RunRequest<'_>) -> Stops {
     }
 }
 
+/// How many of the last instructions of a run are shown, if that is requested.
+fn last_of(request: &RunRequest<'_>) -> Option<u32> {
+    match &request.stopping {
+        None => None,
+        Some(stopping) => stopping.last,
+    }
+}
+
 /// Runs the tape of these frames, in rounds or with the events of a file, until it is stopped, and shows its last
 /// instructions, or each of them in a long trace, as requested. The file of events is opened before the tape is read,
 /// and read after it.
@@ -115,7 +123,7 @@ fn run_to_stop<R: Files + Input + Print, S: ByteSource, N: Statements>(
             alloc, &image, options, &stops, &course, statements, &mut out,
         );
     }
-    match request.stopping.and_then(|stopping| stopping.last) {
+    match last_of(request) {
         None => run_with_stops(alloc, &image, options, &stops, &course, &mut out),
         Some(most) => run_with_last(alloc, &image, options, &stops, most, &course, &mut out),
     }

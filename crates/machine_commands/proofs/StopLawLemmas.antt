@@ -1,8 +1,11 @@
 -- A run that is stopped is the run without stops up to there.
-use Rattle.std.proofs.Common.{ℕ, zero, suc, ◌≡◌, ◌+◌, Bool, true, false, ◌&&◌, List, [], ◌∷◌, ◌++◌, length, take, drop, refl, sym, ap, ◌∙◌, subst, append_assoc, zero-add, arith}
+use Rattle.std.proofs.Common.{ℕ, zero, suc, ◌≡◌, ◌+◌, Bool, true, false, ◌&&◌, List, [], ◌∷◌, ◌++◌, length, take, drop, Option, refl, sym, ap, ◌∙◌, subst, append_assoc, zero-add, arith}
 use Rattle.std.specs.Prelude.{is_none}
 use Rattle.instruct.specs.declared.Profile.{Profile}
+use Rattle.command_parts.specs.declared.options.RunOptions.{RunOptions}
 use Rattle.command_parts.specs.declared.options.Stops.{Stops}
+use Rattle.command_parts.specs.declared.options.SummaryForm.{SummaryForm}
+use Rattle.command_parts.specs.declared.status.Status.{Status}
 use Rattle.processor.specs.Machine.{State, steps_pointer}
 use Rattle.processor.specs.declared.fetch.DecodedInstruction.{DecodedInstruction}
 use Rattle.processor.specs.declared.fetch.DecodedInstruction.TheVariants.{Refers, Operate1, Operate2, Operate3, Device, Unsupported}
@@ -19,8 +22,11 @@ use Rattle.peripherals.proofs.OneLemmas.{one_world}
 use Rattle.machine_commands.specs.declared.follow.End.{End}
 use Rattle.machine_commands.specs.Follows.{Follows, Ended, Stuck, Stopped, Went, counted, goes_on}
 use Rattle.machine_commands.specs.Running.{fresh}
-use Rattle.machine_commands.specs.StopLaws.{AreNone, GoesOnTo, HeldWithoutStops, StoppedIsNotNever, StoppedRunsAreFronts, StopsAreOne}
-use Rattle.machine_commands.specs.StoppedSession.{StoppedSo}
+use Rattle.machine_commands.specs.StopLaws.{AreNone, GoesOnTo, SessionsWithoutStops, StoppedIsNotNever, StoppedRunsAreFronts, StopsAreOne, TypedWithoutStops}
+use Rattle.machine_commands.specs.Schedule.{Extent}
+use Rattle.machine_commands.specs.Session.{IsHeld, comes_by}
+use Rattle.machine_commands.specs.StoppedSession.{IsHeldToStop, StoppedSo}
+use Rattle.machine_commands.specs.Teletype.{run_of, types_by}
 use Rattle.machine_commands.specs.Stops.{Ends, Continues, Here, Later, NeverStops, Over, StopsAfter, is_asked_for, loads_there, reads_one, stores_there, stops_before, visits_with, writes_one}
 use Rattle.machine_commands.specs.Trace.{trace_of}
 use Rattle.std.proofs.lemmas.Bool.{true≢false, false≢true}
@@ -153,7 +159,8 @@ not_stopped : (stops : Stops) (p : Profile) (stopped : Bool) (es : List Event) (
 not_stopped stops p true es w none stop = absurd (none_after stops p true 0 (es ++ Step ∷ []) w (length es) none stop)
 not_stopped stops p false es w none stop = refl
 
-pub held_without_stops : HeldWithoutStops
+held_without_stops : (comes : Profile → WorldState → Extent → List Event → Type 0) (options : RunOptions) (stops : Stops) (form : SummaryForm) (extent : Extent) (image : List (Option ℕ)) (text printed punched : List ℕ) (status : Status) →
+    AreNone stops → IsHeldToStop comes options stops form extent false image text printed punched status → IsHeld comes options form extent image text printed punched status
 held_without_stops comes options stops form extent image text printed punched status none held =
     let un = not_stopped stops options.profile held.stopped held.events (fresh image options.start) none held.stop in
     record {
@@ -169,3 +176,11 @@ held_without_stops comes options stops form extent image text printed punched st
       punched_is = held.punched_is;
       status_is = rw un at held.status_is;
     }
+
+pub sessions_without_stops : SessionsWithoutStops
+sessions_without_stops options stops form extent plan image text printed punched status none held =
+    held_without_stops (comes_by plan) options stops form extent image text printed punched status none held
+
+pub typed_without_stops : TypedWithoutStops
+typed_without_stops options stops form extent frames bytes image text printed punched status none held =
+    held_without_stops (types_by options frames bytes) (run_of options) stops form extent image text printed punched status none held

@@ -1,5 +1,5 @@
 -- A run that is stopped is the run without stops up to there.
-use Rattle.std.proofs.Common.{ℕ, zero, suc, ◌≡◌, ◌+◌, Bool, true, false, ◌&&◌, List, [], ◌∷◌, ◌++◌, length, take, drop, Option, refl, sym, ap, ◌∙◌, subst, append_assoc, zero-add, arith}
+use Rattle.std.proofs.Common.{ℕ, zero, suc, ◌≡◌, ◌+◌, ◌==◌, Bool, true, false, ◌&&◌, ◌||◌, List, [], ◌∷◌, ◌++◌, length, take, drop, Option, None, refl, sym, ap, ◌∙◌, subst, append_assoc, zero-add, arith}
 use Rattle.std.specs.Prelude.{is_none}
 use Rattle.instruct.specs.declared.Profile.{Profile}
 use Rattle.command_parts.specs.declared.options.RunOptions.{RunOptions}
@@ -10,7 +10,8 @@ use Rattle.processor.specs.Machine.{State, steps_pointer}
 use Rattle.processor.specs.declared.fetch.DecodedInstruction.{DecodedInstruction}
 use Rattle.processor.specs.declared.fetch.DecodedInstruction.TheVariants.{Refers, Operate1, Operate2, Operate3, Device, Unsupported}
 use Rattle.processor.specs.Fetch.{fetched}
-use Rattle.wordset.specs.Words.{nothing}
+use Rattle.wordset.specs.Lanes.{words}
+use Rattle.wordset.specs.Words.{Words, nothing}
 use Rattle.peripherals.specs.declared.Event.{Event}
 use Rattle.peripherals.specs.declared.Event.TheVariants.{Step, Key, PrinterDone, ReaderDone, PunchDone, Switches, Continue}
 use Rattle.peripherals.specs.declared.Seen.{Seen}
@@ -27,7 +28,7 @@ use Rattle.machine_commands.specs.Schedule.{Extent}
 use Rattle.machine_commands.specs.Session.{IsHeld, comes_by}
 use Rattle.machine_commands.specs.StoppedSession.{IsHeldToStop, StoppedSo}
 use Rattle.machine_commands.specs.Teletype.{run_of, types_by}
-use Rattle.machine_commands.specs.Stops.{Ends, Continues, Here, Later, NeverStops, Over, StopsAfter, is_asked_for, loads_there, reads_one, stores_there, stops_before, visits_with, writes_one}
+use Rattle.machine_commands.specs.Stops.{Ends, Continues, Here, Later, NeverStops, Over, StopsAfter, is_asked_for, is_at, loads_there, reads_one, stores_there, stops_before, visits_with, writes_one}
 use Rattle.machine_commands.specs.Trace.{trace_of}
 use Rattle.std.proofs.lemmas.Bool.{true≢false, false≢true}
 
@@ -139,11 +140,16 @@ reads_none (Operate3 word) = refl
 reads_none (Device word) = refl
 reads_none (Unsupported word) = refl
 
+asked_of_none : (place : Option ℕ) (written read : Words) (pc visits times : ℕ) (d : DecodedInstruction) → place ≡ None → written ≡ nothing → read ≡ nothing →
+    ((is_at place pc && (visits + 1 == times)) || (writes_one written d || reads_one read d)) ≡ false
+asked_of_none place written read pc visits times d nowhere none_written none_read = rw (nowhere, none_written, none_read, writes_none d, reads_none d) refl
+
 none_asked : (stops : Stops) (p : Profile) (visits : ℕ) (s : State) → AreNone stops → is_asked_for stops p visits s ≡ false
-none_asked stops p visits s none = rw (none.place, none.written, none.read, writes_none (fetched p s), reads_none (fetched p s)) refl
+none_asked stops p visits s none = asked_of_none stops.place (words stops.written) (words stops.read) s.pc visits stops.times (fetched p s) none.place none.written none.read
 
 none_stops : (stops : Stops) (p : Profile) (visits : ℕ) (w : WorldState) (e : Event) → AreNone stops → stops_before stops p visits w e ≡ false
-none_stops stops p visits w Step none = rw (none_asked stops p visits w.state none) (and_false (is_none w.halted_at))
+none_stops stops p visits w Step none =
+    ap (λ (asked : Bool). is_none w.halted_at && asked) (none_asked stops p visits w.state none) ∙ and_false (is_none w.halted_at)
 none_stops stops p visits w (Key byte) none = refl
 none_stops stops p visits w PrinterDone none = refl
 none_stops stops p visits w (ReaderDone byte) none = refl

@@ -15,7 +15,7 @@ DIST = pdp8-workbench-$(VERSION)
 help:
 	@echo "make try       the first look: runs a stored tape on the machine, built without any proof (half a minute)"
 	@echo "make run       proves pdp8 and all below it, builds it and runs it on that tape (see README.md for times)"
-	@echo "make test      the gate: every proof from nothing, wrong edits, tests, all cases"
+	@echo "make test      the gate: every proof that this machine has not made before, wrong edits, tests, all cases"
 	@echo "make cases     the cases of tests/cases/, README.md and docs/ against the program that is built"
 	@echo "make edits     the wrong edits that the gate leaves out; CRATES=\"facts judge\" for those of some crates"
 	@echo "make install   puts the program, its man page and its completions below PREFIX=$(PREFIX); PROGRAM=name for another name"

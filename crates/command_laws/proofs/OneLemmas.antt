@@ -15,7 +15,7 @@ use Rattle.command_parts.specs.declared.options.SummaryForm.{SummaryForm}
 use Rattle.command_parts.specs.declared.options.RunOptions.{RunOptions}
 use Rattle.machine_commands.specs.Follows.{Follows, Ended, Stuck, Stopped, Went, end_of, goes_on, counted}
 use Rattle.command_laws.specs.Laws.{RunsAreOne, SessionsAreOne, TypedAreOne, WatchedAsRun}
-use Rattle.machine_commands.specs.Running.{IsRunOf, fresh, status_of}
+use Rattle.machine_commands.specs.Running.{fresh, status_of}
 use Rattle.machine_commands.specs.Schedule.{Comes, Over, Cut, Due, Final, Then, Schedule, Whole, first_place, operating}
 use Rattle.machine_commands.specs.Session.{IsHeld, plan_for, printed_in, summary_where}
 use Rattle.machine_commands.specs.Teletype.{run_of}
@@ -135,5 +135,5 @@ typed_are_one options form frames bytes image text text' printed printed' punche
 
 -- the events that are watched are those of the run
 pub watched_as_run : WatchedAsRun
-watched_as_run options form image d frames keys explained named told seen written printed punched status watched run =
+watched_as_run options form image d frames keys stops last explained named told seen written printed punched status watched run =
     comes_one operating d.profile (first_place (plan_for options frames keys)) (fresh image d.start) watched.events run.events watched.come run.come

@@ -1,6 +1,6 @@
 -- Laws of the definitions. Every run of events has an answer, and so has every run with an operator; and what a source
 -- means, what is written for it and what is read from that agree.
-use Rattle.std.specs.Prelude.{None, ℕ, ◌≡◌, ◌<◌, ◌≤◌, Bool, true, Option, Some, List, [], ◌∷◌, IfSome, length, map, ⊤}
+use Rattle.std.specs.Prelude.{None, ℕ, ◌≡◌, ◌<◌, ◌≤◌, Bool, Option, Some, List, [], ◌∷◌, IfSome, length, map, ⊤}
 use Rattle.std.specs.List.{AllByRecursion}
 use Rattle.peripherals.specs.declared.Event.{Event}
 use Rattle.peripherals.specs.declared.Event.TheVariants.{Step, Key, PrinterDone, ReaderDone, PunchDone, Switches, Continue}
@@ -35,7 +35,8 @@ use Rattle.machine_commands.specs.declared.follow.End.{End}
 use Rattle.command_parts.specs.declared.options.TeletypeOptions.{TeletypeOptions}
 use Rattle.peripherals.specs.Devices.{WorldState}
 use Rattle.processor.specs.Runs.{Run, Taken}
-use Rattle.machine_commands.specs.WatchedSession.{IsPlanWatchedSo}
+use Rattle.machine_commands.specs.StoppedWatch.{IsPlanToStop}
+use Rattle.command_parts.specs.declared.options.Stops.{Stops}
 use Rattle.declaration.specs.Declaration.{Declaration}
 use Rattle.command_parts.specs.declared.options.SessionOptions.{SessionOptions}
 
@@ -108,13 +109,13 @@ FollowsTheTable =
 abbrev pub as_declared : Declaration → SessionOptions → SessionOptions
 as_declared d options = record options { run = record options.run { start = d.start; profile = d.profile } }
 
--- The events of a watched run with an operator who never presses CONTINUE are those of the run with the same options on
--- the declared machine and from the declared start.
+-- The events of a watched run with an operator who never presses CONTINUE, wherever it is stopped, are those of the run with
+-- the same options on the declared machine and from the declared start.
 abbrev pub WatchedAsRun : Type 0
 WatchedAsRun =
     (options : SessionOptions) (form : SummaryForm) (image : List (Option ℕ)) (d : Declaration) (frames keys : List ℕ)
-    (explained : Bool) (named : ℕ → Bool) (told : List ℕ) (seen : Status) (written printed punched : List ℕ) (status : Status) →
-    (watched : IsPlanWatchedSo None (plan_for options frames keys) image d explained named told seen) →
+    (stops : Stops) (last : Option ℕ) (explained : Bool) (named : ℕ → Bool) (told : List ℕ) (seen : Status) (written printed punched : List ℕ) (status : Status) →
+    (watched : IsPlanToStop None (plan_for options frames keys) stops last explained named image d seen told) →
     (run : IsSessionOf (as_declared d options).run form Whole (plan_for (as_declared d options) frames keys) image written printed punched status) →
     watched.events ≡ run.events
 

@@ -1,0 +1,2 @@
+mod CellLemmas
+mod TaskLemmas

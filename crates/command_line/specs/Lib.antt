@@ -1,6 +1,10 @@
 pub mod ProgramCommands
+pub mod CommandNames
+pub mod CommandLines
 pub mod Machines
 pub mod Outputs
 pub mod Options
+pub mod OctalPlaces
+pub mod Places
 pub mod Requests
 pub mod Sources

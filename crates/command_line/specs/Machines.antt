@@ -1,14 +1,22 @@
--- What requests for a tape alone, or for a certificate alone, have of the words that were given. Nothing is said here of the cells
--- that are shown, and of where a run is stopped.
-use Rattle.std.specs.Prelude.{ℕ, ◌≡◌, List, Option, None, Some, Ok, codes, option_map}
+-- What requests for a tape alone, or for a certificate alone, have of the words that were given.
+use Rattle.std.specs.Prelude.{ℕ, ◌≡◌, Bool, true, false, List, Option, None, Some, Ok, codes, if◌then◌else◌, is_some, option_map}
+use Rattle.std.specs.Str.{bytes_eq}
 use Rattle.clap.specs.declared.parser.matches.ArgMatches.{ArgMatches}
+use Rattle.certificate_lines.specs.declared.Version.{Version}
+use Rattle.certificate_lines.specs.declared.Version.TheVariants.{Two, Three}
+use Rattle.streams.specs.Text.{octal_byte}
+use Rattle.command_parts.specs.declared.options.SummaryForm.{SummaryForm}
+use Rattle.command_line.specs.declared.operator.Interrupt.{Interrupt}
+use Rattle.command_line.specs.declared.operator.Interrupt.TheVariants.{Usual, Key, Off}
 use Rattle.command_line.specs.declared.operator.Session.{Session}
 use Rattle.command_line.specs.declared.operator.TeletypeSession.{TeletypeSession}
+use Rattle.command_line.specs.declared.place_options.PlaceOptions.{PlaceOptions}
 use Rattle.command_line.specs.declared.tapes.DumpRequest.{DumpRequest}
 use Rattle.command_line.specs.declared.tapes.MigrateRequest.{MigrateRequest}
 use Rattle.command_line.specs.declared.tapes.RunRequest.{RunRequest}
 use Rattle.command_line.specs.declared.tapes.SourceRequest.{SourceRequest}
 use Rattle.command_line.specs.Outputs.{IsEmptiedGiven, IsKeptGiven}
+use Rattle.command_line.specs.Places.{AreShownOn, IsStoppedOn}
 use Rattle.command_line.specs.Options.{AreRunOptions, AreSessionOptions, AreTeletypeOptions, IsFlagGiven, machine_given, operand, sources_given, start_given, value}
 
 -- The tape that is given, unless a source takes its place.
@@ -20,29 +28,55 @@ tape_unless (Some parts) name = None
 abbrev pub tape_given : ArgMatches → Option (List ℕ)
 tape_given found = tape_unless (sources_given found) (operand found (codes "TAPE"))
 
--- A run is of the tape and of the list of events that are given, and is made as the options ask.
-pub record IsRunGiven (found : ArgMatches) (run : RunRequest) : Type 0 where
+-- A run is of the tape and of the list of events that are given, and is made as the options ask, and as the words for cells and places do.
+pub record IsRunGiven (found : ArgMatches) (places : PlaceOptions) (run : RunRequest) : Type 0 where
   pub tape : option_map (λ name. name.now) run.tape ≡ tape_given found
   pub events : option_map (λ name. name.now) run.events ≡ value found (codes "events")
   pub options : AreRunOptions found run.options
   pub long : IsFlagGiven found (codes "trace-long") run.long
+  pub shown : AreShownOn (is_some run.tape) places run.options.show
+  pub stopping : IsStoppedOn (is_some run.tape) places run.stopping
+
+-- A summary begins on a line of its own or not, tells what was printed unless it was seen, and names the file for what is punched.
+pub record IsSummaryGiven (found : ArgMatches) (apart : Bool) (seen : Bool) (summary : SummaryForm) : Type 0 where
+  pub line : summary.apart ≡ apart
+  pub printed : summary.seen ≡ seen
+  pub punched : option_map (λ name. name.now) summary.saved_in ≡ value found (codes "punch")
 
 -- A run with an operator is of the tape, the frames and the keys that are given, punches where the option says, and is made as the
--- options ask.
-pub record IsOperatedRunGiven (found : ArgMatches) (session : Session) : Type 0 where
+-- options ask, and as the words for cells and places do.
+pub record IsOperatedRunGiven (found : ArgMatches) (places : PlaceOptions) (session : Session) : Type 0 where
   pub tape : option_map (λ name. name.now) session.tape ≡ tape_given found
   pub reader : option_map (λ name. name.now) session.joined.reader ≡ value found (codes "reader")
   pub keys : option_map (λ name. name.now) session.joined.keys ≡ value found (codes "keys")
   pub punch : option_map (λ name. name.now) session.joined.punch ≡ value found (codes "punch")
   pub teletype : IsFlagGiven found (codes "teletype") session.joined.teletype
   pub options : AreSessionOptions found session.options
+  pub summary : IsSummaryGiven found false session.joined.teletype session.summary
+  pub shown : AreShownOn (is_some session.tape) places session.options.run.show
+  pub stopping : IsStoppedOn (is_some session.tape) places session.stopping
+
+-- The key that a text names: none, if it says so, and otherwise the one whose byte it spells in octal digits.
+abbrev pub interrupt_named : List ℕ → Option Interrupt
+interrupt_named text = if bytes_eq text (codes "off") then Some Off else option_map Key (octal_byte text)
+
+-- The key that interrupts a session, where the bytes of keys are struck as they come or are not. Without `--interrupt` it is the usual
+-- one, and there is none for bytes that are struck as they come.
+abbrev pub interrupt_given : Bool → Option (List ℕ) → Option Interrupt
+interrupt_given raw None = Some (if raw then Off else Usual)
+interrupt_given raw (Some text) = interrupt_named text
 
 -- A session at the teletype is of the tape and the frames that are given, punches where the option says, and is held as the options ask.
-pub record IsTeletypeGiven (found : ArgMatches) (session : TeletypeSession) : Type 0 where
+-- The key of `--interrupt` interrupts it, and its summary tells what was not seen.
+pub record IsTeletypeGiven (found : ArgMatches) (places : PlaceOptions) (session : TeletypeSession) : Type 0 where
   pub tape : option_map (λ name. name.now) session.tape ≡ tape_given found
   pub reader : option_map (λ name. name.now) session.reader ≡ value found (codes "reader")
   pub punch : option_map (λ name. name.now) session.punch ≡ value found (codes "punch")
   pub options : AreTeletypeOptions found session.options
+  pub interrupt : interrupt_given session.options.manner.raw (value found (codes "interrupt")) ≡ Some session.interrupt
+  pub summary : IsSummaryGiven found true true session.summary
+  pub shown : AreShownOn (is_some session.tape) places session.options.show
+  pub stopping : IsStoppedOn (is_some session.tape) places session.stopping
 
 -- The words are those of the tape that is given, with the names of the machine that is requested.
 pub record IsDumpGiven (found : ArgMatches) (dump : DumpRequest) : Type 0 where
@@ -60,9 +94,20 @@ pub record IsSourceGiven (found : ArgMatches) (source : SourceRequest) : Type 0 
   pub out : IsKeptGiven (value found (codes "output")) (operand found (codes "OUT")) source.out
   pub forced : IsFlagGiven found (codes "force") source.forced
 
--- The certificate that is migrated and the declaration are those that are given, and the result goes where it is said. Nothing is said
--- here of the version that is requested.
+-- The version that `migrate` is asked for: version 2, unless `--certificate` asks for version 3. Other texts ask for none.
+abbrev pub migrated_version : Option (List ℕ) → Option Version
+migrated_version None = Some Two
+migrated_version (Some text) =
+    if bytes_eq text (codes "2") then Some Two else if bytes_eq text (codes "3") then Some Three else None
+
+-- The version of a certificate that is migrated with a declaration or without one.
+abbrev pub version_with : Bool → Version
+version_with declared = if declared then Three else Two
+
+-- The certificate that is migrated and the declaration are those that are given, and the result goes where it is said. There is a
+-- declaration exactly if version 3 is requested.
 pub record IsMigrateGiven (found : ArgMatches) (migrate : MigrateRequest) : Type 0 where
   pub certificate : migrate.certificate.now ≡ operand found (codes "CERTIFICATE")
   pub declaration : option_map (λ name. name.now) migrate.declaration ≡ value found (codes "declaration")
+  pub version : migrated_version (value found (codes "certificate")) ≡ Some (version_with (is_some migrate.declaration))
   pub out : IsEmptiedGiven (value found (codes "output")) (operand found (codes "OUT")) migrate.out

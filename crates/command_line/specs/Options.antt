@@ -18,7 +18,6 @@ use Rattle.command_parts.specs.declared.options.SessionOptions.{SessionOptions}
 use Rattle.command_parts.specs.declared.options.TeletypeOptions.{TeletypeOptions}
 use Rattle.command_parts.specs.declared.options.VerifyOptions.{VerifyOptions}
 use Rattle.command_line.specs.declared.place_options.PlaceOptions.{PlaceOptions}
-use Rattle.command_line.specs.declared.place_options.StopOptions.{StopOptions}
 
 -- The value of an operand or of an option, if it is given.
 abbrev pub value : ArgMatches → List ℕ → Option (List ℕ)
@@ -90,8 +89,8 @@ abbrev pub IsVersionNamed : Option (List ℕ) → Option Version → Type 0
 IsVersionNamed None version = version ≡ None
 IsVersionNamed (Some text) version = (v : Version) × (version ≡ Some v) × (version_named text ≡ Some v)
 
--- A tape is run as the options ask: from the start, on the machine, for so many rounds at most, with or without a trace. Which cells
--- are shown is said elsewhere.
+-- A tape is run as the options ask: from the start, on the machine, for so many rounds at most, with or without a trace. Places says
+-- which cells are shown.
 pub record AreRunOptions (found : ArgMatches) (options : RunOptions) : Type 0 where
   pub start : start_given found ≡ Ok options.start
   pub rounds : number_or 1 1000000 100000 (value found (codes "steps")) ≡ Some options.rounds
@@ -127,13 +126,26 @@ pub record AreSessionOptions (found : ArgMatches) (options : SessionOptions) : T
   pub switches : IsWordNamed (value found (codes "switches")) options.switches
   pub mark : IsFlagGiven found (codes "mark") options.mark
 
--- A session at the teletype is held as the options ask. Which cells are shown is said elsewhere.
+-- A session at the teletype is held as the options ask. Places says which cells are shown.
 pub record AreTeletypeOptions (found : ArgMatches) (options : TeletypeOptions) : Type 0 where
   pub start : start_given found ≡ Ok options.start
   pub machine : machine_given found ≡ Some options.profile
   pub switches : IsWordNamed (value found (codes "switches")) options.switches
   pub raw : IsFlagGiven found (codes "raw") options.manner.raw
   pub mark : IsFlagGiven found (codes "mark") options.manner.mark
+
+-- A run has an operator where an option for one is given.
+pub record IsRunWithOperator (found : ArgMatches) (is : Bool) : Type 0 where
+  pub mark : Bool
+  pub mark_is : IsFlagGiven found (codes "mark") mark
+  pub teletype : Bool
+  pub teletype_is : IsFlagGiven found (codes "teletype") teletype
+  pub any : is ≡ (has_value found (codes "reader") || has_value found (codes "punch") || has_value found (codes "keys") || has_value found (codes "switches")
+      || mark || teletype)
+
+-- A start or a machine is named.
+abbrev pub is_start_named : ArgMatches → Bool
+is_start_named found = has_value found (codes "start") || has_value found (codes "profile")
 
 -- A run that is watched has an operator where an option for one is given.
 pub record IsWatchedWithOperator (found : ArgMatches) (is : Bool) : Type 0 where
@@ -149,13 +161,3 @@ pub record ArePlacesGiven (found : ArgMatches) (places : PlaceOptions) : Type 0 
   pub written : map (λ text. text.now) places.written.items ≡ values found (codes "until-write")
   pub read : map (λ text. text.now) places.read.items ≡ values found (codes "until-read")
   pub last : IsNumberNamed 1 1000000 (value found (codes "last")) places.last
-
--- A run is followed as the options ask: it is stopped at a place exactly if one is named, and shows so many last instructions.
-pub record IsFollowedBy (places : PlaceOptions) (stopping : StopOptions) : Type 0 where
-  pub place : is_some stopping.stops.place ≡ is_some places.until
-  pub last : stopping.last ≡ places.last
-
--- It is not followed only if no place and no number of last instructions is named.
-abbrev pub IsFollowed : PlaceOptions → Option StopOptions → Type 0
-IsFollowed places None = (is_some places.last ≡ false) × (is_some places.until ≡ false)
-IsFollowed places (Some stopping) = IsFollowedBy places stopping

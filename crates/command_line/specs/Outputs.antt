@@ -1,5 +1,5 @@
 -- Where results go, and when an output is an input, as far as the names tell.
-use Rattle.std.specs.Prelude.{ℕ, ◌≡◌, Bool, ◌||◌, if◌then◌else◌, codes, drop, take, List, Option, None, Some}
+use Rattle.std.specs.Prelude.{ℕ, ◌≡◌, Bool, ◌||◌, if◌then◌else◌, not, codes, drop, take, List, Option, None, Some}
 use Rattle.std.specs.Str.{bytes_eq}
 use Rattle.clap.specs.declared.parser.matches.ArgMatches.{ArgMatches}
 use Rattle.command_line.specs.declared.outputs.Destination.{Destination}
@@ -50,12 +50,14 @@ IsKeptGiven (Some name) operand (MadeLast file) = file.now ≡ name
 IsKeptGiven None operand (CheckedFirst file) = file.now ≡ operand
 IsKeptGiven _ operand _ = ⊥
 
--- What the names of saved files begin with is the value of `--save`, and they replace other files only where `--force` is given.
-pub record IsSaveNamed (found : ArgMatches) (save : SaveOptions) : Type 0 where
+-- What the names of saved files begin with is the value of `--save`, a declaration may be one of them unless one is given, and they
+-- replace other files only where `--force` is given.
+pub record IsSaveNamed (found : ArgMatches) (declared : Bool) (save : SaveOptions) : Type 0 where
+  pub proposed : declared ≡ not save.proposed
   pub name : value found (codes "save") ≡ Some save.name.now
   pub forced : IsFlagGiven found (codes "force") save.forced
 
 -- Something is saved exactly if `--save` is given.
-abbrev pub IsSaveGiven : ArgMatches → Option SaveOptions → Type 0
-IsSaveGiven found None = value found (codes "save") ≡ None
-IsSaveGiven found (Some save) = IsSaveNamed found save
+abbrev pub IsSaveGiven : ArgMatches → Bool → Option SaveOptions → Type 0
+IsSaveGiven found declared None = value found (codes "save") ≡ None
+IsSaveGiven found declared (Some save) = IsSaveNamed found declared save

@@ -1,18 +1,25 @@
 -- What requests on a program and its declaration have of the words that were given.
-use Rattle.std.specs.Prelude.{ℕ, ◌≡◌, Bool, true, false, not, is_some, List, Option, None, Some, codes, if◌then◌else◌, map, option_map, unwrap_or}
+use Rattle.std.specs.Prelude.{ℕ, ◌≡◌, Bool, true, false, not, is_some, List, [], Option, None, Some, codes, if◌then◌else◌, map, option_map, unwrap_or}
+use Rattle.std.specs.Borrow.{Bor}
 use Rattle.clap.specs.declared.parser.matches.ArgMatches.{ArgMatches}
 use Rattle.command_line.specs.declared.program_command.ProgramCommand.{ProgramCommand}
 use Rattle.command_line.specs.declared.program_command.ProgramCommand.TheVariants as command
+use Rattle.command_line.specs.declared.operands.Operands.{Operands}
 use Rattle.command_line.specs.declared.operands.OperandsAfterSource.{OperandsAfterSource}
 use Rattle.command_line.specs.declared.operator.WatchedSession.{WatchedSession}
 use Rattle.command_line.specs.declared.programs.ProgramNames.{ProgramNames}
 use Rattle.command_line.specs.declared.programs.ProgramNames.TheVariants.{Tape, Source}
+use Rattle.command_line.specs.declared.programs.ProgramRequest.{ProgramRequest}
+use Rattle.command_line.specs.declared.place_options.PlaceOptions.{PlaceOptions}
+use Rattle.command_line.specs.declared.place_options.StopOptions.{StopOptions}
 use Rattle.command_line.specs.declared.programs.Task.{Task}
+use Rattle.command_line.specs.declared.programs.WatchedRunOptions.{WatchedRunOptions}
 use Rattle.command_line.specs.declared.programs.Task.TheVariants.{Verify, Check, Report, Watch, WatchSession, Guess, Refute, Declare}
 use Rattle.command_line.specs.declared.outputs.Destination.{Destination}
 use Rattle.certificate_lines.specs.declared.Version.{Version}
 use Rattle.command_line.specs.Outputs.{IsCertificateResultGiven, IsResultGiven, IsSaveGiven}
-use Rattle.command_line.specs.Options.{AreDeclareOptions, AreRefinements, AreRefuteOptions, AreSessionOptions, AreVerifyOptions, IsFlagGiven, IsNumberNamed, IsVersionNamed, IsWatchedWithOperator, has_value, operand, sources_given, value}
+use Rattle.command_line.specs.Options.{AreDeclareOptions, ArePlacesGiven, AreRefinements, AreRefuteOptions, AreSessionOptions, AreVerifyOptions, IsFlagGiven, IsNumberNamed, IsVersionNamed, IsWatchedWithOperator, has_value, is_start_named, operand, sources_given, value}
+use Rattle.command_line.specs.Places.{AreShownOn, IsStoppedOn}
 
 -- The files of a program are those that were given: that of its tape, or those of the parts of its source, in order.
 abbrev pub IsProgramGiven : ArgMatches → ProgramNames → Type 0
@@ -95,6 +102,30 @@ abbrev pub IsLastGiven : ProgramCommand → ArgMatches → ProgramNames → Opti
 IsLastGiven called found (Tape name) last = last ≡ last_with_tape called found
 IsLastGiven called found (Source names) last = IsLastBehind called found last
 
+-- The last operand, if there is one.
+abbrev pub last_of : Operands → Option (List ℕ)
+last_of operands = option_map (λ name. name.now) operands.last
+
+-- The names of the files of a source's parts, if the program is given by its source.
+abbrev pub part_names : ProgramNames → List (Bor (List ℕ))
+part_names (Tape name) = []
+part_names (Source names) = names.items
+
+-- The program is given by its tape.
+abbrev pub is_tape : ProgramNames → Bool
+is_tape (Tape name) = true
+is_tape (Source names) = false
+
+-- The tape of a run that is watched with an operator. The name of that of a source is empty.
+abbrev pub watched_tape : ProgramNames → List ℕ
+watched_tape (Tape name) = name.now
+watched_tape (Source names) = []
+
+-- The declaration of a run of a tape that is watched with an operator, or standard input. The name of that of a source is empty.
+abbrev pub watched_declaration : ProgramNames → Option (List ℕ) → List ℕ
+watched_declaration (Tape name) declaration = unwrap_or declaration (codes "-")
+watched_declaration (Source names) declaration = []
+
 -- A watched run with an operator is the one that the options ask for.
 pub record IsSessionGiven (found : ArgMatches) (session : WatchedSession) : Type 0 where
   pub options : AreSessionOptions found session.options
@@ -103,16 +134,41 @@ pub record IsSessionGiven (found : ArgMatches) (session : WatchedSession) : Type
   pub continues : IsNumberNamed 1 1000000 (value found (codes "continue")) session.continues
   pub explained : IsFlagGiven found (codes "why") session.explained
 
--- The search for an answer is made and what is found is saved as the options ask.
-abbrev pub IsVerifyGiven : ArgMatches → Task → Type 0
-IsVerifyGiven found (Verify save options) = IsSaveGiven found save × AreVerifyOptions found options
-IsVerifyGiven found _ = ⊥
+-- The search for an answer is made and what is found is saved as the options ask. A declaration may be saved exactly if none is given.
+abbrev pub IsVerifyGiven : ArgMatches → Operands → Task → Type 0
+IsVerifyGiven found operands (Verify save options) = IsSaveGiven found (is_some operands.declaration) save × AreVerifyOptions found options
+IsVerifyGiven found operands _ = ⊥
 
--- The list of events is the one that is given last, or the run has an operator as the options ask.
-abbrev pub IsWatchGiven : ArgMatches → Option (List ℕ) → Task → Type 0
-IsWatchGiven found last (Watch events show stopping) = events.now ≡ unwrap_or last (codes "-")
-IsWatchGiven found last (WatchSession session) = IsSessionGiven found session
-IsWatchGiven found last _ = ⊥
+-- A command is `watch` with an operator.
+abbrev pub IsOperated : ProgramCommand → ArgMatches → Bool → Type 0
+IsOperated command.Watch found is = IsWatchedWithOperator found is
+IsOperated _ found is = is ≡ false
+
+-- A watched run shows the cells that are named, and is followed as the options ask.
+pub record IsFollowedOn (program : ProgramNames) (places : PlaceOptions) (followed : WatchedRunOptions) : Type 0 where
+  pub shown : AreShownOn (is_tape program) places followed.show
+  pub stopped : IsStoppedOn (is_tape program) places followed.stopping
+
+-- A watched run with an operator is the one that the operands and the options ask for, shows these cells and is followed so.
+pub record IsWatchedRunGiven (found : ArgMatches) (operands : Operands) (followed : WatchedRunOptions) (session : WatchedSession) : Type 0 where
+  pub given : IsSessionGiven found session
+  pub tape : session.tape.now ≡ watched_tape operands.program
+  pub declaration : session.declaration.now ≡ watched_declaration operands.program (option_map (λ name. name.now) operands.declaration)
+  pub shown : session.options.run.show ≡ followed.show
+  pub stopped : session.stopping ≡ followed.stopping
+
+-- A run is watched by the list of events that is given last, shows these cells and is followed so.
+pub record IsListWatched (operands : Operands) (followed : WatchedRunOptions) (events : List ℕ) (show : List ℕ) (stopping : Option StopOptions) : Type 0 where
+  pub given : events ≡ unwrap_or (last_of operands) (codes "-")
+  pub shown : show ≡ followed.show
+  pub stopped : stopping ≡ followed.stopping
+
+-- Without an option for an operator, the list of events is the one that is given last. Otherwise the run has an operator as the options
+-- ask.
+abbrev pub IsWatchGiven : ArgMatches → Operands → WatchedRunOptions → Task → Type 0
+IsWatchGiven found operands followed (Watch events show stopping) = IsWatchedWithOperator found false × IsListWatched operands followed events.now show stopping
+IsWatchGiven found operands followed (WatchSession session) = IsWatchedWithOperator found true × IsWatchedRunGiven found operands followed session
+IsWatchGiven found operands followed _ = ⊥
 
 -- The search for a certificate is for the version that is requested, and the certificate and the report of a search that is stuck go
 -- where it is said.
@@ -152,19 +208,28 @@ abbrev pub IsCheckGiven : Option (List ℕ) → Task → Type 0
 IsCheckGiven last (Check certificate) = certificate.now ≡ unwrap_or last (codes "-")
 IsCheckGiven last _ = ⊥
 
--- What is done is what the command is called for, with its last operand and as its options ask. Nothing is said here of the cells that
--- are shown and of where a run is stopped.
-abbrev pub IsTaskGiven : ProgramCommand → ArgMatches → Option (List ℕ) → Task → Type 0
-IsTaskGiven command.Verify found last task = IsVerifyGiven found task
-IsTaskGiven command.Watch found last task = IsWatchGiven found last task
-IsTaskGiven command.Guess found last task = IsGuessGiven found last task
-IsTaskGiven command.Refute found last task = IsRefuteGiven found last task
-IsTaskGiven command.Declare found last task = IsDeclareGiven found last task
-IsTaskGiven command.Report found last task = IsReportGiven found last task
-IsTaskGiven command.Check found last task = IsCheckGiven last task
+-- What is done is what the command is called for, with its operands and as its options ask.
+abbrev pub IsTaskGiven : ProgramCommand → ArgMatches → Operands → WatchedRunOptions → Task → Type 0
+IsTaskGiven command.Verify found operands followed task = IsVerifyGiven found operands task
+IsTaskGiven command.Watch found operands followed task = IsWatchGiven found operands followed task
+IsTaskGiven command.Guess found operands followed task = IsGuessGiven found (last_of operands) task
+IsTaskGiven command.Refute found operands followed task = IsRefuteGiven found (last_of operands) task
+IsTaskGiven command.Declare found operands followed task = IsDeclareGiven found (last_of operands) task
+IsTaskGiven command.Report found operands followed task = IsReportGiven found (last_of operands) task
+IsTaskGiven command.Check found operands followed task = IsCheckGiven (last_of operands) task
 
--- The same for the operand that is given last.
-pub record IsTaskOf (called : ProgramCommand) (found : ArgMatches) (program : ProgramNames) (task : Task) : Type 0 where
-  pub last : Option (List ℕ)
-  pub last_is : IsLastGiven called found program last
-  pub task_is : IsTaskGiven called found last task
+-- What a command on a program and its declaration is called for, with its operands and as its options ask. The files of the program are
+-- those that are given, and so is the declaration: one is proposed for a tape only if none is given to `verify` or `declare`.
+pub record IsProgramRequestGiven (called : ProgramCommand) (found : ArgMatches) (asked : ProgramRequest) : Type 0 where
+  pub operands : Operands
+  pub program_is : asked.program ≡ operands.program
+  pub declaration_is : asked.declaration ≡ operands.declaration
+  pub program : IsProgramGiven found operands.program
+  pub declaration : IsDeclarationGiven called found operands.program (option_map (λ name. name.now) operands.declaration)
+  pub last : IsLastGiven called found operands.program (last_of operands)
+  pub followed : WatchedRunOptions
+  pub followed_is : IsFollowedOn operands.program asked.places followed
+  pub task : IsTaskGiven called found operands followed asked.task
+  pub places : ArePlacesGiven found asked.places
+  pub named : asked.asked ≡ is_start_named found
+  pub explained : IsFlagGiven found (codes "why") asked.explained

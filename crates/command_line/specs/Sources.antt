@@ -1,6 +1,14 @@
 -- What requests for a source, and requests to run a program, have of the words that were given.
-use Rattle.std.specs.Prelude.{ℕ, ◌≡◌, ◌++◌, List, [], Some, codes, if◌then◌else◌, map}
+use Rattle.std.specs.Prelude.{ℕ, ◌≡◌, ◌++◌, true, false, List, [], Option, None, Some, codes, if◌then◌else◌, map, option_map}
 use Rattle.clap.specs.declared.parser.matches.ArgMatches.{ArgMatches}
+use Rattle.command_line.specs.declared.command_name.MachineCommand.{MachineCommand}
+use Rattle.command_line.specs.declared.command_name.MachineCommand.TheVariants as command
+use Rattle.command_line.specs.declared.place_options.PlaceOptions.{PlaceOptions}
+use Rattle.command_line.specs.declared.programs.ProgramNames.{ProgramNames}
+use Rattle.command_line.specs.declared.programs.ProgramNames.TheVariants.{Tape, Source}
+use Rattle.command_line.specs.declared.programs.ProgramRequest.{ProgramRequest}
+use Rattle.command_line.specs.declared.programs.Task.{Task}
+use Rattle.command_line.specs.declared.programs.Task.TheVariants.{Place}
 use Rattle.command_line.specs.declared.requests.Request.{Request}
 use Rattle.command_line.specs.declared.requests.Request.TheVariants as request
 use Rattle.command_line.specs.declared.source_programs.MachineTask.{MachineTask}
@@ -9,8 +17,8 @@ use Rattle.command_line.specs.declared.source_programs.SourceProgramRequest.{Sou
 use Rattle.command_line.specs.declared.sources.AssembleRequest.{AssembleRequest}
 use Rattle.command_line.specs.declared.sources.ListRequest.{ListRequest}
 use Rattle.command_line.specs.Machines.{IsDumpGiven, IsOperatedRunGiven, IsRunGiven, IsTeletypeGiven}
-use Rattle.command_line.specs.Options.{ArePlacesGiven, IsFlagGiven, has_value, machine_given, operand, sources_given, value, values}
-use Rattle.command_line.specs.Outputs.{IsEmptiedGiven}
+use Rattle.command_line.specs.Options.{ArePlacesGiven, IsFlagGiven, IsRunWithOperator, has_value, machine_given, operand, sources_given, value, values}
+use Rattle.command_line.specs.Outputs.{IsEmptiedGiven, IsKeptGiven}
 
 -- The parts of the source that `assemble`, `list` and `place` are given: with `-o` the first operand is one of them too.
 abbrev pub source_operands : ArgMatches → List (List ℕ)
@@ -32,25 +40,61 @@ pub record IsListGiven (found : ArgMatches) (listing : ListRequest) : Type 0 whe
   pub explained : IsFlagGiven found (codes "why") listing.explained
   pub crossed : IsFlagGiven found (codes "cross") listing.crossed
 
--- What is done with the program of a source is what the options ask for.
-abbrev pub IsMachineTaskGiven : ArgMatches → MachineTask → Type 0
-IsMachineTaskGiven found (task.Run run) = IsRunGiven found run
-IsMachineTaskGiven found (task.Session session) = IsOperatedRunGiven found session
-IsMachineTaskGiven found (task.Teletype session) = IsTeletypeGiven found session
-IsMachineTaskGiven found (task.Dump dump) = IsDumpGiven found dump
+-- What is done with a program is what the command is called for, as its options ask. A run has an operator exactly if an option for one
+-- is given.
+abbrev pub IsMachineTaskGiven : MachineCommand → ArgMatches → PlaceOptions → MachineTask → Type 0
+IsMachineTaskGiven command.Run found places (task.Run run) = IsRunWithOperator found false × IsRunGiven found places run
+IsMachineTaskGiven command.Run found places (task.Session session) = IsRunWithOperator found true × IsOperatedRunGiven found places session
+IsMachineTaskGiven command.Teletype found places (task.Teletype session) = IsTeletypeGiven found places session
+IsMachineTaskGiven command.Dump found places (task.Dump dump) = IsDumpGiven found dump
+IsMachineTaskGiven _ found places _ = ⊥
+
+-- The same for a request to do it with a tape.
+abbrev pub IsTapeTaskGiven : MachineCommand → ArgMatches → PlaceOptions → Request → Type 0
+IsTapeTaskGiven command.Run found places (request.Run run) = IsRunWithOperator found false × IsRunGiven found places run
+IsTapeTaskGiven command.Run found places (request.Session session) = IsRunWithOperator found true × IsOperatedRunGiven found places session
+IsTapeTaskGiven command.Teletype found places (request.Teletype session) = IsTeletypeGiven found places session
+IsTapeTaskGiven command.Dump found places (request.Dump dump) = IsDumpGiven found dump
+IsTapeTaskGiven _ found places _ = ⊥
+
+-- A request is done with a tape as its operands and options ask, and as words do that name cells and places as the options say.
+pub record IsOnTape (called : MachineCommand) (found : ArgMatches) (requested : Request) : Type 0 where
+  pub places : PlaceOptions
+  pub places_are : ArePlacesGiven found places
+  pub given : IsTapeTaskGiven called found places requested
 
 -- The parts of the source are those that are given, in their order, and so are the words that name cells and places of a run.
-pub record IsSourcedGiven (found : ArgMatches) (asked : SourceProgramRequest) : Type 0 where
+pub record IsSourcedGiven (called : MachineCommand) (found : ArgMatches) (asked : SourceProgramRequest) : Type 0 where
   pub parts : sources_given found ≡ Some (map (λ name. name.now) asked.parts.items)
   pub places : ArePlacesGiven found asked.places
-  pub task : IsMachineTaskGiven found asked.task
+  pub task : IsMachineTaskGiven called found asked.places asked.task
   pub explained : IsFlagGiven found (codes "why") asked.explained
 
+-- With a source, what is requested is done with that, and otherwise with a tape.
+abbrev pub IsDoneWith : Option (List (List ℕ)) → MachineCommand → ArgMatches → Request → Type 0
+IsDoneWith None called found requested = IsOnTape called found requested
+IsDoneWith (Some parts) called found (request.Sourced asked) = IsSourcedGiven called found asked
+IsDoneWith (Some parts) called found _ = ⊥
+
 -- What `run`, `teletype` or `dump` does is what its operands and options ask for.
-abbrev pub IsMachineGiven : ArgMatches → Request → Type 0
-IsMachineGiven found (request.Run run) = IsRunGiven found run
-IsMachineGiven found (request.Session session) = IsOperatedRunGiven found session
-IsMachineGiven found (request.Teletype session) = IsTeletypeGiven found session
-IsMachineGiven found (request.Dump dump) = IsDumpGiven found dump
-IsMachineGiven found (request.Sourced asked) = IsSourcedGiven found asked
-IsMachineGiven found _ = ⊥
+abbrev pub IsMachineGiven : MachineCommand → ArgMatches → Request → Type 0
+IsMachineGiven called found requested = IsDoneWith (sources_given found) called found requested
+
+-- The parts of a source are those that are given, in their order.
+abbrev pub ArePartsGiven : ArgMatches → ProgramNames → Type 0
+ArePartsGiven found (Source names) = map (λ name. name.now) names.items ≡ source_operands found
+ArePartsGiven found (Tape name) = ⊥
+
+-- A declaration is written in numbers, and goes where it is said.
+abbrev pub IsPlaceTask : ArgMatches → Task → Type 0
+IsPlaceTask found (Place out) = IsKeptGiven (value found (codes "output")) (operand found (codes "OUT")) out
+IsPlaceTask found _ = ⊥
+
+-- The declaration that is written in numbers is the one that is given, for the source whose parts are given.
+pub record IsPlaceGiven (found : ArgMatches) (asked : ProgramRequest) : Type 0 where
+  pub program : ArePartsGiven found asked.program
+  pub declaration : option_map (λ name. name.now) asked.declaration ≡ value found (codes "declaration")
+  pub task : IsPlaceTask found asked.task
+  pub places : ArePlacesGiven found asked.places
+  pub named : asked.asked ≡ false
+  pub explained : IsFlagGiven found (codes "why") asked.explained

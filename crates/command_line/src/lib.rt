@@ -1,6 +1,7 @@
 //! The command line of `pdp8`: its commands, operands and options, and what they ask for.
 #![tactic(auto)]
 
+mod command_name;
 mod commands;
 pub mod explanations;
 mod fault;

@@ -1,8 +1,9 @@
 //! The options of a run with an operator.
 
-ghost use Rattle.std.specs.Prelude.{◌≡◌, ◌||◌, IfOk, codes};
-ghost use Rattle.command_line.specs.Machines.{IsOperatedRunGiven, IsTeletypeGiven};
-ghost use Rattle.command_line.specs.Options.{AreSessionOptions, AreTeletypeOptions, IsWatchedWithOperator, IsWordNamed, value};
+ghost use Rattle.std.specs.Prelude.{◌≡◌, ◌||◌, IfOk, Some, codes, is_some};
+ghost use Rattle.command_line.specs.Machines.{IsOperatedRunGiven, IsTeletypeGiven, interrupt_given, interrupt_named};
+ghost use Rattle.command_line.specs.Options.{AreSessionOptions, AreTeletypeOptions, IsRunWithOperator, IsWatchedWithOperator, IsWordNamed, value};
+ghost use Rattle.command_line.specs.Places.{AreShownOn};
 ghost use Rattle.command_line.specs.Requests.{IsSessionGiven};
 
 use crate::fault::{CommandLineFault, Misuse};
@@ -137,12 +138,16 @@ pub struct DeviceConnections<'a> {
 }
 
 /// Whether a run has an operator.
-pub fn has_operator(found: &ArgMatches<'_>) -> bool {
-    ["reader", "punch", "keys", "switches"]
-        .iter()
-        .any(|name| found.get_str(name).is_some())
-        || found.get_flag("mark")
-        || found.get_flag("teletype")
+pub fn has_operator(found: &ArgMatches<'_>) -> bool
+    ensures { IsRunWithOperator found.now result }
+{
+    let reader = has_value(found, "reader");
+    let punch = has_value(found, "punch");
+    let keys = has_value(found, "keys");
+    let switches = has_value(found, "switches");
+    let mark = is_given(found, "mark");
+    let teletype = is_given(found, "teletype");
+    is_any(reader, punch, keys, switches, mark, teletype)
 }
 
 /// Whether a watched run has an operator.
@@ -183,7 +188,7 @@ pub fn session_of<'a>(
     found: &ArgMatches<'a>,
     places: &PlaceOptions<'a>,
 ) -> Result<Session<'a>, CommandLineFault>
-    ensures { IfOk result (IsOperatedRunGiven found.now) }
+    ensures { IfOk result (IsOperatedRunGiven found.now places.now) }
 {
     let tape = tape_of(found)?;
     let reader = found.get_str("reader");
@@ -203,7 +208,8 @@ pub fn session_of<'a>(
     ];
     let punch = punch_of(found, &inputs)?;
     let teletype = is_given(found, "teletype");
-    let options = session_options(found, shown_on(tape, places)?)?;
+    let show = shown_on(tape, places)?;
+    let options = session_options(found, show)?;
     let stopping = stopping_on(tape, places)?;
     let summary = SummaryForm {
         apart: false,
@@ -229,7 +235,8 @@ fn session_options(
     found: &ArgMatches<'_>,
     show: WordSet,
 ) -> Result<SessionOptions, CommandLineFault>
-    ensures { IfOk result (AreSessionOptions found.now) }
+    ensures options { IfOk result (AreSessionOptions found.now) }
+    ensures shown { IfOk result (λ options. options.run.show ≡ show) }
 {
     let run = run_options(found, show)?;
     let switches = switches_of(found)?;
@@ -248,7 +255,11 @@ pub fn watched_session_of<'a>(
     stopping: Option<StopOptions>,
     found: &ArgMatches<'a>,
 ) -> Result<WatchedSession<'a>, CommandLineFault>
-    ensures { IfOk result (IsSessionGiven found.now) }
+    ensures given { IfOk result (IsSessionGiven found.now) }
+    ensures tape { IfOk result (λ session. session.tape.now ≡ tape.now) }
+    ensures declaration { IfOk result (λ session. session.declaration.now ≡ declaration.now) }
+    ensures shown { IfOk result (λ session. session.options.run.show ≡ show) }
+    ensures stopped { IfOk result (λ session. session.stopping ≡ stopping) }
 {
     let reader = found.get_str("reader");
     let keys = found.get_str("keys");
@@ -277,7 +288,9 @@ fn teletype_options(
     tape: Option<&str>,
     places: &PlaceOptions<'_>,
 ) -> Result<TeletypeOptions, CommandLineFault>
-    ensures { IfOk result (AreTeletypeOptions found.now) }
+    ensures options { IfOk result (AreTeletypeOptions found.now) }
+    ensures shown { IfOk result (λ options.
+        AreShownOn (is_some tape.entry) places.now options.show) }
 {
     let start = start_of(found)?;
     let profile = profile_of(found)?;
@@ -295,16 +308,28 @@ fn teletype_options(
     })
 }
 
+/// The key that this text names, or none.
+fn interrupt_named(text: &str) -> Result<Interrupt, CommandLineFault>
+    ensures { IfOk result (λ interrupt. interrupt_named text.now ≡ Some interrupt) }
+{
+    if text == "off" {
+        return Ok(Interrupt::Off);
+    }
+    match octal_byte(text.as_bytes()) {
+        Some(byte) => Ok(Interrupt::Key(byte)),
+        None => Err(CommandLineFault::Misuse(Misuse::Interrupt)),
+    }
+}
+
 /// The key that interrupts a session, where the bytes of keys are struck as they come or are not.
-fn interrupt_of(found: &ArgMatches<'_>, raw: bool) -> Result<Interrupt, CommandLineFault> {
+fn interrupt_of(found: &ArgMatches<'_>, raw: bool) -> Result<Interrupt, CommandLineFault>
+    ensures { IfOk result (λ interrupt.
+        interrupt_given raw (value found.now (codes "interrupt")) ≡ Some interrupt) }
+{
     match found.get_str("interrupt") {
         None if raw => Ok(Interrupt::Off),
         None => Ok(Interrupt::Usual),
-        Some("off") => Ok(Interrupt::Off),
-        Some(text) => match octal_byte(text.as_bytes()) {
-            Some(byte) => Ok(Interrupt::Key(byte)),
-            None => Err(CommandLineFault::Misuse(Misuse::Interrupt)),
-        },
+        Some(text) => interrupt_named(text),
     }
 }
 
@@ -313,7 +338,7 @@ pub fn teletype_of<'a>(
     found: &ArgMatches<'a>,
     places: &PlaceOptions<'a>,
 ) -> Result<TeletypeSession<'a>, CommandLineFault>
-    ensures { IfOk result (IsTeletypeGiven found.now) }
+    ensures { IfOk result (IsTeletypeGiven found.now places.now) }
 {
     let tape = tape_of(found)?;
     let reader = found.get_str("reader");

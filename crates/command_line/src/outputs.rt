@@ -248,7 +248,7 @@ pub fn save_of<'a>(
     inputs: &[&str],
     proposed: bool,
 ) -> Result<Option<SaveOptions<'a>>, CommandLineFault>
-    ensures { IfOk result (IsSaveGiven found.now) }
+    ensures { IfOk result (IsSaveGiven found.now (not proposed)) }
 {
     let Some(name) = found.get_str("save") else {
         return Ok(None);

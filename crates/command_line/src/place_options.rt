@@ -1,8 +1,13 @@
 //! The cells and the places that options name.
 
-ghost use Rattle.std.specs.Prelude.{◌≡◌, ◌==◌, IfOk, IsTrue, codes, is_some, map};
+ghost use Rattle.std.specs.Prelude.{◌≡◌, ◌==◌, IfOk, IfSome, Some, codes, is_some, map, option_map};
 ghost use Rattle.std.specs.List.{position};
-ghost use Rattle.command_line.specs.Options.{ArePlacesGiven, IsFollowed, IsNumberNamed, value, values};
+ghost use Rattle.command_line.specs.Options.{ArePlacesGiven, IsNumberNamed, value, values};
+ghost use Rattle.command_line.specs.Places.{AreCellsOf, AreCellsOfText, AreCellsOfTexts, AreShownOn, AreStopsNamed, IsFollowed, IsStoppedOn, IsUntilNamed, IsVisitNamed, is_followed};
+ghost use Rattle.command_line.specs.OctalPlaces.{cells_between, cells_of_word};
+ghost use Rattle.streams.specs.Text.{octal_word};
+ghost use Rattle.streams.specs.TextLeft.{words_left};
+ghost use Rattle.wordset.specs.Lanes.{words};
 
 use crate::fault::{CommandLineFault, Misuse};
 use crate::operands::copied;
@@ -27,7 +32,10 @@ fn place_of_dash(word: &[u8]) -> Option<usize>
 }
 
 /// The cells from one address to another, which is not below it.
-fn span(low: &[u8], high: &[u8]) -> Option<WordSet> {
+fn span(low: &[u8], high: &[u8]) -> Option<WordSet>
+    ensures { option_map words result ≡
+        cells_between (octal_word low.now) (octal_word high.now) }
+{
     let low = octal_word(low)?;
     let high = octal_word(high)?;
     if low.value() <= high.value() {
@@ -38,20 +46,32 @@ fn span(low: &[u8], high: &[u8]) -> Option<WordSet> {
 }
 
 /// The cells of an address, or from one address to another.
-fn range(word: &[u8]) -> Option<WordSet> {
+fn range(word: &[u8]) -> Option<WordSet>
+    ensures { option_map words result ≡ cells_of_word word.now }
+{
     match place_of_dash(word) {
-        None => octal_word(word).map(WordSet::one),
+        None => Some(WordSet::one(octal_word(word)?)),
         Some(at) => span(&word[..at], &word[at + 1..]),
     }
 }
 
 /// What reads the words by which options name cells and places.
 pub trait AddressReader {
+    ghost use Rattle.std.specs.Prelude.{ℕ, List, ⊤};
+
+    // A word names the cells of a set.
+    ghost names_cells: { Self → List ℕ → List ℕ → Type 0 } = { λ _ _ _. ⊤ };
+
+    // A word names a place.
+    ghost names_place: { Self → List ℕ → ℕ → Type 0 } = { λ _ _ _. ⊤ };
+
     /// The cells of an address or a range; none if a word is neither.
-    fn cells(&self, word: &[u8]) -> Option<WordSet>;
+    fn cells(&self, word: &[u8]) -> Option<WordSet>
+        ensures { IfSome result (names_cells self.now word.now) };
 
     /// The address that a word is; none if it is none.
-    fn place(&self, word: &[u8]) -> Option<Word>;
+    fn place(&self, word: &[u8]) -> Option<Word>
+        ensures { IfSome result (names_place self.now word.now) };
 }
 
 /// Reads addresses in octal digits.
@@ -59,6 +79,12 @@ pub trait AddressReader {
 pub struct OctalAddresses;
 
 impl AddressReader for OctalAddresses {
+    ghost use Rattle.command_line.specs.OctalPlaces.{NamesOctalCells, NamesOctalPlace};
+
+    ghost names_cells = { λ _. NamesOctalCells };
+
+    ghost names_place = { λ _. NamesOctalPlace };
+
     fn cells(&self, word: &[u8]) -> Option<WordSet> {
         range(word)
     }
@@ -68,12 +94,24 @@ impl AddressReader for OctalAddresses {
     }
 }
 
-/// The cells of addresses and ranges, one or more, as a line of a declaration spells them.
-fn cells<C: AddressReader>(reader: &C, text: &[u8]) -> Option<WordSet> {
+/// The cells of the addresses and ranges that words spell.
+fn cells_of_words<C: AddressReader>(reader: &C, words: Words<'_>) -> Option<WordSet>
+    ensures { IfSome result (AreCellsOf (C.names_cells reader.now) (words_left words.entry)) }
+{
     let mut set = WordSet::empty();
-    for word in Words::of(text) {
-        set = set.union(&reader.cells(word)?);
+    let mut rest = words;
+    while let Some(word) = rest.next() {
+        let more = reader.cells(word)?;
+        set = set.union(&more);
     }
+    Some(set)
+}
+
+/// The cells of addresses and ranges, one or more, as a line of a declaration spells them.
+fn cells<C: AddressReader>(reader: &C, text: &[u8]) -> Option<WordSet>
+    ensures { IfSome result (AreCellsOfText (C.names_cells reader.now) text.now) }
+{
+    let set = cells_of_words(reader, Words::of(text))?;
     if set.is_empty() { None } else { Some(set) }
 }
 
@@ -82,10 +120,16 @@ fn named_cells<C: AddressReader>(
     reader: &C,
     texts: &[&str],
     misuse: Misuse,
-) -> Result<WordSet, Misuse> {
+) -> Result<WordSet, Misuse>
+    ensures { IfOk result (AreCellsOfTexts (C.names_cells reader.now)
+        (map (λ text. text.now) texts.now)) }
+{
     let mut set = WordSet::empty();
     for text in texts {
-        set = set.union(&cells(reader, text.as_bytes()).ok_or(misuse)?);
+        let Some(more) = cells(reader, text.as_bytes()) else {
+            return Err(misuse);
+        };
+        set = set.union(&more);
     }
     Ok(set)
 }
@@ -147,7 +191,10 @@ impl PlaceOptions<'_> {
     /// # Errors
     ///
     /// What is wrong with a value.
-    pub fn shown<C: AddressReader>(&self, reader: &C) -> Result<WordSet, Misuse> {
+    pub fn shown<C: AddressReader>(&self, reader: &C) -> Result<WordSet, Misuse>
+        ensures { IfOk result (AreCellsOfTexts (C.names_cells reader.now)
+            (map (λ text. text.now) self.now.show.items)) }
+    {
         named_cells(reader, &self.show, Misuse::Show)
     }
 
@@ -157,25 +204,32 @@ impl PlaceOptions<'_> {
     ///
     /// What is wrong with a value.
     pub fn stops<C: AddressReader>(&self, reader: &C) -> Result<Stops, Misuse>
-        ensures { IfOk result (λ stops. is_some stops.place ≡ is_some self.now.until) }
+        ensures { IfOk result (AreStopsNamed (C.names_place reader.now) (C.names_cells reader.now)
+            self.now) }
     {
-        let stops = Stops {
-            place: None,
-            times: 1,
-            written: named_cells(reader, &self.written, Misuse::UntilWrite)?,
-            read: named_cells(reader, &self.read, Misuse::UntilRead)?,
-        };
-        let Some(text) = self.until else {
-            return Ok(stops);
-        };
-        let Some(visits) = visits_of(reader, text.as_bytes()) else {
-            return Err(Misuse::Until);
-        };
+        let written = named_cells(reader, &self.written, Misuse::UntilWrite)?;
+        let read = named_cells(reader, &self.read, Misuse::UntilRead)?;
+        let stop = self.stop_place(reader)?;
         Ok(Stops {
-            place: Some(visits.place),
-            times: visits.times,
-            ..stops
+            place: stop.place,
+            times: stop.times,
+            written,
+            read,
         })
+    }
+
+    /// The place at which a run is stopped, if it is stopped at one.
+    fn stop_place<C: AddressReader>(&self, reader: &C) -> Result<StopPlace, Misuse>
+        ensures { IfOk result (λ stop. IsUntilNamed (C.names_place reader.now)
+            (option_map (λ text. text.now) self.now.until) stop.place stop.times) }
+    {
+        match self.until {
+            None => Ok(StopPlace {
+                place: None,
+                times: 1,
+            }),
+            Some(text) => named_stop_place(reader, text),
+        }
     }
 
     /// How a run is followed, if it may be stopped or its last instructions are requested.
@@ -184,9 +238,10 @@ impl PlaceOptions<'_> {
     ///
     /// What is wrong with a value.
     pub fn stopping<C: AddressReader>(&self, reader: &C) -> Result<Option<StopOptions>, Misuse>
-        ensures { IfOk result (IsFollowed self.now) }
+        ensures { IfOk result (IsFollowed (C.names_place reader.now) (C.names_cells reader.now)
+            self.now) }
     {
-        if self.last.is_none() && self.until.is_none() && !self.names_cells() {
+        if !self.is_followed() {
             return Ok(None);
         }
         let stops = self.stops(reader)?;
@@ -196,9 +251,14 @@ impl PlaceOptions<'_> {
         }))
     }
 
-    /// Whether a run may be stopped before a step that writes or reads a cell.
-    fn names_cells(&self) -> bool {
-        !self.written.is_empty() || !self.read.is_empty()
+    /// Whether a run may be stopped or its last instructions are requested.
+    fn is_followed(&self) -> bool
+        ensures { result ≡ is_followed self.now }
+    {
+        self.last.is_some()
+            || self.until.is_some()
+            || !self.written.is_empty()
+            || !self.read.is_empty()
     }
 }
 
@@ -206,6 +266,13 @@ impl PlaceOptions<'_> {
 #[derive(Clone, Copy)]
 struct VisitCount {
     place: Word,
+    times: u32,
+}
+
+/// The address at which a run is stopped, if it is stopped at one, and how many steps come to it.
+#[derive(Clone, Copy)]
+struct StopPlace {
+    place: Option<Word>,
     times: u32,
 }
 
@@ -217,16 +284,30 @@ fn place_of_comma(word: &[u8]) -> Option<usize>
 }
 
 /// The address and the number of a `PLACE` or a `PLACE,N`.
-fn visits_of<C: AddressReader>(reader: &C, text: &[u8]) -> Option<VisitCount> {
-    match place_of_comma(text) {
-        None => Some(VisitCount {
-            place: reader.place(text)?,
-            times: 1,
+fn visits_of<C: AddressReader>(reader: &C, text: &[u8]) -> Option<VisitCount>
+    ensures { IfSome result (λ visits.
+        IsVisitNamed (C.names_place reader.now) text.now visits.place visits.times) }
+{
+    let Some(at) = place_of_comma(text) else {
+        let place = reader.place(text)?;
+        return Some(VisitCount { place, times: 1 });
+    };
+    let place = reader.place(&text[..at])?;
+    let times = decimal_between(1, MOST_VISITS, &text[at + 1..])?;
+    Some(VisitCount { place, times })
+}
+
+/// The place at which a run is stopped that is to be stopped at one.
+fn named_stop_place<C: AddressReader>(reader: &C, text: &str) -> Result<StopPlace, Misuse>
+    ensures { IfOk result (λ stop.
+        IsUntilNamed (C.names_place reader.now) (Some text.now) stop.place stop.times) }
+{
+    match visits_of(reader, text.as_bytes()) {
+        Some(visits) => Ok(StopPlace {
+            place: Some(visits.place),
+            times: visits.times,
         }),
-        Some(at) => Some(VisitCount {
-            place: reader.place(&text[..at])?,
-            times: decimal_between(1, MOST_VISITS, &text[at + 1..])?,
-        }),
+        None => Err(Misuse::Until),
     }
 }
 
@@ -258,11 +339,13 @@ fn last_of(found: &ArgMatches<'_>) -> Result<Option<u32>, CommandLineFault>
 pub(crate) fn shown_on(
     tape: Option<&str>,
     places: &PlaceOptions<'_>,
-) -> Result<WordSet, CommandLineFault> {
-    if tape.is_none() {
-        return Ok(WordSet::empty());
+) -> Result<WordSet, CommandLineFault>
+    ensures { IfOk result (AreShownOn (is_some tape.entry) places.now) }
+{
+    match tape {
+        None => Ok(WordSet::empty()),
+        Some(_) => Ok(places.shown(&OctalAddresses)?),
     }
-    Ok(places.shown(&OctalAddresses)?)
 }
 
 /// How the run of a tape is followed, if it may be stopped. Of a source that is not known yet.
@@ -270,7 +353,7 @@ pub(crate) fn stopping_on(
     tape: Option<&str>,
     places: &PlaceOptions<'_>,
 ) -> Result<Option<StopOptions>, CommandLineFault>
-    ensures { IfOk result (λ stopping. IsTrue (is_some tape.entry) → IsFollowed places.now stopping) }
+    ensures { IfOk result (IsStoppedOn (is_some tape.entry) places.now) }
 {
     match tape {
         None => Ok(None),

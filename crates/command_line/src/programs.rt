@@ -1,11 +1,11 @@
 //! What may be requested with a program and its declaration: the program is given by its tape, or with `--source` by
 //! its source. It is proved that the files of a program are those that were given.
 
-ghost use Rattle.std.specs.Prelude.{◌≡◌, IfOk, Some, codes, option_map, unwrap_or};
-ghost use Rattle.command_line.specs.ProgramCommands.{command_of};
-ghost use Rattle.command_line.specs.Outputs.{IsCertificateResultGiven, IsResultGiven};
-ghost use Rattle.command_line.specs.Options.{ArePlacesGiven, IsFlagGiven, IsVersionNamed, value, version_named};
-ghost use Rattle.command_line.specs.Requests.{IsDeclarationGiven, IsDeclareGiven, IsGuessGiven, IsProgramGiven, IsRefuteGiven, IsReportGiven, IsSessionGiven, IsTaskGiven, IsTaskOf, IsVerifyGiven};
+ghost use Rattle.std.specs.Prelude.{◌≡◌, IfOk, Some, codes, false, is_some, option_map, unwrap_or};
+ghost use Rattle.command_line.specs.Outputs.{IsCertificateResultGiven, IsKeptGiven, IsResultGiven};
+ghost use Rattle.command_line.specs.Options.{IsVersionNamed, operand, value, version_named};
+ghost use Rattle.command_line.specs.Requests.{IsDeclareGiven, IsFollowedOn, IsGuessGiven, IsOperated, IsWatchedRunGiven, IsProgramRequestGiven, IsRefuteGiven, IsReportGiven, IsTaskGiven, IsVerifyGiven, is_tape, last_of, part_names, watched_declaration, watched_tape};
+ghost use Rattle.command_line.specs.Sources.{IsPlaceGiven};
 
 use crate::fault::{CommandLineFault, Misuse};
 use crate::names::FileNames;
@@ -15,8 +15,8 @@ use crate::outputs::{
     Destination, SaveOptions, is_source_name, is_taken, kept_destination, no_input, no_source,
     report_of, save_of,
 };
-use crate::place_options::{OctalAddresses, PlaceOptions, StopOptions, places_of};
-use crate::program_command::{ProgramCommand, command_of};
+use crate::place_options::{PlaceOptions, StopOptions, places_of, shown_on, stopping_on};
+use crate::program_command::ProgramCommand;
 use crate::sources::source_names;
 use crate::values::{
     declare_options, is_given, is_start_named, operand_of, read_standard_input_once,
@@ -124,7 +124,9 @@ pub enum Task<'a> {
 
 impl<'a> ProgramNames<'a> {
     /// The name of the tape's file, if the program is given by its tape.
-    pub(crate) fn tape(&self) -> Option<&'a str> {
+    pub(crate) fn tape(&self) -> Option<&'a str>
+        ensures { is_some result ≡ is_tape self.now }
+    {
         match self {
             ProgramNames::Tape(name) => Some(name),
             ProgramNames::Source(_) => None,
@@ -132,7 +134,9 @@ impl<'a> ProgramNames<'a> {
     }
 
     /// The names of the files of a source's parts, if the program is given by its source.
-    pub fn parts(&self) -> &[&'a str] {
+    pub fn parts(&self) -> &[&'a str]
+        ensures { result.now ≡ part_names self.now }
+    {
         match self {
             ProgramNames::Tape(_) => &[],
             ProgramNames::Source(names) => names,
@@ -255,23 +259,40 @@ fn certificate_of<'a>(found: &ArgMatches<'a>, out: Option<&'a str>) -> Destinati
     }
 }
 
-/// The watched run with an operator that is requested. Of a source, the names of the tape and of the declaration are
-/// empty.
+/// The tape of a run that is watched with an operator. Of a source, its name is empty.
+fn watched_tape<'a>(program: &ProgramNames<'a>) -> &'a str
+    ensures { result.now ≡ watched_tape program.now }
+{
+    match program {
+        ProgramNames::Tape(name) => name,
+        ProgramNames::Source(_) => "",
+    }
+}
+
+/// The declaration of a run that is watched with an operator. Of a source, its name is empty.
+fn watched_declaration<'a>(operands: &Operands<'a>) -> &'a str
+    ensures { result.now ≡ watched_declaration operands.now.program
+        (option_map (λ name. name.now) operands.now.declaration) }
+{
+    match &operands.program {
+        ProgramNames::Tape(_) => name_or_input(&operands.declaration),
+        ProgramNames::Source(_) => "",
+    }
+}
+
+/// The watched run with an operator that is requested.
 fn session_on<'a>(
     found: &ArgMatches<'a>,
     operands: &Operands<'a>,
     followed: WatchedRunOptions,
 ) -> Result<WatchedSession<'a>, CommandLineFault>
-    ensures { IfOk result (IsSessionGiven found.now) }
+    ensures { IfOk result (IsWatchedRunGiven found.now operands.now followed) }
 {
+    let tape = watched_tape(&operands.program);
+    let declaration = watched_declaration(operands);
     let WatchedRunOptions { show, stopping } = followed;
-    match operands.program.tape() {
-        Some(tape) => {
-            let declaration = operands.declaration.unwrap_or("-");
-            watched_session_of(tape, declaration, show, stopping, found)
-        }
-        None => watched_session_of("", "", show, stopping, found),
-    }
+    let session = watched_session_of(tape, declaration, show, stopping, found)?;
+    Ok(session)
 }
 
 /// The same, of which each input is another file.
@@ -281,7 +302,7 @@ fn session_of_operands<'a>(
     operands: &Operands<'a>,
     followed: WatchedRunOptions,
 ) -> Result<WatchedSession<'a>, CommandLineFault>
-    ensures { IfOk result (IsSessionGiven found.now) }
+    ensures { IfOk result (IsWatchedRunGiven found.now operands.now followed) }
 {
     let session = session_on(found, operands, followed)?;
     let inputs = inputs_of(alloc, operands, &[session.reader, session.keys])?;
@@ -321,8 +342,7 @@ fn guess_task<'a>(
     operands: &Operands<'a>,
     inputs: &[&'a str],
 ) -> Result<Task<'a>, CommandLineFault>
-    ensures { IfOk result (IsGuessGiven found.now
-        (option_map (λ name. name.now) operands.now.last)) }
+    ensures { IfOk result (IsGuessGiven found.now (last_of operands.now)) }
 {
     let is_tape = operands.program.tape().is_some();
     let out = no_source(certificate_of(found, operands.last), inputs)?;
@@ -352,7 +372,7 @@ fn verify_task<'a>(
     operands: &Operands<'a>,
     inputs: &[&'a str],
 ) -> Result<Task<'a>, CommandLineFault>
-    ensures { IfOk result (IsVerifyGiven found.now) }
+    ensures { IfOk result (IsVerifyGiven found.now operands.now) }
 {
     let save = save_of(found, inputs, operands.declaration.is_none())?;
     let options = verify_options(found)?;
@@ -365,8 +385,7 @@ fn refute_task<'a>(
     operands: &Operands<'a>,
     inputs: &[&'a str],
 ) -> Result<Task<'a>, CommandLineFault>
-    ensures { IfOk result (IsRefuteGiven found.now
-        (option_map (λ name. name.now) operands.now.last)) }
+    ensures { IfOk result (IsRefuteGiven found.now (last_of operands.now)) }
 {
     let out = no_source(result_of(found, operands.last), inputs)?;
     let options = refute_options(found)?;
@@ -379,8 +398,7 @@ fn declare_task<'a>(
     operands: &Operands<'a>,
     inputs: &[&'a str],
 ) -> Result<Task<'a>, CommandLineFault>
-    ensures { IfOk result (IsDeclareGiven found.now
-        (option_map (λ name. name.now) operands.now.last)) }
+    ensures { IfOk result (IsDeclareGiven found.now (last_of operands.now)) }
 {
     let out = no_source(result_of(found, operands.last), inputs)?;
     let options = declare_options(found)?;
@@ -398,8 +416,7 @@ fn report_task<'a>(
     operands: &Operands<'a>,
     inputs: &[&'a str],
 ) -> Result<Task<'a>, CommandLineFault>
-    ensures { IfOk result (IsReportGiven found.now
-        (option_map (λ name. name.now) operands.now.last)) }
+    ensures { IfOk result (IsReportGiven found.now (last_of operands.now)) }
 {
     let named = found.get_str("OUT");
     let out = no_source(result_of(found, named), inputs)?;
@@ -429,8 +446,8 @@ fn task_of<'a>(
     inputs: &[&'a str],
     followed: WatchedRunOptions,
 ) -> Result<Task<'a>, CommandLineFault>
-    ensures { IfOk result (IsTaskGiven called found.now
-        (option_map (λ name. name.now) operands.now.last)) }
+    requires { IsOperated called found.now false }
+    ensures { IfOk result (IsTaskGiven called found.now operands.now followed) }
 {
     match called {
         ProgramCommand::Verify => verify_task(found, operands, inputs),
@@ -460,17 +477,13 @@ struct WatchedRunOptions {
 fn followed_on(
     operands: &Operands<'_>,
     places: &PlaceOptions<'_>,
-) -> Result<WatchedRunOptions, CommandLineFault> {
-    if operands.program.tape().is_none() {
-        return Ok(WatchedRunOptions {
-            show: WordSet::empty(),
-            stopping: None,
-        });
-    }
-    Ok(WatchedRunOptions {
-        show: places.shown(&OctalAddresses)?,
-        stopping: places.stopping(&OctalAddresses)?,
-    })
+) -> Result<WatchedRunOptions, CommandLineFault>
+    ensures { IfOk result (IsFollowedOn operands.now.program places.now) }
+{
+    let tape = operands.program.tape();
+    let show = shown_on(tape, places)?;
+    let stopping = stopping_on(tape, places)?;
+    Ok(WatchedRunOptions { show, stopping })
 }
 
 /// The last operand of a command, if it is an input.
@@ -481,19 +494,27 @@ fn last_input<'a>(called: ProgramCommand, operands: &Operands<'a>) -> Option<&'a
     }
 }
 
+/// Whether a command is `watch` with an operator.
+fn is_operated(called: ProgramCommand, found: &ArgMatches<'_>) -> bool
+    ensures { IsOperated called found.now result }
+{
+    match called {
+        ProgramCommand::Watch => is_watched_with_operator(found),
+        _ => false,
+    }
+}
+
 /// What a command asks for whose operands are these.
 fn task_on<'a>(
     alloc: Global,
     called: ProgramCommand,
     found: &ArgMatches<'a>,
     operands: &Operands<'a>,
-    places: &PlaceOptions<'a>,
+    followed: WatchedRunOptions,
 ) -> Result<Task<'a>, CommandLineFault>
-    ensures { IfOk result (IsTaskGiven called found.now
-        (option_map (λ name. name.now) operands.now.last)) }
+    ensures { IfOk result (IsTaskGiven called found.now operands.now followed) }
 {
-    let followed = followed_on(operands, places)?;
-    if called == ProgramCommand::Watch && is_watched_with_operator(found) {
+    if is_operated(called, found) {
         let session = session_of_operands(alloc, found, operands, followed)?;
         return Ok(Task::WatchSession(session));
     }
@@ -506,26 +527,15 @@ fn task_on<'a>(
 /// The request of a command on a program and its declaration.
 pub(crate) fn program_request<'a>(
     alloc: Global,
-    command: &str,
+    called: ProgramCommand,
     found: &ArgMatches<'a>,
 ) -> Result<ProgramRequest<'a>, CommandLineFault>
-    // The files of the program are those that were given, and so is the declaration: one is proposed for a tape only if none
-    // is given to `verify` or `declare`.
-    ensures program { IfOk result (λ asked. IsProgramGiven found.now asked.program) }
-    ensures declaration { IfOk result (λ asked. IsDeclarationGiven (command_of command.now) found.now
-        asked.program (option_map (λ name. name.now) asked.declaration)) }
-    // What is done is what the command is called for, with its last operand and as its options ask.
-    ensures task { IfOk result (λ asked.
-        IsTaskOf (command_of command.now) found.now asked.program asked.task) }
-    ensures explained { IfOk result (λ asked.
-        IsFlagGiven found.now (codes "why") asked.explained) }
-    // The words that name cells and places of a run are those that were given.
-    ensures places { IfOk result (λ asked. ArePlacesGiven found.now asked.places) }
+    ensures { IfOk result (IsProgramRequestGiven called found.now) }
 {
-    let called = command_of(command);
     let operands = operands_of(alloc, called, found)?;
     let places = places_of(alloc, found)?;
-    let task = task_on(alloc, called, found, &operands, &places)?;
+    let followed = followed_on(&operands, &places)?;
+    let task = task_on(alloc, called, found, &operands, followed)?;
     let Operands {
         program,
         declaration,
@@ -541,22 +551,39 @@ pub(crate) fn program_request<'a>(
     })
 }
 
+/// Where the declaration in numbers goes, which is none of these inputs and is not named like a source.
+fn placed_destination<'a>(
+    found: &ArgMatches<'a>,
+    inputs: &[&str],
+) -> Result<Destination<'a>, CommandLineFault>
+    ensures { IfOk result (IsKeptGiven (value found.now (codes "output"))
+        (operand found.now (codes "OUT"))) }
+{
+    let out = no_input(kept_destination(found), inputs)?;
+    if is_source_name(out.name()) {
+        return Err(CommandLineFault::Misuse(Misuse::PlacedIsSource));
+    }
+    Ok(out)
+}
+
 /// The request for the declaration of a source in numbers.
 pub(crate) fn place_request<'a>(
     alloc: Global,
     found: &ArgMatches<'a>,
-) -> Result<ProgramRequest<'a>, CommandLineFault> {
+) -> Result<ProgramRequest<'a>, CommandLineFault>
+    ensures { IfOk result (IsPlaceGiven found.now) }
+{
+    let names = source_names(alloc, found)?;
+    let declaration = found.get_str("declaration");
     let operands = Operands {
-        program: ProgramNames::Source(source_names(alloc, found)?),
-        declaration: found.get_str("declaration"),
+        program: ProgramNames::Source(names),
+        declaration,
         last: None,
     };
     let inputs = inputs_of(alloc, &operands, &[])?;
     read_standard_input_once(&inputs)?;
-    let out = no_input(kept_destination(found), &inputs)?;
-    if is_source_name(out.name()) {
-        return Err(CommandLineFault::Misuse(Misuse::PlacedIsSource));
-    }
+    let out = placed_destination(found, &inputs)?;
+    let places = places_of(alloc, found)?;
     let Operands {
         program,
         declaration,
@@ -566,8 +593,8 @@ pub(crate) fn place_request<'a>(
         program,
         declaration,
         task: Task::Place { out },
-        places: places_of(alloc, found)?,
+        places,
         asked: false,
-        explained: found.get_flag("why"),
+        explained: is_given(found, "why"),
     })
 }

@@ -1,5 +1,9 @@
 //! What the command line asks for.
 
+ghost use Rattle.std.specs.Prelude.{IfOk, map};
+ghost use Rattle.command_line.specs.CommandLines.{IsExplainGiven, IsLineGiven, IsRequestGiven};
+
+use crate::command_name::{CommandName, called_of};
 use crate::commands::command;
 use crate::fault::CommandLineFault;
 use crate::operator::{Session, TeletypeSession};
@@ -9,6 +13,7 @@ use crate::sources::{AssembleRequest, ListRequest, assemble_request, list_reques
 use crate::tapes::{
     DumpRequest, MigrateRequest, RunRequest, SourceRequest, migrate_request, source_request,
 };
+use crate::values::is_given;
 use clap::ArgMatches;
 use std::alloc::Global;
 use std::convert::AsStr;
@@ -54,24 +59,34 @@ pub struct CommandLine<'a> {
     pub explained: bool,
 }
 
+/// What `explain` asks for.
+fn explain_request<'a>(found: &ArgMatches<'a>) -> Request<'a>
+    ensures { IsExplainGiven found.now result }
+{
+    let code = found.get_str("CODE");
+    let number = found.get_str("NUMBER");
+    Request::Explain { code, number }
+}
+
 /// What a command asks for, with what was found after it.
 fn request_of<'a>(
     alloc: Global,
-    command: &str,
+    called: CommandName,
     found: &ArgMatches<'a>,
-) -> Result<Request<'a>, CommandLineFault> {
-    match command {
-        "run" | "teletype" | "dump" => machine_request(alloc, command, found),
-        "assemble" => Ok(Request::Assemble(assemble_request(alloc, found)?)),
-        "list" => Ok(Request::List(list_request(alloc, found)?)),
-        "source" => Ok(Request::Source(source_request(found)?)),
-        "migrate" => Ok(Request::Migrate(migrate_request(found)?)),
-        "place" => Ok(Request::Program(place_request(alloc, found)?)),
-        "explain" => Ok(Request::Explain {
-            code: found.get_str("CODE"),
-            number: found.get_str("NUMBER"),
-        }),
-        _ => Ok(Request::Program(program_request(alloc, command, found)?)),
+) -> Result<Request<'a>, CommandLineFault>
+    ensures { IfOk result (IsRequestGiven called found.now) }
+{
+    match called {
+        CommandName::Machine(command) => machine_request(alloc, command, found),
+        CommandName::Assemble => Ok(Request::Assemble(assemble_request(alloc, found)?)),
+        CommandName::List => Ok(Request::List(list_request(alloc, found)?)),
+        CommandName::Source => Ok(Request::Source(source_request(found)?)),
+        CommandName::Migrate => Ok(Request::Migrate(migrate_request(found)?)),
+        CommandName::Place => Ok(Request::Program(place_request(alloc, found)?)),
+        CommandName::Explain => Ok(explain_request(found)),
+        CommandName::Program(command) => {
+            Ok(Request::Program(program_request(alloc, command, found)?))
+        }
     }
 }
 
@@ -80,14 +95,16 @@ fn request_of<'a>(
 pub fn parse_arguments<'a, S: AsStr>(
     alloc: Global,
     arguments: &'a [S],
-) -> Result<CommandLine<'a>, CommandLineFault> {
-    let matches = command(alloc)?.try_get_matches_from(arguments)?;
-    match matches.subcommand() {
-        Some((name, found)) => Ok(CommandLine {
-            request: request_of(alloc, name, found)?,
-            explained: found.get_flag("why"),
-        }),
+) -> Result<CommandLine<'a>, CommandLineFault>
+    ensures { IfOk result (IsLineGiven (map S.text arguments.now)) }
+{
+    let table = command(alloc)?;
+    let matches = table.try_get_matches_from(arguments)?;
+    let Some((name, found)) = matches.subcommand() else {
         // clap refuses a line without a command, so this is not reached.
-        None => Err(CommandLineFault::Memory),
-    }
+        return Err(CommandLineFault::Memory);
+    };
+    let request = request_of(alloc, called_of(name), found)?;
+    let explained = is_given(found, "why");
+    Ok(CommandLine { request, explained })
 }

@@ -1,8 +1,11 @@
 //! What may be requested with a source in place of a tape, without a declaration.
 
-ghost use Rattle.std.specs.Prelude.{◌≡◌, IfOk};
-ghost use Rattle.command_line.specs.Sources.{IsMachineGiven, IsMachineTaskGiven};
+ghost use Rattle.std.specs.Prelude.{◌≡◌, IfOk, None, Some, map};
+ghost use Rattle.command_line.specs.Options.{ArePlacesGiven, sources_given};
+ghost use Rattle.command_line.specs.Sources.{IsMachineGiven, IsMachineTaskGiven, IsTapeTaskGiven};
+ghost use Rattle.command_line.specs.declared.command_name.MachineCommand.TheVariants.{Run};
 
+use crate::command_name::MachineCommand;
 use crate::fault::CommandLineFault;
 use crate::names::FileNames;
 use crate::operands::copied;
@@ -72,36 +75,64 @@ impl<'a> MachineTask<'a> {
     }
 }
 
-/// What `run`, `teletype` or `dump` asks for with a tape.
-fn tape_request<'a>(
-    command: &str,
-    found: &ArgMatches<'a>,
-    places: &PlaceOptions<'a>,
-) -> Result<Request<'a>, CommandLineFault>
-    ensures { IfOk result (IsMachineGiven found.now) }
-{
-    Ok(match command {
-        "dump" => Request::Dump(dump_request(found)?),
-        "teletype" => Request::Teletype(teletype_of(found, places)?),
-        _ if has_operator(found) => Request::Session(session_of(found, places)?),
-        _ => Request::Run(run_request(found, places)?),
-    })
-}
-
-/// What `run`, `teletype` or `dump` asks for with a source.
-fn task_of<'a>(
-    command: &str,
+/// What `run` asks for: a run with an operator or without one.
+fn run_task<'a>(
     found: &ArgMatches<'a>,
     places: &PlaceOptions<'a>,
 ) -> Result<MachineTask<'a>, CommandLineFault>
-    ensures { IfOk result (IsMachineTaskGiven found.now) }
+    ensures { IfOk result (IsMachineTaskGiven Run found.now places.now) }
 {
-    Ok(match command {
-        "dump" => MachineTask::Dump(dump_request(found)?),
-        "teletype" => MachineTask::Teletype(teletype_of(found, places)?),
-        _ if has_operator(found) => MachineTask::Session(session_of(found, places)?),
-        _ => MachineTask::Run(run_request(found, places)?),
-    })
+    if has_operator(found) {
+        let session = session_of(found, places)?;
+        return Ok(MachineTask::Session(session));
+    }
+    let run = run_request(found, places)?;
+    Ok(MachineTask::Run(run))
+}
+
+/// What `run`, `teletype` or `dump` asks for with a program.
+fn task_of<'a>(
+    called: MachineCommand,
+    found: &ArgMatches<'a>,
+    places: &PlaceOptions<'a>,
+) -> Result<MachineTask<'a>, CommandLineFault>
+    ensures { IfOk result (IsMachineTaskGiven called found.now places.now) }
+{
+    match called {
+        MachineCommand::Run => run_task(found, places),
+        MachineCommand::Teletype => Ok(MachineTask::Teletype(teletype_of(found, places)?)),
+        MachineCommand::Dump => Ok(MachineTask::Dump(dump_request(found)?)),
+    }
+}
+
+/// What `run` asks for with a tape: a run with an operator or without one.
+fn tape_run_request<'a>(
+    found: &ArgMatches<'a>,
+    places: &PlaceOptions<'a>,
+) -> Result<Request<'a>, CommandLineFault>
+    ensures { IfOk result (IsTapeTaskGiven Run found.now places.now) }
+{
+    if has_operator(found) {
+        let session = session_of(found, places)?;
+        return Ok(Request::Session(session));
+    }
+    let run = run_request(found, places)?;
+    Ok(Request::Run(run))
+}
+
+/// What `run`, `teletype` or `dump` asks for with a tape.
+fn tape_request<'a>(
+    called: MachineCommand,
+    found: &ArgMatches<'a>,
+    places: &PlaceOptions<'a>,
+) -> Result<Request<'a>, CommandLineFault>
+    ensures { IfOk result (IsTapeTaskGiven called found.now places.now) }
+{
+    match called {
+        MachineCommand::Run => tape_run_request(found, places),
+        MachineCommand::Teletype => Ok(Request::Teletype(teletype_of(found, places)?)),
+        MachineCommand::Dump => Ok(Request::Dump(dump_request(found)?)),
+    }
 }
 
 /// The names of a task's inputs and of the parts of a source.
@@ -124,22 +155,52 @@ fn inputs_of<'a>(
 /// The request of `run`, `teletype` or `dump`.
 pub(crate) fn machine_request<'a>(
     alloc: Global,
-    command: &str,
+    called: MachineCommand,
     found: &ArgMatches<'a>,
 ) -> Result<Request<'a>, CommandLineFault>
-    ensures { IfOk result (IsMachineGiven found.now) }
+    ensures { IfOk result (IsMachineGiven called found.now) }
 {
     let places = places_of(alloc, found)?;
-    let Some(names) = found.get_strs("source") else {
-        return tape_request(command, found, &places);
-    };
-    let task = task_of(command, found, &places)?;
+    match found.get_strs("source") {
+        None => unsourced_request(called, found, &places),
+        Some(names) => sourced_request(alloc, called, found, names, places),
+    }
+}
+
+/// The request of `run`, `teletype` or `dump` without a source.
+fn unsourced_request<'a>(
+    called: MachineCommand,
+    found: &ArgMatches<'a>,
+    places: &PlaceOptions<'a>,
+) -> Result<Request<'a>, CommandLineFault>
+    requires sources { sources_given found.now ≡ None }
+    requires places { ArePlacesGiven found.now places.now }
+    ensures { IfOk result (IsMachineGiven called found.now) }
+{
+    let requested = tape_request(called, found, places)?;
+    Ok(requested)
+}
+
+/// The request of `run`, `teletype` or `dump` with a source, which gives these parts.
+fn sourced_request<'a>(
+    alloc: Global,
+    called: MachineCommand,
+    found: &ArgMatches<'a>,
+    names: &[&'a str],
+    places: PlaceOptions<'a>,
+) -> Result<Request<'a>, CommandLineFault>
+    requires sources { sources_given found.now ≡ Some (map (λ name. name.now) names.now) }
+    requires places { ArePlacesGiven found.now places }
+    ensures { IfOk result (IsMachineGiven called found.now) }
+{
+    let task = task_of(called, found, &places)?;
     let parts = copied(alloc, names)?;
     read_standard_input_once(&inputs_of(alloc, &task, &parts)?)?;
+    let explained = is_given(found, "why");
     Ok(Request::Sourced(SourceProgramRequest {
         parts,
         places,
         task,
-        explained: is_given(found, "why"),
+        explained,
     }))
 }

@@ -1,7 +1,7 @@
 //! What may be requested with a tape alone, or with a certificate alone.
 
-ghost use Rattle.std.specs.Prelude.{◌≡◌, IfOk, codes, option_map};
-ghost use Rattle.command_line.specs.Machines.{IsDumpGiven, IsMigrateGiven, IsRunGiven, IsSourceGiven, tape_given};
+ghost use Rattle.std.specs.Prelude.{◌≡◌, IfOk, Some, codes, is_some, option_map};
+ghost use Rattle.command_line.specs.Machines.{IsDumpGiven, IsMigrateGiven, IsRunGiven, IsSourceGiven, migrated_version, tape_given, version_with};
 ghost use Rattle.command_line.specs.Options.{value};
 
 use crate::fault::{CommandLineFault, Misuse};
@@ -60,7 +60,7 @@ pub(crate) fn run_request<'a>(
     found: &ArgMatches<'a>,
     places: &PlaceOptions<'a>,
 ) -> Result<RunRequest<'a>, CommandLineFault>
-    ensures { IfOk result (IsRunGiven found.now) }
+    ensures { IfOk result (IsRunGiven found.now places.now) }
 {
     let tape = tape_of(found)?;
     let events = found.get_str("events");
@@ -191,17 +191,40 @@ impl<'a> MigrateRequest<'a> {
     }
 }
 
+/// Whether this text asks for version 3 of a certificate, and not for version 2.
+fn is_third_named(text: &str) -> Result<bool, CommandLineFault>
+    ensures { IfOk result (λ is_third. migrated_version (Some text.now) ≡
+        Some (version_with is_third)) }
+{
+    match text {
+        "2" => Ok(false),
+        "3" => Ok(true),
+        _ => Err(CommandLineFault::Misuse(Misuse::Version)),
+    }
+}
+
+/// Whether version 3 of a certificate is requested, and not version 2.
+fn is_third_requested(found: &ArgMatches<'_>) -> Result<bool, CommandLineFault>
+    ensures { IfOk result (λ is_third.
+        migrated_version (value found.now (codes "certificate")) ≡
+        Some (version_with is_third)) }
+{
+    match found.get_str("certificate") {
+        None => Ok(false),
+        Some(text) => is_third_named(text),
+    }
+}
+
 /// The name of the declaration's file, which is given if version 3 is requested, and only then.
 fn declaration_of_sites<'a>(found: &ArgMatches<'a>) -> Result<Option<&'a str>, CommandLineFault>
-    ensures { IfOk result (λ name. option_map (λ it. it.now) name ≡
+    ensures named { IfOk result (λ name. option_map (λ it. it.now) name ≡
         value found.now (codes "declaration")) }
+    ensures version { IfOk result (λ name.
+        migrated_version (value found.now (codes "certificate")) ≡
+        Some (version_with (is_some name))) }
 {
     let declaration = found.get_str("declaration");
-    let is_third = match found.get_str("certificate") {
-        None | Some("2") => false,
-        Some("3") => true,
-        Some(_) => return Err(CommandLineFault::Misuse(Misuse::Version)),
-    };
+    let is_third = is_third_requested(found)?;
     if declaration.is_some() != is_third {
         return Err(CommandLineFault::Misuse(Misuse::VersionAndDeclaration));
     }

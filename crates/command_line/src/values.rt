@@ -3,7 +3,7 @@
 ghost use Rattle.std.specs.Prelude.{◌≡◌, ◌≤◌, IfOk, IfErr, Ok, Some, codes, is_some};
 ghost use Rattle.std.specs.List.{count_by};
 ghost use Rattle.command_line.specs.Outputs.{is_standard_input};
-ghost use Rattle.command_line.specs.Options.{AreDeclareOptions, AreRefinements, AreRefuteOptions, AreRunOptions, AreVerifyOptions, IsFlagGiven, IsNumberNamed, machine_given, machine_named, number_or, operand, start_given, value, value_or};
+ghost use Rattle.command_line.specs.Options.{AreDeclareOptions, AreRefinements, AreRefuteOptions, AreRunOptions, AreVerifyOptions, IsFlagGiven, IsNumberNamed, is_start_named, machine_given, machine_named, number_or, operand, start_given, value, value_or};
 
 use crate::fault::{CommandLineFault, Misuse};
 use clap::ArgMatches;
@@ -99,8 +99,10 @@ pub(crate) fn start_of(found: &ArgMatches<'_>) -> Result<Word, CommandLineFault>
 }
 
 /// Whether a start or a machine is named.
-pub(crate) fn is_start_named(found: &ArgMatches<'_>) -> bool {
-    found.get_str("start").is_some() || found.get_str("profile").is_some()
+pub(crate) fn is_start_named(found: &ArgMatches<'_>) -> bool
+    ensures { result ≡ is_start_named found.now }
+{
+    has_value(found, "start") || has_value(found, "profile")
 }
 
 /// The number between two others that an option spells; another number where it is left out.

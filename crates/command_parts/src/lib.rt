@@ -8,4 +8,5 @@ pub mod outcome;
 pub mod programs;
 pub mod status;
 pub mod text;
+pub mod text_sink;
 pub mod visible;

@@ -1,5 +1,12 @@
 //! What is said about a pointer where a search for a certificate is stuck: the words that it may hold there, those that would be
-//! enough, and the last place where fewer were known. It is tested, not proved.
+//! enough, and the last place where fewer were known. That the draft leaves these words to it, and that fewer were known there, is tested,
+//! not proved.
+
+ghost use Rattle.std.specs.Prelude.{◌≡◌, ◌++◌, OnOk, IfSome};
+ghost use Rattle.wordset.specs.Lanes.{words};
+ghost use Rattle.bin_tape.specs.Image.{word_at};
+ghost use Rattle.declaration.specs.DeclarationInCode.{meaning};
+ghost use Rattle.diagnostics.specs.BoundText.{IsPointer, LosesBound, SaysBound, SaysLost, SaysSufficient, SaysTest, name_at, place_text, relation_line, sum_text};
 
 mod draft_facts;
 mod losses;
@@ -14,7 +21,7 @@ use crate::bounds::sets::push_set;
 use crate::bounds::sufficient::{sufficient_words, test_of_pointer};
 use bin_tape::Image;
 use certificate::Certificate;
-use command_parts::message::{MessageWriter, push_text_and_address};
+use command_parts::message::{MessageWriter, push_text_and_address, push_text_and_word};
 use declaration::Declaration;
 use domain::Location;
 use instruct::{name, refers_indirectly, target};
@@ -27,13 +34,15 @@ const ADDRESSES: usize = 4096;
 
 /// The variable by which the instruction at an address refers to memory, if it does, except for a
 /// return.
-fn pointer_at<D: Allocator>(image: &Image, declaration: &Declaration<D>, at: Word) -> Option<Word> {
+fn pointer_at<D: Allocator>(image: &Image, declaration: &Declaration<D>, at: Word) -> Option<Word>
+    ensures { IfSome result (λ cell. IsPointer image.now (meaning declaration.now) at cell) }
+{
     let word = image.get(at)?;
     let named = target(word, at);
-    let is_told = refers_to_memory(word)
-        && refers_indirectly(word)
-        && declaration.is_variable(named);
-    is_told.then_some(named)
+    if refers_to_memory(word) && refers_indirectly(word) && declaration.is_variable(named) {
+        return Some(named);
+    }
+    None
 }
 
 /// Where the bound of a pointer was lost: behind an instruction, on the way to an address, and why.
@@ -118,7 +127,10 @@ pub fn push_bound<A: Allocator + Copy, L: MessageWriter, D: Allocator, C: Alloca
     declaration: &Declaration<D>,
     draft: &Certificate<C>,
     at: Word,
-) -> Result<(), AllocError> {
+) -> Result<(), AllocError>
+    ensures { OnOk result (SaysBound image.now (meaning declaration.now) at
+        (L.text text.old) (L.text text.new)) }
+{
     let Some(pointer) = pointer_at(image, declaration, at) else {
         return Ok(());
     };
@@ -128,11 +140,37 @@ pub fn push_bound<A: Allocator + Copy, L: MessageWriter, D: Allocator, C: Alloca
     }
     push_text_and_address(text, b"the pointer ", pointer)?;
     text.push_text(b" may hold ")?;
-    let words = known.words_at(at, &Location::Cell(pointer));
-    push_set(text, &words)?;
+    let held = known.words_at(at, &Location::Cell(pointer));
+    push_set(text, &held)?;
     text.push_text(b" there\n")?;
-    push_sufficient(text, image, declaration, at, pointer, &words)?;
-    let Some(lost) = lost_before(alloc, image, declaration, &mut known, pointer, at)? else {
+    push_sufficient(text, image, declaration, at, pointer, &held)?;
+    push_lost_before(
+        alloc,
+        text,
+        image,
+        declaration,
+        draft,
+        &mut known,
+        pointer,
+        at,
+    )
+}
+
+/// Adds where the bound of a pointer was lost before an address, if it was.
+fn push_lost_before<A: Allocator + Copy, L: MessageWriter, D: Allocator, C: Allocator>(
+    alloc: A,
+    text: &mut L,
+    image: &Image,
+    declaration: &Declaration<D>,
+    draft: &Certificate<C>,
+    known: &mut DraftFacts<'_, C>,
+    pointer: Word,
+    at: Word,
+) -> Result<(), AllocError>
+    ensures { OnOk result (SaysLost image.now (meaning declaration.now) pointer
+        (L.text text.old) (L.text text.new)) }
+{
+    let Some(lost) = lost_before(alloc, image, declaration, known, pointer, at)? else {
         return Ok(());
     };
     push_lost(alloc, text, image, declaration, draft, pointer, &lost)
@@ -146,13 +184,16 @@ fn push_sufficient<L: MessageWriter, D: Allocator>(
     declaration: &Declaration<D>,
     at: Word,
     pointer: Word,
-    words: &WordSet,
-) -> Result<(), AllocError> {
+    held: &WordSet,
+) -> Result<(), AllocError>
+    ensures { OnOk result (SaysSufficient image.now (meaning declaration.now) at pointer
+        (words held.now) (L.text text.old) (L.text text.new)) }
+{
     let Some(word) = image.get(at) else {
         return Ok(());
     };
-    let sufficient = sufficient_words(declaration, at, word).meet(words);
-    if sufficient.is_empty() || words.is_subset(&sufficient) {
+    let sufficient = sufficient_words(declaration, at, word).meet(held);
+    if sufficient.is_empty() || held.is_subset(&sufficient) {
         return Ok(());
     }
     text.push_text(b"for this instruction, it would be enough if the pointer held only ")?;
@@ -168,19 +209,23 @@ fn push_test<L: MessageWriter, D: Allocator>(
     declaration: &Declaration<D>,
     at: Word,
     pointer: Word,
-) -> Result<(), AllocError> {
+) -> Result<(), AllocError>
+    ensures { OnOk result (SaysTest image.now (meaning declaration.now) at pointer
+        (L.text text.old) (L.text text.new)) }
+{
     match test_of_pointer(image, declaration, at, pointer) {
         Some(test) => {
-            push_text_and_address(text, b"the skip at ", test)?;
-            text.push_text(b" ")?;
-            push_name(text, image, declaration, test)?;
+            push_place(text, image, declaration, b"the skip at ", test)?;
             text.push_text(
                 b" tests a sum that contains the pointer, and could show that the pointer holds only the words that would be enough\n",
             )
         }
-        None => text.push_text(
-            b"no skip in this body tests a sum that contains the pointer; a test or a mask before this instruction could show that the pointer holds only the words that would be enough\n",
-        ),
+        None => {
+            text.push_text(b"no skip in this body ")?;
+            text.push_text(
+                b"tests a sum that contains the pointer; a test or a mask before this instruction could show that the pointer holds only the words that would be enough\n",
+            )
+        }
     }
 }
 
@@ -194,14 +239,17 @@ fn push_lost<A: Allocator + Copy, L: MessageWriter, D: Allocator, C: Allocator>(
     draft: &Certificate<C>,
     pointer: Word,
     lost: &LostBound,
-) -> Result<(), AllocError> {
+) -> Result<(), AllocError>
+    ensures { OnOk result (SaysLost image.now (meaning declaration.now) pointer
+        (L.text text.old) (L.text text.new)) }
+{
     if lost.loss != PrecisionLoss::Meeting {
         return push_loss(text, image, declaration, pointer, lost);
     }
     let (from, head) = (lost.from, lost.to);
     let found = lost_relation(alloc, image, declaration, draft, pointer, from, head)?;
     match found {
-        Some((relation, at)) => push_relation(text, image, declaration, &relation, at),
+        Some((relation, at)) => push_relation(text, image, declaration, pointer, &relation, at),
         None => push_loss(text, image, declaration, pointer, lost),
     }
 }
@@ -212,28 +260,60 @@ fn push_name<L: MessageWriter, D: Allocator>(
     image: &Image,
     declaration: &Declaration<D>,
     at: Word,
-) -> Result<(), AllocError> {
+) -> Result<(), AllocError>
+    ensures { OnOk result (L.text text.new ≡
+        L.text text.old ++ name_at (meaning declaration.now) (word_at image.now at)) }
+{
     match image.get(at) {
         Some(word) => text.push_text(name(word, declaration.profile()).as_str().as_bytes()),
         None => Ok(()),
     }
 }
 
-/// Adds a relation that a loop keeps on one way, and the instruction at which it is lost on another.
+/// Adds an address behind a few words, and the name of the word there.
+fn push_place<L: MessageWriter, D: Allocator>(
+    text: &mut L,
+    image: &Image,
+    declaration: &Declaration<D>,
+    before: &[u8],
+    at: Word,
+) -> Result<(), AllocError>
+    ensures { OnOk result (L.text text.new ≡
+        L.text text.old ++ place_text (meaning declaration.now) image.now before.now at) }
+{
+    push_text_and_address(text, before, at)?;
+    text.push_text(b" ")?;
+    push_name(text, image, declaration, at)
+}
+
+/// Adds that the word in a pointer is the word in another cell and so much more.
+fn push_sum<L: MessageWriter>(
+    text: &mut L,
+    pointer: Word,
+    cell: Word,
+    more: Word,
+) -> Result<(), AllocError>
+    ensures { OnOk result (L.text text.new ≡ L.text text.old ++ sum_text pointer cell more) }
+{
+    push_text_and_address(text, b"the word in ", pointer)?;
+    push_text_and_address(text, b" is the word in ", cell)?;
+    push_text_and_word(text, b" plus ", more)
+}
+
+/// Adds a relation of a pointer that a loop keeps on one way, and the instruction at which it is lost on another.
 fn push_relation<L: MessageWriter, D: Allocator>(
     text: &mut L,
     image: &Image,
     declaration: &Declaration<D>,
+    pointer: Word,
     relation: &Relation,
     at: Word,
-) -> Result<(), AllocError> {
-    push_text_and_address(text, b"the word in ", relation.pointer)?;
-    push_text_and_address(text, b" is the word in ", relation.cell)?;
-    text.push_text(b" plus ")?;
-    text.push_text(&relation.more.to_octal())?;
-    push_text_and_address(text, b"; this is known up to ", at)?;
-    text.push_text(b" ")?;
-    push_name(text, image, declaration, at)?;
+) -> Result<(), AllocError>
+    ensures { OnOk result (L.text text.new ≡ L.text text.old ++ relation_line
+        (meaning declaration.now) image.now pointer relation.now.cell relation.now.more at) }
+{
+    push_sum(text, pointer, relation.cell, relation.more)?;
+    push_place(text, image, declaration, b"; this is known up to ", at)?;
     text.push_text(b", and lost there\n")
 }
 
@@ -244,11 +324,12 @@ fn push_loss<L: MessageWriter, D: Allocator>(
     declaration: &Declaration<D>,
     pointer: Word,
     lost: &LostBound,
-) -> Result<(), AllocError> {
+) -> Result<(), AllocError>
+    ensures { OnOk result (LosesBound image.now (meaning declaration.now) pointer
+        (L.text text.old) (L.text text.new)) }
+{
     push_text_and_address(text, b"the bound of ", pointer)?;
-    push_text_and_address(text, b" was lost at ", lost.from)?;
-    text.push_text(b" ")?;
-    push_name(text, image, declaration, lost.from)?;
+    push_place(text, image, declaration, b" was lost at ", lost.from)?;
     text.push_text(b": ")?;
     text.push_text(lost.loss.told())?;
     text.push_text(b"\n")

@@ -1,5 +1,9 @@
 //! The lines for people below the line of a fault: which file, which place or line, and what may stand there; and
-//! what a declaration leaves out. They are tested, not proved.
+//! what a declaration leaves out. Which form a line is to have is tested, not proved.
+
+ghost use Rattle.std.specs.Prelude.{OnOk};
+ghost use Rattle.std.specs.String.{string_bytes};
+ghost use Rattle.diagnostics.specs.FaultText.{SaysCertificate, SaysEvents, SaysFault, SaysFile, SaysLine, SaysMore};
 
 mod declarations;
 mod forms;
@@ -10,11 +14,17 @@ mod tapes;
 use crate::inputs::forms::{certificate_form, event_form};
 use certificate_lines::CertificateFault;
 use command_parts::status::Fault;
+use lines::line_of;
 pub use lines::push_numbered;
+pub(crate) use omissions::is_in_body;
 pub use omissions::{push_omissions, push_stuck_remedy};
 use peripherals::{EventsFault, NoMemory};
 use std::alloc::Allocator;
 use std::fmt::Write;
+
+/// What is said of a line of a certificate that is out of order.
+const ORDER: &str =
+    "out of order, or a duplicate: routines come first, then facts, then exits, each by ascending address; under a fact or an exit come its cells, then its equations, or in version 3 its `sum` lines and then its `func` lines";
 
 /// A file with a fault: its name, and what it holds.
 #[derive(Drop)]
@@ -34,7 +44,10 @@ pub fn push_fault<A: Allocator>(
     text: &mut String<A>,
     fault: Fault,
     file: &FaultyFile<'_>,
-) -> Result<(), NoMemory> {
+) -> Result<(), NoMemory>
+    ensures { OnOk result (SaysFault fault file.now.name.now
+        (string_bytes text.old) (string_bytes text.new)) }
+{
     match fault {
         Fault::Tape(fault) => tapes::push_tape(text, fault, file),
         Fault::Declared(fault) => declarations::push_declaration(text, fault, file),
@@ -49,14 +62,33 @@ pub(crate) fn push_said<A: Allocator>(
     text: &mut String<A>,
     file: &FaultyFile<'_>,
     said: &str,
-) -> Result<(), NoMemory> {
+) -> Result<(), NoMemory>
+    ensures { OnOk result (SaysFile file.now.name.now
+        (string_bytes text.old) (string_bytes text.new)) }
+{
     let name = file.name;
     writeln!(text, "{name}: {said}").map_err(|_| NoMemory)
 }
 
 /// Adds the line that says which form a line has.
-pub(crate) fn push_form<A: Allocator>(text: &mut String<A>, form: &str) -> Result<(), NoMemory> {
+pub(crate) fn push_form<A: Allocator>(text: &mut String<A>, form: &str) -> Result<(), NoMemory>
+    ensures { OnOk result (SaysMore (string_bytes text.old) (string_bytes text.new)) }
+{
     writeln!(text, "{form}").map_err(|_| NoMemory)
+}
+
+/// Adds a line of a file, with its number, and the line that says which form it is to have.
+pub(crate) fn push_formed<A: Allocator>(
+    text: &mut String<A>,
+    file: &FaultyFile<'_>,
+    number: usize,
+    form: &str,
+) -> Result<(), NoMemory>
+    ensures { OnOk result (SaysLine file.now.name.now number
+        (string_bytes text.old) (string_bytes text.new)) }
+{
+    push_numbered(text, file, number)?;
+    push_form(text, form)
 }
 
 /// Adds the lines on a fault of a certificate.
@@ -64,7 +96,10 @@ fn push_certificate<A: Allocator>(
     text: &mut String<A>,
     fault: CertificateFault,
     file: &FaultyFile<'_>,
-) -> Result<(), NoMemory> {
+) -> Result<(), NoMemory>
+    ensures { OnOk result (SaysCertificate fault file.now.name.now
+        (string_bytes text.old) (string_bytes text.new)) }
+{
     match fault {
         CertificateFault::Version if file.bytes.is_empty() => {
             push_said(text, file, "it is empty: is it a certificate?")
@@ -77,16 +112,10 @@ fn push_certificate<A: Allocator>(
             )
         }
         CertificateFault::BadLine(number) => {
-            let line = push_numbered(text, file, number)?;
-            push_form(text, certificate_form(line))
+            let form = certificate_form(line_of(file.bytes, number));
+            push_formed(text, file, number, form)
         }
-        CertificateFault::Order(number) => {
-            push_numbered(text, file, number)?;
-            push_form(
-                text,
-                "out of order, or a duplicate: routines come first, then facts, then exits, each by ascending address; under a fact or an exit come its cells, then its equations, or in version 3 its `sum` lines and then its `func` lines",
-            )
-        }
+        CertificateFault::Order(number) => push_formed(text, file, number, ORDER),
         CertificateFault::TooMany => {
             push_said(
                 text,
@@ -103,11 +132,14 @@ fn push_events<A: Allocator>(
     text: &mut String<A>,
     fault: EventsFault,
     file: &FaultyFile<'_>,
-) -> Result<(), NoMemory> {
+) -> Result<(), NoMemory>
+    ensures { OnOk result (SaysEvents fault file.now.name.now
+        (string_bytes text.old) (string_bytes text.new)) }
+{
     match fault {
         EventsFault::BadLine(number) => {
-            let line = push_numbered(text, file, number)?;
-            push_form(text, event_form(line))
+            let form = event_form(line_of(file.bytes, number));
+            push_formed(text, file, number, form)
         }
         EventsFault::TooMany => push_said(
             text,

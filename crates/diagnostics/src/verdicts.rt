@@ -6,5 +6,4 @@ pub mod messages;
 pub mod reason_context;
 pub mod reason_text;
 pub mod surplus_text;
-mod vector_sink;
 pub mod verdict;

@@ -13,9 +13,10 @@ use command_parts::status::{DeviceFault, Fault, Status};
 use diagnostics::verdicts::certificates::{certified_from, write_certificate};
 use diagnostics::verdicts::messages::check_message;
 use instruct::Profile;
-use machine_commands::messages::watch_session_message;
 use machine_commands::running::{dump, run, run_events};
 use machine_commands::session::{Outputs, run_session};
+use machine_commands::stopped_watch::{WatchOptions, watch_session_message_to_stop};
+use machine_commands::stopping::no_stops;
 use machine_commands::watching::watch;
 use search_commands::checking::check;
 use search_commands::declaring::declare;
@@ -189,7 +190,14 @@ fn watched_with_operator<A: Allocator + Copy>(
     let options = session();
     let frames = bytes_from(alloc, &mut plan.source(2, b"\x00\x01"), options.run.rounds)?;
     let keys = bytes_from(alloc, &mut plan.source(3, b"A"), options.run.rounds)?;
-    let seen = watch_session_message(
+    let (stops, show) = (no_stops(), WordSet::empty());
+    let telling = WatchOptions {
+        stops: &stops,
+        last: None,
+        explained: false,
+        show: &show,
+    };
+    let seen = watch_session_message_to_stop(
         alloc,
         &program.image,
         &program.declaration,
@@ -197,7 +205,7 @@ fn watched_with_operator<A: Allocator + Copy>(
         &keys,
         &options,
         None,
-        false,
+        &telling,
     )?;
     write_text(out, seen.told.as_bytes())?;
     Ok(seen.status)
@@ -294,6 +302,7 @@ fn operated<A: Allocator + Copy>(alloc: A, heap: Global, plan: &Plan) -> Observe
         &mut plan.source(1, b"\x00\x01"),
         &mut plan.source(2, b"A"),
         session(),
+        &no_stops(),
         SummaryForm::WHOLE,
         &mut outputs,
     );

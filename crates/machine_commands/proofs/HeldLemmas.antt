@@ -1,20 +1,12 @@
 -- What follows from the faults of a run, whichever its schedule; and what a run with an operator answers.
-use Rattle.std.proofs.Common.{ℕ, ◌≡◌, Bool, true, false, ◌||◌, List, Option, None, Result, Ok, Err, IfOk, refl, sym, inr, true≢false}
+use Rattle.std.proofs.Common.{ℕ, ◌≡◌, Bool, true, false, ◌||◌, List, Option, Result, Ok, Err, refl, sym, inr, true≢false}
 use Rattle.std.specs.Prelude.{IfErr}
-use Rattle.peripherals.specs.declared.operator.Operator.{Operator}
-use Rattle.peripherals.specs.Operator.{plan_of}
-use Rattle.command_parts.specs.declared.options.SessionOptions.{SessionOptions}
-use Rattle.command_parts.specs.declared.options.SummaryForm.{SummaryForm}
 use Rattle.command_parts.specs.declared.status.DeviceFault.TheVariants.{Read, Write}
 use Rattle.command_parts.specs.declared.status.Fault.{Fault}
 use Rattle.command_parts.specs.declared.status.Fault.TheVariants.{Tape, EmptyImage, Source, Declared, Certificate, Events, Guess, Declare, Device, NoMemory}
-use Rattle.command_parts.specs.declared.status.Status.{Status}
 use Rattle.command_parts.specs.Faults.{IsRunFault, IsSessionFault, fails_to_read, is_fault_of_tape}
-use Rattle.command_parts.specs.Inputs.{AreFirst, HasImage, Input}
-use Rattle.machine_commands.specs.Schedule.{Comes, Whole, operating}
-use Rattle.machine_commands.specs.Session.{Failures, FrontsOf, IsHeld, IsHeldFault, IsSession, NothingOrFronts, Taken, WritesAll, plan_for}
-use Rattle.machine_commands.specs.SessionParts.{IsPartOf, place_of}
-use Rattle.machine_commands.proofs.SessionLemmas.{session_fronts, session_is}
+use Rattle.command_parts.specs.Inputs.{HasImage, Input}
+use Rattle.machine_commands.specs.Session.{IsHeldFault}
 
 -- a test that is true only where false is isn't true
 said : (b : Bool) → (b ≡ true → false ≡ true) → b ≡ false
@@ -63,19 +55,3 @@ pub session_faults : {T : Type 0} (most : ℕ) (tape reader keys : Input) (image
     HasImage tape.had image → (fails_to_read r ≡ true → false ≡ true) → IfErr r IsHeldFault → IfErr r (IsSessionFault most tape reader keys)
 session_faults {T} most tape reader keys image (Ok v) good none held = tt
 session_faults {T} most tape reader keys image (Err fault) good none held = inr (record { image = image; tape = good }, inr (inr (held_run {T = T} (Err fault) none held)))
-
--- what it writes
-pub session_ok : (options : SessionOptions) (form : SummaryForm) (tape reader keys : Option (List ℕ)) (image : List (Option ℕ)) (frames bytes : List ℕ) (o : Operator) (r : Result Status Fault) (old new : Taken) →
-    HasImage tape image → AreFirst options.run.rounds reader frames → AreFirst options.run.rounds keys bytes → plan_of o ≡ plan_for options frames bytes → o.last ≡ None →
-    IfOk r (λ status. WritesAll (λ text printed punched. IsHeld (λ p w extent es. Comes operating p extent (place_of o) w es) options.run form Whole image text printed punched status) old new) →
-    IfOk r (λ status. WritesAll (IsSession options form Whole tape reader keys status) old new)
-session_ok options form tape reader keys image frames bytes o (Ok status) old new has_image frames_are bytes_are is first writes =
-    session_is options form tape reader keys image frames bytes o status old new has_image frames_are bytes_are is first writes
-session_ok options form tape reader keys image frames bytes o (Err fault) old new has_image frames_are bytes_are is first writes = tt
-
--- what it leaves where it has a fault
-pub session_or : (options : SessionOptions) (form : SummaryForm) (tape reader keys : Option (List ℕ)) (image : List (Option ℕ)) (frames bytes : List ℕ) (o : Operator) (failed : Failures) (old new : Taken) →
-    HasImage tape image → AreFirst options.run.rounds reader frames → AreFirst options.run.rounds keys bytes → plan_of o ≡ plan_for options frames bytes → o.last ≡ None →
-    FrontsOf (IsPartOf (λ p w extent es. Comes operating p extent (place_of o) w es) options.run form failed.report failed.teletype false image) failed old new → NothingOrFronts options form failed tape reader keys old new
-session_or options form tape reader keys image frames bytes o failed old new has_image frames_are bytes_are is first fronts =
-    inr (session_fronts options form tape reader keys image frames bytes o failed old new has_image frames_are bytes_are is first fronts)

@@ -1,5 +1,5 @@
 -- A run by a schedule, event by event.
-use Rattle.std.proofs.Common.{ℕ, zero, suc, ◌≡◌, ◌+◌, ◌*◌, ◌%◌, ◌==◌, ◌<◌, ◌≤◌, Bool, true, false, ◌||◌, if◌then◌else◌, List, [], ◌∷◌, ◌++◌, length, drop, take, map, refl, sym, ◌∙◌, ap, inl, inr, append_assoc, append-nil, add-zero, add-one, take_all, length-append, get_or, le_refl, arith, Some, None, Option, Result, Ok, Err, IfOk, OnErr, true≢false, subst, unwrap_or}
+use Rattle.std.proofs.Common.{ℕ, zero, suc, ◌≡◌, ◌+◌, ◌*◌, ◌%◌, ◌==◌, ◌<◌, ◌≤◌, Bool, true, false, ◌||◌, if◌then◌else◌, List, [], ◌∷◌, ◌++◌, length, drop, take, map, refl, sym, ◌∙◌, ap, inl, inr, append_assoc, append-nil, add-zero, add-one, take_all, length-append, get_or, le_refl, arith, Some, None, Option, Result, Ok, Err, OnErr, true≢false, subst, unwrap_or}
 use Rattle.std.specs.Io.KnownBytes.{Appends, Consumes}
 use Rattle.std.proofs.KnownBytes.{Appends-nil, Appends-trans}
 use Rattle.std.proofs.Transfers.{drop-appended}
@@ -20,23 +20,17 @@ use Rattle.peripherals.specs.Devices.{Devices, Writer, WorldState, Instructs, wo
 use Rattle.peripherals.specs.Events.{Happens, Steps, completed, done, with_devices}
 use Rattle.peripherals.specs.Operator.{Plan, due, first_due, frame_due, key_due, left_after, plan_of, round_due}
 use Rattle.peripherals.specs.EventOutcomes.{puts_out, seen_of}
-use Rattle.machine_commands.specs.declared.follow.End.{End}
 use Rattle.machine_commands.specs.declared.follow.End.TheVariants.{Unsupported}
 use Rattle.machine_commands.specs.declared.follow.RunOutcome.{RunOutcome}
+use Rattle.machine_commands.specs.Course.{Ran}
 use Rattle.machine_commands.specs.Follows.{Follows, Ended, Stuck, Stopped, end_of, goes_on, counted}
-use Rattle.wordset.specs.Lanes.{words}
-use Rattle.command_parts.specs.declared.options.RunOptions.{RunOptions}
-use Rattle.command_parts.specs.declared.options.SessionOptions.{SessionOptions}
-use Rattle.command_parts.specs.declared.options.SummaryForm.{SummaryForm}
 use Rattle.command_parts.specs.declared.status.Fault.{Fault}
 use Rattle.command_parts.specs.declared.status.Fault.TheVariants.{NoMemory}
-use Rattle.command_parts.specs.declared.status.Status.{Status}
 use Rattle.command_parts.specs.Faults.{IsBytesFault, fails_to_write}
-use Rattle.command_parts.specs.Inputs.{AreFirst, HasCome, HasImage, Input}
-use Rattle.machine_commands.specs.Running.{fresh, status_of}
-use Rattle.machine_commands.specs.Schedule.{Comes, Cut, Due, Final, Then, Extent, ToStep, Whole, UpToOutput, UpToRead, UpToAny, operating}
-use Rattle.machine_commands.specs.Session.{AppendsSome, extent_after, extent_unread, summary_where, Operated, BrokeOff, FrontsOf, IsHeld, IsPartOfSession, IsSession, SessionFronts, WritesAll, character, comes_by, plan_for, printed_in, taken, Taken, Failures, failures}
-use Rattle.machine_commands.specs.SessionParts.{IsNext, IsPartOf, Played, Unplayed, Faltered, PlayedFront, events_left, has_stepped, place_of, printed_from, rank, steps_in}
+use Rattle.command_parts.specs.Inputs.{AreFirst, HasCome, Input}
+use Rattle.machine_commands.specs.Schedule.{Comes, Cut, Due, Final, Then, Extent, ToStep, UpToRead, UpToAny, operating}
+use Rattle.machine_commands.specs.Session.{AppendsSome, extent_unread, BrokeOff, FrontsOf, WritesAll, character, comes_by, printed_in, taken, Taken, Failures}
+use Rattle.machine_commands.specs.SessionParts.{IsNext, Played, Unplayed, Faltered, PlayedFront, events_left, has_stepped, place_of, printed_from, rank, steps_in}
 use Rattle.machine_commands.specs.Trace.{line_of, trace_of, traced}
 use Rattle.machine_commands.proofs.FollowLemmas.{Came, came_none, came_all, joined, leads_both, leads_one, front_after, no_line, one_by}
 
@@ -187,6 +181,14 @@ some_after a b c first second whole front = record {
   within = let e = length-append first second in let f = front.within in omega (arith, e, f);
   out = rw (take-append-add first second front.count) (Appends-trans a b c first (take front.count second) whole front.out);
 }
+
+-- A run came to its end in x, which is told to any extent: the trace, if one was requested, and the characters that were printed were
+-- appended.
+pub record Operated (comes : Extent → List Event → Type 0) (profile : Profile) (trace : Bool) (w : WorldState) (outcome : RunOutcome) (x : WorldState) (old new told tells : Option (List ℕ)) : Type 0 where
+  pub events : List Event
+  pub come : (extent : Extent) → comes extent events
+  pub ran : Ran profile true trace events w outcome x old new
+  pub printed : Appends told tells (printed_in x)
 
 -- The run came so far: these events came, and whatever comes further comes after them.
 pub record Sat {S : Type 0} (brings : S → Profile → WorldState → Extent → List Event → Type 0) (p : Profile) (trace : Bool) (first now : S) (w x : WorldState) (n : ℕ) (old new told tells : Option (List ℕ)) : Type 0 where
@@ -352,26 +354,6 @@ pub sat_to_fault : {S : Type 0} (brings : S → Profile → WorldState → Exten
 sat_to_fault brings p trace first now after e w x y n reported typed unread old mid new told tmid tells sat next anywhere readable (inl un) = broke_before brings p trace first now after e w x y n reported typed unread old mid new told tmid tells sat next un readable
 sat_to_fault brings p trace first now after e w x y n reported typed unread old mid new told tmid tells sat next anywhere readable (inr faltered) = broke_after brings p trace first now after e w x y n reported typed unread old mid new told tmid tells sat next anywhere faltered
 
--- a whole run, of which no more is told
-pub operated_broke : (comes : Extent → List Event → Type 0) (p : Profile) (trace : Bool) (w : WorldState) (outcome : RunOutcome) (x : WorldState) (reported typed unread : Bool) (old new told tells : Option (List ℕ)) →
-    Operated comes p trace w outcome x old new told tells → (reported || typed) ≡ false → BrokeOff comes p trace w x reported typed unread old new told tells
-unfolding whole_front
-operated_broke comes p trace w outcome x reported typed unread old new told tells done unfailed = record {
-  events = done.events;
-  come = done.come (extent_after (reported || typed) unread);
-  lines = done.ran.lines;
-  steps = outcome.steps;
-  end = outcome.end;
-  follows = done.ran.follows;
-  wrote = whole_front old new (traced trace done.ran.lines) done.ran.wrote;
-  printed = whole_front told tells (printed_in x) done.printed;
-  wrote_whole = λ no. done.ran.wrote;
-  printed_whole = λ no. done.printed;
-  wrote_front = λ yes. absurd (true≢false (sym yes ∙ or_left reported typed unfailed));
-  printed_front = λ yes. absurd (true≢false (sym yes ∙ or_right reported typed unfailed));
-  printed_nearly = one_over (length (printed_in x));
-}
-
 -- what is seen of an event that changes a device, where it is enabled
 abbrev device_seen : Bool → Seen
 device_seen enabled = if enabled then seen.Changed else seen.NotEnabled
@@ -419,14 +401,6 @@ sat_completed brings p trace first now after w x n old new told tells sat both =
       come = λ extent rest comes. rw (one_more (sat.events ++ PrinterDone ∷ []) PunchDone rest, one_more sat.events PrinterDone (PunchDone ∷ rest)) (sat.come extent (PrinterDone ∷ PunchDone ∷ rest) (both p extent rest comes));
       printed = rw (output_stays x.devices.printer.busy x.devices.printer) sat.printed;
     }
-
--- an event that carries out no instruction
-pub sat_still : {S : Type 0} (brings : S → Profile → WorldState → Extent → List Event → Type 0) (p : Profile) (trace : Bool) (first now after : S) (e : Event) (w x y : WorldState) (n : ℕ) (what : Seen) (old mid new told tmid tells : Option (List ℕ)) →
-    Sat brings p trace first now w x n old mid told tmid → IsNext brings now after x e → Played p trace x e what y mid new tmid tells → goes_on true what ≡ true → counted what ≡ 0 →
-    Sat brings p trace first after w y n old new told tells
-sat_still brings p trace first now after e w x y n what old mid new told tmid tells sat next played goes none =
-    let more : Sat brings p trace first after w y (n + counted what) old new told tells = sat_more brings p trace first now after e w x y n what old mid new told tmid tells sat next played goes in
-    rw (none, add-zero n) at more
 
 not_ran : (enabled : Bool) → seen.Ran ≡ device_seen enabled → ⊥
 not_ran true is = cc
@@ -650,133 +624,6 @@ typed_front told now new bytes from index byte typed within is front =
     let cut : AppendsFront told new (typed.sent ++ (get_or bytes index 0 % 128) ∷ []) = front_after told now new typed.sent ((get_or bytes index 0 % 128) ∷ []) typed.wrote (rw is at front) in
     rw (← typed_rest bytes typed.sent from index within typed.rest) (cut_of_more told new (typed.sent ++ (get_or bytes index 0 % 128) ∷ []) (map character (drop (suc index) bytes)) cut)
 
--- What a run that came to its end leaves.
-held_whole : (comes : Profile → WorldState → Extent → List Event → Type 0) (options : RunOptions) (form : SummaryForm) (image : List (Option ℕ)) (p : Profile) (w x : WorldState) (outcome : RunOutcome) (status : Status) (old mid told tells : Option (List ℕ)) →
-    p ≡ options.profile → w ≡ fresh image options.start → (done : Operated (comes p w) p options.trace w outcome x old mid told tells) → status ≡ status_of outcome.end →
-    IsHeld comes options form Whole image (traced options.trace done.ran.lines ++ summary_where (words options.show) form Whole outcome.end x outcome.steps) (printed_in x) x.devices.punch.output status
-held_whole comes options form image p w x outcome status old mid told tells profile begins done is = record {
-  events = done.events;
-  come = let come : comes p w Whole done.events = done.come Whole in rw (profile, begins) at come;
-  lines = done.ran.lines;
-  steps = outcome.steps;
-  end = outcome.end;
-  final = x;
-  follows = let follows : Follows p true done.events w done.ran.lines outcome.steps outcome.end x = done.ran.follows in rw (profile, begins) at follows;
-  text_is = refl;
-  printed_is = refl;
-  punched_is = refl;
-  status_is = is;
-}
-
-pub attended : (comes : Profile → WorldState → Extent → List Event → Type 0) (options : RunOptions) (form : SummaryForm) (image : List (Option ℕ)) (p : Profile) (w x : WorldState) (outcome : RunOutcome) (status : Status) (old mid new told tells held holds : Option (List ℕ)) →
-    p ≡ options.profile → w ≡ fresh image options.start → Operated (comes p w) p options.trace w outcome x old mid told tells → Appends held holds x.devices.punch.output →
-    Appends mid new (summary_where (words options.show) form Whole outcome.end x outcome.steps) → status ≡ status_of outcome.end →
-    WritesAll (λ text printed punched. IsHeld comes options form Whole image text printed punched status) (taken old told held) (taken new tells holds)
-attended comes options form image p w x outcome status old mid new told tells held holds profile begins done punched wrote is = record {
-  text = traced options.trace done.ran.lines ++ summary_where (words options.show) form Whole outcome.end x outcome.steps;
-  printed = printed_in x;
-  punched = x.devices.punch.output;
-  is = held_whole comes options form image p w x outcome status old mid told tells profile begins done is;
-  to_report = Appends-trans old mid new (traced options.trace done.ran.lines) (summary_where (words options.show) form Whole outcome.end x outcome.steps) done.ran.wrote wrote;
-  to_teletype = done.printed;
-  to_punch = punched;
-}
-
--- the summary failed
-pub attended_front : (comes : Profile → WorldState → Extent → List Event → Type 0) (options : RunOptions) (form : SummaryForm) (image : List (Option ℕ)) (p : Profile) (w x : WorldState) (outcome : RunOutcome) (reported typed unread unpunched : Bool) (old mid new told tells held holds : Option (List ℕ)) →
-    p ≡ options.profile → w ≡ fresh image options.start → Operated (comes p w) p options.trace w outcome x old mid told tells → Appends held holds x.devices.punch.output →
-    AppendsFront mid new (summary_where (words options.show) form Whole outcome.end x outcome.steps) → reported ≡ true → typed ≡ false → unpunched ≡ false →
-    FrontsOf (IsPartOf comes options form reported typed unread image) (failures reported typed unpunched) (taken old told held) (taken new tells holds)
-unfolding whole_front
-attended_front comes options form image p w x outcome reported typed unread unpunched old mid new told tells held holds profile begins done punched front failed untyped is_punched = record {
-  extent = Whole;
-  text = traced options.trace done.ran.lines ++ summary_where (words options.show) form Whole outcome.end x outcome.steps;
-  printed = printed_in x;
-  punched = x.devices.punch.output;
-  is = record { summed = λ all. failed; to_there = λ no. absurd (true≢false (sym failed ∙ or_left reported typed no)); status = status_of outcome.end; is = held_whole comes options form image p w x outcome (status_of outcome.end) old mid told tells profile begins done refl };
-  to_report = some_of old new (traced options.trace done.ran.lines ++ summary_where (words options.show) form Whole outcome.end x outcome.steps) (front_after old mid new (traced options.trace done.ran.lines) (summary_where (words options.show) form Whole outcome.end x outcome.steps) done.ran.wrote front);
-  to_teletype = whole_front told tells (printed_in x) done.printed;
-  to_punch = whole_front held holds x.devices.punch.output punched;
-  report_whole = λ no. absurd (true≢false (sym failed ∙ no));
-  teletype_whole = λ no. done.printed;
-  punch_whole = λ no. punched;
-  report_front = λ yes. front_after old mid new (traced options.trace done.ran.lines) (summary_where (words options.show) form Whole outcome.end x outcome.steps) done.ran.wrote front;
-  teletype_front = λ yes. absurd (true≢false (sym yes ∙ untyped));
-  punch_front = λ yes. absurd (true≢false (sym yes ∙ is_punched));
-  typed_nearly = one_over (length (printed_in x));
-  typed_before_summary = λ all. done.printed;
-  punched_before_summary = λ all. punched;
-}
-
-not_whole : (failed unread : Bool) → extent_after failed unread ≡ Whole → ⊥
-not_whole true unread is = let e : UpToAny ≡ Whole = is in cc
-not_whole false true is = let e : UpToRead ≡ Whole = is in cc
-not_whole false false is = let e : UpToOutput ≡ Whole = is in cc
-
-no_summary : (named : ℕ → Bool) (form : SummaryForm) (failed unread : Bool) (end : End) (x : WorldState) (steps : ℕ) → summary_where named form (extent_after failed unread) end x steps ≡ []
-no_summary named form true unread end x steps = refl
-no_summary named form false true end x steps = refl
-no_summary named form false false end x steps = refl
-
-pub broke_front : (comes : Profile → WorldState → Extent → List Event → Type 0) (options : RunOptions) (form : SummaryForm) (image : List (Option ℕ)) (p : Profile) (w x : WorldState) (reported typed unread unpunched : Bool) (old new told tells held holds : Option (List ℕ)) →
-    p ≡ options.profile → w ≡ fresh image options.start → BrokeOff (comes p w) p options.trace w x reported typed unread old new told tells → AppendsSome held holds x.devices.punch.output →
-    (unpunched ≡ false → Appends held holds x.devices.punch.output) → (unpunched ≡ true → AppendsFront held holds x.devices.punch.output) →
-    FrontsOf (IsPartOf comes options form reported typed unread image) (failures reported typed unpunched) (taken old told held) (taken new tells holds)
-broke_front comes options form image p w x reported typed unread unpunched old new told tells held holds profile begins broke punched whole cut = record {
-  extent = extent_after (reported || typed) unread;
-  text = traced options.trace broke.lines ++ [];
-  printed = printed_in x;
-  punched = x.devices.punch.output;
-  is = record {
-    summed = λ all. absurd (not_whole (reported || typed) unread all);
-    to_there = λ no. rw no refl;
-    status = status_of broke.end;
-    is = record {
-      events = broke.events;
-      come = let come : comes p w (extent_after (reported || typed) unread) broke.events = broke.come in rw (profile, begins) at come;
-      lines = broke.lines;
-      steps = broke.steps;
-      end = broke.end;
-      final = x;
-      follows = let follows : Follows p true broke.events w broke.lines broke.steps broke.end x = broke.follows in rw (profile, begins) at follows;
-      text_is = ap (λ (l : List ℕ). traced options.trace broke.lines ++ l) (sym (no_summary (words options.show) form (reported || typed) unread broke.end x broke.steps));
-      printed_is = refl;
-      punched_is = refl;
-      status_is = refl;
-    };
-  };
-  to_report = front_of_more old new (traced options.trace broke.lines) [] broke.wrote;
-  to_teletype = broke.printed;
-  to_punch = punched;
-  report_whole = λ no. subst (Appends old new) (sym (append-nil (traced options.trace broke.lines))) (broke.wrote_whole no);
-  teletype_whole = broke.printed_whole;
-  punch_whole = whole;
-  report_front = λ yes. subst (AppendsFront old new) (sym (append-nil (traced options.trace broke.lines))) (broke.wrote_front yes);
-  teletype_front = broke.printed_front;
-  punch_front = cut;
-  typed_nearly = broke.printed_nearly;
-  typed_before_summary = λ all. absurd (not_whole (reported || typed) unread all);
-  punched_before_summary = λ all. absurd (not_whole (reported || typed) unread all);
-}
-
--- memory was refused for the summary
-pub summary_wanting : (comes : Profile → WorldState → Extent → List Event → Type 0) (options : RunOptions) (form : SummaryForm) (image : List (Option ℕ)) (p : Profile) (w x : WorldState) (outcome : RunOutcome) (reported typed unread unpunched : Bool) (old new told tells held holds : Option (List ℕ)) →
-    p ≡ options.profile → w ≡ fresh image options.start → Operated (comes p w) p options.trace w outcome x old new told tells → Appends held holds x.devices.punch.output → (reported || typed) ≡ false → unpunched ≡ false →
-    FrontsOf (IsPartOf comes options form reported typed unread image) (failures reported typed unpunched) (taken old told held) (taken new tells holds)
-summary_wanting comes options form image p w x outcome reported typed unread unpunched old new told tells held holds profile begins done punched unfailed is_punched =
-    broke_front comes options form image p w x reported typed unread unpunched old new told tells held holds profile begins (operated_broke (comes p w) p options.trace w outcome x reported typed unread old new told tells done unfailed)
-    (whole_front held holds x.devices.punch.output punched) (λ no. punched) (λ yes. absurd (true≢false (sym yes ∙ is_punched)))
-
--- the punch failed, whatever the run brought
-pub failed_punch : (comes : Profile → WorldState → Extent → List Event → Type 0) (options : RunOptions) (form : SummaryForm) (image : List (Option ℕ)) (p : Profile) (w x : WorldState) (ran : Result RunOutcome Fault) (reported typed unread unpunched : Bool) (old new told tells held holds : Option (List ℕ)) →
-    p ≡ options.profile → w ≡ fresh image options.start → IfOk ran (λ outcome. Operated (comes p w) p options.trace w outcome x old new told tells) → OnErr ran (BrokeOff (comes p w) p options.trace w x reported typed unread old new told tells) →
-    (reported || typed) ≡ fails_to_write ran → AppendsFront held holds x.devices.punch.output → unpunched ≡ true → FrontsOf (IsPartOf comes options form reported typed unread image) (failures reported typed unpunched) (taken old told held) (taken new tells holds)
-failed_punch comes options form image p w x (Ok outcome) reported typed unread unpunched old new told tells held holds profile begins done broke marks punched failed =
-    broke_front comes options form image p w x reported typed unread unpunched old new told tells held holds profile begins (operated_broke (comes p w) p options.trace w outcome x reported typed unread old new told tells done marks)
-    (some_of held holds x.devices.punch.output punched) (λ no. absurd (true≢false (sym failed ∙ no))) (λ yes. punched)
-failed_punch comes options form image p w x (Err fault) reported typed unread unpunched old new told tells held holds profile begins done broke marks punched failed =
-    broke_front comes options form image p w x reported typed unread unpunched old new told tells held holds profile begins broke (some_of held holds x.devices.punch.output punched) (λ no. absurd (true≢false (sym failed ∙ no))) (λ yes. punched)
-
 -- fronts of what one schedule brings, by another that brings the same
 pub fronts_by : (P Q : Extent → List ℕ → List ℕ → List ℕ → Type 0) (failed : Failures) (old new : Taken) → ((extent : Extent) (text printed punched : List ℕ) → P extent text printed punched → Q extent text printed punched) → FrontsOf P failed old new → FrontsOf Q failed old new
 fronts_by P Q failed old new by fronts = record {
@@ -811,66 +658,9 @@ writes_by P Q old new by writes = record {
   to_punch = writes.to_punch;
 }
 
--- what is held by what comes, by what comes otherwise too
-pub held_by : (comes brings : Profile → WorldState → Extent → List Event → Type 0) (options : RunOptions) (form : SummaryForm) (extent : Extent) (image : List (Option ℕ)) (text printed punched : List ℕ) (status : Status) →
-    ((p : Profile) (w : WorldState) (es : List Event) → comes p w extent es → brings p w extent es) → IsHeld comes options form extent image text printed punched status → IsHeld brings options form extent image text printed punched status
-held_by comes brings options form extent image text printed punched status by held = record {
-  events = held.events;
-  come = by options.profile (fresh image options.start) held.events held.come;
-  lines = held.lines;
-  steps = held.steps;
-  end = held.end;
-  final = held.final;
-  follows = held.follows;
-  text_is = held.text_is;
-  printed_is = held.printed_is;
-  punched_is = held.punched_is;
-  status_is = held.status_is;
-}
-
 -- an operator's place that is its first
 pub operator_comes : (plan : Plan) (o : Operator) (extent : Extent) (p : Profile) (w : WorldState) (es : List Event) → plan_of o ≡ plan → o.last ≡ None → Comes operating p extent (place_of o) w es → comes_by plan p w extent es
 operator_comes plan o extent p w es is first comes = rw (is, first) at comes
-
--- the inputs are good
-session_part : (options : SessionOptions) (form : SummaryForm) (tape reader keys : Option (List ℕ)) (image : List (Option ℕ)) (frames bytes : List ℕ) (o : Operator) (reported typed : Bool) (extent : Extent) (text printed punched : List ℕ) →
-    HasImage tape image → AreFirst options.run.rounds reader frames → AreFirst options.run.rounds keys bytes → plan_of o ≡ plan_for options frames bytes → o.last ≡ None →
-    IsPartOf (λ p w extent es. Comes operating p extent (place_of o) w es) options.run form reported typed false image extent text printed punched → IsPartOfSession options form reported typed tape reader keys extent text printed punched
-session_part options form tape reader keys image frames bytes o reported typed extent text printed punched has_image frames_are bytes_are is first part = record {
-  summed = part.summed;
-  to_output = part.to_there;
-  status = part.status;
-  is = record {
-    image = image;
-    has_image = has_image;
-    frames = frames;
-    frames_are = frames_are;
-    bytes = bytes;
-    bytes_are = bytes_are;
-    session = held_by (λ p w extent es. Comes operating p extent (place_of o) w es) (comes_by (plan_for options frames bytes)) options.run form extent image text printed punched part.status
-        (λ p w es comes. operator_comes (plan_for options frames bytes) o extent p w es is first comes) part.is;
-  };
-}
-
-pub session_fronts : (options : SessionOptions) (form : SummaryForm) (tape reader keys : Option (List ℕ)) (image : List (Option ℕ)) (frames bytes : List ℕ) (o : Operator) (failed : Failures) (old new : Taken) →
-    HasImage tape image → AreFirst options.run.rounds reader frames → AreFirst options.run.rounds keys bytes → plan_of o ≡ plan_for options frames bytes → o.last ≡ None →
-    FrontsOf (IsPartOf (λ p w extent es. Comes operating p extent (place_of o) w es) options.run form failed.report failed.teletype false image) failed old new → SessionFronts options form failed tape reader keys old new
-session_fronts options form tape reader keys image frames bytes o failed old new has_image frames_are bytes_are is first fronts =
-    fronts_by _ _ failed old new (λ extent text printed punched part. session_part options form tape reader keys image frames bytes o failed.report failed.teletype extent text printed punched has_image frames_are bytes_are is first part) fronts
-
-pub session_is : (options : SessionOptions) (form : SummaryForm) (tape reader keys : Option (List ℕ)) (image : List (Option ℕ)) (frames bytes : List ℕ) (o : Operator) (status : Status) (old new : Taken) →
-    HasImage tape image → AreFirst options.run.rounds reader frames → AreFirst options.run.rounds keys bytes → plan_of o ≡ plan_for options frames bytes → o.last ≡ None →
-    WritesAll (λ text printed punched. IsHeld (λ p w extent es. Comes operating p extent (place_of o) w es) options.run form Whole image text printed punched status) old new → WritesAll (IsSession options form Whole tape reader keys status) old new
-session_is options form tape reader keys image frames bytes o status old new has_image frames_are bytes_are is first writes = writes_by _ _ old new (λ text printed punched held. record {
-  image = image;
-  has_image = has_image;
-  frames = frames;
-  frames_are = frames_are;
-  bytes = bytes;
-  bytes_are = bytes_are;
-  session = held_by (λ p w extent es. Comes operating p extent (place_of o) w es) (comes_by (plan_for options frames bytes)) options.run form Whole image text printed punched status
-      (λ p w es comes. operator_comes (plan_for options frames bytes) o Whole p w es is first comes) held;
-}) writes
 
 -- a line of the trace failed, or memory was refused
 pub play_front : (p : Profile) (trace : Bool) (w : WorldState) (e : Event) (x : WorldState) (old new told : Option (List ℕ)) (marked typed : Bool) →

@@ -1,8 +1,19 @@
 -- A run that is stopped is the run without stops up to there.
-use Rattle.std.proofs.Common.{ℕ, zero, suc, ◌≡◌, ◌+◌, Bool, true, false, List, [], ◌∷◌, ◌++◌, take, drop, refl, sym, ap, ◌∙◌, subst, append_assoc, zero-add, arith}
+use Rattle.std.proofs.Common.{ℕ, zero, suc, ◌≡◌, ◌+◌, ◌==◌, Bool, true, false, ◌&&◌, ◌||◌, List, [], ◌∷◌, ◌++◌, length, take, drop, Option, None, refl, sym, ap, ◌∙◌, subst, append_assoc, zero-add, arith}
+use Rattle.std.specs.Prelude.{is_none}
 use Rattle.instruct.specs.declared.Profile.{Profile}
+use Rattle.command_parts.specs.declared.options.RunOptions.{RunOptions}
 use Rattle.command_parts.specs.declared.options.Stops.{Stops}
+use Rattle.command_parts.specs.declared.options.SummaryForm.{SummaryForm}
+use Rattle.command_parts.specs.declared.status.Status.{Status}
+use Rattle.processor.specs.Machine.{State, steps_pointer}
+use Rattle.processor.specs.declared.fetch.DecodedInstruction.{DecodedInstruction}
+use Rattle.processor.specs.declared.fetch.DecodedInstruction.TheVariants.{Refers, Operate1, Operate2, Operate3, Device, Unsupported}
+use Rattle.processor.specs.Fetch.{fetched}
+use Rattle.wordset.specs.Lanes.{words}
+use Rattle.wordset.specs.Words.{Words, nothing}
 use Rattle.peripherals.specs.declared.Event.{Event}
+use Rattle.peripherals.specs.declared.Event.TheVariants.{Step, Key, PrinterDone, ReaderDone, PunchDone, Switches, Continue}
 use Rattle.peripherals.specs.declared.Seen.{Seen}
 use Rattle.peripherals.specs.declared.Seen.TheVariants as seen
 use Rattle.peripherals.specs.Devices.{WorldState}
@@ -11,8 +22,13 @@ use Rattle.peripherals.specs.EventOutcomes.{seen_of}
 use Rattle.peripherals.proofs.OneLemmas.{one_world}
 use Rattle.machine_commands.specs.declared.follow.End.{End}
 use Rattle.machine_commands.specs.Follows.{Follows, Ended, Stuck, Stopped, Went, counted, goes_on}
-use Rattle.machine_commands.specs.StopLaws.{GoesOnTo, StoppedIsNotNever, StoppedRunsAreFronts, StopsAreOne}
-use Rattle.machine_commands.specs.Stops.{Ends, Continues, Here, Later, NeverStops, Over, StopsAfter, stops_before, visits_with}
+use Rattle.machine_commands.specs.Running.{fresh}
+use Rattle.machine_commands.specs.StopLaws.{AreNone, GoesOnTo, SessionsWithoutStops, StoppedIsNotNever, StoppedRunsAreFronts, StopsAreOne, TypedWithoutStops}
+use Rattle.machine_commands.specs.Schedule.{Extent}
+use Rattle.machine_commands.specs.Session.{IsHeld, comes_by}
+use Rattle.machine_commands.specs.StoppedSession.{IsHeldToStop, StoppedSo}
+use Rattle.machine_commands.specs.Teletype.{run_of, types_by}
+use Rattle.machine_commands.specs.Stops.{Ends, Continues, Here, Later, NeverStops, Over, StopsAfter, is_asked_for, is_at, loads_there, reads_one, stores_there, stops_before, visits_with, writes_one}
 use Rattle.machine_commands.specs.Trace.{trace_of}
 use Rattle.std.proofs.lemmas.Bool.{true≢false, false≢true}
 
@@ -102,3 +118,75 @@ not_never stops p h visits es w count (Later _ k e fs _ m off goes happens later
 
 pub stopped_is_not_never : StoppedIsNotNever
 stopped_is_not_never stops p h es w count = not_never stops p h 0 es w count
+
+-- without stops no instruction is one that stops a run
+and_false : (b : Bool) → (b && false) ≡ false
+and_false true = refl
+and_false false = refl
+
+writes_none : (d : DecodedInstruction) → writes_one nothing d ≡ false
+writes_none (Refers r) = rw (and_false (steps_pointer r.indirect r.named), and_false (stores_there r.operation)) refl
+writes_none (Operate1 word) = refl
+writes_none (Operate2 word) = refl
+writes_none (Operate3 word) = refl
+writes_none (Device word) = refl
+writes_none (Unsupported word) = refl
+
+reads_none : (d : DecodedInstruction) → reads_one nothing d ≡ false
+reads_none (Refers r) = rw (and_false r.indirect, and_false (loads_there r.operation)) refl
+reads_none (Operate1 word) = refl
+reads_none (Operate2 word) = refl
+reads_none (Operate3 word) = refl
+reads_none (Device word) = refl
+reads_none (Unsupported word) = refl
+
+asked_of_none : (place : Option ℕ) (written read : Words) (pc visits times : ℕ) (d : DecodedInstruction) → place ≡ None → written ≡ nothing → read ≡ nothing →
+    ((is_at place pc && (visits + 1 == times)) || (writes_one written d || reads_one read d)) ≡ false
+asked_of_none place written read pc visits times d nowhere none_written none_read = rw (nowhere, none_written, none_read, writes_none d, reads_none d) refl
+
+none_asked : (stops : Stops) (p : Profile) (visits : ℕ) (s : State) → AreNone stops → is_asked_for stops p visits s ≡ false
+none_asked stops p visits s none = asked_of_none stops.place (words stops.written) (words stops.read) s.pc visits stops.times (fetched p s) none.place none.written none.read
+
+none_stops : (stops : Stops) (p : Profile) (visits : ℕ) (w : WorldState) (e : Event) → AreNone stops → stops_before stops p visits w e ≡ false
+none_stops stops p visits w Step none =
+    ap (λ (asked : Bool). is_none w.halted_at && asked) (none_asked stops p visits w.state none) ∙ and_false (is_none w.halted_at)
+none_stops stops p visits w (Key byte) none = refl
+none_stops stops p visits w PrinterDone none = refl
+none_stops stops p visits w (ReaderDone byte) none = refl
+none_stops stops p visits w PunchDone none = refl
+none_stops stops p visits w (Switches word) none = refl
+none_stops stops p visits w Continue none = refl
+
+none_after : (stops : Stops) (p : Profile) (h : Bool) (visits : ℕ) (es : List Event) (w : WorldState) (count : ℕ) → AreNone stops → StopsAfter stops p h visits es w count → ⊥
+none_after stops p h visits es w count none (Here _ e fs _ on) = absurd (true≢false (sym on ∙ none_stops stops p visits w e none))
+none_after stops p h visits es w count none (Later _ k e fs _ m off goes happens later) = none_after stops p h (visits_with stops visits w e) fs m k none later
+
+not_stopped : (stops : Stops) (p : Profile) (stopped : Bool) (es : List Event) (w : WorldState) → AreNone stops → StoppedSo stops p stopped es w → stopped ≡ false
+not_stopped stops p true es w none stop = absurd (none_after stops p true 0 (es ++ Step ∷ []) w (length es) none stop)
+not_stopped stops p false es w none stop = refl
+
+held_without_stops : (comes : Profile → WorldState → Extent → List Event → Type 0) (options : RunOptions) (stops : Stops) (form : SummaryForm) (extent : Extent) (image : List (Option ℕ)) (text printed punched : List ℕ) (status : Status) →
+    AreNone stops → IsHeldToStop comes options stops form extent false image text printed punched status → IsHeld comes options form extent image text printed punched status
+held_without_stops comes options stops form extent image text printed punched status none held =
+    let un = not_stopped stops options.profile held.stopped held.events (fresh image options.start) none held.stop in
+    record {
+      events = held.events;
+      come = rw un at held.come;
+      lines = held.lines;
+      steps = held.steps;
+      end = held.last;
+      final = held.final;
+      follows = held.follows;
+      text_is = rw un at held.text_is;
+      printed_is = held.printed_is;
+      punched_is = held.punched_is;
+      status_is = rw un at held.status_is;
+    }
+
+pub sessions_without_stops : SessionsWithoutStops
+sessions_without_stops options stops form extent plan image text printed punched status none held =
+    held_without_stops (comes_by plan) options stops form extent image text printed punched status none held
+
+pub typed_without_stops : TypedWithoutStops
+typed_without_stops options stops form extent frames bytes image text printed punched status none held =
+    held_without_stops (types_by options frames bytes) (run_of options) stops form extent image text printed punched status none held

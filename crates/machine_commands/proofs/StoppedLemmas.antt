@@ -26,14 +26,14 @@ use Rattle.machine_commands.specs.Follows.{Follows, Ended, counted, end_of, goes
 use Rattle.machine_commands.specs.Last.{told}
 use Rattle.machine_commands.specs.Running.{fresh, status_of}
 use Rattle.machine_commands.specs.Schedule.{Extent, UpToAny, UpToOutput, UpToRead, ToStep, Whole}
-use Rattle.machine_commands.specs.Session.{AppendsSome, BrokeOff, FrontsOf, Operated, WritesAll, extent_after, failures, printed_in, summary_where, taken}
-use Rattle.machine_commands.specs.SessionParts.{IsNext, IsPartOf, Played, PlayedFront, is_step, steps_in}
+use Rattle.machine_commands.specs.Session.{AppendsSome, BrokeOff, FrontsOf, WritesAll, extent_after, failures, printed_in, summary_where, taken}
+use Rattle.machine_commands.specs.SessionParts.{IsNext, Played, PlayedFront, is_step, steps_in}
 use Rattle.machine_commands.specs.StoppedParts.{IsPartToStop, OperatedToStop, Passes, unstopped}
 use Rattle.machine_commands.specs.StoppedSession.{IsHeldToStop, StoppedSo, extent_to_stop, leaving, to_stop}
 use Rattle.machine_commands.specs.Stops.{Ends, Continues, Here, Later, NeverStops, Over, StopsAfter, stops_before, visits_with}
 use Rattle.machine_commands.specs.Trace.{traced}
 use Rattle.machine_commands.proofs.FollowLemmas.{front_after}
-use Rattle.machine_commands.proofs.SessionLemmas.{Sat, broke_front, device_goes, front_of_more, fronts_by, or_left, or_right, printer_done, sat_all, sat_completed, sat_more, sat_none, sat_to_fault, sat_to_halt, sat_to_stuck, sat_to_unread, some_of, whole_front}
+use Rattle.machine_commands.proofs.SessionLemmas.{Operated, Sat, device_goes, front_of_more, fronts_by, or_left, or_right, printer_done, sat_all, sat_completed, sat_more, sat_none, sat_to_fault, sat_to_halt, sat_to_stuck, sat_to_unread, some_of, whole_front}
 
 -- an event that stops a run is a step
 pub stops_at_step : (stops : Stops) (p : Profile) (visits : ℕ) (w : WorldState) (e : Event) → stops_before stops p visits w e ≡ true → e ≡ Step
@@ -415,40 +415,53 @@ summary_unmade comes options stops form left image p w x outcome reported typed 
     done_front comes options stops form left image p w x outcome reported typed unread unpunched old new told_old told_new held holds profile begins done unfailed
     (whole_front held holds x.devices.punch.output punched) (λ no. punched) (λ yes. absurd (true≢false (sym yes ∙ is_punched)))
 
-part_unstopped : (comes : Profile → WorldState → Extent → List Event → Type 0) (options : RunOptions) (stops : Stops) (form : SummaryForm) (left : Bool) (image : List (Option ℕ)) (reported typed unread : Bool) (extent : Extent) (text printed punched : List ℕ) →
-    IsPartOf (unstopped stops comes) options form reported typed unread image extent text printed punched → IsPartToStop comes options stops form left reported typed unread image extent text printed punched
-part_unstopped comes options stops form left image reported typed unread extent text printed punched part = record {
-  summed = part.summed;
-  to_there = part.to_there;
-  as_left = false;
-  if_left = λ yes. absurd (true≢false (sym yes));
-  status = part.status;
-  is = record {
-    events = part.is.events;
-    stopped = false;
-    come = part.is.come.0;
-    stop = part.is.come.1;
-    lines = part.is.lines;
-    steps = part.is.steps;
-    last = part.is.end;
-    final = part.is.final;
-    follows = part.is.follows;
-    text_is = part.is.text_is;
-    printed_is = part.is.printed_is;
-    punched_is = part.is.punched_is;
-    status_is = part.is.status_is;
-  };
-}
-
 -- the run broke off
 pub broke_unstopped : (comes : Profile → WorldState → Extent → List Event → Type 0) (options : RunOptions) (stops : Stops) (form : SummaryForm) (left : Bool) (image : List (Option ℕ)) (p : Profile) (w x : WorldState) (reported typed unread unpunched : Bool) (old new told_old told_new held holds : Option (List ℕ)) →
     p ≡ options.profile → w ≡ fresh image options.start → BrokeOff (unstopped stops comes p w) p options.trace w x reported typed unread old new told_old told_new → AppendsSome held holds x.devices.punch.output →
     (unpunched ≡ false → Appends held holds x.devices.punch.output) → (unpunched ≡ true → AppendsFront held holds x.devices.punch.output) →
     FrontsOf (IsPartToStop comes options stops form left reported typed unread image) (failures reported typed unpunched) (taken old told_old held) (taken new told_new holds)
 broke_unstopped comes options stops form left image p w x reported typed unread unpunched old new told_old told_new held holds profile begins broke punched whole cut =
-    fronts_by _ _ (failures reported typed unpunched) (taken old told_old held) (taken new told_new holds)
-    (λ extent text printed punched part. part_unstopped comes options stops form left image reported typed unread extent text printed punched part)
-    (broke_front (unstopped stops comes) options form image p w x reported typed unread unpunched old new told_old told_new held holds profile begins broke punched whole cut)
+    let lines = traced options.trace broke.lines in
+    record {
+      extent = extent_after (reported || typed) unread;
+      text = lines ++ [];
+      printed = printed_in x;
+      punched = x.devices.punch.output;
+      is = record {
+        summed = λ all. absurd (not_all (reported || typed) unread all);
+        to_there = λ no. rw no refl;
+        as_left = false;
+        if_left = λ yes. absurd (true≢false (sym yes));
+        status = status_of broke.end;
+        is = record {
+          events = broke.events;
+          stopped = false;
+          come = let come : comes p w (extent_after (reported || typed) unread) broke.events = broke.come.0 in rw (profile, begins) at come;
+          stop = let stop : NeverStops stops p true 0 broke.events w = broke.come.1 in rw (profile, begins) at stop;
+          lines = broke.lines;
+          steps = broke.steps;
+          last = broke.end;
+          final = x;
+          follows = let follows : Follows p true broke.events w broke.lines broke.steps broke.end x = broke.follows in rw (profile, begins) at follows;
+          text_is = ap (λ (l : List ℕ). lines ++ l) (sym (unsummed (words options.show) form (reported || typed) unread broke.end x broke.steps));
+          printed_is = refl;
+          punched_is = refl;
+          status_is = refl;
+        };
+      };
+      to_report = front_of_more old new lines [] broke.wrote;
+      to_teletype = broke.printed;
+      to_punch = punched;
+      report_whole = λ no. rw (append-nil lines) (broke.wrote_whole no);
+      teletype_whole = broke.printed_whole;
+      punch_whole = whole;
+      report_front = λ yes. rw (append-nil lines) (broke.wrote_front yes);
+      teletype_front = broke.printed_front;
+      punch_front = cut;
+      typed_nearly = broke.printed_nearly;
+      typed_before_summary = λ all. absurd (not_all (reported || typed) unread all);
+      punched_before_summary = λ all. absurd (not_all (reported || typed) unread all);
+    }
 
 -- what a run leaves that no key interrupted is what one may leave that a key interrupts
 part_left : (comes : Profile → WorldState → Extent → List Event → Type 0) (options : RunOptions) (stops : Stops) (form : SummaryForm) (left : Bool) (image : List (Option ℕ)) (reported typed unread : Bool) (extent : Extent) (text printed punched : List ℕ) →

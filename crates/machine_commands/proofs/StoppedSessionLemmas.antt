@@ -20,7 +20,7 @@ use Rattle.machine_commands.specs.Schedule.{Comes, Extent, Whole, operating}
 use Rattle.machine_commands.specs.Session.{Failures, FrontsOf, Taken, WritesAll, comes_by, plan_for}
 use Rattle.machine_commands.specs.SessionParts.{place_of}
 use Rattle.machine_commands.specs.StoppedParts.{IsPartToStop}
-use Rattle.machine_commands.specs.StoppedSession.{IsHeldToStop, IsPartOfTypedToStop, IsSessionToStop, IsTypedToStop, NothingOrStoppedFronts, StoppedTypedFronts, extent_to_stop, to_stop}
+use Rattle.machine_commands.specs.StoppedSession.{IsHeldToStop, IsPartOfTypedToStop, IsSessionToStop, IsTypedToStop, NothingOrStoppedFronts, StoppedSessionFronts, StoppedTypedFronts, extent_to_stop, to_stop}
 use Rattle.machine_commands.specs.Teletype.{run_of}
 use Rattle.machine_commands.specs.TypingParts.{Source}
 use Rattle.machine_commands.proofs.SessionLemmas.{fronts_by, operator_comes, writes_by}
@@ -80,15 +80,21 @@ never_left false if_left = refl
 
 pub stopped_session_fronts : (options : SessionOptions) (stops : Stops) (form : SummaryForm) (tape reader keys : Option (List ℕ)) (image : List (Option ℕ)) (frames bytes : List ℕ) (o : Operator) (failed : Failures) (old new : Taken) →
     HasImage tape image → AreFirst options.run.rounds reader frames → AreFirst options.run.rounds keys bytes → plan_of o ≡ plan_for options frames bytes → o.last ≡ None →
-    FrontsOf (IsPartToStop (operates o) options.run stops form false failed.report failed.teletype false image) failed old new → NothingOrStoppedFronts options stops form failed tape reader keys old new
+    FrontsOf (IsPartToStop (operates o) options.run stops form false failed.report failed.teletype false image) failed old new → StoppedSessionFronts options stops form failed tape reader keys old new
 stopped_session_fronts options stops form tape reader keys image frames bytes o failed old new has_image frames_are bytes_are is first fronts =
-    inr (fronts_by _ _ failed old new (λ extent text printed punched part. record {
+    fronts_by _ _ failed old new (λ extent text printed punched part. record {
       summed = part.summed;
       to_output = part.to_there;
       status = part.status;
       is = session_held options stops form extent tape reader keys image frames bytes o text printed punched part.status has_image frames_are bytes_are is first
           (rw (never_left part.as_left part.if_left) at part.is);
-    }) fronts)
+    }) fronts
+
+pub stopped_session_or : (options : SessionOptions) (stops : Stops) (form : SummaryForm) (tape reader keys : Option (List ℕ)) (image : List (Option ℕ)) (frames bytes : List ℕ) (o : Operator) (failed : Failures) (old new : Taken) →
+    HasImage tape image → AreFirst options.run.rounds reader frames → AreFirst options.run.rounds keys bytes → plan_of o ≡ plan_for options frames bytes → o.last ≡ None →
+    FrontsOf (IsPartToStop (operates o) options.run stops form false failed.report failed.teletype false image) failed old new → NothingOrStoppedFronts options stops form failed tape reader keys old new
+stopped_session_or options stops form tape reader keys image frames bytes o failed old new has_image frames_are bytes_are is first fronts =
+    inr (stopped_session_fronts options stops form tape reader keys image frames bytes o failed old new has_image frames_are bytes_are is first fronts)
 
 -- what a session holds from its beginning
 pub typed_stop_held : (options : TeletypeOptions) (stops : Stops) (form : SummaryForm) (extent : Extent) (left : Bool) (tape : Option (List ℕ)) (reader keys : Source) (image : List (Option ℕ)) (status : Status) (text printed punched : List ℕ) →

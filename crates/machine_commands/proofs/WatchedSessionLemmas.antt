@@ -1,6 +1,5 @@
--- The events that come with an operator, gathered one after the other; and what is seen of them.
-use Rattle.std.proofs.Common.{ℕ, ◌≡◌, Bool, true, false, not, List, [], ◌∷◌, ◌++◌, Option, Some, None, refl, append-nil, append_assoc}
-use Rattle.std.specs.Prelude.{Result, Ok, Err, IfOk}
+-- The events that come with an operator, gathered one after the other.
+use Rattle.std.proofs.Common.{◌≡◌, Bool, true, false, not, List, [], ◌∷◌, ◌++◌, Option, Some, None, refl, append-nil, append_assoc}
 use Rattle.instruct.specs.declared.Profile.{Profile}
 use Rattle.peripherals.specs.declared.Event.{Event}
 use Rattle.peripherals.specs.declared.Seen.{Seen}
@@ -8,17 +7,9 @@ use Rattle.peripherals.specs.Devices.{WorldState}
 use Rattle.peripherals.specs.Events.{Happens}
 use Rattle.peripherals.specs.Operator.{Plan, due, left_after}
 use Rattle.peripherals.specs.EventOutcomes.{seen_of}
-use Rattle.declaration.specs.Declaration.{Declaration}
-use Rattle.command_parts.specs.Messages.{plain}
-use Rattle.command_parts.specs.declared.status.Fault.{Fault}
 use Rattle.machine_commands.specs.Follows.{goes_on}
-use Rattle.machine_commands.specs.Running.{fresh}
-use Rattle.machine_commands.specs.Continued.{ComesOn, IsContinuedWatch}
-use Rattle.machine_commands.specs.Schedule.{Comes, Over, Final, Then, Place, Whole, first_place, operating}
+use Rattle.machine_commands.specs.Schedule.{Comes, Over, Final, Then, Place, Whole, operating}
 use Rattle.machine_commands.specs.Session.{comes_by}
-use Rattle.machine_commands.specs.WatchText.{IsWatchOf}
-use Rattle.machine_commands.specs.declared.messages.RunMessage.{RunMessage}
-use Rattle.machine_commands.specs.WatchedSession.{IsPlanWatchedSo}
 
 -- The place of an operator with this plan, after this event.
 abbrev pub place : Plan → Option Event → Place
@@ -49,34 +40,6 @@ gathered_last p plan now last w x events e what gathered is sees ends =
 pub gathered_all : (p : Profile) (plan now : Plan) (last : Option Event) (w x : WorldState) (events : List Event) →
     Gathered p plan now last w x events → due now x last ≡ None → comes_by plan p w Whole events
 gathered_all p plan now last w x events gathered is = rw (append-nil events) at (gathered.come [] (Over (place now last) x is))
-
--- what is told of the events of a plan is told of the plan
-pub plan_watched : {A : Type 0} (plan : Plan) (image : List (Option ℕ)) (d : Declaration) (explained : Bool) (named : ℕ → Bool) (p : Profile) (w : WorldState) (events : List Event) (result : Result (RunMessage A) Fault) →
-    p ≡ d.profile → w ≡ fresh image d.start → comes_by plan p w Whole events → IfOk result (λ run. IsWatchOf explained named image d events run.status (plain run.told)) →
-    IfOk result (λ run. IsPlanWatchedSo None plan image d explained named (plain run.told) run.status)
-plan_watched plan image d explained named p w events (Ok run) profile begins come seen = record {
-  events = events;
-  come = rw (profile, begins) at come;
-  watched = seen.watched;
-  sees = seen.sees;
-  is = seen.is;
-  status_is = seen.status_is;
-}
-plan_watched plan image d explained named p w events (Err f) profile begins come seen = tt
-
--- and so it is for a run that goes on at pauses
-pub plan_continued : {A : Type 0} (n : ℕ) (plan : Plan) (image : List (Option ℕ)) (d : Declaration) (explained : Bool) (named : ℕ → Bool) (w : WorldState) (events : List Event) (result : Result (RunMessage A) Fault) →
-    w ≡ fresh image d.start → ComesOn d n (first_place plan) w events → IfOk result (λ run. IsContinuedWatch n explained named image d events run.status (plain run.told)) →
-    IfOk result (λ run. IsPlanWatchedSo (Some n) plan image d explained named (plain run.told) run.status)
-plan_continued n plan image d explained named w events (Ok run) begins come seen = record {
-  events = events;
-  come = rw begins at come;
-  watched = seen.watched;
-  sees = seen.sees;
-  is = seen.is;
-  status_is = seen.status_is;
-}
-plan_continued n plan image d explained named w events (Err f) begins come seen = tt
 
 -- a test that was turned round
 pub not_back : (a b : Bool) → not a ≡ b → a ≡ not b

@@ -17,7 +17,7 @@ use Rattle.machine_commands.specs.Running.{fresh}
 use Rattle.machine_commands.specs.Schedule.{Place, Whole, first_place, operating}
 use Rattle.machine_commands.specs.Session.{comes_by}
 use Rattle.command_parts.specs.declared.status.Status.{Status}
-use Rattle.machine_commands.specs.WatchText.{IsSeen, IsShown, IsToldWithCells, watched_status, watched_text}
+use Rattle.machine_commands.specs.WatchText.{IsSeen, IsShown, watched_status, watched_text}
 
 -- The machine is halted at a declared pause.
 pub record IsAtPause (d : Declaration) (w : WorldState) : Type 0 where
@@ -100,8 +100,3 @@ pub record IsContinuedWatch (most : ℕ) (explained : Bool) (named : ℕ → Boo
   pub sees : IsSeen image d events watched
   pub is : IsToldHowFar most image d events watched explained named told
   pub status_is : status ≡ watched_status watched
-
--- What is told of a watched run with an operator: without a number what is told of its events, and with a number how far it went.
-abbrev pub IsToldOn : Option ℕ → List (Option ℕ) → Declaration → List Event → Watched → Bool → (ℕ → Bool) → List ℕ → Type 0
-IsToldOn None image d events watched explained named told = IsToldWithCells image d events watched explained named told
-IsToldOn (Some n) image d events watched explained named told = IsToldHowFar n image d events watched explained named told

@@ -7,10 +7,9 @@ use Rattle.peripherals.specs.Devices.{WorldState}
 use Rattle.command_parts.specs.declared.options.RunOptions.{RunOptions}
 use Rattle.command_parts.specs.declared.options.Stops.{Stops}
 use Rattle.command_parts.specs.declared.status.Status.{Status}
-use Rattle.command_parts.specs.Inputs.{HasEvents, HasImage}
 use Rattle.machine_commands.specs.declared.follow.End.{End}
 use Rattle.machine_commands.specs.declared.follow.End.TheVariants as end
-use Rattle.machine_commands.specs.Follows.{Follows, rounds}
+use Rattle.machine_commands.specs.Follows.{Follows}
 use Rattle.machine_commands.specs.Running.{fresh, status_of}
 use Rattle.machine_commands.specs.Stops.{NeverStops, StopsAfter}
 use Rattle.machine_commands.specs.Summary.{closing}
@@ -59,27 +58,3 @@ pub record IsLastOfRun (options : RunOptions) (stops : Stops) (most : ℕ) (ends
 abbrev pub IsLastText : RunOptions → Stops → ℕ → Bool → List Event → List (Option ℕ) → List ℕ → Type 0
 IsLastText options stops most ends_at_halt events image text =
     (status : Status) × IsLastOfRun options stops most ends_at_halt events image text status
-
--- The frames are a tape, and the text is that of the last instructions of the run of its image by so many rounds, which ends at a
--- halt and is stopped where that is requested.
-pub record IsLastOfRounds (options : RunOptions) (stops : Stops) (most : ℕ) (frames : Option (List ℕ)) (text : List ℕ) (status : Status) : Type 0 where
-  pub image : List (Option ℕ)
-  pub tape : HasImage frames image
-  pub run : IsLastOfRun options stops most true (rounds options.rounds) image text status
-
--- The same, whichever status that has.
-abbrev pub IsLastTextOfRounds : RunOptions → Stops → ℕ → Option (List ℕ) → List ℕ → Type 0
-IsLastTextOfRounds options stops most frames text = (status : Status) × IsLastOfRounds options stops most frames text status
-
--- The frames are a tape, and the text is that of the last instructions of the run of its image by the events that a list spells; such
--- a run goes on after a halt, and is stopped where that is requested.
-pub record IsLastOfEvents (options : RunOptions) (stops : Stops) (most : ℕ) (frames list : Option (List ℕ)) (text : List ℕ) (status : Status) : Type 0 where
-  pub image : List (Option ℕ)
-  pub tape : HasImage frames image
-  pub events : List Event
-  pub spelled : HasEvents list events
-  pub run : IsLastOfRun options stops most false events image text status
-
--- The same, whichever status that has.
-abbrev pub IsLastTextOfEvents : RunOptions → Stops → ℕ → Option (List ℕ) → Option (List ℕ) → List ℕ → Type 0
-IsLastTextOfEvents options stops most frames list text = (status : Status) × IsLastOfEvents options stops most frames list text status

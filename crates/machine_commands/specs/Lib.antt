@@ -13,7 +13,6 @@ pub mod Session
 pub mod SessionParts
 pub mod Continued
 pub mod ContinuedParts
-pub mod WatchedSession
 pub mod Schedule
 pub mod Typing
 pub mod TypingParts

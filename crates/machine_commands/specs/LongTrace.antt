@@ -1,12 +1,10 @@
 -- The run of a tape behind its long trace, of whose lines nothing is said here.
-use Rattle.std.specs.Prelude.{ℕ, ◌≡◌, ◌++◌, Bool, true, false, List, Option}
+use Rattle.std.specs.Prelude.{ℕ, ◌≡◌, ◌++◌, Bool, false, List, Option}
 use Rattle.std.specs.Io.KnownBytes.{Appends}
 use Rattle.peripherals.specs.declared.Event.{Event}
 use Rattle.command_parts.specs.declared.options.RunOptions.{RunOptions}
 use Rattle.command_parts.specs.declared.options.Stops.{Stops}
 use Rattle.command_parts.specs.declared.status.Status.{Status}
-use Rattle.command_parts.specs.Inputs.{HasEvents, HasImage}
-use Rattle.machine_commands.specs.Follows.{rounds}
 use Rattle.machine_commands.specs.Stopping.{IsRunWithStops}
 
 -- Some text was appended.
@@ -24,19 +22,3 @@ pub record IsRunBehind (options : RunOptions) (stops : Stops) (ends_at_halt : Bo
   pub rest : List ℕ
   pub run : IsRunWithStops (quiet options) stops ends_at_halt events image rest status
   pub text_is : text ≡ lines ++ rest
-
--- The frames are a tape, and the text is that of the run of its image by so many rounds, which ends at a halt and is stopped where that is
--- requested, behind some lines.
-pub record IsRoundRunBehind (options : RunOptions) (stops : Stops) (frames : Option (List ℕ)) (text : List ℕ) (status : Status) : Type 0 where
-  pub image : List (Option ℕ)
-  pub tape : HasImage frames image
-  pub run : IsRunBehind options stops true (rounds options.rounds) image text status
-
--- The frames are a tape, and the text is that of the run of its image by the events that a list spells, which goes on after a halt and is
--- stopped where that is requested, behind some lines.
-pub record IsEventRunBehind (options : RunOptions) (stops : Stops) (frames list : Option (List ℕ)) (text : List ℕ) (status : Status) : Type 0 where
-  pub image : List (Option ℕ)
-  pub tape : HasImage frames image
-  pub events : List Event
-  pub spelled : HasEvents list events
-  pub run : IsRunBehind options stops false events image text status

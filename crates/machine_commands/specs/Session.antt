@@ -1,5 +1,5 @@
 -- A run with an operator: which events come, and what is written, printed and punched.
-use Rattle.std.specs.Prelude.{ℕ, ◌≡◌, ◌+◌, ◌≤◌, ◌%◌, ◌==◌, Bool, true, false, not, ◌||◌, ◌&&◌, if◌then◌else◌, ◌⊎◌, Option, List, [], ◌∷◌, ◌++◌, map, take, length}
+use Rattle.std.specs.Prelude.{ℕ, ◌≡◌, ◌+◌, ◌≤◌, ◌%◌, ◌==◌, Bool, true, false, not, ◌||◌, ◌&&◌, if◌then◌else◌, Option, List, [], ◌∷◌, ◌++◌, map, take, length}
 use Rattle.std.specs.Io.KnownBytes.{Appends}
 use Rattle.streams.specs.Bytes.{AppendsFront}
 use Rattle.instruct.specs.declared.Profile.{Profile}
@@ -7,7 +7,6 @@ use Rattle.peripherals.specs.declared.Event.{Event}
 use Rattle.peripherals.specs.Devices.{WorldState}
 use Rattle.peripherals.specs.Operator.{Plan, struck_as}
 use Rattle.machine_commands.specs.declared.follow.End.{End}
-use Rattle.machine_commands.specs.declared.follow.RunOutcome.{RunOutcome}
 use Rattle.wordset.specs.Lanes.{words}
 use Rattle.command_parts.specs.declared.options.RunOptions.{RunOptions}
 use Rattle.command_parts.specs.declared.options.SessionOptions.{SessionOptions}
@@ -17,9 +16,7 @@ use Rattle.command_parts.specs.declared.status.Fault.TheVariants.{Device}
 use Rattle.command_parts.specs.declared.status.DeviceFault.TheVariants.{Read}
 use Rattle.command_parts.specs.declared.status.Status.{Status}
 use Rattle.command_parts.specs.Faults.{IsRunFault}
-use Rattle.machine_commands.specs.Course.{Ran}
 use Rattle.machine_commands.specs.Follows.{Follows}
-use Rattle.command_parts.specs.Inputs.{AreFirst, HasImage}
 use Rattle.machine_commands.specs.Running.{fresh, status_of}
 use Rattle.machine_commands.specs.Schedule.{Comes, Extent, Whole, UpToOutput, UpToRead, ToStep, UpToAny, first_place, operating}
 use Rattle.machine_commands.specs.Summary.{closing_as}
@@ -32,14 +29,6 @@ character byte = byte % 128
 -- What was printed in a world, as characters.
 abbrev pub printed_in : WorldState → List ℕ
 printed_in w = map character w.devices.printer.output
-
--- A run came to its end in x, which is told to any extent: the trace, if one was requested, and the characters that were printed were
--- appended.
-pub record Operated (comes : Extent → List Event → Type 0) (profile : Profile) (trace : Bool) (w : WorldState) (outcome : RunOutcome) (x : WorldState) (old new told tells : Option (List ℕ)) : Type 0 where
-  pub events : List Event
-  pub come : (extent : Extent) → comes extent events
-  pub ran : Ran profile true trace events w outcome x old new
-  pub printed : Appends told tells (printed_in x)
 
 -- A prefix of a piece was appended to what a sink tells: all of it, a part or nothing.
 pub record AppendsSome (old new : Option (List ℕ)) (piece : List ℕ) : Type 0 where
@@ -132,26 +121,6 @@ plan_for options frames keys = record {
   keys = map (struck_as options.mark) keys;
 }
 
--- The tape is good, and these are what a run of it brings, with the frames of a reader and the bytes of keys, as many of each
--- as there are rounds: no more can come.
-pub record IsSession (options : SessionOptions) (form : SummaryForm) (extent : Extent) (tape reader keys : Option (List ℕ)) (status : Status) (text printed punched : List ℕ) : Type 0 where
-  pub image : List (Option ℕ)
-  pub has_image : HasImage tape image
-  pub frames : List ℕ
-  pub frames_are : AreFirst options.run.rounds reader frames
-  pub bytes : List ℕ
-  pub bytes_are : AreFirst options.run.rounds keys bytes
-  pub session : IsSessionOf options.run form extent (plan_for options frames bytes) image text printed punched status
-
--- What a run with an operator that has a fault may be about to write, to print and to punch. The summary, which a whole run
--- alone has, is written last: after it only that write itself can fail, so it is about to be written only if the report
--- failed. If neither the report nor the teletype failed, the run came to its end or to an event that prints or punches.
-pub record IsPartOfSession (options : SessionOptions) (form : SummaryForm) (reported typed : Bool) (tape reader keys : Option (List ℕ)) (extent : Extent) (text printed punched : List ℕ) : Type 0 where
-  pub summed : extent ≡ Whole → reported ≡ true
-  pub to_output : (reported || typed) ≡ false → extent ≡ UpToOutput
-  pub status : Status
-  pub is : IsSession options form extent tape reader keys status text printed punched
-
 -- What three sinks tell: where the trace and the summary, the characters and the punched bytes go.
 pub record Taken : Type 0 where
   pub report : Option (List ℕ)
@@ -204,12 +173,3 @@ pub record FrontsOf (P : Extent → List ℕ → List ℕ → List ℕ → Type 
   pub typed_nearly : length printed ≤ to_teletype.count + 1
   pub typed_before_summary : extent ≡ Whole → Appends old.teletype new.teletype printed
   pub punched_before_summary : extent ≡ Whole → Appends old.punch new.punch punched
-
--- Fronts went out of what a run with an operator may be about to write, where these of its sinks failed.
-abbrev pub SessionFronts : SessionOptions → SummaryForm → Failures → Option (List ℕ) → Option (List ℕ) → Option (List ℕ) → Taken → Taken → Type 0
-SessionFronts options form failed tape reader keys old new =
-    FrontsOf (IsPartOfSession options form failed.report failed.teletype tape reader keys) failed old new
-
--- Nothing was written at all, or such fronts were.
-abbrev pub NothingOrFronts : SessionOptions → SummaryForm → Failures → Option (List ℕ) → Option (List ℕ) → Option (List ℕ) → Taken → Taken → Type 0
-NothingOrFronts options form failed tape reader keys old new = (new ≡ old) ⊎ SessionFronts options form failed tape reader keys old new

@@ -11,12 +11,9 @@ use Rattle.peripherals.specs.Events.{Happens}
 use Rattle.peripherals.specs.Operator.{Plan, plan_of}
 use Rattle.peripherals.specs.declared.operator.Operator.{Operator}
 use Rattle.peripherals.specs.EventOutcomes.{puts_out, seen_of}
-use Rattle.command_parts.specs.declared.options.RunOptions.{RunOptions}
-use Rattle.command_parts.specs.declared.options.SummaryForm.{SummaryForm}
-use Rattle.command_parts.specs.declared.status.Status.{Status}
 use Rattle.machine_commands.specs.Follows.{goes_on}
-use Rattle.machine_commands.specs.Schedule.{Extent, Place, Whole, UpToOutput}
-use Rattle.machine_commands.specs.Session.{AppendsSome, IsHeld, character, extent_unread}
+use Rattle.machine_commands.specs.Schedule.{Extent, Place, UpToOutput}
+use Rattle.machine_commands.specs.Session.{AppendsSome, character}
 use Rattle.machine_commands.specs.Trace.{trace_of, traced}
 
 -- The event is a step of the machine.
@@ -57,13 +54,6 @@ pub record Faltered (profile : Profile) (trace : Bool) (w : WorldState) (e : Eve
 abbrev pub PlayedFront : Profile → Bool → WorldState → Event → WorldState → Bool → Bool → Option (List ℕ) → Option (List ℕ) → Option (List ℕ) → Option (List ℕ) → Type 0
 PlayedFront profile trace w e x reported typed old new told tells =
     Unplayed w e x reported typed old new told tells ⊎ Faltered profile trace w e x reported typed old new told tells
-
--- What the events that come, or the first of them, leave; all of them with the summary, where the report failed.
-pub record IsPartOf (comes : Profile → WorldState → Extent → List Event → Type 0) (options : RunOptions) (form : SummaryForm) (reported typed unread : Bool) (image : List (Option ℕ)) (extent : Extent) (text printed punched : List ℕ) : Type 0 where
-  pub summed : extent ≡ Whole → reported ≡ true
-  pub to_there : (reported || typed) ≡ false → extent ≡ extent_unread unread
-  pub status : Status
-  pub is : IsHeld comes options form extent image text printed punched status
 
 -- An instruction counts as one step.
 abbrev pub steps_in : Event → ℕ

@@ -1,12 +1,23 @@
--- What stops change in a run: nothing up to the step that stops it.
-use Rattle.std.specs.Prelude.{ℕ, ◌≡◌, ◌+◌, Bool, List, ◌++◌, drop, take}
+-- What stops change in a run: nothing up to the step that stops it, and nothing at all where there are none.
+use Rattle.std.specs.Prelude.{ℕ, ◌≡◌, ◌+◌, Bool, false, List, ◌++◌, Option, None, drop, take}
 use Rattle.instruct.specs.declared.Profile.{Profile}
+use Rattle.wordset.specs.Lanes.{words}
+use Rattle.wordset.specs.Words.{nothing}
+use Rattle.command_parts.specs.declared.options.RunOptions.{RunOptions}
 use Rattle.command_parts.specs.declared.options.Stops.{Stops}
+use Rattle.command_parts.specs.declared.options.SummaryForm.{SummaryForm}
+use Rattle.command_parts.specs.declared.options.TeletypeOptions.{TeletypeOptions}
+use Rattle.command_parts.specs.declared.status.Status.{Status}
 use Rattle.peripherals.specs.declared.Event.{Event}
 use Rattle.peripherals.specs.Devices.{WorldState}
+use Rattle.peripherals.specs.Operator.{Plan}
 use Rattle.machine_commands.specs.declared.follow.End.{End}
 use Rattle.machine_commands.specs.Follows.{Follows}
+use Rattle.machine_commands.specs.Schedule.{Extent}
+use Rattle.machine_commands.specs.Session.{IsHeld, IsSessionOf, comes_by}
+use Rattle.machine_commands.specs.StoppedSession.{IsHeldToStop}
 use Rattle.machine_commands.specs.Stops.{NeverStops, StopsAfter}
+use Rattle.machine_commands.specs.Teletype.{run_of, types_by}
 
 -- A run with this trace and so many instructions goes on from a world, by these events, to the end of another run: the other's trace
 -- is this trace and what follows, and its instructions are those of this run and those that follow.
@@ -37,3 +48,25 @@ abbrev pub StoppedIsNotNever : Type 0
 StoppedIsNotNever =
     (stops : Stops) (profile : Profile) (ends_at_halt : Bool) (events : List Event) (w : WorldState) (count : ℕ) →
     StopsAfter stops profile ends_at_halt 0 events w count → NeverStops stops profile ends_at_halt 0 events w → ⊥
+
+-- There is no address at which these stop a run, and no cell.
+pub record AreNone (stops : Stops) : Type 0 where
+  pub place : stops.place ≡ None
+  pub written : words stops.written ≡ nothing
+  pub read : words stops.read ≡ nothing
+
+-- What a run with an operator may leave that has no stops is what the events of its plan lead to, and nothing is said to have stopped it.
+abbrev pub SessionsWithoutStops : Type 0
+SessionsWithoutStops =
+    (options : RunOptions) (stops : Stops) (form : SummaryForm) (extent : Extent) (plan : Plan) (image : List (Option ℕ))
+    (text printed punched : List ℕ) (status : Status) →
+    AreNone stops → IsHeldToStop (comes_by plan) options stops form extent false image text printed punched status →
+    IsSessionOf options form extent plan image text printed punched status
+
+-- The same of a session at the teletype that no key interrupts.
+abbrev pub TypedWithoutStops : Type 0
+TypedWithoutStops =
+    (options : TeletypeOptions) (stops : Stops) (form : SummaryForm) (extent : Extent) (frames bytes : List ℕ) (image : List (Option ℕ))
+    (text printed punched : List ℕ) (status : Status) →
+    AreNone stops → IsHeldToStop (types_by options frames bytes) (run_of options) stops form extent false image text printed punched status →
+    IsHeld (types_by options frames bytes) (run_of options) form extent image text printed punched status

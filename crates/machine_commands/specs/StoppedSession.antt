@@ -81,10 +81,14 @@ pub record IsPartOfSessionToStop (options : SessionOptions) (stops : Stops) (for
   pub status : Status
   pub is : IsSessionToStop options stops form extent tape reader keys status text printed punched
 
--- Nothing was written at all, or fronts went out of what a run with an operator may be about to write, where these of its sinks failed.
+-- Fronts went out of what a run with an operator may be about to write, where these of its sinks failed.
+abbrev pub StoppedSessionFronts : SessionOptions → Stops → SummaryForm → Failures → Option (List ℕ) → Option (List ℕ) → Option (List ℕ) → Taken → Taken → Type 0
+StoppedSessionFronts options stops form failed tape reader keys old new =
+    FrontsOf (IsPartOfSessionToStop options stops form failed.report failed.teletype tape reader keys) failed old new
+
+-- Nothing was written at all, or such fronts were.
 abbrev pub NothingOrStoppedFronts : SessionOptions → Stops → SummaryForm → Failures → Option (List ℕ) → Option (List ℕ) → Option (List ℕ) → Taken → Taken → Type 0
-NothingOrStoppedFronts options stops form failed tape reader keys old new =
-    (new ≡ old) ⊎ FrontsOf (IsPartOfSessionToStop options stops form failed.report failed.teletype tape reader keys) failed old new
+NothingOrStoppedFronts options stops form failed tape reader keys old new = (new ≡ old) ⊎ StoppedSessionFronts options stops form failed tape reader keys old new
 
 -- The tape is good, and this is what a session with it brings that may be stopped, by the frames of a reader and the bytes of keys, where
 -- the key that interrupts it was struck or not.

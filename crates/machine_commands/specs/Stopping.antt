@@ -1,5 +1,5 @@
 -- The run of a tape that may be stopped, and what it writes.
-use Rattle.std.specs.Prelude.{ℕ, ◌≡◌, Bool, true, false, ◌⊎◌, ◌++◌, List, Option, take}
+use Rattle.std.specs.Prelude.{ℕ, ◌≡◌, Bool, ◌⊎◌, ◌++◌, List, Option, take}
 use Rattle.wordset.specs.Lanes.{words}
 use Rattle.peripherals.specs.declared.Event.{Event}
 use Rattle.peripherals.specs.Devices.{WorldState}
@@ -7,10 +7,9 @@ use Rattle.command_parts.specs.declared.options.RunOptions.{RunOptions}
 use Rattle.command_parts.specs.declared.options.Stops.{Stops}
 use Rattle.command_parts.specs.declared.status.Status.{Status}
 use Rattle.command_parts.specs.declared.status.Status.TheVariants.{Done}
-use Rattle.command_parts.specs.Inputs.{HasEvents, HasImage}
 use Rattle.machine_commands.specs.declared.follow.End.{End}
 use Rattle.machine_commands.specs.declared.follow.End.TheVariants as end
-use Rattle.machine_commands.specs.Follows.{Follows, rounds}
+use Rattle.machine_commands.specs.Follows.{Follows}
 use Rattle.machine_commands.specs.Running.{IsRunOf, IsTraceOf, fresh}
 use Rattle.machine_commands.specs.Stops.{NeverStops, StopsAfter}
 use Rattle.machine_commands.specs.Summary.{closing}
@@ -45,33 +44,3 @@ abbrev pub IsPartWithStops : RunOptions → Stops → Bool → List Event → Li
 IsPartWithStops options stops ends_at_halt events image text =
     ((status : Status) × IsRunWithStops options stops ends_at_halt events image text status)
     ⊎ IsTraceOf options ends_at_halt events image text
-
--- The frames are a tape, and the text is that of the run of its image by so many rounds, which ends at a halt and is stopped where
--- that is requested.
-pub record IsRoundRunWithStops (options : RunOptions) (stops : Stops) (frames : Option (List ℕ)) (text : List ℕ) (status : Status) : Type 0 where
-  pub image : List (Option ℕ)
-  pub tape : HasImage frames image
-  pub run : IsRunWithStops options stops true (rounds options.rounds) image text status
-
--- The frames are a tape, and the text is what such a run may be about to write.
-pub record IsPartOfRoundRunWithStops (options : RunOptions) (stops : Stops) (frames : Option (List ℕ)) (text : List ℕ) : Type 0 where
-  pub image : List (Option ℕ)
-  pub tape : HasImage frames image
-  pub part : IsPartWithStops options stops true (rounds options.rounds) image text
-
--- The frames are a tape, and the text is that of the run of its image by the events that a list spells; such a run goes on after a
--- halt, and is stopped where that is requested.
-pub record IsEventRunWithStops (options : RunOptions) (stops : Stops) (frames list : Option (List ℕ)) (text : List ℕ) (status : Status) : Type 0 where
-  pub image : List (Option ℕ)
-  pub tape : HasImage frames image
-  pub events : List Event
-  pub spelled : HasEvents list events
-  pub run : IsRunWithStops options stops false events image text status
-
--- The frames are a tape, and the text is what such a run may be about to write.
-pub record IsPartOfEventRunWithStops (options : RunOptions) (stops : Stops) (frames list : Option (List ℕ)) (text : List ℕ) : Type 0 where
-  pub image : List (Option ℕ)
-  pub tape : HasImage frames image
-  pub events : List Event
-  pub spelled : HasEvents list events
-  pub part : IsPartWithStops options stops false events image text

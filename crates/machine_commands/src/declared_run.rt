@@ -13,12 +13,13 @@ ghost use Rattle.machine_commands.specs.Running.{fresh};
 ghost use Rattle.machine_commands.specs.Trace.{trace_of};
 
 use crate::follow::{End, RunOutcome, advance};
-use crate::last::{KeptTrace, last_lines};
+use crate::last::last_lines;
+use crate::session::visits_past;
 use crate::shown_cells::{first, happening};
-use crate::stopped_session::visits_past;
 use crate::summary::push_state;
 use bin_tape::Image;
 use command_parts::options::Stops;
+use command_parts::text_sink::TextSink;
 use declaration::Declaration;
 use peripherals::{Event, NoMemory, Seen, Start, World};
 use policy::Watched;
@@ -57,11 +58,11 @@ fn counted(seen: &Seen) -> usize
 fn go<A: Allocator, B: Allocator, D: Allocator>(
     world: &mut World<B>,
     declaration: &Declaration<D>,
-    trace: &mut KeptTrace<A>,
+    trace: &mut TextSink<A>,
     event: Event,
 ) -> Result<usize, NoMemory>
     requires profile { profile_of world.old ≡ (meaning declaration.now).profile }
-    requires room { trace.old.refused ≡ false }
+    requires room { trace.old.failed ≡ false }
     ensures happens { OnOk result
         (HappensDeclared (meaning declaration.now) (view world.old) event (view world.new)) }
     ensures counts { IfOk result (λ steps.
@@ -70,7 +71,7 @@ fn go<A: Allocator, B: Allocator, D: Allocator>(
         trace_of (meaning declaration.now).profile (view world.old) event (view world.new)) }
     ensures few { IfOk result (λ steps. steps ≤ 1) }
     ensures profile { profile_of world.new ≡ profile_of world.old }
-    ensures room { OnOk result (trace.new.refused ≡ false) }
+    ensures room { OnOk result (trace.new.failed ≡ false) }
 {
     if is_continue(&event) {
         if waits(world, declaration) {
@@ -101,13 +102,13 @@ fn go_through<A: Allocator, B: Allocator, D: Allocator>(
     ensures goes { IfOk result (λ run. Traces (meaning declaration.now) events.now (view world.old)
         run.lines.items run.steps (view world.new)) }
 {
-    let mut trace = KeptTrace::new(alloc);
+    let mut trace = TextSink::new(alloc);
     let mut steps = 0;
     for index in 0..events.len() {
         let event = events[index];
         steps += go(world, declaration, &mut trace, event)?;
     }
-    let KeptTrace { text, .. } = trace;
+    let TextSink { text, .. } = trace;
     Ok(DeclaredTrace { steps, lines: text })
 }
 

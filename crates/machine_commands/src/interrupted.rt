@@ -5,6 +5,8 @@ ghost use Rattle.machine_commands.specs.Interrupted.{is_key};
 
 use crate::typist::Typist;
 use peripherals::Operator;
+use std::io;
+use streams::standard::StdReader;
 use streams::{ByteSource, Failed};
 
 /// What may say that the operator left.
@@ -19,6 +21,14 @@ pub trait OperatorPresence {
 
 impl OperatorPresence for Operator<'_> {
     ghost left = { λ o. false };
+
+    fn has_left(&self) -> bool {
+        false
+    }
+}
+
+impl<R: io::Read> OperatorPresence for StdReader<R> {
+    ghost left = { λ keys. false };
 
     fn has_left(&self) -> bool {
         false

@@ -1,14 +1,13 @@
-//! The command that runs a tape and shows its last instructions.
+//! The run of an image of which the last instructions are shown.
 
-ghost use Rattle.std.specs.Prelude.{◌≡◌, ◌≤◌, ◌++◌, ◌||◌, [], true, false, length, IfOk, IfErr, OnErr};
+ghost use Rattle.std.specs.Prelude.{◌≡◌, ◌++◌, true, false, IfOk, IfErr, OnErr};
 ghost use Rattle.wordset.specs.Lanes.{words};
 ghost use Rattle.peripherals.specs.World.{view, profile_of};
-ghost use Rattle.command_parts.specs.Faults.{fails_to_read, fails_to_write, is_fault_of_tape, IsEventRunFault, IsRunFault, IsTapeFault};
-ghost use Rattle.command_parts.specs.Inputs.{TakesAtMost, TakesTape, input};
+ghost use Rattle.command_parts.specs.Faults.{fails_to_write, IsRunFault};
 ghost use Rattle.command_parts.specs.Writes.{FrontOf, Writes};
 ghost use Rattle.machine_commands.specs.Course.{ends_at_halt, events_in};
 ghost use Rattle.machine_commands.specs.Follows.{Follows};
-ghost use Rattle.machine_commands.specs.Last.{IsCut, IsLastOfEvents, IsLastOfRounds, IsLastOfRun, IsLastText, IsLastTextOfEvents, IsLastTextOfRounds, last_lines, lines_in, told, without_lines};
+ghost use Rattle.machine_commands.specs.Last.{IsCut, IsLastOfRun, IsLastText, last_lines, lines_in, told, without_lines};
 ghost use Rattle.machine_commands.specs.Running.{fresh};
 ghost use Rattle.machine_commands.specs.Summary.{closing};
 
@@ -17,55 +16,13 @@ use crate::running::status_of;
 use crate::stopping::{first, stop_of};
 use crate::summary::push_closing;
 use bin_tape::Image;
-use command_parts::inputs::{events_from, tape_from};
 use command_parts::options::{RunOptions, Stops};
 use command_parts::status::{Fault, Status};
+use command_parts::text_sink::TextSink;
 use peripherals::{NoMemory, Start, World};
 use std::alloc::{AllocError, Allocator};
-use streams::{ByteSink, ByteSource, Failed, put};
+use streams::{ByteSink, put};
 use wordset::WordSet;
-
-/// A trace that is kept in memory.
-#[derive(Drop)]
-pub(crate) struct KeptTrace<A: Allocator> {
-    pub(crate) text: Vec<u8, A>,
-    pub(crate) refused: bool,
-}
-
-impl<A: Allocator> KeptTrace<A> {
-    /// A trace without a line.
-    pub(crate) fn new(alloc: A) -> KeptTrace<A>
-        ensures text { result.text.items ≡ [] }
-        ensures room { result.refused ≡ false }
-    {
-        KeptTrace {
-            text: Vec::new(alloc),
-            refused: false,
-        }
-    }
-}
-
-impl<A: Allocator> ByteSink for KeptTrace<A> {
-    ghost use Rattle.std.specs.Prelude.{Some};
-
-    ghost taken = { λ sink. Some sink.text.items };
-
-    ghost mark = { λ sink. sink.refused };
-
-    fn write(&mut self, piece: &[u8]) -> Result<usize, Failed> {
-        match self.text.extend_from_slice(piece) {
-            Ok(()) => Ok(piece.len()),
-            Err(_) => {
-                self.refused = true;
-                Err(Failed)
-            }
-        }
-    }
-
-    fn failed(&self) -> bool {
-        self.refused
-    }
-}
 
 /// How many lines a text has.
 #[tactic(auto, using(crate::proofs::LastLemmas::line_more, crate::proofs::LastLemmas::line_same, crate::proofs::LastLemmas::lines_all))]
@@ -187,14 +144,13 @@ fn traced_run<A: Allocator, B: Allocator>(
         (events_in course.now) (view world.old) run.lines.items run.outcome.steps run.outcome.end
         (view world.new)) }
 {
-    let mut trace = KeptTrace::new(alloc);
+    let mut trace = TextSink::new(alloc);
     let Ok(outcome) = follow(world, &mut trace, true, course) else {
         return Err(NoMemory);
     };
-    let KeptTrace { text, .. } = trace;
     Ok(TracedRun {
         outcome,
-        lines: text,
+        lines: trace.into_text(),
     })
 }
 
@@ -234,9 +190,14 @@ fn show_last<A: Allocator + Copy, W: ByteSink>(
     Ok(status_of(outcome.end))
 }
 
-/// Lets an image's machine go through a course up to where it is stopped, and writes the last lines of its
-/// trace and the summary.
-fn run_last<A: Allocator + Copy, W: ByteSink>(
+/// Runs an image up to where it is stopped, as [`crate::stopping::run_with_stops`] does, and writes the lines of its last
+/// instructions, so many or all, before the summary, whatever ended the run. `trace` of the options is not looked at.
+///
+/// # Errors
+///
+/// `Device` where a write failed, after which a prefix of the text went out; `NoMemory`, even if the trace of the whole
+/// run has no room.
+pub fn run_with_last<A: Allocator + Copy, W: ByteSink>(
     alloc: A,
     image: &Image,
     options: &RunOptions,
@@ -246,111 +207,24 @@ fn run_last<A: Allocator + Copy, W: ByteSink>(
     out: &mut W,
 ) -> Result<Status, Fault>
     requires writable { W.mark out.old ≡ false }
+    // What is written is the end of the trace and the summary of the run of the course.
     ensures run { IfOk result (λ status. Writes
         (λ text. IsLastOfRun options.now stops.now most (ends_at_halt course.now)
         (events_in course.now) image.now text status)
         (W.taken out.old) (W.taken out.new)) }
     ensures faults { IfErr result IsRunFault }
+    // If a write failed, a prefix of that went out,
     ensures front { W.mark out.new ≡ true → FrontOf
         (IsLastText options.now stops.now most (ends_at_halt course.now) (events_in course.now)
         image.now)
         (W.taken out.old) (W.taken out.new) }
+    // and any other fault leaves the output as it was.
     ensures nothing { OnErr result (W.mark out.new ≡ false → W.taken out.new ≡ W.taken out.old) }
+    // A write failed if and only if the answer says so.
     ensures marks { W.mark out.new ≡ fails_to_write result }
 {
     let Ok(cut) = cut_of(alloc, image, options, stops, course) else {
         return Err(Fault::NoMemory);
     };
     show_last(alloc, image, options, stops, most, course, &cut, out)
-}
-
-/// Runs a tape in rounds, as [`crate::stopping::run_with_stops`] does, and writes the lines of its last
-/// instructions, so many or all, before the summary, whatever ended the run. `trace` of the options is not
-/// looked at.
-///
-/// # Errors
-///
-/// The tape's fault; `Device` where a read or a write failed, after which a prefix of the text went out;
-/// `NoMemory`, even if the trace of the whole run has no room.
-pub fn run_with_last<A: Allocator + Copy, R: ByteSource, W: ByteSink>(
-    alloc: A,
-    tape: &mut R,
-    options: RunOptions,
-    stops: &Stops,
-    most: u32,
-    out: &mut W,
-) -> Result<Status, Fault>
-    requires readable { R.mark tape.old ≡ false }
-    requires writable { W.mark out.old ≡ false }
-    // What is written is the end of the trace and the summary of the run by the rounds.
-    ensures run { IfOk result (λ status. Writes
-        (λ text. IsLastOfRounds options stops.now most (R.remaining tape.old) text status)
-        (W.taken out.old) (W.taken out.new)) }
-    // A fault of the tape is the first fault of its bytes; any other comes after a good tape.
-    ensures faults { IfErr result (IsTapeFault
-        (input (R.mark tape.new) (R.remaining tape.old) (R.remaining tape.new))) }
-    // If a write failed, a prefix of that went out,
-    ensures front { W.mark out.new ≡ true →
-        FrontOf (IsLastTextOfRounds options stops.now most (R.remaining tape.old))
-        (W.taken out.old) (W.taken out.new) }
-    // and any other fault leaves the output as it was.
-    ensures nothing { OnErr result (W.mark out.new ≡ false → W.taken out.new ≡ W.taken out.old) }
-    // A write failed if and only if the answer says so, and so did a read.
-    ensures marks { W.mark out.new ≡ fails_to_write result }
-    ensures reads { R.mark tape.new ≡ fails_to_read result }
-    // The tape is not read past its limit.
-    ensures takes_tape { TakesTape (R.remaining tape.old) (R.remaining tape.new) }
-{
-    let image = tape_from(tape)?;
-    let course = Course::Rounds(options.rounds);
-    run_last(alloc, &image, &options, stops, most, &course, out)
-}
-
-/// Runs a tape by the events of a text, as [`crate::stopping::run_events_with_stops`] does, and writes as
-/// [`run_with_last`] does.
-///
-/// # Errors
-///
-/// As for [`run_with_last`], and the text's fault. The tape is read and, if it has a fault, refused first.
-pub fn run_events_with_last<A: Allocator + Copy, R: ByteSource, E: ByteSource, W: ByteSink>(
-    alloc: A,
-    tape: &mut R,
-    text: &mut E,
-    options: RunOptions,
-    stops: &Stops,
-    most: u32,
-    out: &mut W,
-) -> Result<Status, Fault>
-    requires readable { R.mark tape.old ≡ false }
-    requires text_readable { E.mark text.old ≡ false }
-    requires writable { W.mark out.old ≡ false }
-    // What is written is the end of the trace and the summary of the run by the events.
-    ensures run { IfOk result (λ status. Writes
-        (λ written. IsLastOfEvents options stops.now most (R.remaining tape.old)
-        (E.remaining text.old) written status)
-        (W.taken out.old) (W.taken out.new)) }
-    ensures faults { IfErr result (IsEventRunFault
-        (input (R.mark tape.new) (R.remaining tape.old) (R.remaining tape.new))
-        (input (E.mark text.new) (E.remaining text.old) (E.remaining text.new))) }
-    // If a write failed, a prefix of that went out,
-    ensures front { W.mark out.new ≡ true →
-        FrontOf (IsLastTextOfEvents options stops.now most (R.remaining tape.old)
-        (E.remaining text.old))
-        (W.taken out.old) (W.taken out.new) }
-    // and any other fault leaves the output as it was.
-    ensures nothing { OnErr result (W.mark out.new ≡ false → W.taken out.new ≡ W.taken out.old) }
-    // A write failed if and only if the answer says so, and so did a read.
-    ensures marks { W.mark out.new ≡ fails_to_write result }
-    ensures reads { R.mark tape.new || E.mark text.new ≡ fails_to_read result }
-    // The text is not read after a tape that is refused, or whose read failed.
-    ensures unread { IfErr result (λ fault. is_fault_of_tape fault ≡ true → text.new ≡ text.old) }
-    ensures unread_after_failure { R.mark tape.new ≡ true → text.new ≡ text.old }
-    // No input is read past its limit.
-    ensures takes_tape { TakesTape (R.remaining tape.old) (R.remaining tape.new) }
-    ensures takes_events { TakesAtMost 65537 (E.remaining text.old) (E.remaining text.new) }
-{
-    let image = tape_from(tape)?;
-    let list = events_from(alloc, text)?;
-    let course = Course::Listed(&list);
-    run_last(alloc, &image, &options, stops, most, &course, out)
 }

@@ -12,8 +12,7 @@ use crate::interrupted::OperatorPresence;
 use crate::last::{last_lines, lines_in};
 use crate::running::status_of;
 use crate::schedule::Scheduler;
-use crate::session::Outputs;
-use crate::stopped_session::{leaving, operate_to_stop};
+use crate::session::{Outputs, leaving, operate};
 use crate::summary::{closing_of, parting};
 use crate::teletype::run_of;
 use crate::typist::Typist;
@@ -164,7 +163,7 @@ fn run_scheduled_with_last<
         punch,
     } = out;
     let mut kept = LastLines::new(alloc, most);
-    let ran = operate_to_stop(&mut world, schedule, stops, true, &mut kept, teletype);
+    let ran = operate(&mut world, schedule, stops, true, &mut kept, teletype);
     put(punch, world.punched())?;
     let came = ran?;
     let outcome = leaving(schedule.has_left(), came, &world);
@@ -180,13 +179,13 @@ fn are_few(rounds: u32)
     ensures { rounds < 18446744073709551616 }
 {}
 
-/// Runs a tape with an operator, as [`crate::stopped_session::run_session_with_stops`] does without a trace, and writes
+/// Runs a tape with an operator, as [`crate::session::run_session`] does without a trace, and writes
 /// the lines of its last instructions, so many or all, before the summary. Which lines these are is tested and not
 /// proved.
 ///
 /// # Errors
 ///
-/// As for `run_session_with_stops`, and `NoMemory` where these lines have no room.
+/// As for `run_session`, and `NoMemory` where these lines have no room.
 #[tactic(auto, using(crate::proofs::UnreadLemmas::takes_no_text))]
 pub fn run_session_with_last<
     A: Allocator + Copy,
@@ -262,12 +261,12 @@ pub fn run_session_with_last<
     )
 }
 
-/// Runs a tape with somebody at the teletype, as [`crate::stopped_session::teletype_with_stops`] does, and writes the
+/// Runs a tape with somebody at the teletype, as [`crate::teletype::teletype`] does, and writes the
 /// lines of its last instructions, so many or all, before the summary. Which lines these are is tested and not proved.
 ///
 /// # Errors
 ///
-/// As for `teletype_with_stops`, and `NoMemory` where these lines have no room.
+/// As for `teletype`, and `NoMemory` where these lines have no room.
 pub fn teletype_with_last<
     A: Allocator + Copy,
     R: ByteSource,

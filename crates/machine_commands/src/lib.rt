@@ -16,7 +16,6 @@ pub mod running;
 mod schedule;
 pub mod session;
 mod shown_cells;
-pub mod stopped_session;
 pub mod stopped_watch;
 pub mod stopping;
 mod stops;

@@ -1,18 +1,16 @@
 //! The long trace of a run: what each instruction is, and what it read and wrote. The lines are tested and not proved.
 
-ghost use Rattle.std.specs.Prelude.{◌≡◌, ◌||◌, true, false, IfOk, IfErr, OnOk};
-ghost use Rattle.command_parts.specs.Faults.{fails_to_read, fails_to_write, is_fault_of_tape, IsEventRunFault, IsRunFault, IsTapeFault};
-ghost use Rattle.command_parts.specs.Inputs.{TakesAtMost, TakesTape, input};
+ghost use Rattle.std.specs.Prelude.{◌≡◌, true, false, IfOk, IfErr, OnOk};
+ghost use Rattle.command_parts.specs.Faults.{fails_to_write, IsRunFault};
 ghost use Rattle.command_parts.specs.Writes.{Writes};
 ghost use Rattle.machine_commands.specs.Course.{ends_at_halt, events_in};
-ghost use Rattle.machine_commands.specs.LongTrace.{IsEventRunBehind, IsRoundRunBehind, IsRunBehind, Appended};
+ghost use Rattle.machine_commands.specs.LongTrace.{IsRunBehind, Appended};
 
 use crate::follow::Course;
 use crate::last::cut_of;
-use crate::stopping::run_stoppable;
+use crate::stopping::run_with_stops;
 use crate::stops::goes_on;
 use bin_tape::Image;
-use command_parts::inputs::{events_from, tape_from};
 use command_parts::options::{RunOptions, Stops};
 use command_parts::status::{Fault, Status};
 use command_parts::text::{push_place, push_word};
@@ -20,7 +18,7 @@ use instruct::{Operation, Profile, name, target};
 use peripherals::{Seen, Start, World};
 use processor::{Cpu, DecodedInstruction, Reference};
 use std::alloc::{AllocError, Allocator};
-use streams::{ByteSink, ByteSource, put};
+use streams::{ByteSink, put};
 use word12::Word;
 
 /// The words from this one on are no memory references.
@@ -250,9 +248,13 @@ fn put_lines<A: Allocator + Copy, N: Statements, W: ByteSink>(
     Ok(())
 }
 
-/// Writes the long trace of the run of an image up to where it is stopped, and after it what the run writes without a
-/// trace.
-fn run_behind<A: Allocator + Copy, N: Statements, W: ByteSink>(
+/// Runs an image up to where it is stopped, as [`run_with_stops`] does without a trace, and writes the long trace before
+/// that. The lines of the trace are tested and not proved.
+///
+/// # Errors
+///
+/// `Device` where a write failed, after which a prefix of the text went out; `NoMemory`.
+pub fn run_with_long_trace<A: Allocator + Copy, N: Statements, W: ByteSink>(
     alloc: A,
     image: &Image,
     options: &RunOptions,
@@ -262,11 +264,13 @@ fn run_behind<A: Allocator + Copy, N: Statements, W: ByteSink>(
     out: &mut W,
 ) -> Result<Status, Fault>
     requires { W.mark out.old ≡ false }
+    // Behind the lines of the trace that of the run of the course is written, up to the first step that stops it.
     ensures run { IfOk result (λ status. Writes
         (λ text. IsRunBehind options.now stops.now (ends_at_halt course.now) (events_in course.now)
         image.now text status)
         (W.taken out.old) (W.taken out.new)) }
     ensures faults { IfErr result IsRunFault }
+    // A write failed if and only if the answer says so.
     ensures marks { W.mark out.new ≡ fails_to_write result }
 {
     let cut = cut_of(alloc, image, options, stops, course)?;
@@ -276,88 +280,5 @@ fn run_behind<A: Allocator + Copy, N: Statements, W: ByteSink>(
         trace: false,
         ..*options
     };
-    run_stoppable(alloc, image, &quiet, stops, course, out)
-}
-
-/// Runs a tape in rounds, as [`crate::stopping::run_with_stops`] does without a trace, and writes the long trace before
-/// that. The lines of the trace are tested and not proved.
-///
-/// # Errors
-///
-/// The tape's fault; `Device` where a read or a write failed, after which a prefix of the text went
-/// out; `NoMemory`.
-pub fn run_with_long_trace<A: Allocator + Copy, R: ByteSource, N: Statements, W: ByteSink>(
-    alloc: A,
-    tape: &mut R,
-    options: RunOptions,
-    stops: &Stops,
-    statements: &N,
-    out: &mut W,
-) -> Result<Status, Fault>
-    requires readable { R.mark tape.old ≡ false }
-    requires writable { W.mark out.old ≡ false }
-    // Behind the lines of the trace that of the run by the rounds is written, up to the first step that stops it.
-    ensures run { IfOk result (λ status. Writes
-        (λ text. IsRoundRunBehind options stops.now (R.remaining tape.old) text status)
-        (W.taken out.old) (W.taken out.new)) }
-    // A fault of the tape is the first fault of its bytes; any other comes after a good tape.
-    ensures faults { IfErr result (IsTapeFault
-        (input (R.mark tape.new) (R.remaining tape.old) (R.remaining tape.new))) }
-    // A write failed if and only if the answer says so, and so did a read.
-    ensures marks { W.mark out.new ≡ fails_to_write result }
-    ensures reads { R.mark tape.new ≡ fails_to_read result }
-    // The tape is not read past its limit.
-    ensures takes_tape { TakesTape (R.remaining tape.old) (R.remaining tape.new) }
-{
-    let image = tape_from(tape)?;
-    let course = Course::Rounds(options.rounds);
-    run_behind(alloc, &image, &options, stops, &course, statements, out)
-}
-
-/// Runs a tape by the events of a text, as [`crate::stopping::run_events_with_stops`] does without a trace, and writes
-/// the long trace before that. The lines of the trace are tested and not proved.
-///
-/// # Errors
-///
-/// As for [`run_with_long_trace`], and the text's fault. The tape is read and, if it has a fault, refused first.
-pub fn run_events_with_long_trace<
-    A: Allocator + Copy,
-    R: ByteSource,
-    E: ByteSource,
-    N: Statements,
-    W: ByteSink,
->(
-    alloc: A,
-    tape: &mut R,
-    text: &mut E,
-    options: RunOptions,
-    stops: &Stops,
-    statements: &N,
-    out: &mut W,
-) -> Result<Status, Fault>
-    requires readable { R.mark tape.old ≡ false }
-    requires text_readable { E.mark text.old ≡ false }
-    requires writable { W.mark out.old ≡ false }
-    // Behind the lines of the trace that of the run by the events is written, up to the first step that stops it.
-    ensures run { IfOk result (λ status. Writes
-        (λ written. IsEventRunBehind options stops.now (R.remaining tape.old)
-        (E.remaining text.old) written status)
-        (W.taken out.old) (W.taken out.new)) }
-    ensures faults { IfErr result (IsEventRunFault
-        (input (R.mark tape.new) (R.remaining tape.old) (R.remaining tape.new))
-        (input (E.mark text.new) (E.remaining text.old) (E.remaining text.new))) }
-    // A write failed if and only if the answer says so, and so did a read.
-    ensures marks { W.mark out.new ≡ fails_to_write result }
-    ensures reads { R.mark tape.new || E.mark text.new ≡ fails_to_read result }
-    // The text is not read after a tape that is refused, or whose read failed.
-    ensures unread { IfErr result (λ fault. is_fault_of_tape fault ≡ true → text.new ≡ text.old) }
-    ensures unread_after_failure { R.mark tape.new ≡ true → text.new ≡ text.old }
-    // No input is read past its limit.
-    ensures takes_tape { TakesTape (R.remaining tape.old) (R.remaining tape.new) }
-    ensures takes_events { TakesAtMost 65537 (E.remaining text.old) (E.remaining text.new) }
-{
-    let image = tape_from(tape)?;
-    let list = events_from(alloc, text)?;
-    let course = Course::Listed(&list);
-    run_behind(alloc, &image, &options, stops, &course, statements, out)
+    run_with_stops(alloc, image, &quiet, stops, course, out)
 }

@@ -1,35 +1,29 @@
 //! What is told of runs, with its addresses marked for whoever has the program's source. The commands write the same
 //! as plain text.
 
-ghost use Rattle.std.specs.Prelude.{◌≡◌, [], false, None, Some, IfOk, IfErr, IfSome, IfNone};
+ghost use Rattle.std.specs.Prelude.{◌≡◌, [], false, IfOk, IfErr, IfSome, IfNone};
 ghost use Rattle.wordset.specs.Lanes.{words};
 ghost use Rattle.declaration.specs.DeclarationInCode.{meaning};
 ghost use Rattle.peripherals.specs.Loading.{image_of};
-ghost use Rattle.peripherals.specs.Operator.{plan_of};
-ghost use Rattle.peripherals.specs.World.{profile_of, view};
 ghost use Rattle.refuter.specs.Witnesses.{Breaks, IsLast, IsSpelled};
 ghost use Rattle.command_parts.specs.Answers.{IsMemoryFault};
 ghost use Rattle.command_parts.specs.Messages.{plain};
 ghost use Rattle.machine_commands.specs.Continued.{IsContinuedWatch, IsToldHowFar};
 ghost use Rattle.machine_commands.specs.RefuteText.{IsRefutationOf, IsWitnessOf, unbroken_text};
-ghost use Rattle.machine_commands.specs.Running.{fresh};
-ghost use Rattle.machine_commands.specs.Session.{plan_for};
 ghost use Rattle.machine_commands.specs.WatchText.{IsTold, IsToldWithCells, IsWatchOf, broken_text, watched_status, watched_text};
-ghost use Rattle.machine_commands.specs.WatchedSession.{IsPlanWatchedSo};
 
-use crate::continuing::{continued_events_of, how_far_line};
+use crate::continuing::how_far_line;
 use crate::progress::{AvailableInput, offered_by, progress_lines};
-use crate::schedule::events_of;
 use crate::shown_cells::shown_of;
 use crate::violations::violation_lines;
 use bin_tape::Image;
 use command_parts::message::{Message, MessageWriter};
-use command_parts::options::{RefuteOptions, SessionOptions};
+use command_parts::options::RefuteOptions;
 use command_parts::outcome::CommandResult;
 use command_parts::status::{Fault, Status};
 use declaration::Declaration;
 use itoa::Buffer;
-use peripherals::{Event, NoMemory, Operator, Start, World};
+use peripherals::{Event, NoMemory, Start};
 use policy::{Rule, Watched};
 use refuter::{Witness, refute_within};
 use std::alloc::{AllocError, Allocator};
@@ -321,122 +315,6 @@ pub(crate) fn watch_continued<A: Allocator + Copy, D: Allocator>(
     )?;
     let status = watched_status(watched);
     Ok(RunMessage { told, status })
-}
-
-/// What is told of the run that an operator brings from here on, which ends at the first HLT.
-fn watch_to_halt<A: Allocator + Copy, B: Allocator, D: Allocator>(
-    alloc: A,
-    image: &Image,
-    declaration: &Declaration<D>,
-    world: &mut World<B>,
-    operator: &mut Operator<'_>,
-    offered: AvailableInput,
-    explained: bool,
-    show: &WordSet,
-) -> Result<RunMessage<A>, Fault>
-    requires first { operator.old.last ≡ None }
-    requires profile { profile_of world.old ≡ (meaning declaration.now).profile }
-    requires begins { view world.old ≡ fresh image.now (meaning declaration.now).start }
-    ensures told { IfOk result (λ run. IsPlanWatchedSo None (plan_of operator.old) image.now
-        (meaning declaration.now) explained (words show.now) (plain run.told) run.status) }
-    ensures faults { IfErr result IsMemoryFault }
-{
-    let events = events_of(alloc, world, operator)?;
-    watch_offered(alloc, image, declaration, &events, offered, explained, show)
-}
-
-/// What is told of the run that an operator brings from here on, who presses CONTINUE at declared pauses.
-fn watch_past_pauses<A: Allocator + Copy, B: Allocator, D: Allocator>(
-    alloc: A,
-    image: &Image,
-    declaration: &Declaration<D>,
-    world: &mut World<B>,
-    operator: &mut Operator<'_>,
-    offered: AvailableInput,
-    continues: u32,
-    explained: bool,
-    show: &WordSet,
-) -> Result<RunMessage<A>, Fault>
-    requires first { operator.old.last ≡ None }
-    requires profile { profile_of world.old ≡ (meaning declaration.now).profile }
-    requires begins { view world.old ≡ fresh image.now (meaning declaration.now).start }
-    ensures told { IfOk result (λ run. IsPlanWatchedSo (Some continues) (plan_of operator.old) image.now
-        (meaning declaration.now) explained (words show.now) (plain run.told) run.status) }
-    ensures faults { IfErr result IsMemoryFault }
-{
-    let events = continued_events_of(alloc, world, operator, declaration, continues)?;
-    watch_continued(
-        alloc,
-        image,
-        declaration,
-        &events,
-        offered,
-        continues,
-        explained,
-        show,
-    )
-}
-
-/// What `watch` tells of a run with an operator, by the frames in the reader and the keys to strike. With a number of
-/// times the operator presses CONTINUE at declared pauses, at most so many times.
-///
-/// # Errors
-///
-/// `NoMemory`.
-#[inline(never)]
-pub fn watch_session_message<A: Allocator + Copy, D: Allocator>(
-    alloc: A,
-    image: &Image,
-    declaration: &Declaration<D>,
-    frames: &[u8],
-    keys: &[u8],
-    options: &SessionOptions,
-    continues: Option<u32>,
-    explained: bool,
-) -> Result<RunMessage<A>, Fault>
-    ensures told { IfOk result (λ run. IsPlanWatchedSo continues
-        (plan_for options.now frames.now keys.now) image.now (meaning declaration.now) explained
-        (words options.now.run.show) (plain run.told) run.status) }
-    ensures faults { IfErr result IsMemoryFault }
-{
-    let (rounds, mark) = (options.run.rounds, options.mark);
-    let mut operator = Operator::new(options.switches, rounds, frames, keys, mark);
-    let mut world = World::load(
-        alloc,
-        image,
-        declaration.start(),
-        &Start::zero(),
-        declaration.profile(),
-    );
-    let offered = AvailableInput {
-        frames: frames.len(),
-        keys: keys.len(),
-    };
-    let show = &options.run.show;
-    let (world, operator) = (&mut world, &mut operator);
-    match continues {
-        None => watch_to_halt(
-            alloc,
-            image,
-            declaration,
-            world,
-            operator,
-            offered,
-            explained,
-            show,
-        ),
-        Some(times) => watch_past_pauses(
-            alloc,
-            image,
-            declaration,
-            world,
-            operator,
-            offered,
-            times,
-            explained,
-            show,
-        ),
-    }
 }
 
 /// The text of the events of a run that violates the declaration, and what is told of it.

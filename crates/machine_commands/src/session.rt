@@ -1,6 +1,6 @@
 //! A run with an operator: frames in the reader, keys to strike, the teletype and the punch.
 
-ghost use Rattle.std.specs.Prelude.{◌≡◌, ◌<◌, ◌||◌, ◌⊎◌, ◌%◌, [], ◌∷◌, false, true, None, Err, drop, get_or, is_err, map, IfOk, IfErr, OnOk, OnErr};
+ghost use Rattle.std.specs.Prelude.{◌≡◌, ◌<◌, ◌≤◌, ◌+◌, ◌||◌, ◌⊎◌, ◌%◌, [], ◌∷◌, false, true, Err, drop, get_or, is_err, map, IfSome, IfOk, IfErr, OnOk, OnErr};
 ghost use Rattle.std.specs.Io.KnownBytes.{Appends};
 ghost use Rattle.streams.specs.Bytes.{AppendsFront, Gave};
 ghost use Rattle.peripherals.specs.World.{view, profile_of};
@@ -8,16 +8,20 @@ ghost use Rattle.command_parts.specs.declared.status.Fault.TheVariants.{NoMemory
 ghost use Rattle.command_parts.specs.Faults.{is_fault_of_tape, fails_to_read, fails_to_write, IsRunFault, IsSessionFault};
 ghost use Rattle.command_parts.specs.Inputs.{AreFirst, HasCome, TakesAtMost, TakesTape, input};
 ghost use Rattle.machine_commands.specs.Schedule.{Whole};
-ghost use Rattle.machine_commands.specs.Session.{BrokeOff, FrontsOf, IsHeld, IsHeldFault, IsSession, NothingOrFronts, Operated, SessionFronts, WritesAll, character, failures, taken};
-ghost use Rattle.machine_commands.specs.SessionParts.{IsPartOf, Played, PlayedFront, is_step};
+ghost use Rattle.machine_commands.specs.Session.{BrokeOff, FrontsOf, IsHeldFault, WritesAll, character, failures, taken};
+ghost use Rattle.machine_commands.specs.SessionParts.{Played, PlayedFront, is_step, steps_in};
+ghost use Rattle.machine_commands.specs.StoppedSession.{leaving, IsHeldToStop, IsSessionToStop, NothingOrStoppedFronts, StoppedSessionFronts};
+ghost use Rattle.machine_commands.specs.StoppedParts.{IsPartToStop, OperatedToStop, Passes, unstopped};
 
 use crate::follow::{End, RunOutcome, advance, end_of};
+use crate::interrupted::OperatorPresence;
 use crate::running::status_of;
 use crate::schedule::Scheduler;
+use crate::stops::{stops_before, visits_with};
 use crate::summary::closing_of;
 use bin_tape::Image;
 use command_parts::inputs::{bytes_from, tape_from};
-use command_parts::options::RunOptions;
+use command_parts::options::{RunOptions, Stops};
 pub use command_parts::options::{SessionOptions, SummaryForm};
 use command_parts::status::{Fault, Status};
 use peripherals::{Event, Operator, Seen, Start, World};
@@ -121,10 +125,33 @@ pub(crate) fn apply_event<A: Allocator, W: ByteSink, T: ByteSink>(
     Ok(seen)
 }
 
-/// Lets happen what a schedule brings. The run ends early at a halt and at an unsupported word.
+/// How many steps came to the address, with an event, where so many came to it before; none if the event stops
+/// the run.
+pub(crate) fn visits_past<A: Allocator>(
+    stops: &Stops,
+    visits: usize,
+    world: &World<A>,
+    event: &Event,
+) -> Option<usize>
+    requires { visits + steps_in event.now < 18446744073709551616 }
+    ensures passes { Passes stops.now (profile_of world.now) visits (view world.now) event.now result }
+    ensures few { IfSome result (λ more. more ≤ visits + steps_in event.now) }
+{
+    if !is_step(event) {
+        return Some(visits);
+    }
+    if stops_before(stops, visits, world, event) {
+        return None;
+    }
+    Some(visits_with(stops, visits, world, event))
+}
+
+/// Lets happen what a schedule brings, up to the step before which the run is stopped. The run ends early at a
+/// halt and at an unsupported word.
 pub(crate) fn operate<A: Allocator, S: Scheduler, W: ByteSink, T: ByteSink>(
     world: &mut World<A>,
     schedule: &mut S,
+    stops: &Stops,
     trace: bool,
     report: &mut W,
     teletype: &mut T,
@@ -135,13 +162,13 @@ pub(crate) fn operate<A: Allocator, S: Scheduler, W: ByteSink, T: ByteSink>(
     requires few { S.steps_to_come schedule.old < 18446744073709551616 }
     requires unprinted { (view world.old).devices.printer.output ≡ [] }
     ensures ran { IfOk result (λ outcome.
-        Operated (S.brings schedule.old (profile_of world.old) (view world.old))
+        OperatedToStop (S.brings schedule.old (profile_of world.old) (view world.old)) false stops.now
         (profile_of world.old) trace (view world.old) outcome
         (view world.new) (W.taken report.old) (W.taken report.new)
         (T.taken teletype.old) (T.taken teletype.new)) }
     ensures broke { OnErr result
-        (BrokeOff (S.brings schedule.old (profile_of world.old) (view world.old))
-        (profile_of world.old) trace (view world.old) (view world.new)
+        (BrokeOff (unstopped stops.now (S.brings schedule.old) (profile_of world.old)
+        (view world.old)) (profile_of world.old) trace (view world.old) (view world.new)
         (W.mark report.new) (T.mark teletype.new) (S.unread schedule.new)
         (W.taken report.old) (W.taken report.new)
         (T.taken teletype.old) (T.taken teletype.new)) }
@@ -150,7 +177,15 @@ pub(crate) fn operate<A: Allocator, S: Scheduler, W: ByteSink, T: ByteSink>(
     ensures reads { S.unread schedule.new ≡ fails_to_read result }
 {
     let mut steps = 0;
+    let mut visits = 0;
     while let Some(event) = schedule.next_event(world)? {
+        let Some(more) = visits_past(stops, visits, world, &event) else {
+            return Ok(RunOutcome {
+                steps,
+                end: End::Stopped(world.cpu().pc),
+            });
+        };
+        visits = more;
         match apply_event(world, report, teletype, trace, event)? {
             Seen::Ran => {
                 steps += 1;
@@ -178,11 +213,25 @@ pub(crate) fn operate<A: Allocator, S: Scheduler, W: ByteSink, T: ByteSink>(
     })
 }
 
-/// Runs an image by a schedule, and writes what was punched in the end, even if the run broke off,
-/// and the summary in this form.
+/// How a run is said to have ended that a key interrupted, or did not.
+pub(crate) fn leaving<A: Allocator>(left: bool, ran: RunOutcome, world: &World<A>) -> RunOutcome
+    ensures steps { result.steps ≡ ran.steps }
+    ensures end { result.end ≡ leaving left ran.end (view world.now) }
+{
+    if !left {
+        return ran;
+    }
+    RunOutcome {
+        steps: ran.steps,
+        end: End::Interrupted(world.cpu().pc),
+    }
+}
+
+/// Runs an image by a schedule up to where it is stopped, and writes what was punched in the end, even if the run
+/// broke off, and the summary in this form.
 pub(crate) fn run_scheduled<
     A: Allocator + Copy,
-    S: Scheduler,
+    S: Scheduler + OperatorPresence,
     W: ByteSink,
     T: ByteSink,
     P: ByteSink,
@@ -190,6 +239,7 @@ pub(crate) fn run_scheduled<
     alloc: A,
     image: &Image,
     schedule: &mut S,
+    stops: &Stops,
     options: RunOptions,
     form: SummaryForm<'_>,
     out: &mut Outputs<W, T, P>,
@@ -201,11 +251,12 @@ pub(crate) fn run_scheduled<
     requires few { S.steps_to_come schedule.old < 18446744073709551616 }
     ensures run { IfOk result (λ status.
         WritesAll (λ text printed punched.
-        IsHeld (S.brings schedule.old) options form.entry Whole image.now text printed punched status)
+        IsHeldToStop (S.brings schedule.old) options stops.now form.entry Whole (S.left schedule.new) image.now text printed
+        punched status)
         (taken (W.taken out.old.report) (T.taken out.old.teletype) (P.taken out.old.punch))
         (taken (W.taken out.new.report) (T.taken out.new.teletype) (P.taken out.new.punch))) }
     ensures front { OnErr result (FrontsOf
-        (IsPartOf (S.brings schedule.old) options form.entry (W.mark out.new.report)
+        (IsPartToStop (S.brings schedule.old) options stops.now form.entry (S.left schedule.new) (W.mark out.new.report)
         (T.mark out.new.teletype) (S.unread schedule.new) image.now)
         (failures (W.mark out.new.report) (T.mark out.new.teletype) (P.mark out.new.punch))
         (taken (W.taken out.old.report) (T.taken out.old.teletype) (P.taken out.old.punch))
@@ -223,9 +274,10 @@ pub(crate) fn run_scheduled<
         teletype,
         punch,
     } = out;
-    let ran = operate(&mut world, schedule, options.trace, report, teletype);
+    let ran = operate(&mut world, schedule, stops, options.trace, report, teletype);
     put(punch, world.punched())?;
-    let outcome = ran?;
+    let came = ran?;
+    let outcome = leaving(schedule.has_left(), came, &world);
     let text = closing_of(alloc, &outcome, &world, &form, &options.show)?;
     put(report, &text)?;
     Ok(status_of(outcome.end))
@@ -239,7 +291,9 @@ fn are_few(rounds: u32)
 /// Runs a tape with an operator: the frames of one source are in the reader, the bytes of another are
 /// the keys, and both are read before the run, as many bytes as there are rounds. What is printed is
 /// typed as characters, what is punched is written as it is, and the trace, if it is requested, and
-/// the summary, in the form that is requested, are the report. The run ends early as that of `run`.
+/// the summary, in the form that is requested, are the report. The run ends early as that of `run`, and
+/// before the first step that is to stop it; the summary then says where that is, and shows the machine as
+/// it was there. Nothing stops a run with [`crate::stopping::no_stops`].
 ///
 /// # Errors
 ///
@@ -260,6 +314,7 @@ pub fn run_session<
     reader: &mut F,
     keys: &mut K,
     options: SessionOptions,
+    stops: &Stops,
     form: SummaryForm<'_>,
     out: &mut Outputs<W, T, P>,
 ) -> Result<Status, Fault>
@@ -269,10 +324,11 @@ pub fn run_session<
     requires writable { W.mark out.old.report ≡ false }
     requires typable { T.mark out.old.teletype ≡ false }
     requires punchable { P.mark out.old.punch ≡ false }
-    // What is written, typed and punched is that of the run of the events that come.
+    // What is written, typed and punched is that of the run of the events that come, up to the first step that stops
+    // it.
     ensures run { IfOk result (λ status.
-        WritesAll (IsSession options form.entry Whole (R.remaining tape.old) (F.remaining reader.old)
-        (K.remaining keys.old) status)
+        WritesAll (IsSessionToStop options stops.now form.entry Whole (R.remaining tape.old)
+        (F.remaining reader.old) (K.remaining keys.old) status)
         (taken (W.taken out.old.report) (T.taken out.old.teletype) (P.taken out.old.punch))
         (taken (W.taken out.new.report) (T.taken out.new.teletype) (P.taken out.new.punch))) }
     ensures faults { IfErr result (IsSessionFault options.run.rounds
@@ -281,13 +337,13 @@ pub fn run_session<
         (input (K.mark keys.new) (K.remaining keys.old) (K.remaining keys.new))) }
     // After a fault fronts of what the first events leave went out, and all of it where no write
     // failed, or of the whole with its summary where the report failed; or nothing at all,
-    ensures front { OnErr result (NothingOrFronts options form.entry
+    ensures front { OnErr result (NothingOrStoppedFronts options stops.now form.entry
         (failures (W.mark out.new.report) (T.mark out.new.teletype) (P.mark out.new.punch))
         (R.remaining tape.old) (F.remaining reader.old) (K.remaining keys.old)
         (taken (W.taken out.old.report) (T.taken out.old.teletype) (P.taken out.old.punch))
         (taken (W.taken out.new.report) (T.taken out.new.teletype) (P.taken out.new.punch))) }
     // of which the fronts are sure where a write failed,
-    ensures front_of_failure { fails_to_write result ≡ true → SessionFronts options form.entry
+    ensures front_of_failure { fails_to_write result ≡ true → StoppedSessionFronts options stops.now form.entry
         (failures (W.mark out.new.report) (T.mark out.new.teletype) (P.mark out.new.punch))
         (R.remaining tape.old) (F.remaining reader.old) (K.remaining keys.old)
         (taken (W.taken out.old.report) (T.taken out.old.teletype) (P.taken out.old.punch))
@@ -296,7 +352,7 @@ pub fn run_session<
     ensures broke_off { result ≡ Err NoMemory →
         HasCome (input (F.mark reader.new) (F.remaining reader.old) (F.remaining reader.new))
         ⊎ (HasCome (input (K.mark keys.new) (K.remaining keys.old) (K.remaining keys.new))
-        ⊎ SessionFronts options form.entry
+        ⊎ StoppedSessionFronts options stops.now form.entry
         (failures (W.mark out.new.report) (T.mark out.new.teletype) (P.mark out.new.punch))
         (R.remaining tape.old) (F.remaining reader.old) (K.remaining keys.old)
         (taken (W.taken out.old.report) (T.taken out.old.teletype) (P.taken out.old.punch))
@@ -338,5 +394,5 @@ pub fn run_session<
         options.mark,
     );
     are_few(options.run.rounds);
-    run_scheduled(alloc, &image, &mut operator, options.run, form, out)
+    run_scheduled(alloc, &image, &mut operator, stops, options.run, form, out)
 }

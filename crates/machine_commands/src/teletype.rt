@@ -5,13 +5,15 @@ ghost use Rattle.command_parts.specs.Faults.{is_fault_of_tape, fails_to_read, fa
 ghost use Rattle.command_parts.specs.Inputs.{TakesTape, input};
 ghost use Rattle.machine_commands.specs.Schedule.{Whole};
 ghost use Rattle.machine_commands.specs.Session.{WritesAll, failures, taken};
-ghost use Rattle.machine_commands.specs.Teletype.{IsTyped, IsTypedFault, TypedFronts, run_of};
+ghost use Rattle.machine_commands.specs.StoppedSession.{IsTypedToStop, StoppedTypedFronts};
+ghost use Rattle.machine_commands.specs.Teletype.{IsTypedFault, run_of};
 
+use crate::interrupted::OperatorPresence;
 pub use crate::session::Outputs;
 use crate::session::run_scheduled;
 pub use crate::typist::{KeyOptions, TeletypeOptions, Typist};
 use command_parts::inputs::tape_from;
-use command_parts::options::{RunOptions, SummaryForm};
+use command_parts::options::{RunOptions, Stops, SummaryForm};
 use command_parts::status::{Fault, Status};
 use std::alloc::Allocator;
 use streams::{ByteSink, ByteSource};
@@ -32,8 +34,10 @@ pub(crate) fn run_of(options: TeletypeOptions) -> RunOptions
 /// Runs a tape with somebody at the teletype. A key is struck in a round whose instruction asked for one: a KSF
 /// that found the keyboard's flag clear. Each frame and each key is read when it is due, and what was printed
 /// until then is typed before it. What is punched is written when the session is over, even if it broke off, and
-/// then the summary in the form that is requested. The session ends early at a halt, at an unsupported word, and
-/// where a key is requested and none is left.
+/// then the summary in the form that is requested. The session ends early at a halt, at an unsupported word, where a key
+/// is requested and none is left, and before the first step that is to stop it; nothing stops one with
+/// [`crate::stopping::no_stops`]. The summary says where it was stopped, or where the key was struck that interrupts it,
+/// and shows the machine as it was there.
 ///
 /// # Errors
 ///
@@ -43,7 +47,7 @@ pub fn teletype<
     A: Allocator + Copy,
     R: ByteSource,
     F: ByteSource,
-    K: ByteSource,
+    K: ByteSource + OperatorPresence,
     W: ByteSink,
     T: ByteSink,
     P: ByteSink,
@@ -51,6 +55,7 @@ pub fn teletype<
     alloc: A,
     tape: &mut R,
     typist: &mut Typist<F, K>,
+    stops: &Stops,
     form: SummaryForm<'_>,
     out: &mut Outputs<W, T, P>,
 ) -> Result<Status, Fault>
@@ -60,9 +65,10 @@ pub fn teletype<
     requires writable { W.mark out.old.report ≡ false }
     requires typable { T.mark out.old.teletype ≡ false }
     requires punchable { P.mark out.old.punch ≡ false }
-    // What is written, typed and punched is that of the run of the events that come.
+    // What is written, typed and punched is that of the run of the events that come, up to the first step that stops
+    // it.
     ensures run { IfOk result (λ status.
-        WritesAll (IsTyped typist.old.options form.entry Whole (R.remaining tape.old)
+        WritesAll (IsTypedToStop typist.old.options stops.now form.entry Whole (K.left typist.new.keys) (R.remaining tape.old)
         (F.remaining typist.old.reader) (K.remaining typist.old.keys) status)
         (taken (W.taken out.old.report) (T.taken out.old.teletype) (P.taken out.old.punch))
         (taken (W.taken out.new.report) (T.taken out.new.teletype) (P.taken out.new.punch))) }
@@ -72,7 +78,7 @@ pub fn teletype<
     // write failed: even if a read of a frame or a key failed, what was printed before is typed, and what
     // was punched before is written.
     ensures front { IfErr result (λ fault. (is_fault_of_tape fault ≡ true) ⊎ ((R.mark tape.new ≡ true)
-        ⊎ TypedFronts typist.old.options form.entry
+        ⊎ StoppedTypedFronts typist.old.options stops.now form.entry (K.left typist.new.keys)
         (failures (W.mark out.new.report) (T.mark out.new.teletype) (P.mark out.new.punch))
         (F.mark typist.new.reader || K.mark typist.new.keys)
         (R.remaining tape.old) (F.remaining typist.old.reader) (K.remaining typist.old.keys)
@@ -98,5 +104,5 @@ pub fn teletype<
     let image = tape_from(tape)?;
     let options = run_of(typist.options());
     typist.begin();
-    run_scheduled(alloc, &image, typist, options, form, out)
+    run_scheduled(alloc, &image, typist, stops, options, form, out)
 }

@@ -20,7 +20,7 @@ on_then {A = A} old mid new first second a b one two = record {
 }
 
 -- The form and the line after a text of a line.
-on_form : {A : Type 0} (old new : ReportWriter A) (line : Line) (a : List ℕ) → WritesOn old new line a → form_of new ≡ form_of old
+pub on_form : {A : Type 0} (old new : ReportWriter A) (line : Line) (a : List ℕ) → WritesOn old new line a → form_of new ≡ form_of old
 on_form {A = A} old new line a writes = ap (λ (w : ReportWriter A). form_of w) writes.kept
 
 on_line : {A : Type 0} (old new : ReportWriter A) (line : Line) (a : List ℕ) → WritesOn old new line a → line_of new ≡ line

@@ -1,8 +1,9 @@
 -- What the items of a line say of the fact at an address, and which are the same as on the line above.
-use Rattle.std.specs.Prelude.{ℕ, ◌++◌, Bool, false, not, ◌||◌, if◌then◌else◌, codes, List, [], ◌∷◌, Option, Some, None, flat_map}
+use Rattle.std.specs.Prelude.{ℕ, ◌++◌, Bool, false, not, ◌&&◌, ◌||◌, nat_lt, if◌then◌else◌, codes, List, [], ◌∷◌, Option, Some, None, flat_map}
 use Rattle.std.proofs.Common.{zero, suc}
 use Rattle.std.specs.Borrow.{Bor}
-use Rattle.wordset.specs.Words.{Words}
+use Rattle.wordset.specs.Words.{Words, all_words, difference, some_below}
+use Rattle.wordset.specs.Lanes.{words}
 use Rattle.domain.specs.Locations.{Location, Ac, Cell, same}
 use Rattle.domain.specs.LocationsInCode.{location_of}
 use Rattle.domain.specs.declared.location.Location as names
@@ -11,7 +12,7 @@ use Rattle.domain.specs.FactInCode.{fact_in_code}
 use Rattle.reports.specs.ItemText.{Item, has_same_links, has_same_words, held_text, is_all}
 use Rattle.reports.specs.Rows.{link_said}
 use Rattle.reports.specs.SetText.{places_text}
-use Rattle.reports.specs.Writing.{Form, cell_text}
+use Rattle.reports.specs.Writing.{Form, cell_text, offset_text}
 use Rattle.reports.specs.declared.cases.FactDifferences.{FactDifferences}
 use Rattle.reports.specs.declared.known_fact.KnownFact.{KnownFact}
 
@@ -79,6 +80,20 @@ cell_items form apart f above cell = if is_by apart.name (Cell cell) then [] els
 abbrev pub cells_items : Form → FactDifferences → Fact → Option Fact → Words → List Item
 cells_items form apart f above cells = flat_map (cell_items form apart f above) (words_below 4096 cells)
 
+-- The item that a cell may hold any word, which the fact above does not allow.
+abbrev pub lost_cell_items : Form → Fact → ℕ → List Item
+lost_cell_items form above cell =
+    if is_all (above.set (Cell cell)) then [] else record { same = false; text = cell_text form cell ++ held_text form all_words } ∷ []
+
+-- Such items on the cells of a set, in the order of their addresses.
+abbrev pub lost_cells_items : Form → Fact → Words → List Item
+lost_cells_items form above cells = flat_map (lost_cell_items form above) (words_below 4096 cells)
+
+-- The items on those cells of which the fact above tells and this one does not.
+abbrev pub cells_lost_since : Form → Words → Option (Bor KnownFact) → List Item
+cells_lost_since form cells None = []
+cells_lost_since form cells (Some above) = lost_cells_items form (fact_in_code above.now.fact) (difference (words above.now.cells) cells)
+
 -- The fact on the line above tells its sites: they are not all of the routine's.
 abbrev pub told_of_sites : Words → Option Fact → Bool
 told_of_sites all None = false
@@ -89,3 +104,35 @@ abbrev pub sites_items : Form → Words → Fact → Option Fact → List Item
 sites_items form all f above =
     if not (has_same_words f.sites all) || told_of_sites all above
     then record { same = is_above (λ g. g.sites) above f.sites; text = codes "called from " ++ places_text form f.sites } ∷ [] else []
+
+-- An offset of a return word, with a comma before it if a lesser one stands before it.
+abbrev pub next_offset_text : Words → ℕ → List ℕ
+next_offset_text offsets offset = (if some_below offset offsets then codes "," else []) ++ offset_text offset
+
+-- By how much a return word may have been incremented.
+abbrev pub offsets_text : Words → List ℕ
+offsets_text offsets = flat_map (next_offset_text offsets) (words_below 64 offsets)
+
+-- The return word was not incremented: there is no offset above 0.
+abbrev pub is_uncounted : Words → Bool
+is_uncounted offsets = not (some_below 64 (λ o. nat_lt 0 o && offsets o))
+
+-- Both have the same offsets.
+abbrev pub has_same_offsets : Words → Words → Bool
+has_same_offsets a b = not (some_below 64 (difference a b)) && not (some_below 64 (difference b a))
+
+-- These are the offsets of the fact on the line above.
+abbrev pub are_offsets_above : Option Fact → Words → Bool
+are_offsets_above None offsets = false
+are_offsets_above (Some above) offsets = has_same_offsets above.offsets offsets
+
+-- By the fact on the line above, the return word may have been incremented.
+abbrev pub told_of_offsets : Option Fact → Bool
+told_of_offsets None = false
+told_of_offsets (Some above) = not (is_uncounted above.offsets)
+
+-- The item on how far the return word was incremented, where it may have been or was above.
+abbrev pub offsets_items : Fact → Option Fact → List Item
+offsets_items f above =
+    if not (is_uncounted f.offsets) || told_of_offsets above
+    then record { same = are_offsets_above above f.offsets; text = codes "return word up by " ++ offsets_text f.offsets } ∷ [] else []

@@ -13,3 +13,9 @@ pub mod ItemText
 pub mod Labels
 pub mod RelationText
 pub mod SetText
+pub mod AbsenceText
+pub mod FactItems
+pub mod RelationItems
+pub mod ToldCells
+pub mod KnownText
+pub mod ReportSetting

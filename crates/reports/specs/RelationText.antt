@@ -1,15 +1,25 @@
 -- How terms, sums and chains are written.
-use Rattle.std.specs.Prelude.{ℕ, ◌==◌, nat_lt, Bool, true, false, ◌&&◌, not, if◌then◌else◌, codes, List, [], ◌∷◌, ◌++◌}
+use Rattle.std.specs.Prelude.{ℕ, ◌==◌, nat_lt, Bool, true, false, ◌&&◌, ◌||◌, not, if◌then◌else◌, is_some, codes, List, [], ◌∷◌, ◌++◌, length, Option, Some, None, unwrap_or}
+use Rattle.std.proofs.Common.{zero, suc}
 use Rattle.std.specs.List.{list_any}
 use Rattle.word12.specs.Words.{octal_text}
-use Rattle.wordset.specs.Words.{Words, minus}
+use Rattle.wordset.specs.Words.{Words, between, difference, first_below, has_some, meet, minus, mirrored, one, only, shifted}
 use Rattle.instruct.specs.Names.{name_of}
 use Rattle.instruct.specs.declared.Profile.{Profile}
 use Rattle.domain.specs.Locations.{Location, Ac, Cell}
 use Rattle.domain.specs.Terms.{Term, Holding, Behind, Summand, Sum, is_sign}
+use Rattle.domain.specs.Facts.{Relation}
+use Rattle.domain.specs.InCode.{summand_at}
 use Rattle.domain.specs.Chains.{Step, Operates, Ands, Adds, Chain}
+use Rattle.reports.specs.ItemText.{has_same_words}
 use Rattle.reports.specs.Rows.{begun_said}
+use Rattle.reports.specs.SetText.{words_text}
 use Rattle.reports.specs.Writing.{Form, cell_text, said_in}
+
+-- The greatest number below n that passes a test.
+unfoldable pub last_below : ℕ → (ℕ → Bool) → Option ℕ
+last_below zero test = None
+last_below (suc n) test = if test n then Some n else last_below n test
 
 -- The address of a cell in brackets, for the word in it.
 abbrev pub bracketed_text : Form → ℕ → List ℕ
@@ -83,3 +93,88 @@ chain_text form profile chain =
     (added_text chain.more ++
     ((if has_link chain then begun_said chain.link else []) ++
     steps_text form profile true chain.steps)))
+
+-- The sum is one term less another.
+abbrev pub is_difference : Sum → Bool
+is_difference sum = (length sum == 2) && (((summand_at sum 0).coefficient == 1) && ((summand_at sum 1).coefficient == 4095))
+
+-- The least word of a set; 0 if it has none.
+abbrev pub least_word : Words → ℕ
+least_word set = unwrap_or (first_below 4096 set) 0
+
+-- The greatest word of a set; 0 if it has none.
+abbrev pub greatest_word : Words → ℕ
+greatest_word set = unwrap_or (last_below 4096 set) 0
+
+-- The words of a set: of a range of more than one word the first and the last one, and otherwise as sets are written.
+abbrev pub amount_text : Form → Words → List ℕ
+amount_text form set =
+    if not (least_word set == greatest_word set) && has_same_words set (between (least_word set) (greatest_word set))
+    then octal_text (least_word set) ++ (codes " to " ++ octal_text (greatest_word set)) else words_text form set
+
+-- The words of a set from 4000 on, which are said as less than 0.
+abbrev pub words_below_zero : Words → Words
+words_below_zero set = meet set (between 2048 4095)
+
+-- The words of a set below 4000.
+abbrev pub words_above_zero : Words → Words
+words_above_zero set = difference set (words_below_zero set)
+
+-- The words that are taken away where those of a set are added.
+abbrev pub taken_away : Words → Words
+taken_away set = shifted (mirrored set) 1
+
+-- No word of a set is said as less than 0.
+abbrev pub is_only_more : Words → Bool
+is_only_more set = not (has_some (words_below_zero set))
+
+-- Every word of a set but 0 is said as less than 0.
+abbrev pub is_only_less : Words → Bool
+is_only_less set = not (has_some (difference (words_above_zero set) (one 0)))
+
+-- A set has 7777 and 0, all words from one below 0 to 7777, and all from 0 to one above it.
+abbrev pub is_around_zero : Words → Bool
+is_around_zero set =
+    has_same_words (words_below_zero set) (between (least_word (words_below_zero set)) 4095) &&
+    has_same_words (words_above_zero set) (between 0 (greatest_word (words_above_zero set)))
+
+-- By how much a term is less or more than another: at most so much less, and at most so much more.
+abbrev pub around_text : Words → List ℕ
+around_text set =
+    octal_text (minus 0 (least_word (words_below_zero set))) ++ (codes " less to " ++ (octal_text (greatest_word (words_above_zero set)) ++ codes " more than "))
+
+-- A sum, and which words it may be.
+abbrev pub sum_in_text : Form → Relation → List ℕ
+sum_in_text form r = sum_text form r.sum ++ ((if is_some (only r.set) then codes " is " else codes " in ") ++ words_text form r.set)
+
+-- By how much a term is less than another; or how much it is at most less, and at most more.
+abbrev pub less_text : Form → Words → List ℕ
+less_text form set =
+    if is_only_less set then codes " is " ++ (amount_text form (taken_away set) ++ codes " less than ") else codes " is " ++ around_text set
+
+-- By how much a term is more or less than another that it is not.
+abbrev pub unlike_text : Form → Words → List ℕ
+unlike_text form set =
+    if is_only_more set then codes " is " ++ (amount_text form set ++ codes " more than ") else less_text form set
+
+-- What stands between two terms of which the first is the second and one of these words.
+abbrev pub distance_text : Form → Words → List ℕ
+distance_text form set = if has_same_words set (one 0) then codes " = " else unlike_text form set
+
+-- There are words for a distance.
+abbrev pub has_distance : Words → Bool
+has_distance set = has_same_words set (one 0) || (is_only_more set || (is_only_less set || is_around_zero set))
+
+-- A relation: of a difference by how much the one term is more or less than the other, where there are words for it.
+abbrev pub relation_text : Form → Relation → List ℕ
+relation_text form r =
+    if is_difference r.sum && has_distance r.set
+    then term_text form (summand_at r.sum 0).term ++ (distance_text form r.set ++ term_text form (summand_at r.sum 1).term)
+    else sum_in_text form r
+
+-- That nothing is known of a sum any more.
+abbrev pub lost_text : Form → Sum → List ℕ
+lost_text form sum =
+    if is_difference sum
+    then term_text form (summand_at sum 0).term ++ (codes " and " ++ (term_text form (summand_at sum 1).term ++ codes " unrelated"))
+    else sum_text form sum ++ codes " any"

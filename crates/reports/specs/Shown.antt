@@ -1,11 +1,13 @@
 -- What a report shows of the facts of a certificate.
 use Rattle.std.specs.Prelude.{ℕ, ◌≡◌, ◌%◌, ◌==◌, Bool, true, false, List, [], ◌∷◌, if◌then◌else◌}
+use Rattle.wordset.specs.Lanes.{words}
 use Rattle.wordset.specs.Words.{Words}
 use Rattle.processor.specs.Runs.{Image}
 use Rattle.domain.specs.Facts.{Fact, Rules}
 use Rattle.domain.specs.FactInCode.{fact_in_code}
 use Rattle.judge.specs.Landing.{asked}
 use Rattle.judge.specs.Sources.{sited_one}
+use Rattle.reports.specs.ToldCells.{told_cells}
 use Rattle.reports.specs.declared.known_fact.KnownFact.{KnownFact}
 use Rattle.reports.specs.declared.listing.ClaimCache.{ClaimCache}
 use Rattle.reports.specs.declared.listing.FactAbsence.{FactAbsence}
@@ -16,15 +18,17 @@ use Rattle.reports.specs.declared.report.CellKind.{CellKind}
 use Rattle.reports.specs.declared.report.CellKind.TheVariants as kind
 
 -- A fact is shown as it is claimed, with the sites that it has by the rules, and as conditions are checked for it; of a fact that
--- no state satisfies none is asked.
+-- no state satisfies none is asked. Its row tells of certain cells.
 pub record ShowsFact (rules : Rules) (image : Image) (sites : Words) (f : Fact) (shown : KnownFact) : Type 0 where
   pub claimed : fact_in_code shown.claimed ≡ sited_one rules sites f
   pub asked_is : asked rules image (sited_one rules sites f ∷ []) ≡ (if shown.is_possible then fact_in_code shown.fact ∷ [] else [])
+  pub cells : words shown.cells ≡ told_cells rules shown
 
--- An exit is shown as it is claimed, with the sites that it has by the rules.
+-- An exit is shown as it is claimed, with the sites that it has by the rules, and tells of certain cells.
 pub record ShowsExit (rules : Rules) (sites : Words) (f : Fact) (shown : KnownFact) : Type 0 where
   pub claimed : fact_in_code shown.claimed ≡ sited_one rules sites f
   pub fact : fact_in_code shown.fact ≡ sited_one rules sites f
+  pub cells : words shown.cells ≡ told_cells rules shown
 
 -- An address is even.
 abbrev pub is_even : ℕ → Bool

@@ -1,5 +1,7 @@
 //! What an instruction may read, write, call and jump to, as far as the fact at its address tells.
 
+ghost use Rattle.reports.specs.FactItems.{Extends};
+
 use crate::known_fact::KnownFact;
 use crate::report::{CellKind, Report};
 use crate::writer::ReportWriter;
@@ -39,11 +41,19 @@ pub(crate) fn writes_through<B: Allocator, D: Allocator, C: Allocator>(
 }
 
 /// Writes an item with addresses, if there are any.
-fn write_places<A: Allocator>(writer: &mut ReportWriter<'_, A>, name: &[u8], set: &WordSet) {
-    if set.is_empty() {
-        return;
+fn write_places<A: Allocator>(writer: &mut ReportWriter<'_, A>, name: &[u8], set: &WordSet)
+    ensures { Extends writer.old writer.new }
+{
+    if !set.is_empty() {
+        writer.item(name);
+        write_addresses(writer, set);
     }
-    writer.item(name);
+}
+
+/// Writes the addresses of a set.
+fn write_addresses<A: Allocator>(writer: &mut ReportWriter<'_, A>, set: &WordSet)
+    ensures { Extends writer.old writer.new }
+{
     if set.is_all() {
         writer.put(b"any");
     } else {
@@ -184,7 +194,9 @@ fn access_of<D: Allocator>(
 }
 
 /// Writes what an instruction may do, beside what its name says.
-fn write_each<A: Allocator>(writer: &mut ReportWriter<'_, A>, access: &Access) {
+fn write_each<A: Allocator>(writer: &mut ReportWriter<'_, A>, access: &Access)
+    ensures { Extends writer.old writer.new }
+{
     write_places(writer, b"reads ", &access.reads);
     write_places(writer, b"writes ", &access.writes);
     write_places(writer, b"calls ", &access.calls);
@@ -199,13 +211,25 @@ fn write_indirect<A: Allocator, D: Allocator>(
     known: &KnownFact,
     at: Word,
     word: Word,
-) {
+)
+    ensures { Extends writer.old writer.new }
+{
     if is_indirect(place.declaration, word) {
-        let mut access = Access::none();
-        access.add_indirect(place, known, at, word);
-        access.writes = written(place, &known.fact, at, word);
-        write_each(writer, &access);
+        write_each(writer, &indirect_access(place, known, at, word));
     }
+}
+
+/// What an indirect word does.
+fn indirect_access<D: Allocator>(
+    place: &Place<'_, D>,
+    known: &KnownFact,
+    at: Word,
+    word: Word,
+) -> Access {
+    let mut access = Access::none();
+    access.add_indirect(place, known, at, word);
+    access.writes = written(place, &known.fact, at, word);
+    access
 }
 
 /// Writes which words may stand at an address, and what they do, unless they are many.
@@ -214,16 +238,50 @@ fn write_varying<A: Allocator, D: Allocator>(
     place: &Place<'_, D>,
     known: &KnownFact,
     at: Word,
-) {
+)
+    ensures { Extends writer.old writer.new }
+{
     let words = words_at(place, &known.fact, at);
     if words.is_all() {
-        return writer.item(b"may be any word");
+        writer.item(b"may be any word");
+    } else {
+        write_some(writer, place, known, at, &words);
     }
+}
+
+/// Writes that some words may stand at an address, and what they do, unless they are many.
+fn write_some<A: Allocator, D: Allocator>(
+    writer: &mut ReportWriter<'_, A>,
+    place: &Place<'_, D>,
+    known: &KnownFact,
+    at: Word,
+    words: &WordSet,
+)
+    ensures { Extends writer.old writer.new }
+{
     writer.item(b"may be ");
-    writer.words(&words);
-    if words.count() <= MOST_WORDS {
-        write_each(writer, &access_of(place, known, at, &words));
+    writer.words(words);
+    write_few(writer, place, known, at, words);
+}
+
+/// Writes what words at an address do, unless they are many.
+fn write_few<A: Allocator, D: Allocator>(
+    writer: &mut ReportWriter<'_, A>,
+    place: &Place<'_, D>,
+    known: &KnownFact,
+    at: Word,
+    words: &WordSet,
+)
+    ensures { Extends writer.old writer.new }
+{
+    if are_few(words) {
+        write_each(writer, &access_of(place, known, at, words));
     }
+}
+
+/// Whether words are looked at one by one.
+fn are_few(words: &WordSet) -> bool {
+    words.count() <= MOST_WORDS
 }
 
 /// The word of the tape at an address where no other may stand.
@@ -242,13 +300,32 @@ pub(crate) fn write_direct<A: Allocator, B: Allocator, D: Allocator, C: Allocato
     writer: &mut ReportWriter<'_, A>,
     report: &Report<'_, B, D, C>,
     at: Word,
-) {
-    let Some(word) = fixed_word(report, at) else {
-        return;
-    };
-    if !is_indirect(report.declaration, word) && stores(report.declaration, word) {
+)
+    ensures { Extends writer.old writer.new }
+{
+    match fixed_word(report, at) {
+        Some(word) => write_stored(writer, report.declaration, at, word),
+        None => {}
+    }
+}
+
+/// Writes the cell that a word writes by a direct reference.
+fn write_stored<A: Allocator, D: Allocator>(
+    writer: &mut ReportWriter<'_, A>,
+    declaration: &Declaration<D>,
+    at: Word,
+    word: Word,
+)
+    ensures { Extends writer.old writer.new }
+{
+    if stores_directly(declaration, word) {
         write_places(writer, b"writes ", &WordSet::one(target(word, at)));
     }
+}
+
+/// Whether a word is a direct memory reference that stores into its operand.
+fn stores_directly<D: Allocator>(declaration: &Declaration<D>, word: Word) -> bool {
+    !is_indirect(declaration, word) && stores(declaration, word)
 }
 
 /// Writes what the words at an address may do by what is known: the cells that they write, and where they go and what they
@@ -259,7 +336,9 @@ pub(crate) fn write_access<A: Allocator, B: Allocator, D: Allocator, C: Allocato
     kind: &CellKind,
     known: &KnownFact,
     at: Word,
-) {
+)
+    ensures { Extends writer.old writer.new }
+{
     let place = report.place_in(kind);
     match fixed_word(report, at) {
         Some(word) => write_indirect(writer, &place, known, at, word),

@@ -1,9 +1,12 @@
 //! What tells the facts at an address apart.
 
-ghost use Rattle.std.specs.Prelude.{◌≡◌, ◌≤◌, length};
+ghost use Rattle.std.specs.Prelude.{◌≡◌, ◌≤◌, length, not};
+ghost use Rattle.wordset.specs.Words.{difference, some_below};
 ghost use Rattle.domain.specs.LocationsInCode.{location_of};
 ghost use Rattle.certificate_lines.specs.CertificateInCode.{claims};
-ghost use Rattle.reports.specs.FactText.{is_by};
+ghost use Rattle.domain.specs.Offsets.{offsets_in};
+ghost use Rattle.reports.specs.FactItems.{by_nothing};
+ghost use Rattle.reports.specs.FactText.{has_same_offsets, is_by};
 
 use crate::known_fact::KnownFact;
 use bin_tape::Image;
@@ -37,9 +40,18 @@ struct Names {
     single: WordSet,
 }
 
+/// Whether offsets are all among others.
+fn are_offsets_within(offsets: ReturnOffsets, others: ReturnOffsets) -> bool
+    ensures { result ≡ not (some_below 64 (difference (offsets_in offsets) (offsets_in others))) }
+{
+    offsets.is_subset(others)
+}
+
 /// Whether these are the same offsets.
-pub(crate) fn are_same_offsets(offsets: ReturnOffsets, others: ReturnOffsets) -> bool {
-    offsets.is_subset(others) && others.is_subset(offsets)
+pub(crate) fn are_same_offsets(offsets: ReturnOffsets, others: ReturnOffsets) -> bool
+    ensures { result ≡ has_same_offsets (offsets_in offsets) (offsets_in others) }
+{
+    are_offsets_within(offsets, others) && are_offsets_within(others, offsets)
 }
 
 impl Names {
@@ -91,7 +103,9 @@ impl Names {
 
 impl FactDifferences {
     /// Nothing is to be distinguished.
-    pub(crate) fn by_nothing() -> FactDifferences {
+    pub(crate) fn by_nothing() -> FactDifferences
+        ensures { result ≡ by_nothing }
+    {
         FactDifferences {
             sites: false,
             offsets: false,

@@ -18,7 +18,7 @@ use wordset::{Links, WordSet};
 pub(crate) fn is_all(set: &WordSet) -> bool
     ensures { result ≡ is_all (words set.now) }
 {
-    WordSet::all().minus(set).is_empty()
+    set.is_all()
 }
 
 /// Whether two sets have the same words.

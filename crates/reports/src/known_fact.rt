@@ -1,19 +1,26 @@
 //! A fact as a report shows it.
 
-ghost use Rattle.std.specs.Prelude.{◌≡◌, ◌<◌, length, map};
+ghost use Rattle.std.specs.Prelude.{◌≡◌, ◌<◌, if◌then◌else◌, length, map};
 ghost use Rattle.wordset.specs.Lanes.{words};
+ghost use Rattle.wordset.specs.Words.{with_word};
+ghost use Rattle.domain.specs.CellsInCode.{cell_set_of, cell_sets_of};
 ghost use Rattle.domain.specs.ChainsInCode.{chain_of};
 ghost use Rattle.domain.specs.FactInCode.{fact_in_code, rules_of};
+ghost use Rattle.domain.specs.Locations.{Cell};
 ghost use Rattle.domain.specs.LocationsInCode.{location_of};
 ghost use Rattle.domain.specs.Narrowing.{words_by};
+ghost use Rattle.domain.specs.RelationsInCode.{relation_of};
 ghost use Rattle.facts.specs.Landing.{fact_at};
 ghost use Rattle.peripherals.specs.Loading.{image_of};
 ghost use Rattle.certificate_lines.specs.CertificateInCode.{claims};
+ghost use Rattle.reports.specs.ItemText.{is_all};
 ghost use Rattle.reports.specs.Shown.{ShowsExit, ShowsFact};
+ghost use Rattle.reports.specs.ToldCells.{is_told, told_by};
 
+use crate::items::is_all;
 use bin_tape::Image;
 use certificate::Certificate;
-use domain::{Chain, Location, Relation, Rules};
+use domain::{CellSet, Chain, Location, Relation, Rules};
 use facts::{Fact, NarrowedFact};
 use judge::{Claims, put_asked, put_sites};
 use std::alloc::Allocator;
@@ -35,26 +42,49 @@ pub(crate) struct KnownFact {
 
 /// Whether something is to be said about a cell that a fact tells: by the rules of equations always, else where it may not
 /// hold any word.
-fn is_told(rules: Rules, fact: &NarrowedFact, cell: Word) -> bool {
-    let mut set = WordSet::empty();
+fn is_told(rules: Rules, fact: &NarrowedFact, cell: Word) -> bool
+    ensures { result ≡ is_told (rules_of rules) ((fact_in_code fact.now).set (Cell cell)) }
+{
     match rules {
         Rules::OfEquations => true,
-        Rules::OfSums => {
-            fact.put_set_of(&Location::Cell(cell), &mut set);
-            !set.is_all()
-        }
+        Rules::OfSums => !is_all_of(fact, cell),
     }
 }
 
-/// The cells about which something is to be said.
-fn cells_of(rules: Rules, fact: &NarrowedFact) -> WordSet {
+/// Whether a cell may hold any word.
+fn is_all_of(fact: &NarrowedFact, cell: Word) -> bool
+    ensures { result ≡ is_all ((fact_in_code fact.now).set (Cell cell)) }
+{
+    let mut set = WordSet::empty();
+    fact.put_set_of(&Location::Cell(cell), &mut set);
+    is_all(&set)
+}
+
+/// Puts a cell to others, if something is to be said about it.
+fn put_told(cells: &mut WordSet, rules: Rules, fact: &NarrowedFact, cell: Word)
+    ensures { words cells.new ≡ (if is_told (rules_of rules) ((fact_in_code fact.now).set (Cell cell)) then with_word cell (words cells.old) else words cells.old) }
+{
+    if is_told(rules, fact, cell) {
+        cells.insert(cell);
+    }
+}
+
+/// The cells of some entries about which something is to be said.
+fn cells_told(rules: Rules, fact: &NarrowedFact, entries: &[CellSet]) -> WordSet
+    ensures { words result ≡ told_by (rules_of rules) (fact_in_code fact.now) (map cell_set_of entries.now) }
+{
     let mut cells = WordSet::empty();
-    for entry in fact.told_cells() {
-        if is_told(rules, fact, entry.cell) {
-            cells.insert(entry.cell);
-        }
+    for entry in entries {
+        put_told(&mut cells, rules, fact, entry.cell);
     }
     cells
+}
+
+/// The cells about which something is to be said.
+fn cells_of(rules: Rules, fact: &NarrowedFact) -> WordSet
+    ensures { words result ≡ told_by (rules_of rules) (fact_in_code fact.now) (cell_sets_of fact.now.cells) }
+{
+    cells_told(rules, fact, fact.told_cells())
 }
 
 impl KnownFact {
@@ -112,7 +142,9 @@ impl KnownFact {
     }
 
     /// The relations that are claimed.
-    pub(crate) fn relations(&self) -> &[Relation] {
+    pub(crate) fn relations(&self) -> &[Relation]
+        ensures { map relation_of result.now ≡ (fact_in_code self.now.claimed).relations }
+    {
         self.claimed.relations().as_slice()
     }
 

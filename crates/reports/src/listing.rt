@@ -2,11 +2,16 @@
 
 ghost use Rattle.std.specs.Prelude.{◌≡◌, [], length};
 ghost use Rattle.wordset.specs.Lanes.{words};
+ghost use Rattle.domain.specs.Facts.{Fact};
 ghost use Rattle.facts.specs.Landing.{fact_at};
 ghost use Rattle.peripherals.specs.Loading.{image_of};
 ghost use Rattle.declaration.specs.DeclarationInCode.{meaning};
 ghost use Rattle.certificate_lines.specs.CertificateInCode.{claims};
+ghost use Rattle.reports.specs.AbsenceText.{SaysAbsence};
+ghost use Rattle.reports.specs.FactItems.{BeginsWithFact, SaysFact, by_nothing};
 ghost use Rattle.reports.specs.Kinds.{IsKind};
+ghost use Rattle.reports.specs.KnownText.{SaysKnown};
+ghost use Rattle.reports.specs.ReportSetting.{report_setting};
 ghost use Rattle.reports.specs.Shown.{ShowsFact, fact_of, is_even, unknown_of};
 
 use crate::access::{write_access, write_direct};
@@ -166,6 +171,7 @@ fn write_unknown<A: Allocator, B: Allocator, D: Allocator, C: Allocator>(
 )
     requires fact { (claims report.now.certificate.now).facts at ≡ [] }
     requires kind { IsKind report.now.image.now (meaning report.now.declaration.now) at kind.now }
+    ensures { SaysAbsence (unknown_of kind.now report.now.finding) writer.old writer.new }
 {
     match unknown_at(report, kind) {
         FactAbsence::NeverReached => writer.item(b"never reached"),
@@ -280,33 +286,66 @@ impl ClaimCache {
     {
         if is_even { &self.even } else { &self.odd }
     }
+
+    /// The fact on the line above an address, where that is near.
+    fn above(&self, near: bool, at: Word) -> Option<&KnownFact> {
+        if near {
+            Some(self.fact(!is_even(at)))
+        } else {
+            None
+        }
+    }
 }
 
-/// Writes what is known and done at an address with one fact, which this one shows. `claimed` is what is claimed of the
-/// routine in whose body the address is.
+/// Writes the items of a fact that this one shows. `claimed` is what is claimed of the routine in whose body its address is.
 fn write_shown<A: Allocator, B: Allocator, D: Allocator, C: Allocator>(
     writer: &mut ReportWriter<'_, A>,
     report: &Report<'_, B, D, C>,
     claimed: &RoutineClaim,
-    kind: &CellKind,
     known: &KnownFact,
     above: Option<&KnownFact>,
-    at: Word,
+    apart: &FactDifferences,
 )
-    requires { let c = claims report.now.certificate.now in ShowsFact c.rules
-        (image_of report.now.image.now) (words claimed.now.sites) (fact_at (c.facts at) 0) known.now }
+    ensures { let s = report_setting report.now (words claimed.now.sites) in (f : Fact) → ShowsFact s.rules s.image s.sites f known.now →
+        SaysFact s apart.now f writer.old writer.new }
 {
     let setting = report.setting_of(claimed);
-    write_fact(
+    write_fact(writer, &setting, known, above, apart);
+}
+
+/// Writes the items of the only fact at an address.
+fn write_items_at<A: Allocator, B: Allocator, D: Allocator, C: Allocator>(
+    writer: &mut ReportWriter<'_, A>,
+    report: &Report<'_, B, D, C>,
+    cache: &mut ClaimCache,
+    kind: &CellKind,
+    at: Word,
+)
+    requires { length ((claims report.now.certificate.now).facts at) ≡ 1 }
+    ensures { SaysFact (report_setting report.now (words cache.new.routine.sites)) by_nothing
+        (fact_at ((claims report.now.certificate.now).facts at) 0) writer.old writer.new }
+{
+    let near = is_near(report, cache, kind, at);
+    cache.read(report, at);
+    write_shown(
         writer,
-        &setting,
-        known,
-        above,
+        report,
+        &cache.routine,
+        cache.fact(is_even(at)),
+        cache.above(near, at),
         &FactDifferences::by_nothing(),
     );
-    writer.end_same();
-    write_access(writer, report, kind, known, at);
-    write_direct(writer, report, at);
+}
+
+/// Whether the fact on the line above was read last, and is that of the address before this one, which is of the same kind.
+fn is_near<B: Allocator, D: Allocator, C: Allocator>(
+    report: &Report<'_, B, D, C>,
+    cache: &ClaimCache,
+    kind: &CellKind,
+    at: Word,
+) -> bool {
+    let above = before(at);
+    at != Word::ZERO && cache.last == Some(above) && report.kind_of(above) == *kind
 }
 
 /// Writes what is known and done at an address with one fact.
@@ -318,17 +357,13 @@ fn write_only_fact<A: Allocator, B: Allocator, D: Allocator, C: Allocator>(
     at: Word,
 )
     requires { length ((claims report.now.certificate.now).facts at) ≡ 1 }
+    ensures { BeginsWithFact (report_setting report.now (words cache.new.routine.sites)) by_nothing
+        (fact_at ((claims report.now.certificate.now).facts at) 0) writer.old writer.new }
 {
-    let above = before(at);
-    let near = at != Word::ZERO && cache.last == Some(above) && report.kind_of(above) == *kind;
-    cache.read(report, at);
-    let known = cache.fact(is_even(at));
-    let above = if near {
-        Some(cache.fact(!is_even(at)))
-    } else {
-        None
-    };
-    write_shown(writer, report, &cache.routine, kind, known, above, at);
+    write_items_at(writer, report, cache, kind, at);
+    writer.end_same();
+    write_access(writer, report, kind, cache.fact(is_even(at)), at);
+    write_direct(writer, report, at);
 }
 
 /// Writes what is known and done at an address, or how many facts there are if there are several.
@@ -341,6 +376,7 @@ fn write_known<A: Allocator, B: Allocator, D: Allocator, C: Allocator>(
     count: usize,
 )
     requires { count ≡ length ((claims report.now.certificate.now).facts at) }
+    ensures { SaysKnown report.now (words cache.new.routine.sites) count at writer.old writer.new }
 {
     let kind = report.kind_of(at);
     if count == 0 {
@@ -394,8 +430,7 @@ fn write_case<A: Allocator, B: Allocator, D: Allocator, C: Allocator>(
     let known = &cache.even;
     write_case_head(writer, known, apart, index);
     if known.is_possible {
-        let setting = report.setting_of(&cache.routine);
-        write_fact(writer, &setting, known, None, apart);
+        write_shown(writer, report, &cache.routine, known, None, apart);
         write_access(writer, report, &report.kind_of(at), known, at);
     } else {
         writer.item(b"never");

@@ -10,6 +10,7 @@ use crate::writer::{ReportForm, ReportWriter};
 use declaration::Declaration;
 use domain::Rules;
 use instruct::Profile;
+use judge::Claims;
 use std::alloc::{AllocError, Allocator};
 use word12::Word;
 use wordset::WordSet;
@@ -283,7 +284,7 @@ fn write_items<A: Allocator, B: Allocator, D: Allocator, C: Allocator>(
     report: &Report<'_, B, D, C>,
 ) {
     writer.put(ITEMS);
-    match report.rules {
+    match report.certificate.rules() {
         Rules::OfSums => writer.put(RELATIONS),
         Rules::OfEquations => {
             writer.put(EQUATIONS);

@@ -1,18 +1,23 @@
 //! Relations and chains in words.
 
-ghost use Rattle.std.specs.Prelude.{◌≡◌, ◌&&◌, ◌++◌, [], codes, if◌then◌else◌, map, not, true};
+ghost use Rattle.std.specs.Prelude.{◌≡◌, ◌<◌, ◌==◌, ◌&&◌, ◌++◌, [], codes, if◌then◌else◌, is_some, length, map, not, true};
 ghost use Rattle.std.specs.List.{list_any};
 ghost use Rattle.word12.specs.Words.{octal_text};
+ghost use Rattle.wordset.specs.Lanes.{words};
 ghost use Rattle.wordset.specs.Links.{links_of};
+ghost use Rattle.wordset.specs.Words.{between, one, only};
 ghost use Rattle.domain.specs.ChainsInCode.{chain_of, step_of};
-ghost use Rattle.domain.specs.InCode.{sum_of, summand_of, term_of};
+ghost use Rattle.domain.specs.InCode.{sum_of, summand_at, summand_of, term_of};
+ghost use Rattle.domain.specs.RelationsInCode.{relation_of};
 ghost use Rattle.domain.specs.LocationsInCode.{location_of};
-ghost use Rattle.reports.specs.RelationText.{added_text, bracketed_text, chain_text, factor_text, has_link, is_and, name_text, sign_text, step_text, steps_text, sum_text, summand_text, term_text};
+ghost use Rattle.reports.specs.ItemText.{has_same_words};
+ghost use Rattle.reports.specs.RelationText.{added_text, amount_text, around_text, bracketed_text, chain_text, distance_text, factor_text, greatest_word, has_distance, has_link, is_and, is_around_zero, is_difference, is_only_less, is_only_more, least_word, less_text, lost_text, name_text, relation_text, sign_text, step_text, steps_text, sum_in_text, sum_text, summand_text, taken_away, term_text, unlike_text, words_above_zero, words_below_zero};
 ghost use Rattle.reports.specs.Rows.{begun_said};
 ghost use Rattle.reports.specs.Writing.{Writes, form_of};
 
+use crate::items::has_same_words;
 use crate::writer::{ReportWriter, is_first};
-use domain::{Chain, Location, Step, Sum, Summand, Term, is_sign, negated};
+use domain::{Chain, Location, Relation, Step, Sum, Summand, Term, is_sign, negated};
 use instruct::{Profile, name};
 use std::alloc::Allocator;
 use word12::{Link, Word};
@@ -21,20 +26,8 @@ use wordset::{Links, WordSet};
 /// The least word that is said as less and not as more.
 const HALF: usize = 0o4000;
 
-/// How far one term may be from another.
-#[derive(Clone, Copy)]
-enum Distance {
-    /// It is the same word.
-    Same,
-    /// It is more by one of these words.
-    More(WordSet),
-    /// It is less by one of these words.
-    Less(WordSet),
-    /// It is at most so much less, and at most so much more.
-    Around(Word, Word),
-    /// It is none of these.
-    Scattered,
-}
+/// The greatest word.
+const TOP: usize = 0o7777;
 
 /// Writes AC, or the address of a cell in brackets, for the word in it.
 pub(crate) fn write_name<A: Allocator>(writer: &mut ReportWriter<'_, A>, name: &Location)
@@ -150,133 +143,281 @@ fn write_summands<A: Allocator>(writer: &mut ReportWriter<'_, A>, summands: &[Su
     }
 }
 
-/// The two terms of a sum that is one term less another.
-fn difference_of(sum: &Sum) -> Option<(Term, Term)> {
-    let terms = sum.summands();
-    if terms.len() != 2 {
-        return None;
-    }
-    let first = terms.get(0)?;
-    let second = terms.get(1)?;
-    if first.coefficient == Word::ZERO.increment()
-        && second.coefficient == Word::ZERO.complement()
-    {
-        Some((first.term, second.term))
-    } else {
-        None
+/// Whether a sum is one term less another.
+fn is_difference(sum: &Sum) -> bool
+    ensures { result ≡ is_difference (sum_of sum.now) }
+{
+    sum.len() == 2 && coefficient_at(sum, 0).index() == 1 && coefficient_at(sum, 1).index() == 4095
+}
+
+/// The coefficient of the term at a place of a sum.
+fn coefficient_at(sum: &Sum, place: usize) -> Word
+    requires { place < length (sum_of sum.now) }
+    ensures { result ≡ (summand_at (sum_of sum.now) place).coefficient }
+{
+    sum.get(place).coefficient
+}
+
+/// The least word of a set; 0 if it has none.
+fn least_word(set: &WordSet) -> Word
+    ensures { result ≡ least_word (words set.now) }
+{
+    match set.least() {
+        Some(word) => word,
+        None => Word::ZERO,
     }
 }
 
-/// How far one term may be from another, where it may be less and more.
-fn distance_around(less: &WordSet, more: &WordSet) -> Distance {
-    let (Some(least), Some(greatest)) = (less.least(), more.greatest()) else {
-        return Distance::Scattered;
-    };
-    let below = WordSet::range(least, Word::ZERO.complement());
-    if *less == below && *more == WordSet::range(Word::ZERO, greatest) {
-        Distance::Around(negated(least), greatest)
-    } else {
-        Distance::Scattered
+/// The greatest word of a set; 0 if it has none.
+fn greatest_word(set: &WordSet) -> Word
+    ensures { result ≡ greatest_word (words set.now) }
+{
+    match set.greatest() {
+        Some(word) => word,
+        None => Word::ZERO,
     }
 }
 
-/// How far one term may be from another, if their difference is one of these words.
-fn distance_of(set: &WordSet) -> Distance {
-    let zero = WordSet::one(Word::ZERO);
-    if *set == zero {
-        return Distance::Same;
-    }
-    let less = set.meet(&WordSet::range(Word::from_index(HALF), Word::ZERO.complement()));
-    if less.is_empty() {
-        return Distance::More(*set);
-    }
-    let more = set.minus(&less);
-    if more.is_subset(&zero) {
-        return Distance::Less(set.complements().shift(Word::ZERO.increment()));
-    }
-    distance_around(&less, &more)
+/// Whether a set has the words from one to another, which is not the same, and no others.
+fn is_row(set: &WordSet, first: Word, last: Word) -> bool
+    ensures { result ≡ (not (first == last) && has_same_words (words set.now) (between first last)) }
+{
+    first != last && has_same_words(set, &WordSet::range(first, last))
+}
+
+/// Writes the first and the last word of a range.
+fn write_row<A: Allocator>(writer: &mut ReportWriter<'_, A>, first: Word, last: Word)
+    ensures { Writes writer.old writer.new (octal_text first ++ (codes " to " ++ octal_text last)) }
+{
+    writer.word(first);
+    writer.put(b" to ");
+    writer.word(last);
 }
 
 /// Writes by how much a term is more or less than another.
-fn write_amount<A: Allocator>(writer: &mut ReportWriter<'_, A>, set: &WordSet) {
-    if let (Some(first), Some(last)) = (set.least(), set.greatest()) {
-        if first != last && *set == WordSet::range(first, last) {
-            writer.word(first);
-            writer.put(b" to ");
-            return writer.word(last);
-        }
+fn write_amount<A: Allocator>(writer: &mut ReportWriter<'_, A>, set: &WordSet)
+    ensures { Writes writer.old writer.new (amount_text (form_of writer.old) (words set.now)) }
+{
+    let first = least_word(set);
+    let last = greatest_word(set);
+    if is_row(set, first, last) {
+        write_row(writer, first, last);
+    } else {
+        writer.words(set);
     }
-    writer.words(set);
 }
 
-/// Writes what stands between two terms of which the one is so far from the other; tells whether there are words for it.
-fn write_distance<A: Allocator>(writer: &mut ReportWriter<'_, A>, distance: &Distance) -> bool {
-    match distance {
-        Distance::Scattered => return false,
-        Distance::Same => writer.put(b" = "),
-        Distance::More(set) => {
-            writer.put(b" is ");
-            write_amount(writer, set);
-            writer.put(b" more than ");
-        }
-        Distance::Less(set) => {
-            writer.put(b" is ");
-            write_amount(writer, set);
-            writer.put(b" less than ");
-        }
-        Distance::Around(less, more) => {
-            writer.put(b" is ");
-            writer.word(*less);
-            writer.put(b" less to ");
-            writer.word(*more);
-            writer.put(b" more than ");
-        }
-    }
-    true
+/// The words of a set that are said as less than 0.
+fn words_below_zero(set: &WordSet) -> WordSet
+    ensures { words result ≡ words_below_zero (words set.now) }
+{
+    set.meet(&WordSet::range(Word::from_index(HALF), Word::from_index(TOP)))
 }
 
-/// Writes that a sum is one of some words.
-fn write_sum_in<A: Allocator>(writer: &mut ReportWriter<'_, A>, sum: &Sum, set: &WordSet) {
-    write_sum(writer, sum);
-    writer.put(if set.only().is_some() {
+/// The words of a set that are not said as less than 0.
+fn words_above_zero(set: &WordSet) -> WordSet
+    ensures { words result ≡ words_above_zero (words set.now) }
+{
+    set.minus(&words_below_zero(set))
+}
+
+/// Whether no word of a set is said as less than 0.
+fn is_only_more(set: &WordSet) -> bool
+    ensures { result ≡ is_only_more (words set.now) }
+{
+    words_below_zero(set).is_empty()
+}
+
+/// Whether every word of a set but 0 is said as less than 0.
+fn is_only_less(set: &WordSet) -> bool
+    ensures { result ≡ is_only_less (words set.now) }
+{
+    words_above_zero(set)
+        .minus(&WordSet::one(Word::ZERO))
+        .is_empty()
+}
+
+/// Whether a set has all words from one below 0 to 7777, and all from 0 to one above it, both of them ranges.
+fn is_around_zero(set: &WordSet) -> bool
+    ensures { result ≡ is_around_zero (words set.now) }
+{
+    is_up_to_top(&words_below_zero(set)) && is_from_zero(&words_above_zero(set))
+}
+
+/// Whether a set has all words from its least one to 7777.
+fn is_up_to_top(set: &WordSet) -> bool
+    ensures { result ≡ has_same_words (words set.now) (between (least_word (words set.now)) 4095) }
+{
+    has_same_words(set, &WordSet::range(least_word(set), Word::from_index(TOP)))
+}
+
+/// Whether a set has all words from 0 to its greatest one.
+fn is_from_zero(set: &WordSet) -> bool
+    ensures { result ≡ has_same_words (words set.now) (between 0 (greatest_word (words set.now))) }
+{
+    has_same_words(set, &WordSet::range(Word::ZERO, greatest_word(set)))
+}
+
+/// Whether a term is the same as another from which it is as far as one of these words.
+fn is_same(set: &WordSet) -> bool
+    ensures { result ≡ has_same_words (words set.now) (one 0) }
+{
+    has_same_words(set, &WordSet::one(Word::ZERO))
+}
+
+/// Whether there are words for a distance.
+fn has_distance(set: &WordSet) -> bool
+    ensures { result ≡ has_distance (words set.now) }
+{
+    is_same(set) || is_only_more(set) || is_only_less(set) || is_around_zero(set)
+}
+
+/// Writes by how much a term is more or less than another.
+fn write_by<A: Allocator>(writer: &mut ReportWriter<'_, A>, set: &WordSet, relation: &[u8])
+    ensures { Writes writer.old writer.new (codes " is " ++ (amount_text (form_of writer.old) (words set.now) ++ relation.now)) }
+{
+    writer.put(b" is ");
+    write_amount(writer, set);
+    writer.put(relation);
+}
+
+/// Writes by how much a term is at most less, and at most more, than another.
+fn write_around<A: Allocator>(writer: &mut ReportWriter<'_, A>, set: &WordSet)
+    ensures { Writes writer.old writer.new (codes " is " ++ around_text (words set.now)) }
+{
+    writer.put(b" is ");
+    writer.word(negated(least_word(&words_below_zero(set))));
+    writer.put(b" less to ");
+    writer.word(greatest_word(&words_above_zero(set)));
+    writer.put(b" more than ");
+}
+
+/// Writes what stands between two terms of which the first is the second and one of these words.
+fn write_distance<A: Allocator>(writer: &mut ReportWriter<'_, A>, set: &WordSet)
+    ensures { Writes writer.old writer.new (distance_text (form_of writer.old) (words set.now)) }
+{
+    if is_same(set) {
+        writer.put(b" = ");
+    } else {
+        write_unlike(writer, set);
+    }
+}
+
+/// Writes by how much a term is more or less than another that it is not.
+fn write_unlike<A: Allocator>(writer: &mut ReportWriter<'_, A>, set: &WordSet)
+    ensures { Writes writer.old writer.new (unlike_text (form_of writer.old) (words set.now)) }
+{
+    if is_only_more(set) {
+        write_by(writer, set, b" more than ");
+    } else {
+        write_less(writer, set);
+    }
+}
+
+/// Writes by how much a term is less than another; or how much it is at most less, and at most more.
+fn write_less<A: Allocator>(writer: &mut ReportWriter<'_, A>, set: &WordSet)
+    ensures { Writes writer.old writer.new (less_text (form_of writer.old) (words set.now)) }
+{
+    if is_only_less(set) {
+        write_by(writer, &taken_away(set), b" less than ");
+    } else {
+        write_around(writer, set);
+    }
+}
+
+/// The words that are taken away where those of a set are added.
+fn taken_away(set: &WordSet) -> WordSet
+    ensures { words result ≡ taken_away (words set.now) }
+{
+    set.complements().shift(Word::ZERO.increment())
+}
+
+/// What stands between a sum and the words that it may be.
+fn sum_in(set: &WordSet) -> &'static [u8]
+    ensures { result.now ≡ (if is_some (only (words set.now)) then codes " is " else codes " in ") }
+{
+    if set.only().is_some() {
         b" is "
     } else {
         b" in "
-    });
+    }
+}
+
+/// Writes that a sum is one of some words.
+fn write_sum_in<A: Allocator>(writer: &mut ReportWriter<'_, A>, sum: &Sum, set: &WordSet)
+    ensures { Writes writer.old writer.new (sum_in_text (form_of writer.old) (record { sum = sum_of sum.now; set = words set.now })) }
+{
+    write_sum(writer, sum);
+    writer.put(sum_in(set));
     writer.words(set);
 }
 
-/// Writes a relation: of a difference by how much the one term is more or less than the other.
-pub(crate) fn write_relation<A: Allocator>(
-    writer: &mut ReportWriter<'_, A>,
-    sum: &Sum,
-    set: &WordSet,
-) {
-    let Some((first, second)) = difference_of(sum) else {
-        return write_sum_in(writer, sum, set);
-    };
-    let distance = distance_of(set);
-    if matches!(distance, Distance::Scattered) {
-        return write_sum_in(writer, sum, set);
+/// Writes by how much the one term of a difference is more or less than the other.
+fn write_difference<A: Allocator>(writer: &mut ReportWriter<'_, A>, sum: &Sum, set: &WordSet)
+    requires { is_difference (sum_of sum.now) ≡ true }
+    ensures { let s = sum_of sum.now in Writes writer.old writer.new (term_text (form_of writer.old) (summand_at s 0).term ++
+        (distance_text (form_of writer.old) (words set.now) ++ term_text (form_of writer.old) (summand_at s 1).term)) }
+{
+    write_term(writer, &sum.get(0).term);
+    write_distance(writer, set);
+    write_term(writer, &sum.get(1).term);
+}
+
+/// Whether a sum is a difference, and there are words for the distance between its terms.
+fn is_told_as_distance(sum: &Sum, set: &WordSet) -> bool
+    ensures { result ≡ (is_difference (sum_of sum.now) && has_distance (words set.now)) }
+{
+    is_difference(sum) && has_distance(set)
+}
+
+/// Writes that a sum is one of some words: of a difference by how much the one term is more or less than the other.
+fn write_words_of<A: Allocator>(writer: &mut ReportWriter<'_, A>, sum: &Sum, set: &WordSet)
+    ensures { Writes writer.old writer.new (relation_text (form_of writer.old) (record { sum = sum_of sum.now; set = words set.now })) }
+{
+    if is_told_as_distance(sum, set) {
+        write_difference(writer, sum, set);
+    } else {
+        write_sum_in(writer, sum, set);
     }
-    write_term(writer, &first);
-    let _has_words = write_distance(writer, &distance);
-    write_term(writer, &second);
+}
+
+/// Writes a relation: of a difference by how much the one term is more or less than the other.
+pub(crate) fn write_relation<A: Allocator>(writer: &mut ReportWriter<'_, A>, relation: &Relation)
+    ensures { Writes writer.old writer.new (relation_text (form_of writer.old) (relation_of relation.now)) }
+{
+    let mut set = WordSet::empty();
+    relation.set.put(&mut set);
+    write_words_of(writer, &relation.sum, &set);
+}
+
+/// Writes that nothing is known about the one term of a difference and the other any more.
+fn write_unrelated<A: Allocator>(writer: &mut ReportWriter<'_, A>, sum: &Sum)
+    requires { is_difference (sum_of sum.now) ≡ true }
+    ensures { let s = sum_of sum.now in Writes writer.old writer.new (term_text (form_of writer.old) (summand_at s 0).term ++
+        (codes " and " ++ (term_text (form_of writer.old) (summand_at s 1).term ++ codes " unrelated"))) }
+{
+    write_term(writer, &sum.get(0).term);
+    writer.put(b" and ");
+    write_term(writer, &sum.get(1).term);
+    writer.put(b" unrelated");
+}
+
+/// Writes that a sum may be any word.
+fn write_any<A: Allocator>(writer: &mut ReportWriter<'_, A>, sum: &Sum)
+    ensures { Writes writer.old writer.new (sum_text (form_of writer.old) (sum_of sum.now) ++ codes " any") }
+{
+    write_sum(writer, sum);
+    writer.put(b" any");
 }
 
 /// Writes that nothing is known about a sum any more.
-pub(crate) fn write_lost<A: Allocator>(writer: &mut ReportWriter<'_, A>, sum: &Sum) {
-    match difference_of(sum) {
-        None => {
-            write_sum(writer, sum);
-            writer.put(b" any");
-        }
-        Some((first, second)) => {
-            write_term(writer, &first);
-            writer.put(b" and ");
-            write_term(writer, &second);
-            writer.put(b" unrelated");
-        }
+pub(crate) fn write_lost<A: Allocator>(writer: &mut ReportWriter<'_, A>, sum: &Sum)
+    ensures { Writes writer.old writer.new (lost_text (form_of writer.old) (sum_of sum.now)) }
+{
+    if is_difference(sum) {
+        write_unrelated(writer, sum);
+    } else {
+        write_any(writer, sum);
     }
 }
 

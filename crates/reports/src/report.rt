@@ -1,7 +1,11 @@
 //! What a report is made of.
 
+ghost use Rattle.std.specs.Prelude.{◌≡◌};
+ghost use Rattle.wordset.specs.Lanes.{words};
 ghost use Rattle.declaration.specs.DeclarationInCode.{meaning};
+ghost use Rattle.reports.specs.FactItems.{setting_of};
 ghost use Rattle.reports.specs.Kinds.{IsKind, IsOutside};
+ghost use Rattle.reports.specs.ReportSetting.{report_setting};
 
 use crate::fact_context::FactContext;
 use crate::source_notes::{SourceNote, SourceNotes};
@@ -10,7 +14,6 @@ use bin_tape::Image;
 use certificate::Certificate;
 use certificate_lines::RoutineClaim;
 use declaration::{Declaration, Owner};
-use domain::Rules;
 use facts::Place;
 use judge::Claims;
 use std::alloc::{AllocError, Allocator};
@@ -51,8 +54,6 @@ pub struct Report<'a, A: Allocator, D: Allocator, C: Allocator> {
     pub(crate) image: &'a Image,
     pub(crate) declaration: &'a Declaration<D>,
     pub(crate) certificate: &'a Certificate<C>,
-    /// The rules by which its facts are read.
-    pub(crate) rules: Rules,
     pub(crate) finding: Finding,
     /// The name of the condition that fails, or nothing if none is told.
     pub(crate) failing: &'a str,
@@ -137,7 +138,6 @@ impl<'a, A: Allocator + Copy, D: Allocator, C: Allocator> Report<'a, A, D, C> {
             image,
             declaration,
             certificate,
-            rules: certificate.rules(),
             finding,
             failing,
             files,
@@ -245,15 +245,17 @@ impl<A: Allocator, D: Allocator, C: Allocator> Report<'_, A, D, C> {
             image: self.image,
             declaration: self.declaration,
             routine: routine_of(kind),
-            rules: self.rules,
+            rules: self.certificate.rules(),
         }
     }
 
     /// Where the facts of a routine, or of main, stand. `claimed` is what is claimed about the routine.
-    pub(crate) fn setting_of(&self, claimed: &RoutineClaim) -> FactContext<'_> {
+    pub(crate) fn setting_of(&self, claimed: &RoutineClaim) -> FactContext<'_>
+        ensures { setting_of result ≡ report_setting self.now (words claimed.now.sites) }
+    {
         FactContext {
             image: self.image,
-            rules: self.rules,
+            rules: self.certificate.rules(),
             profile: self.declaration.profile(),
             sites: claimed.sites,
         }

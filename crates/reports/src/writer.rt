@@ -3,6 +3,7 @@
 ghost use Rattle.std.specs.Prelude.{◌≡◌, ◌++◌, [], codes, decimal, IfOk, IsOk, OnOk, true, if◌then◌else◌, ◌==◌, replicate};
 ghost use Rattle.word12.specs.Words.{octal_text};
 ghost use Rattle.wordset.specs.Lanes.{words};
+ghost use Rattle.reports.specs.FactItems.{Extends};
 ghost use Rattle.reports.specs.Html.{escaped_text};
 ghost use Rattle.reports.specs.ItemText.{WritesOn, begun_line, indent_text, is_written, line_of, line_with, one_same, opened_line, opening_text, separator_text};
 ghost use Rattle.reports.specs.Labels.{label_in};
@@ -520,13 +521,27 @@ impl<'a, A: Allocator> ReportWriter<'a, A> {
     }
 
     /// Writes in a page how many items that are the same as on the line above were left out.
-    pub(crate) fn end_same(&mut self) {
+    pub(crate) fn end_same(&mut self)
+        ensures { Extends self.old self.new }
+    {
         let more = self.same.saturating_sub(MOST_SAME);
-        if self.is_page && more > 0 {
-            self.separate();
-            self.numbered(b"<i>and ", more);
-            self.put(b" more as above</i>");
+        if self.tells_same(more) {
+            self.put_same(more);
         }
+    }
+
+    /// Whether something is written about so many more items that are the same as on the line above.
+    fn tells_same(&self, more: usize) -> bool {
+        self.is_page && more > 0
+    }
+
+    /// Writes how many more items are the same as on the line above.
+    fn put_same(&mut self, more: usize)
+        ensures { Extends self.old self.new }
+    {
+        self.separate();
+        self.numbered(b"<i>and ", more);
+        self.put(b" more as above</i>");
     }
 
     /// Ends an item.

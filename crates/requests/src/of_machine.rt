@@ -43,22 +43,18 @@ fn number_machine_source(
 /// The same run, with these cells shown and these stops.
 fn run_of<'a>(run: &RunRequest<'a>, places: &ResolvedPlaces) -> RunRequest<'a> {
     RunRequest {
-        tape: run.tape,
-        events: run.events,
         options: RunOptions {
             show: places.show,
             ..run.options
         },
         stopping: places.stopping,
-        long: run.long,
+        ..*run
     }
 }
 
 /// The same run with an operator, with these cells shown and these stops.
 fn session_of<'a>(session: &Session<'a>, places: &ResolvedPlaces) -> Session<'a> {
     Session {
-        tape: session.tape,
-        joined: session.joined,
         options: SessionOptions {
             run: RunOptions {
                 show: places.show,
@@ -66,24 +62,20 @@ fn session_of<'a>(session: &Session<'a>, places: &ResolvedPlaces) -> Session<'a>
             },
             ..session.options
         },
-        summary: session.summary,
         stopping: places.stopping,
+        ..*session
     }
 }
 
 /// The same session at the teletype, with these cells shown and these stops.
 fn teletype_of<'a>(session: &TeletypeSession<'a>, places: &ResolvedPlaces) -> TeletypeSession<'a> {
     TeletypeSession {
-        tape: session.tape,
-        reader: session.reader,
-        punch: session.punch,
         options: TeletypeOptions {
             show: places.show,
             ..session.options
         },
-        summary: session.summary,
         stopping: places.stopping,
-        interrupt: session.interrupt,
+        ..*session
     }
 }
 

@@ -19,52 +19,20 @@ use crate::cross::{PlaceNames, table_of};
 use crate::mentions::mentions_of;
 use crate::sources::{byte_slices, read_parts};
 use command_parts::status::{DeviceFault, Fault, Status};
+use command_parts::text_sink::TextSink;
 use instruct::Profile;
 use labels::Tags;
 use pal_asm::{AssembleFault, Program, SourceMap, map_source};
 use std::alloc::{AllocError, Allocator};
-use streams::{ByteSink, ByteSource, Failed, put};
-
-/// A sink that collects a text, and fails if memory is refused.
-#[derive(Drop)]
-struct TextSink<A: Allocator> {
-    text: Vec<u8, A>,
-    failed: bool,
-}
-
-impl<A: Allocator> ByteSink for TextSink<A> {
-    ghost taken = { λ sink. Some sink.text.items };
-
-    ghost mark = { λ sink. sink.failed };
-
-    fn write(&mut self, piece: &[u8]) -> Result<usize, Failed> {
-        match self.text.extend_from_slice(piece) {
-            Ok(()) => Ok(piece.len()),
-            Err(_) => {
-                self.failed = true;
-                Err(Failed)
-            }
-        }
-    }
-
-    fn failed(&self) -> bool {
-        self.failed
-    }
-}
+use streams::{ByteSink, ByteSource, put};
 
 /// The listing of a program.
 fn listing_of<A: Allocator + Copy>(alloc: A, program: &Program<A>) -> Result<Vec<u8, A>, AllocError>
     ensures { IfOk result (λ text. text.items ≡ listing_of program.now) }
 {
-    let mut sink = TextSink {
-        text: Vec::new(alloc),
-        failed: false,
-    };
+    let mut sink = TextSink::new(alloc);
     match program.write_listing(&mut sink) {
-        Ok(()) => {
-            let TextSink { text, .. } = sink;
-            Ok(text)
-        }
+        Ok(()) => Ok(sink.into_text()),
         Err(_) => Err(AllocError),
     }
 }

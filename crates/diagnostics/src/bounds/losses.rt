@@ -1,5 +1,8 @@
 //! Why less is known about a pointer after an instruction than before it.
 
+ghost use Rattle.std.specs.Prelude.{◌≡◌, ◌==◌, bit_and};
+ghost use Rattle.diagnostics.specs.BoundText.{is_reference, is_test};
+
 use crate::bounds::draft_facts::DraftFacts;
 use declaration::Declaration;
 use domain::Location;
@@ -40,7 +43,9 @@ impl PrecisionLoss {
 }
 
 /// Whether a word is a memory reference.
-pub(crate) fn refers_to_memory(word: Word) -> bool {
+pub(crate) fn refers_to_memory(word: Word) -> bool
+    ensures { result ≡ is_reference word }
+{
     word.value() < 0o6000
 }
 
@@ -50,17 +55,23 @@ fn operation(word: Word) -> Option<Operation> {
 }
 
 /// Whether a word is of group 2.
-fn is_group2(word: Word) -> bool {
+fn is_group2(word: Word) -> bool
+    ensures { result ≡ (bit_and word 3841 == 3840) }
+{
     word.value() & 0o7401 == 0o7400
 }
 
 /// Whether a word is an operate instruction that clears the accumulator.
-pub(crate) fn clears(word: Word) -> bool {
+pub(crate) fn clears(word: Word) -> bool
+    ensures { result ≡ (bit_and word 3712 == 3712) }
+{
     word.value() & 0o7200 == 0o7200
 }
 
 /// Whether a word is of group 2, with a test.
-pub(crate) fn is_test(word: Word) -> bool {
+pub(crate) fn is_test(word: Word) -> bool
+    ensures { result ≡ is_test word }
+{
     is_group2(word) && word.value() & 0o170 != 0
 }
 

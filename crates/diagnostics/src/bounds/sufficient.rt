@@ -1,6 +1,13 @@
 //! What would be enough at an instruction that refers to memory through a pointer, and which test in the program could show it.
 
+ghost use Rattle.std.specs.Prelude.{◌≡◌, IsTrue, IfSome};
+ghost use Rattle.wordset.specs.Lanes.{words};
+ghost use Rattle.instruct.specs.declared.Operation.TheVariants.{Jmp};
+ghost use Rattle.declaration.specs.DeclarationInCode.{meaning};
+ghost use Rattle.diagnostics.specs.BoundText.{AddsCell, AreEnough, AreInOneBody, IsNextTest, IsTestOf, MayReferTo, ends_computation, referred_to};
+
 use crate::bounds::losses::{clears, is_test, refers_to_memory};
+use crate::inputs::is_in_body;
 use bin_tape::Image;
 use declaration::Declaration;
 use instruct::{Operation, refers_indirectly, target};
@@ -16,13 +23,19 @@ const ADDRESSES: usize = 4096;
 const MOST_BETWEEN: usize = 6;
 
 /// Whether the cell belongs to the routine that executes the instruction at an address: it is in the same body.
-fn is_in_same_body<D: Allocator>(declaration: &Declaration<D>, at: Word, cell: Word) -> bool {
-    let owner = declaration.owner_of(at);
-    owner.is_some() && declaration.owner_of(cell) == owner
+fn is_in_same_body<D: Allocator>(declaration: &Declaration<D>, at: Word, cell: Word) -> bool
+    ensures { IsTrue result → AreInOneBody (meaning declaration.now) at cell }
+{
+    let Some(owner) = declaration.owner_of(at) else {
+        return false;
+    };
+    is_in_body(declaration, owner, cell)
 }
 
 /// Whether a jump from an address to a cell stays within the rules, as far as the declaration tells.
-fn may_jump<D: Allocator>(declaration: &Declaration<D>, at: Word, cell: Word) -> bool {
+fn may_jump<D: Allocator>(declaration: &Declaration<D>, at: Word, cell: Word) -> bool
+    ensures { IsTrue result → MayReferTo (meaning declaration.now) Jmp at cell }
+{
     is_in_same_body(declaration, at, cell) || declaration.is_abandon(cell)
 }
 
@@ -32,7 +45,9 @@ fn may_refer_to<D: Allocator>(
     operation: Operation,
     at: Word,
     cell: Word,
-) -> bool {
+) -> bool
+    ensures { IsTrue result → MayReferTo (meaning declaration.now) operation at cell }
+{
     match operation {
         Operation::And | Operation::Tad => declaration.may_read(cell),
         Operation::Isz => declaration.is_variable(cell) && declaration.may_read(cell),
@@ -42,27 +57,40 @@ fn may_refer_to<D: Allocator>(
     }
 }
 
+/// The cell to which the word at an address refers, if its pointer holds this one.
+fn referred_to(at: Word, word: Word, held: Word) -> Word
+    ensures { result ≡ referred_to word at held }
+{
+    if is_auto_index(target(word, at)) {
+        held.increment()
+    } else {
+        held
+    }
+}
+
 /// The words of a pointer with which the instruction at an address, of this word, refers to a cell to which it may refer.
 pub(crate) fn sufficient_words<D: Allocator>(
     declaration: &Declaration<D>,
     at: Word,
     word: Word,
-) -> WordSet {
+) -> WordSet
+    ensures { AreEnough (meaning declaration.now) at word (words result) }
+{
     let operation = Operation::of(word);
-    let steps = is_auto_index(target(word, at));
-    let mut words = WordSet::empty();
+    let mut sufficient = WordSet::empty();
     for index in 0..ADDRESSES {
-        let pointer = Word::from_index(index);
-        let cell = if steps { pointer.increment() } else { pointer };
-        if may_refer_to(declaration, operation, at, cell) {
-            words.insert(pointer);
+        let held = Word::from_index(index);
+        if may_refer_to(declaration, operation, at, referred_to(at, word, held)) {
+            sufficient.insert(held);
         }
     }
-    words
+    sufficient
 }
 
 /// Whether the word adds a cell to the accumulator, directly.
-fn adds(word: Word, at: Word, cell: Word) -> bool {
+fn adds(word: Word, at: Word, cell: Word) -> bool
+    ensures { IsTrue result → AddsCell word at cell }
+{
     refers_to_memory(word)
         && Operation::of(word) == Operation::Tad
         && !refers_indirectly(word)
@@ -70,7 +98,9 @@ fn adds(word: Word, at: Word, cell: Word) -> bool {
 }
 
 /// Whether a word that is no test ends a computation in the accumulator: it stores, goes elsewhere or clears.
-fn ends_computation(word: Word) -> bool {
+fn ends_computation(word: Word) -> bool
+    ensures { result ≡ ends_computation word }
+{
     if refers_to_memory(word) {
         return matches!(
             Operation::of(word),
@@ -81,7 +111,9 @@ fn ends_computation(word: Word) -> bool {
 }
 
 /// The first test that follows an address, before the accumulator is stored or cleared and before control goes elsewhere.
-fn next_test(image: &Image, at: Word) -> Option<Word> {
+fn next_test(image: &Image, at: Word) -> Option<Word>
+    ensures { IfSome result (λ test. IsNextTest image.now at test) }
+{
     let mut here = at;
     for _ in 0..MOST_BETWEEN {
         here = here.increment();
@@ -102,7 +134,9 @@ pub(crate) fn test_of_pointer<D: Allocator>(
     declaration: &Declaration<D>,
     at: Word,
     pointer: Word,
-) -> Option<Word> {
+) -> Option<Word>
+    ensures { IfSome result (λ test. IsTestOf image.now (meaning declaration.now) at pointer test) }
+{
     for index in 0..ADDRESSES {
         let here = Word::from_index(index);
         let Some(word) = image.get(here) else {

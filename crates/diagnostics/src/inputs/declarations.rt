@@ -1,7 +1,12 @@
 //! What is said about a declaration that is refused.
 
+ghost use Rattle.std.specs.Prelude.{OnOk};
+ghost use Rattle.std.specs.String.{string_bytes};
+ghost use Rattle.diagnostics.specs.FaultText.{SaysAddress, SaysDeclared, SaysLine, SaysMore};
+
 use crate::inputs::forms::declaration_form;
-use crate::inputs::{FaultyFile, push_form, push_numbered, push_said};
+use crate::inputs::lines::line_of;
+use crate::inputs::{FaultyFile, push_formed, push_numbered, push_said};
 use declaration::DeclarationFault;
 use peripherals::NoMemory;
 use std::alloc::Allocator;
@@ -13,11 +18,14 @@ pub(crate) fn push_declaration<A: Allocator>(
     text: &mut String<A>,
     fault: DeclarationFault,
     file: &FaultyFile<'_>,
-) -> Result<(), NoMemory> {
+) -> Result<(), NoMemory>
+    ensures { OnOk result (SaysDeclared fault file.now.name.now
+        (string_bytes text.old) (string_bytes text.new)) }
+{
     match fault {
         DeclarationFault::BadLine(number) => {
-            let line = push_numbered(text, file, number)?;
-            push_form(text, declaration_form(line))
+            let form = declaration_form(line_of(file.bytes, number));
+            push_formed(text, file, number, form)
         }
         DeclarationFault::TwoStarts(number) => push_repeated(text, file, number, "start"),
         DeclarationFault::TwoProfiles(number) => push_repeated(text, file, number, "profile"),
@@ -26,15 +34,39 @@ pub(crate) fn push_declaration<A: Allocator>(
             file,
             "a line such as `start 0200` is missing; in a source, write it as `/: start 0200`",
         ),
-        DeclarationFault::Overlap(at) => push_overlap(text, file, at),
-        DeclarationFault::EntryInAutoIndex(at) => push_auto_index_entry(text, file, at),
+        DeclarationFault::Overlap(at) => push_address(
+            text,
+            file,
+            "",
+            at,
+            " has two roles that exclude each other. Either it is in two bodies; or it is an entry and also a variable, a cell of a body or the entry of another routine; or it is both a stop and a pause. Remove one of the roles",
+        ),
+        DeclarationFault::EntryInAutoIndex(at) => push_address(
+            text,
+            file,
+            "the entry ",
+            at,
+            " is one of the cells 0010 to 0017, which an indirect reference increments; a routine must begin elsewhere",
+        ),
         DeclarationFault::StartNotInMain => push_said(
             text,
             file,
             "the start is not in any `main` line: add it there",
         ),
-        DeclarationFault::HaltNotInBody(at) => push_halt_in_no_body(text, file, at),
-        DeclarationFault::Misplaced(at) => push_misplaced(text, file, at),
+        DeclarationFault::HaltNotInBody(at) => push_address(
+            text,
+            file,
+            "the stop or pause ",
+            at,
+            " is not in any body: add it to the `main` line or to a routine's body",
+        ),
+        DeclarationFault::Misplaced(at) => push_address(
+            text,
+            file,
+            "",
+            at,
+            " is named where it may not be: `skips`, `moves` and `returns` name entries, `abandon` names cells of main, and `holds` names cells of bodies",
+        ),
         DeclarationFault::TooMany => push_said(
             text,
             file,
@@ -50,67 +82,33 @@ fn push_repeated<A: Allocator>(
     file: &FaultyFile<'_>,
     number: usize,
     kind: &str,
-) -> Result<(), NoMemory> {
+) -> Result<(), NoMemory>
+    ensures { OnOk result (SaysLine file.now.name.now number
+        (string_bytes text.old) (string_bytes text.new)) }
+{
     push_numbered(text, file, number)?;
+    push_duplicate(text, kind)
+}
+
+/// Adds that there may be one line of a kind only.
+fn push_duplicate<A: Allocator>(text: &mut String<A>, kind: &str) -> Result<(), NoMemory>
+    ensures { OnOk result (SaysMore (string_bytes text.old) (string_bytes text.new)) }
+{
     writeln!(text, "duplicate {kind} line: only one is allowed").map_err(|_| NoMemory)
 }
 
-/// Adds the line on an address that is declared as two things.
-fn push_overlap<A: Allocator>(
+/// Adds a line with the name of a file and what is said of an address in it.
+fn push_address<A: Allocator>(
     text: &mut String<A>,
     file: &FaultyFile<'_>,
+    before: &str,
     at: Word,
-) -> Result<(), NoMemory> {
+    said: &str,
+) -> Result<(), NoMemory>
+    ensures { OnOk result (SaysAddress file.now.name.now before.now at
+        (string_bytes text.old) (string_bytes text.new)) }
+{
     let name = file.name;
     let cell = at.value();
-    writeln!(
-        text,
-        "{name}: {cell:04o} has two roles that exclude each other. Either it is in two bodies; or it is an entry and also a variable, a cell of a body or the entry of another routine; or it is both a stop and a pause. Remove one of the roles"
-    )
-    .map_err(|_| NoMemory)
-}
-
-/// Adds the line on an entry in an auto-index cell.
-fn push_auto_index_entry<A: Allocator>(
-    text: &mut String<A>,
-    file: &FaultyFile<'_>,
-    at: Word,
-) -> Result<(), NoMemory> {
-    let name = file.name;
-    let cell = at.value();
-    writeln!(
-        text,
-        "{name}: the entry {cell:04o} is one of the cells 0010 to 0017, which an indirect reference increments; a routine must begin elsewhere"
-    )
-    .map_err(|_| NoMemory)
-}
-
-/// Adds the line on a stop or a pause in no body.
-fn push_halt_in_no_body<A: Allocator>(
-    text: &mut String<A>,
-    file: &FaultyFile<'_>,
-    at: Word,
-) -> Result<(), NoMemory> {
-    let name = file.name;
-    let cell = at.value();
-    writeln!(
-        text,
-        "{name}: the stop or pause {cell:04o} is not in any body: add it to the `main` line or to a routine's body"
-    )
-    .map_err(|_| NoMemory)
-}
-
-/// Adds the line on a cell that is named where it may not be.
-fn push_misplaced<A: Allocator>(
-    text: &mut String<A>,
-    file: &FaultyFile<'_>,
-    at: Word,
-) -> Result<(), NoMemory> {
-    let name = file.name;
-    let cell = at.value();
-    writeln!(
-        text,
-        "{name}: {cell:04o} is named where it may not be: `skips`, `moves` and `returns` name entries, `abandon` names cells of main, and `holds` names cells of bodies"
-    )
-    .map_err(|_| NoMemory)
+    writeln!(text, "{name}: {before}{cell:04o}{said}").map_err(|_| NoMemory)
 }

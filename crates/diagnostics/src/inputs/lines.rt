@@ -1,5 +1,9 @@
 //! The lines of a text.
 
+ghost use Rattle.std.specs.Prelude.{OnOk};
+ghost use Rattle.std.specs.String.{string_bytes};
+ghost use Rattle.diagnostics.specs.FaultText.{SaysLine, SaysMore};
+
 use crate::inputs::FaultyFile;
 use peripherals::NoMemory;
 use std::alloc::Allocator;
@@ -24,26 +28,36 @@ pub(crate) fn first_word(line: &[u8]) -> &[u8] {
         .unwrap_or(b"")
 }
 
-/// Adds a line of a file, with the file's name and its number before it, and returns the line.
+/// Adds a line of a file, with the file's name and its number before it.
 ///
 /// # Errors
 ///
 /// `NoMemory` if memory was refused.
-pub fn push_numbered<'a, A: Allocator>(
+pub fn push_numbered<A: Allocator>(
     text: &mut String<A>,
-    file: &FaultyFile<'a>,
+    file: &FaultyFile<'_>,
     number: usize,
-) -> Result<&'a [u8], NoMemory> {
-    let line = line_of(file.bytes, number);
+) -> Result<(), NoMemory>
+    ensures { OnOk result (SaysLine file.now.name.now number
+        (string_bytes text.old) (string_bytes text.new)) }
+{
     let name = file.name;
     write!(text, "{name}:{number}: ").map_err(|_| NoMemory)?;
+    push_line(text, line_of(file.bytes, number))
+}
+
+/// Adds the characters of a line, and its end.
+fn push_line<A: Allocator>(text: &mut String<A>, line: &[u8]) -> Result<(), NoMemory>
+    ensures { OnOk result (SaysMore (string_bytes text.old) (string_bytes text.new)) }
+{
     push_shown(text, line)?;
-    text.push('\n').map_err(|_| NoMemory)?;
-    Ok(line)
+    text.push('\n').map_err(|_| NoMemory)
 }
 
 /// Adds the characters of a line; a byte that is none is shown as a question mark.
-fn push_shown<A: Allocator>(text: &mut String<A>, line: &[u8]) -> Result<(), NoMemory> {
+fn push_shown<A: Allocator>(text: &mut String<A>, line: &[u8]) -> Result<(), NoMemory>
+    ensures { OnOk result (SaysMore (string_bytes text.old) (string_bytes text.new)) }
+{
     for byte in line.iter().take(MOST_SHOWN) {
         let is_shown = matches!(*byte, b' '..=b'~' | b'\t');
         let shown = if is_shown { *byte as char } else { '?' };

@@ -114,7 +114,7 @@ fn is_elsewhere<D: Allocator>(declaration: &Declaration<D>, place: Word) -> bool
 }
 
 /// Whether an address is in a body.
-fn is_in_body<D: Allocator>(declaration: &Declaration<D>, owner: Owner, at: Word) -> bool
+pub(crate) fn is_in_body<D: Allocator>(declaration: &Declaration<D>, owner: Owner, at: Word) -> bool
     ensures { result ≡ (meaning declaration.now).body (routine_of owner) at }
 {
     match owner {

@@ -1,5 +1,9 @@
 //! What is said about a tape that is refused.
 
+ghost use Rattle.std.specs.Prelude.{OnOk};
+ghost use Rattle.std.specs.String.{string_bytes};
+ghost use Rattle.diagnostics.specs.FaultText.{SaysChecksum, SaysFrame, SaysTape};
+
 use crate::inputs::{FaultyFile, push_said};
 use bin_tape::TapeFault;
 use peripherals::NoMemory;
@@ -12,7 +16,10 @@ pub(crate) fn push_tape<A: Allocator>(
     text: &mut String<A>,
     fault: TapeFault,
     file: &FaultyFile<'_>,
-) -> Result<(), NoMemory> {
+) -> Result<(), NoMemory>
+    ensures { OnOk result (SaysTape fault file.now.name.now
+        (string_bytes text.old) (string_bytes text.new)) }
+{
     match fault {
         TapeFault::TooLong => push_said(
             text,
@@ -62,7 +69,10 @@ fn push_checksum<A: Allocator>(
     file: &FaultyFile<'_>,
     read: Word,
     counted: Word,
-) -> Result<(), NoMemory> {
+) -> Result<(), NoMemory>
+    ensures { OnOk result (SaysChecksum file.now.name.now read counted
+        (string_bytes text.old) (string_bytes text.new)) }
+{
     let name = file.name;
     let read = read.value();
     let counted = counted.value();
@@ -79,14 +89,19 @@ fn push_frame<A: Allocator>(
     file: &FaultyFile<'_>,
     place: usize,
     said: &str,
-) -> Result<(), NoMemory> {
+) -> Result<(), NoMemory>
+    ensures { OnOk result (SaysFrame file.now.name.now place
+        (string_bytes text.old) (string_bytes text.new)) }
+{
     let name = file.name;
     match file.bytes.get(place) {
         Some(frame) => writeln!(
             text,
             "{name}: frame {place}, counted from 0, is {frame:03o}: {said}"
+        )
+        .map_err(|_| NoMemory),
+        None => writeln!(text, "{name}: frame {place}, counted from 0: {said}").map_err(
+            |_| NoMemory,
         ),
-        None => writeln!(text, "{name}: frame {place}, counted from 0: {said}"),
     }
-    .map_err(|_| NoMemory)
 }

@@ -10,11 +10,11 @@ ghost use Rattle.diagnostics.specs.WhyText.{AddsExplanation, IsReason, fact_show
 
 use crate::verdicts::reason_context::{ReasonContext, place_of, reason_context_of};
 use crate::verdicts::reason_text::push_why;
-use crate::verdicts::vector_sink::VectorSink;
 use crate::verdicts::verdict::verdict_line;
 use bin_tape::Image;
 use certificate::Certificate;
 use command_parts::message::MessageWriter;
+use command_parts::text_sink::TextSink;
 use declaration::Declaration;
 use judge::{Claims, Refusal};
 use reasons::{Reason, ReasonWorkspace, why};
@@ -69,9 +69,9 @@ fn fact_lines<A: Allocator, C: Allocator>(
     ensures { IfOk result (λ bytes.
         bytes.items ≡ fact_text_at (text_of certificate.now) at index) }
 {
-    let mut sink = VectorSink::new(alloc);
+    let mut sink = TextSink::new(alloc);
     match certificate.write_fact(at, index, &mut sink) {
-        Ok(()) => Ok(sink.into_bytes()),
+        Ok(()) => Ok(sink.into_text()),
         Err(_) => Err(AllocError),
     }
 }

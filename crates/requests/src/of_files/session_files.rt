@@ -10,10 +10,10 @@ use command_parts::options::{SessionOptions, SummaryForm};
 use command_parts::status::{DeviceFault, Fault, Status};
 use command_parts::visible::visible_text;
 use either::Either;
-use machine_commands::interrupted::InterruptibleKeys;
+use machine_commands::interrupted::{InterruptibleKeys, OperatorPresence};
 use machine_commands::last_session::{run_session_with_last, teletype_with_last};
 use machine_commands::session::{Outputs, run_session};
-use machine_commands::stopped_session::{no_stops, run_session_with_stops, teletype_with_stops};
+use machine_commands::stopping::no_stops;
 use machine_commands::teletype::{Typist, teletype};
 use std::alloc::{AllocError, Global};
 use std::io::{self, Printer};
@@ -95,7 +95,9 @@ fn form_with<'n>(form: SummaryForm<'_>, name: &'n Option<String>) -> SummaryForm
     }
 }
 
-/// Runs a tape with an operator until it is stopped, and shows its last instructions if that is requested.
+/// Runs a tape with an operator, until it is stopped if that is requested, and shows its last instructions if that is
+/// requested.
+#[inline(never)]
 fn follow_session<
     R: ByteSource,
     F: ByteSource,
@@ -109,7 +111,7 @@ fn follow_session<
     reader: &mut F,
     keys: &mut K,
     options: SessionOptions,
-    stopping: &StopOptions,
+    stopping: &Option<StopOptions>,
     form: SummaryForm<'_>,
     out: &mut Outputs<W, T, P>,
 ) -> Result<Status, Fault>
@@ -120,9 +122,12 @@ fn follow_session<
     requires typable { T.mark out.old.teletype ≡ false }
     requires punchable { P.mark out.old.punch ≡ false }
 {
+    let Some(stopping) = stopping else {
+        return run_session(alloc, frames, reader, keys, options, &no_stops(), form, out);
+    };
     let stops = &stopping.stops;
     match stopping.last {
-        None => run_session_with_stops(alloc, frames, reader, keys, options, stops, form, out),
+        None => run_session(alloc, frames, reader, keys, options, stops, form, out),
         Some(most) => {
             run_session_with_last(alloc, frames, reader, keys, options, stops, most, form, out)
         }
@@ -157,21 +162,16 @@ pub(crate) fn hold_session_on<R: Files + Input + Print + Eprint, S: ByteSource>(
     };
     let options = session.options;
     let out = &mut outputs;
-    let answer = match &session.stopping {
-        None => run_session(alloc, frames, &mut reader, &mut keys, options, form, out),
-        Some(stopping) => {
-            follow_session(
-                alloc,
-                frames,
-                &mut reader,
-                &mut keys,
-                options,
-                stopping,
-                form,
-                out,
-            )
-        }
-    };
+    let answer = follow_session(
+        alloc,
+        frames,
+        &mut reader,
+        &mut keys,
+        options,
+        &session.stopping,
+        form,
+        out,
+    );
     let failed = outputs.punch.failed();
     finish_punch(&mut punch, failed, answer)
 }
@@ -219,6 +219,41 @@ fn report_interrupt_key<R: Eprint>(rt: &R, key: Option<u8>) {
     }
 }
 
+/// Holds a session at the teletype, until it is stopped if that is requested, and shows its last instructions if that is
+/// requested.
+#[inline(never)]
+fn follow_typist<
+    R: ByteSource,
+    F: ByteSource,
+    K: ByteSource + OperatorPresence,
+    W: ByteSink,
+    T: ByteSink,
+    P: ByteSink,
+>(
+    alloc: Global,
+    frames: &mut R,
+    typist: &mut Typist<F, K>,
+    stopping: &Option<StopOptions>,
+    form: SummaryForm<'_>,
+    out: &mut Outputs<W, T, P>,
+) -> Result<Status, Fault>
+    requires readable { R.mark frames.old ≡ false }
+    requires reader_readable { F.mark typist.old.reader ≡ false }
+    requires keys_readable { K.mark typist.old.keys ≡ false }
+    requires writable { W.mark out.old.report ≡ false }
+    requires typable { T.mark out.old.teletype ≡ false }
+    requires punchable { P.mark out.old.punch ≡ false }
+{
+    let Some(stopping) = stopping else {
+        return teletype(alloc, frames, typist, &no_stops(), form, out);
+    };
+    let stops = &stopping.stops;
+    match stopping.last {
+        None => teletype(alloc, frames, typist, stops, form, out),
+        Some(most) => teletype_with_last(alloc, frames, typist, stops, most, form, out),
+    }
+}
+
 /// Holds a session at the teletype with the tape of these frames: keys come from standard input, what is printed goes
 /// to standard output, and the summary goes to standard error. The reader's frames are opened first; after that, it is
 /// checked that the file for the punch can be written.
@@ -250,22 +285,18 @@ pub(crate) fn hold_teletype_session_on<R: Files + Input + Print + Eprint, S: Byt
         teletype: StdWriter::new(io::writer(rt)),
         punch: StdWriter::new(&mut punch),
     };
-    let mut typist = Typist::new(reader, InterruptibleKeys::new(keys, key), session.options);
     let out = &mut outputs;
-    let answer = match &session.stopping {
-        Some(stopping) => {
-            let stops = &stopping.stops;
-            match stopping.last {
-                None => teletype_with_stops(alloc, frames, &mut typist, stops, form, out),
-                Some(most) => {
-                    teletype_with_last(alloc, frames, &mut typist, stops, most, form, out)
-                }
-            }
+    let stopping = &session.stopping;
+    let answer = match key {
+        None => {
+            let mut typist = Typist::new(reader, keys, session.options);
+            follow_typist(alloc, frames, &mut typist, stopping, form, out)
         }
-        None if key.is_some() => {
-            teletype_with_stops(alloc, frames, &mut typist, &no_stops(), form, out)
+        Some(_) => {
+            let keys = InterruptibleKeys::new(keys, key);
+            let mut typist = Typist::new(reader, keys, session.options);
+            follow_typist(alloc, frames, &mut typist, stopping, form, out)
         }
-        None => teletype(alloc, frames, &mut typist, form, out),
     };
     let failed = outputs.punch.failed();
     finish_punch(&mut punch, failed, answer)

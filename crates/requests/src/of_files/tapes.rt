@@ -3,20 +3,21 @@
 ghost use Rattle.std.specs.Prelude.{◌≡◌, false};
 
 use crate::files::{finish, open_input, open_output};
+use crate::standard_error::open_input_if;
 use bin_tape::Image;
-use command_line::{DumpRequest, RunRequest, SourceRequest, StopOptions};
-use command_parts::inputs::tape_from;
+use command_line::{DumpRequest, RunRequest, SourceRequest};
+use command_parts::inputs::{events_from, tape_from};
 use command_parts::options::Stops;
 use command_parts::status::{Fault, Status};
 use command_parts::text::push_place;
 use instruct::Profile;
-use machine_commands::last::{run_events_with_last, run_with_last};
+use machine_commands::follow::Course;
+use machine_commands::last::run_with_last;
 use machine_commands::long_trace::{
-    MnemonicStatements, Statements, push_full_name, run_events_with_long_trace, run_with_long_trace,
+    MnemonicStatements, Statements, push_full_name, run_with_long_trace,
 };
 use machine_commands::running::{dump, run, run_events};
-use machine_commands::stopped_session::no_stops;
-use machine_commands::stopping::{run_events_with_stops, run_with_stops};
+use machine_commands::stopping::{no_stops, run_with_stops};
 use source_commands::sourcing::{declared_source, source};
 use std::alloc::{AllocError, Global};
 use std::io;
@@ -75,29 +76,6 @@ pub fn dump_from<R: Files + Input + Print>(
     dump(alloc, &mut frames, request.profile, &mut out)
 }
 
-/// Runs the tape of these frames, in rounds or with the events of a file, until it is stopped, and writes the long
-/// trace.
-fn run_long<R: Files + Input + Print, S: ByteSource, N: Statements>(
-    rt: &R,
-    alloc: Global,
-    request: &RunRequest<'_>,
-    frames: &mut S,
-    statements: &N,
-) -> Result<Status, Fault>
-    requires { S.mark frames.old ≡ false }
-{
-    let (options, stops) = (request.options, stops_of(request));
-    let Some(events) = request.events else {
-        let mut out = StdWriter::new(io::writer(rt));
-        return run_with_long_trace(alloc, frames, options, &stops, statements, &mut out);
-    };
-    let mut list = open_input(rt, events)?;
-    let mut out = StdWriter::new(io::writer(rt));
-    run_events_with_long_trace(
-        alloc, frames, &mut list, options, &stops, statements, &mut out,
-    )
-}
-
 /// The stops of a run.
 fn stops_of(request: &RunRequest<'_>) -> Stops {
     match &request.stopping {
@@ -106,43 +84,48 @@ fn stops_of(request: &RunRequest<'_>) -> Stops {
     }
 }
 
-/// Runs a tape in rounds until it is stopped.
-fn run_rounds_until<R: Print, S: ByteSource>(
-    rt: &R,
-    alloc: Global,
-    request: &RunRequest<'_>,
-    frames: &mut S,
-    stopping: &StopOptions,
-) -> Result<Status, Fault>
-    requires { S.mark frames.old ≡ false }
-{
-    let mut out = StdWriter::new(io::writer(rt));
-    let (options, stops) = (request.options, &stopping.stops);
-    match stopping.last {
-        None => run_with_stops(alloc, frames, options, stops, &mut out),
-        Some(most) => run_with_last(alloc, frames, options, stops, most, &mut out),
+/// How many of the last instructions of a run are shown, if that is requested.
+fn last_of(request: &RunRequest<'_>) -> Option<u32> {
+    match &request.stopping {
+        None => None,
+        Some(stopping) => stopping.last,
     }
 }
 
-/// Runs a tape with the events of a file until it is stopped.
-fn run_events_until<R: Files + Input + Print, S: ByteSource>(
+/// Runs the tape of these frames, in rounds or with the events of a file, until it is stopped, and shows its last
+/// instructions, or each of them in a long trace, as requested. The file of events is opened before the tape is read,
+/// and read after it.
+#[inline(never)]
+fn run_to_stop<R: Files + Input + Print, S: ByteSource, N: Statements>(
     rt: &R,
     alloc: Global,
     request: &RunRequest<'_>,
     frames: &mut S,
-    events: &str,
-    stopping: &StopOptions,
+    statements: &N,
 ) -> Result<Status, Fault>
     requires { S.mark frames.old ≡ false }
 {
-    let mut list = open_input(rt, events)?;
+    let mut list = open_input_if(rt, request.events)?;
+    let image = tape_from(frames)?;
+    let events = match request.events {
+        None => None,
+        Some(_) => Some(events_from(alloc, &mut list)?),
+    };
+    let options = &request.options;
+    let course = match &events {
+        None => Course::Rounds(options.rounds),
+        Some(events) => Course::Listed(events),
+    };
+    let stops = stops_of(request);
     let mut out = StdWriter::new(io::writer(rt));
-    let (options, stops) = (request.options, &stopping.stops);
-    match stopping.last {
-        None => run_events_with_stops(alloc, frames, &mut list, options, stops, &mut out),
-        Some(most) => {
-            run_events_with_last(alloc, frames, &mut list, options, stops, most, &mut out)
-        }
+    if request.long {
+        return run_with_long_trace(
+            alloc, &image, options, &stops, &course, statements, &mut out,
+        );
+    }
+    match last_of(request) {
+        None => run_with_stops(alloc, &image, options, &stops, &course, &mut out),
+        Some(most) => run_with_last(alloc, &image, options, &stops, most, &course, &mut out),
     }
 }
 
@@ -161,14 +144,8 @@ pub(crate) fn run_on<R: Files + Input + Print, S: ByteSource, N: Statements>(
 ) -> Result<Status, Fault>
     requires { S.mark frames.old ≡ false }
 {
-    if request.long {
-        return run_long(rt, alloc, request, frames, statements);
-    }
-    if let Some(stopping) = &request.stopping {
-        return match request.events {
-            None => run_rounds_until(rt, alloc, request, frames, stopping),
-            Some(events) => run_events_until(rt, alloc, request, frames, events, stopping),
-        };
+    if request.long || request.stopping.is_some() {
+        return run_to_stop(rt, alloc, request, frames, statements);
     }
     let Some(events) = request.events else {
         let mut out = StdWriter::new(io::writer(rt));

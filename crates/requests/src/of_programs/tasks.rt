@@ -19,10 +19,10 @@ use command_parts::programs::ProgramWithDeclaration;
 use command_parts::status::{Fault, Status};
 use diagnostics::verdicts::certificates::{ProgramWithCertificate, certificate_from};
 use diagnostics::verdicts::messages::check_message;
-use machine_commands::messages::{watch_message, watch_session_message};
 use machine_commands::stopped_watch::{
     WatchOptions, watch_message_to_stop, watch_session_message_to_stop,
 };
+use machine_commands::stopping::no_stops;
 use reports::reporting::{ReportForm, report_of};
 use search_commands::checking::verdict_of;
 use std::alloc::Global;
@@ -96,7 +96,18 @@ fn run_report<R: Files + Input + Print, I: Read + Drop>(
     finish(&mut file, status)
 }
 
-/// The options for watching a run that may be stopped.
+/// What stops a watched run: nothing, unless it is requested.
+fn stops_of(stopping: &Option<StopOptions>) -> StopOptions {
+    match stopping {
+        None => StopOptions {
+            stops: no_stops(),
+            last: None,
+        },
+        Some(stopping) => *stopping,
+    }
+}
+
+/// The options for watching a run.
 fn watch_options_of<'s>(
     stopping: &'s StopOptions,
     explained: bool,
@@ -124,14 +135,9 @@ fn run_watch<R: Files + Input + Print, I: Read + Drop>(
     let source = opened.labels(explained);
     let ProgramWithDeclaration { image, declaration } = opened.read(alloc)?;
     let events = events_from(alloc, &mut list)?;
-    let show = &places.show;
-    let run = match &places.stopping {
-        None => watch_message(alloc, &image, &declaration, &events, explained, show)?,
-        Some(stopping) => {
-            let options = watch_options_of(stopping, explained, show);
-            watch_message_to_stop(alloc, &image, &declaration, &events, &options)?
-        }
-    };
+    let stopping = stops_of(&places.stopping);
+    let options = watch_options_of(&stopping, explained, &places.show);
+    let run = watch_message_to_stop(alloc, &image, &declaration, &events, &options)?;
     print_message(rt, alloc, source, &run.told)?;
     Ok(run.status)
 }
@@ -159,29 +165,17 @@ fn run_watch_session<R: Files + Input + Print, I: Read + Drop>(
     let ProgramWithDeclaration { image, declaration } = opened.read(alloc)?;
     let frames = bytes_from(alloc, &mut reader, options.run.rounds)?;
     let struck = bytes_from(alloc, &mut keys, options.run.rounds)?;
-    let continues = session.continues;
-    let run = match &places.stopping {
-        None => watch_session_message(
-            alloc,
-            &image,
-            &declaration,
-            &frames,
-            &struck,
-            options,
-            continues,
-            explained,
-        )?,
-        Some(stopping) => watch_session_message_to_stop(
-            alloc,
-            &image,
-            &declaration,
-            &frames,
-            &struck,
-            options,
-            continues,
-            &watch_options_of(stopping, explained, &places.show),
-        )?,
-    };
+    let stopping = stops_of(&places.stopping);
+    let run = watch_session_message_to_stop(
+        alloc,
+        &image,
+        &declaration,
+        &frames,
+        &struck,
+        options,
+        session.continues,
+        &watch_options_of(&stopping, explained, &places.show),
+    )?;
     print_message(rt, alloc, source, &run.told)?;
     Ok(run.status)
 }

@@ -1,3 +1,4 @@
+use Rattle.std.proofs.Common.{refl}
 use Rattle.command_line.proofs.operator.session_of.Goals as goal
 
 pub returns : goal.returns
@@ -7,5 +8,8 @@ returns c = record {
   keys = c.get_str-keys.ensures;
   punch = c.in_ok-punch.ensures.named;
   teletype = c.is_given-teletype.ensures;
-  options = c.in_ok-options.ensures;
+  options = c.in_ok-options.ensures.options;
+  summary = record { line = refl; printed = refl; punched = c.in_ok-punch.ensures.named };
+  shown = rw c.in_ok-options.ensures.shown c.in_ok-show.ensures;
+  stopping = c.in_ok-stopping.ensures;
 }

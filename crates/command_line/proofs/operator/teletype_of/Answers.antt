@@ -1,4 +1,14 @@
+use Rattle.std.proofs.Common.{refl}
 use Rattle.command_line.proofs.operator.teletype_of.Goals as goal
 
 pub returns : goal.returns
-returns c = record { tape = c.in_ok-tape.ensures; reader = c.get_str-reader.ensures; punch = c.in_ok-punch.ensures.named; options = c.in_ok-options.ensures }
+returns c = record {
+  tape = c.in_ok-tape.ensures;
+  reader = c.get_str-reader.ensures;
+  punch = c.in_ok-punch.ensures.named;
+  options = c.in_ok-options.ensures.options;
+  interrupt = c.in_ok-interrupt.ensures;
+  summary = record { line = refl; printed = refl; punched = c.in_ok-punch.ensures.named };
+  shown = c.in_ok-options.ensures.shown;
+  stopping = c.in_ok-stopping.ensures;
+}

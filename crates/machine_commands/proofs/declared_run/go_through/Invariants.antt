@@ -9,5 +9,5 @@ invariant-loop-index g l = record {
   gone : Gone (meaning l.declaration) l.events (view l.initial.world) l.index l.trace.text.items l.steps (view l.world);
   profile : profile_of l.world ≡ profile_of l.initial.world;
   few : l.steps ≤ l.index;
-  room : l.trace.refused ≡ false;
+  room : l.trace.failed ≡ false;
 }

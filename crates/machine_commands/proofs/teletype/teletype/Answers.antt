@@ -3,7 +3,8 @@ use Rattle.std.proofs.lemmas.Result.{err_from_is_err_and}
 use Rattle.machine_commands.specs.Session.{failures}
 use Rattle.machine_commands.specs.TypingParts.{source}
 use Rattle.machine_commands.proofs.HeldLemmas.{held_no_tape}
-use Rattle.machine_commands.proofs.TeletypeLemmas.{tape_failed, typed_err, typed_faults, typed_ok}
+use Rattle.machine_commands.proofs.StoppedSessionLemmas.{typed_stop_err, typed_stop_ok}
+use Rattle.machine_commands.proofs.TeletypeLemmas.{tape_failed, typed_faults}
 use Rattle.machine_commands.proofs.TypistLemmas.{either_first, either_second, first_failed}
 use Rattle.machine_commands.proofs.teletype.teletype.Goals as goal
 
@@ -20,7 +21,7 @@ pub returns-clause-run : goal.returns-clause-run
 returns-clause-run g c =
     let t = c.args.typist.now in
     let run = rw (c.begin.ensures, c.run_of-options.ensures, c.options.ensures) at c.run_scheduled.ensures.run in
-    typed_ok t.options c.args.form (g.R.ByteSource.remaining c.args.tape.now) (source (g.F.ByteSource.remaining t.reader) (g.F.ByteSource.ended t.reader)) (source (g.K.ByteSource.remaining t.keys) (g.K.ByteSource.ended t.keys)) c.in_ok-image.image c.run_scheduled.result _ _ c.in_ok-image.ensures.tape run
+    typed_stop_ok t.options c.args.stops.now c.args.form _ (g.R.ByteSource.remaining c.args.tape.now) (source (g.F.ByteSource.remaining t.reader) (g.F.ByteSource.ended t.reader)) (source (g.K.ByteSource.remaining t.keys) (g.K.ByteSource.ended t.keys)) c.in_ok-image.image c.run_scheduled.result _ _ c.in_ok-image.ensures.tape run
 
 pub returns-clause-faults : goal.returns-clause-faults
 returns-clause-faults g c = typed_faults _ c.in_ok-image.image c.run_scheduled.result c.in_ok-image.ensures.tape c.run_scheduled.ensures.faults
@@ -30,7 +31,7 @@ returns-clause-front g c =
     let t = c.args.typist.now in
     let n = c.run_scheduled.new.schedule in
     let front = rw (c.begin.ensures, c.run_of-options.ensures, c.options.ensures) at c.run_scheduled.ensures.front in
-    typed_err t.options c.args.form (g.R.ByteSource.remaining c.args.tape.now) (source (g.F.ByteSource.remaining t.reader) (g.F.ByteSource.ended t.reader)) (source (g.K.ByteSource.remaining t.keys) (g.K.ByteSource.ended t.keys)) c.in_ok-image.image
+    typed_stop_err t.options c.args.stops.now c.args.form _ (g.R.ByteSource.remaining c.args.tape.now) (source (g.F.ByteSource.remaining t.reader) (g.F.ByteSource.ended t.reader)) (source (g.K.ByteSource.remaining t.keys) (g.K.ByteSource.ended t.keys)) c.in_ok-image.image
     (g.R.ByteSource.mark c.tape_from.new.source) (g.F.ByteSource.mark n.reader || g.K.ByteSource.mark n.keys) (failures (g.W.ByteSink.mark c.run_scheduled.new.out.report) (g.T.ByteSink.mark c.run_scheduled.new.out.teletype) (g.P.ByteSink.mark c.run_scheduled.new.out.punch))
     _ _ c.run_scheduled.result c.in_ok-image.ensures.tape front
 

@@ -9,4 +9,5 @@ pub returns : goal.returns
 returns g c = record {
   claimed = rw (c.put_sites.ensures, c.put_fact-line.ensures.fact, c.rules-rules.ensures) refl;
   asked_is = rw (← c.rules-rules.ensures, ← c.put_fact-line.ensures.fact, ← c.put_sites.ensures) c.put_asked-self.ensures.asked;
+  cells = rw (← c.rules-rules.ensures) c.cells_of-self.ensures;
 }

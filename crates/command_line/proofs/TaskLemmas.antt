@@ -1,0 +1,46 @@
+-- What follows of a request from what is known of the command that is called and of its source.
+use Rattle.std.proofs.Common.{◌≡◌, ℕ, Bool, true, false, List, Option, None, Some, refl, subst, sym, true≢false}
+use Rattle.std.specs.Borrow.{Bor}
+use Rattle.std.specs.Prelude.{codes, unwrap_or}
+use Rattle.clap.specs.declared.parser.matches.ArgMatches.{ArgMatches}
+use Rattle.command_line.specs.declared.command_name.MachineCommand.{MachineCommand}
+use Rattle.command_line.specs.declared.operands.Operands.{Operands}
+use Rattle.command_line.specs.declared.operator.WatchedSession.{WatchedSession}
+use Rattle.command_line.specs.declared.program_command.ProgramCommand.{ProgramCommand}
+use Rattle.command_line.specs.declared.program_command.ProgramCommand.TheVariants.{Verify, Watch, Guess, Refute, Declare, Report, Check}
+use Rattle.command_line.specs.declared.programs.Task.TheVariants as task
+use Rattle.command_line.specs.declared.programs.WatchedRunOptions.{WatchedRunOptions}
+use Rattle.command_line.specs.declared.requests.Request.{Request}
+use Rattle.command_line.specs.declared.requests.Request.TheVariants as request
+use Rattle.command_line.specs.declared.source_programs.SourceProgramRequest.{SourceProgramRequest}
+use Rattle.command_line.specs.Options.{sources_given}
+use Rattle.command_line.specs.Requests.{IsOperated, IsTaskGiven, IsWatchedRunGiven, last_of}
+use Rattle.command_line.specs.Sources.{IsDoneWith, IsMachineGiven, IsOnTape, IsSourcedGiven}
+
+-- A command with an operator is `watch`, and is given the run that its operands and options ask for.
+pub operated : (called : ProgramCommand) (found : ArgMatches) (operands : Operands) (followed : WatchedRunOptions) (session : WatchedSession)
+    → IsOperated called found true → IsWatchedRunGiven found operands followed session → IsTaskGiven called found operands followed (task.WatchSession session)
+operated Watch found operands followed session is given = (is, given)
+operated Verify found operands followed session is given = absurd (true≢false is)
+operated Guess found operands followed session is given = absurd (true≢false is)
+operated Refute found operands followed session is given = absurd (true≢false is)
+operated Declare found operands followed session is given = absurd (true≢false is)
+operated Report found operands followed session is given = absurd (true≢false is)
+operated Check found operands followed session is given = absurd (true≢false is)
+
+-- Without an operator, `watch` is given the list of events that stands last.
+pub listed : (called : ProgramCommand) (found : ArgMatches) (operands : Operands) (followed : WatchedRunOptions) (events : Bor (List ℕ))
+    → called ≡ Watch → IsOperated called found false → events.now ≡ unwrap_or (last_of operands) (codes "-")
+    → IsTaskGiven called found operands followed (task.Watch events followed.show followed.stopping)
+listed called found operands followed events e is given =
+    subst (λ k. IsTaskGiven k found operands followed (task.Watch events followed.show followed.stopping)) (sym e)
+    (subst (λ k. IsOperated k found false) e is, record { given = given; shown = refl; stopped = refl })
+
+-- What is done with a tape is requested where no source is given.
+pub on_tape : (called : MachineCommand) (found : ArgMatches) (requested : Request) → sources_given found ≡ None → IsOnTape called found requested → IsMachineGiven called found requested
+on_tape called found requested e given = subst (λ sources. IsDoneWith sources called found requested) (sym e) given
+
+-- What is done with a source is requested where one is given.
+pub with_source : (called : MachineCommand) (found : ArgMatches) (asked : SourceProgramRequest) (parts : List (List ℕ)) → sources_given found ≡ Some parts → IsSourcedGiven called found asked
+    → IsMachineGiven called found (request.Sourced asked)
+with_source called found asked parts e given = subst (λ sources. IsDoneWith sources called found (request.Sourced asked)) (sym e) given

@@ -1,0 +1,12 @@
+use Rattle.std.proofs.Common.{refl}
+use Rattle.command_line.proofs.programs.place_request.Goals as goal
+
+pub returns : goal.returns
+returns c = record {
+  program = c.in_ok-names.ensures;
+  declaration = c.get_str-declaration.ensures;
+  task = c.in_ok-out.ensures;
+  places = c.in_ok-places.ensures;
+  named = refl;
+  explained = c.is_given.ensures;
+}

@@ -1,0 +1,152 @@
+-- What is told of the pointer of an instruction.
+use Rattle.std.proofs.Common.{ℕ, ◌≡◌, ◌+◌, ◌<◌, ◌∙◌, List, ◌++◌, Option, Some, None, sym, ap, subst, refl, arith}
+use Rattle.std.specs.Prelude.{codes, IfSome, true, false, Bool, ◌||◌, ◌&&◌, ◌==◌}
+use Rattle.word12.specs.Words.{octal_text}
+use Rattle.std.proofs.lemmas.Bool.{eqb-true, true≢false}
+use Rattle.wordset.specs.Words.{Words, HasNoneFrom, IsFirstFrom, meet, nothing, with_word}
+use Rattle.wordset.specs.Lanes.{words}
+use Rattle.wordset.specs.Ranging.{IsLastFrom}
+use Rattle.instruct.specs.Instructions.{operation_of}
+use Rattle.instruct.specs.declared.Operation.{Operation}
+use Rattle.bin_tape.specs.Image.{word_at}
+use Rattle.declaration.specs.Declaration.{Declaration}
+use Rattle.diagnostics.specs.BoundText.{AddsCell, AddsRanges, AddsSet, AreEnough, AreInOneBody, IsNextTest, IsPointer, IsTestOf, LosesBound, MayReferTo, NamesNoTest, NamesTest, SaysEnough, SaysLost, SaysPointer, SaysSufficient, SaysTest, all_ranges, behind, ends_computation, first_range, further_range, is_test, later_test, next_test, no_range, place_text, range_text, referred_to, some_ranges}
+use Rattle.diagnostics.proofs.ReasonLemmas.{joined, joined_three, joined_to_three}
+
+-- Of no words all are enough.
+pub none_enough : (d : Declaration) (at word : ℕ) (set : Words) → set ≡ nothing → AreEnough d at word set
+none_enough d at word set empty held inside = absurd (true≢false (sym inside ∙ ap (λ (s : Words). s held) empty))
+
+in_either : (b c : Bool) → (b || c) ≡ true → b ≡ false → c ≡ true
+in_either true c e f = absurd (true≢false f)
+in_either false c e f = e
+
+both_true : (b c : Bool) → (b && c) ≡ true → (b ≡ true) × (c ≡ true)
+both_true true c e = (refl, e)
+both_true false c e = absurd (true≢false (sym e))
+
+-- One word more is enough.
+pub one_enough : (d : Declaration) (at word held : ℕ) (set more : Words) → AreEnough d at word set → MayReferTo d (operation_of word) at (referred_to word at held) →
+    more ≡ with_word held set → AreEnough d at word more
+one_enough d at word held set more before new is one inside = by_test (set one) refl
+  where
+    by_test : (b : Bool) → set one ≡ b → MayReferTo d (operation_of word) at (referred_to word at one)
+    by_test true e = before one e
+    by_test false e =
+        let same : one ≡ held = eqb-true one held (in_either (set one) (one == held) (sym (ap (λ (s : Words). s one) is) ∙ inside) e) in
+        subst (λ (w : ℕ). MayReferTo d (operation_of word) at (referred_to word at w)) (sym same) new
+
+-- The first range of a set is told.
+pub first_told : (lanes set : List ℕ) (from after low high : ℕ) (old new : List ℕ) → set ≡ lanes → from ≡ 0 → IsFirstFrom from (words set) low
+    → IsLastFrom low (words set) high → after ≡ high + 1 → new ≡ old ++ range_text low high → AddsRanges (words lanes) old after new
+first_told lanes set from after low high old new same start begins ends passed is =
+    rw (passed, is) (first_range low high (rw (same, start) at begins) (rw same at ends))
+
+-- A further range of a set is told.
+pub further_told : (lanes set : List ℕ) (from after low high : ℕ) (old now new : List ℕ) → AddsRanges (words lanes) old from now → 0 < from → set ≡ lanes
+    → IsFirstFrom from (words set) low → IsLastFrom low (words set) high → after ≡ high + 1 → new ≡ (now ++ codes ",") ++ range_text low high
+    → AddsRanges (words lanes) old after new
+further_told lanes set from after low high old now new before positive same begins ends passed is =
+    rw (passed, is) (further_range from low high now before positive (rw same at begins) (rw same at ends))
+
+-- All ranges of a set are told.
+pub all_told : (lanes set : List ℕ) (from : ℕ) (old now : List ℕ) → AddsRanges (words lanes) old from now → set ≡ lanes → HasNoneFrom from (words set)
+    → AddsSet (words lanes) old now
+all_told lanes set from old now before same end =
+    all_ranges from now before (subst (λ (s : List ℕ). HasNoneFrom from (words s)) same end)
+
+-- None is told of a set without words.
+pub none_told : (lanes set : List ℕ) (from : ℕ) (old : List ℕ) → set ≡ lanes → from ≡ 0 → HasNoneFrom from (words set) → AddsSet (words lanes) old old
+none_told lanes set from old same start end =
+    all_told lanes set 0 old old no_range same (subst (λ (n : ℕ). HasNoneFrom n (words set)) start end)
+
+-- It is told that there are more ranges.
+pub more_told : (lanes set : List ℕ) (from low : ℕ) (old now new : List ℕ) → AddsRanges (words lanes) old from now → set ≡ lanes → IsFirstFrom from (words set) low
+    → new ≡ now ++ codes " and more" → AddsSet (words lanes) old new
+more_told lanes set from low old now new before same begins is = rw is (some_ranges from low now before (rw same at begins))
+
+-- The test that follows a word which adds the pointer is one of a sum with it.
+pub test_found : (image : List (Option ℕ)) (d : Declaration) (at cell adding word : ℕ) (test : Option ℕ) → word_at image adding ≡ Some word → AddsCell word adding cell
+    → AreInOneBody d at adding → IfSome test (IsNextTest image adding) → IfSome test (IsTestOf image d at cell)
+test_found image d at cell adding word None is adds body follows = tt
+test_found image d at cell adding word (Some test) is adds body follows =
+    record { adding = adding; word = word; is = is; adds = adds; body = body; follows = follows }
+
+-- The line on where the bound of a pointer was lost.
+pub bound_lost : (image : List (Option ℕ)) (d : Declaration) (cell from : ℕ) (old a b c e new why : List ℕ) → a ≡ old ++ (codes "the bound of " ++ octal_text cell)
+    → b ≡ a ++ place_text d image (codes " was lost at ") from → c ≡ b ++ codes ": " → e ≡ c ++ why → new ≡ e ++ codes "\n" → LosesBound image d cell old new
+bound_lost image d cell from old a b c e new why first second third fourth fifth = record {
+  from = from;
+  rest = codes ": " ++ (why ++ codes "\n");
+  is =
+      joined_three old a b new (codes "the bound of " ++ octal_text cell) (place_text d image (codes " was lost at ") from) (codes ": " ++ (why ++ codes "\n")) first second
+      (joined_to_three b c e new (codes ": ") why (codes "\n") third fourth fifth);
+}
+
+-- The line on a skip that could show which words the pointer holds.
+pub test_named : (image : List (Option ℕ)) (d : Declaration) (at cell test : ℕ) (old mid new more : List ℕ) → IsTestOf image d at cell test
+    → mid ≡ old ++ place_text d image (codes "the skip at ") test → new ≡ mid ++ more → NamesTest image d at cell old new
+test_named image d at cell test old mid new more tests first second = record {
+  test = test;
+  tests = tests;
+  rest = more;
+  is = joined old mid new (place_text d image (codes "the skip at ") test) more first second;
+}
+
+-- The line that there is none.
+pub none_named : (old mid new more : List ℕ) → mid ≡ old ++ codes "no skip in this body " → new ≡ mid ++ more → NamesNoTest old new
+none_named old mid new more first second = record { rest = more; is = joined old mid new (codes "no skip in this body ") more first second }
+
+-- The lines on the words that would be enough.
+pub enough_said : (image : List (Option ℕ)) (d : Declaration) (at cell word : ℕ) (known found set : Words) (old begun told ended new : List ℕ) → word_at image at ≡ Some word
+    → AreEnough d at word found → set ≡ meet found known → begun ≡ old ++ codes "for this instruction, it would be enough if the pointer held only "
+    → AddsSet set begun told → ended ≡ told ++ codes "\n" → SaysTest image d at cell ended new → SaysEnough image d at cell known old new
+enough_said image d at cell word known found set old begun told ended new is enough both begins adds ends test = record {
+  word = word;
+  is = is;
+  set = set;
+  enough = λ held inside. enough held (both_true (found held) (known held) (sym (ap (λ (s : Words). s held) both) ∙ inside)).0;
+  among = λ held inside. (both_true (found held) (known held) (sym (ap (λ (s : Words). s held) both) ∙ inside)).1;
+  told = told;
+  set_is = subst (λ (t : List ℕ). AddsSet set t told) begins adds;
+  test_is = subst (λ (t : List ℕ). SaysTest image d at cell t new) ends test;
+}
+
+-- The lines on a pointer.
+pub pointer_said : (image : List (Option ℕ)) (d : Declaration) (at cell : ℕ) (known : Words) (old named begun told ended enough new : List ℕ) → IsPointer image d at cell
+    → named ≡ old ++ (codes "the pointer " ++ octal_text cell) → begun ≡ named ++ codes " may hold " → AddsSet known begun told → ended ≡ told ++ codes " there\n"
+    → SaysSufficient image d at cell known ended enough → SaysLost image d cell enough new → SaysPointer image d at old new
+pointer_said image d at cell known old named begun told ended enough new pointer first second adds third sufficient lost = record {
+  cell = cell;
+  pointer = pointer;
+  known = known;
+  told = told;
+  set_is = subst (λ (t : List ℕ). AddsSet known t told) (joined old named begun (codes "the pointer " ++ octal_text cell) (codes " may hold ") first second) adds;
+  enough = enough;
+  enough_is = subst (λ (t : List ℕ). SaysSufficient image d at cell known t enough) third sufficient;
+  lost_is = lost;
+}
+
+-- One word more is enough, if the declaration permits what it refers to.
+pub permitted : (d : Declaration) (at word held cell : ℕ) (o : Operation) (set more : Words) → AreEnough d at word set → MayReferTo d o at cell → o ≡ operation_of word
+    → cell ≡ referred_to word at held → more ≡ with_word held set → AreEnough d at word more
+permitted d at word held cell o set more before may same refers is =
+    one_enough d at word held set more before
+    (subst (λ (p : Operation). MayReferTo d p at (referred_to word at held)) same (subst (λ (c : ℕ). MayReferTo d o at c) refers may)) is
+
+-- The word behind an address is a test.
+pub test_reached : (image : List (Option ℕ)) (at here step word : ℕ) (held : Option ℕ) (tests : Bool) → ((t : ℕ) → IsNextTest image here t → IsNextTest image at t)
+    → step ≡ behind here → held ≡ word_at image step → held ≡ Some word → tests ≡ is_test word → tests ≡ true → IsNextTest image at step
+test_reached image at here step word held tests before same had is says so =
+    before step
+    (subst (λ (s : ℕ). IsNextTest image here s) (sym same)
+    (next_test here word (subst (λ (s : ℕ). word_at image s ≡ Some word) same (sym had ∙ is)) (sym says ∙ so)))
+
+-- The word behind an address is no test, and does not end the computation.
+pub test_further : (image : List (Option ℕ)) (at here step word : ℕ) (held : Option ℕ) (tests ends : Bool) → ((t : ℕ) → IsNextTest image here t → IsNextTest image at t)
+    → step ≡ behind here → held ≡ word_at image step → held ≡ Some word → tests ≡ is_test word → tests ≡ false → ends ≡ ends_computation word → ends ≡ false
+    → (t : ℕ) → IsNextTest image step t → IsNextTest image at t
+test_further image at here step word held tests ends before same had is says so tells goes t follows =
+    before t
+    (later_test here word t (subst (λ (s : ℕ). word_at image s ≡ Some word) same (sym had ∙ is)) (sym says ∙ so) (sym tells ∙ goes)
+    (subst (λ (s : ℕ). IsNextTest image s t) same follows))

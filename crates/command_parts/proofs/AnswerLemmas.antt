@@ -1,5 +1,5 @@
 -- How the answer of a command follows from what it read, from its work and from what it wrote.
-use Rattle.std.proofs.Common.{ℕ, ◌≡◌, ◌⊎◌, Bool, true, false, List, refl, sym, ◌∙◌, ap, subst, inl, inr}
+use Rattle.std.proofs.Common.{ℕ, ◌≡◌, ◌⊎◌, Bool, true, false, List, refl, sym, ◌∙◌, subst, inl, inr}
 use Rattle.std.specs.Prelude.{Option, Result, Ok, Err, IfOk, IfErr, IsOkAnd}
 use Rattle.std.specs.Io.KnownBytes.{Appends}
 use Rattle.std.proofs.lemmas.Bool.{true≢false}
@@ -12,7 +12,7 @@ use Rattle.command_parts.specs.declared.status.DeviceFault.TheVariants.{Read, Wr
 use Rattle.command_parts.specs.Answers.{EndsAt, FailsBy, GoesOn, IsLaterFault, NeverFails, Output, Reads, ReadsDeclaration, ReadsTape, ReadsTwo, WritesAnswer, output}
 use Rattle.command_parts.specs.Faults.{IsWriteFault, fails_to_read, fails_to_write}
 use Rattle.command_parts.specs.Inputs.{Input}
-use Rattle.command_parts.specs.Writes.{FrontOf, Writes}
+use Rattle.command_parts.specs.Writes.{Writes}
 
 -- a fault as an answer
 abbrev pub refused : (T : Type 0) → Fault → Result T Fault
@@ -27,15 +27,10 @@ same_fault T f e is = cc
 no_fault : (T : Type 0) (x : T) (e : Fault) → answered T x ≡ refused T e → ⊥
 no_fault T x e is = cc
 
-reads_alike : (S T : Type 0) (f : Fault) → fails_to_read (refused S f) ≡ fails_to_read (refused T f)
+pub reads_alike : (S T : Type 0) (f : Fault) → fails_to_read (refused S f) ≡ fails_to_read (refused T f)
 reads_alike S T (Device Read) = refl
 reads_alike S T (Device Write) = refl
 reads_alike S T _ = refl
-
-writes_alike : (S T : Type 0) (f : Fault) → fails_to_write (refused S f) ≡ fails_to_write (refused T f)
-writes_alike S T (Device Read) = refl
-writes_alike S T (Device Write) = refl
-writes_alike S T _ = refl
 
 -- of a call that had a fault its caller has it too
 pub refused_so : {S T : Type 0} {F : Input → Fault → Type 0} {G : Option (List ℕ) → Type 0} {K : Option (List ℕ) → Option (List ℕ) → Type 0} {one : Input} {u v : Type 0}
@@ -61,10 +56,10 @@ pub read_alone : {T : Type 0} {F : Input → Fault → Type 0} {G : Option (List
 read_alone (Ok x) is good marks takes rest = record { takes = takes; ends = inr (record { good = good.0; marks = marks; rest = good.1 }) }
 read_alone (Err f) is good marks takes rest = record { takes = takes; ends = inl (record { fault = f; is = refl; has = is; marks = marks; rest = rest }) }
 
--- a good input, after which a command does its work
-pub good_alone : {T : Type 0} {F : Input → Fault → Type 0} {G : Option (List ℕ) → Type 0} {K : Option (List ℕ) → Option (List ℕ) → Type 0} {one : Input} {u : Type 0} {W : Fault → Type 0} (result : Result T Fault) →
-    FailsBy W result → G one.had → one.failed ≡ false → K one.had one.left → Reads {T = T} F G K one u (FailsBy W) result
-good_alone result later good marks takes = record { takes = takes; ends = inr (record { good = good; marks = marks; rest = later }) }
+-- a good input, after which a command goes on
+pub good_alone : {T : Type 0} {F : Input → Fault → Type 0} {G : Option (List ℕ) → Type 0} {K : Option (List ℕ) → Option (List ℕ) → Type 0} {one : Input} {u : Type 0} {R : Result T Fault → Type 0} (result : Result T Fault) →
+    R result → G one.had → one.failed ≡ false → K one.had one.left → Reads {T = T} F G K one u R result
+good_alone result rest good marks takes = record { takes = takes; ends = inr (record { good = good; marks = marks; rest = rest }) }
 
 -- a tape and a declaration, of which one is refused
 pub two_refused : {S T : Type 0} {tape text : Input} {u : Type 0} {W : Fault → Type 0} {f : Fault} → ReadsTwo {T = S} NeverFails tape text u (Err f) → ReadsTwo {T = T} W tape text u (Err f)
@@ -149,25 +144,6 @@ delivers_by W told (Ok x) is faults = tt
 delivers_by W (Ok o) (Err f) is (inl same) = absurd (no_fault _ o f same)
 delivers_by W (Err e) (Err f) is (inl same) = inl (subst W (same_fault _ e f same) is)
 delivers_by W told (Err f) is (inr write) = inr write
-
--- a text that is written, and the answer that it is right for
-pub text_put : {S T : Type 0} {P : T → List ℕ → Type 0} {out : Output} {s : S} (answer : T) (text : List ℕ) → P answer text →
-    WritesAnswer {T = S} (λ done t. t ≡ text) out (Ok s) → WritesAnswer {T = T} P out (Ok answer)
-text_put {P = P} answer text is w = record {
-  written = record { text = text; is = is; written = rw w.written.is at w.written.written };
-  front = λ marked. let told = w.front marked in record { text = text; is = (answer, is); front = rw told.is.1 at told.front };
-  nothing = tt;
-  marks = w.marks;
-}
-
-pub text_failed : {S T : Type 0} {P : T → List ℕ → Type 0} {out : Output} {f : Fault} (answer : T) (text : List ℕ) → P answer text →
-    WritesAnswer {T = S} (λ done t. t ≡ text) out (Err f) → WritesAnswer {T = T} P out (Err f)
-text_failed {S = S} {T = T} {f = f} answer text is w = record {
-  written = tt;
-  front = λ marked. let told = w.front marked in record { text = text; is = (answer, is); front = rw told.is.1 at told.front };
-  nothing = w.nothing;
-  marks = w.marks ∙ writes_alike S T f;
-}
 
 -- after the work only a write fails
 pub write_follows : {T : Type 0} (W : Fault → Type 0) (result : Result T Fault) → IfErr result IsWriteFault → FailsBy (IsLaterFault W) result

@@ -1,14 +1,17 @@
 //! The command that watches a run.
 
-ghost use Rattle.std.specs.Prelude.{◌≡◌, false, IfOk, IfErr};
+ghost use Rattle.std.specs.Prelude.{◌≡◌, None, false, IfOk, IfErr};
 ghost use Rattle.wordset.specs.Lanes.{words};
 ghost use Rattle.declaration.specs.DeclarationInCode.{meaning};
 ghost use Rattle.command_parts.specs.Answers.{IsLaterFault, IsMemoryFault, OfRun, ReadsRun, WritesAnswer, output};
 ghost use Rattle.command_parts.specs.Faults.{fails_to_write};
 ghost use Rattle.command_parts.specs.Inputs.{input};
-ghost use Rattle.machine_commands.specs.WatchText.{IsWatchOf};
+ghost use Rattle.machine_commands.specs.Continued.{IsWatch};
 
-use crate::messages::watch_message;
+use crate::messages::RunMessage;
+use crate::progress::offered_by;
+use crate::stopped_watch::{WatchOptions, watch_of};
+use crate::stopping::no_stops;
 use command_parts::outcome::{CommandResult, deliver};
 use command_parts::programs::{ProgramRun, program_run_from};
 use command_parts::status::{Fault, Status};
@@ -17,36 +20,55 @@ use streams::{ByteSink, ByteSource};
 use wordset::WordSet;
 
 /// What is told of the run of a program by events, with the cells that are to be shown, and its status.
-pub fn watch_of<A: Allocator + Copy>(
+fn watched_run<A: Allocator + Copy>(
     alloc: A,
     run: &ProgramRun<A>,
     explained: bool,
     show: &WordSet,
 ) -> Result<CommandResult<A>, Fault>
-    ensures told { IfOk result (λ told. IsWatchOf explained (words show.now) run.now.program.image
+    ensures told { IfOk result (λ told. IsWatch None explained (words show.now) run.now.program.image
         (meaning run.now.program.declaration) run.now.events.items told.status told.text.items) }
     ensures faults { IfErr result IsMemoryFault }
     ensures unwritten { fails_to_write result ≡ false }
 {
     let (image, declaration) = (&run.program.image, &run.program.declaration);
-    match watch_message(alloc, image, declaration, &run.events, explained, show) {
-        Ok(seen) => Ok(seen.into_outcome()),
+    let stops = no_stops();
+    let telling = WatchOptions {
+        stops: &stops,
+        last: None,
+        explained,
+        show,
+    };
+    let offered = offered_by(&run.events);
+    match watch_of(
+        alloc,
+        image,
+        declaration,
+        &run.events,
+        offered,
+        None,
+        &telling,
+    ) {
+        Ok(RunMessage { told, status }) => Ok(CommandResult {
+            text: told.into_bytes(),
+            status,
+        }),
         Err(fault) => Err(fault),
     }
 }
 
 /// Runs a tape by a list of events, from the declared start with all registers and all cells that are not
 /// on the tape 0, and writes whether each of its steps is legal, or which event is the first that is not
-/// and the lowest-numbered rule that it violates; then the status is `Refused`. Where it is to be
-/// explained, lines follow that say how far the run came, or what that step is about to do; they are
-/// tested and not proved. Behind them stand the cells that are to be shown, with their words when the run
-/// was over: before a step that violates a rule.
+/// and the lowest-numbered rule that it violates; then the status is `Refused`. If it is to be
+/// explained, lines follow that say how far the run came, or what that step is about to do. After them come
+/// the cells that are to be shown, with their words at the end of the run, or before the step that violates
+/// a rule.
 ///
 /// # Errors
 ///
 /// The fault of the tape, of the declaration or of the text of events: each is read and, if it has
-/// a fault, refused before the next is read; `Device` where a read or a write failed, after which a
-/// prefix of the line went out; `NoMemory`.
+/// a fault, refused before the next is read; `Device` if a read or a write failed, after which a
+/// prefix of the line may have been written; `NoMemory`.
 pub fn watch<A: Allocator + Copy, R: ByteSource, D: ByteSource, E: ByteSource, W: ByteSink>(
     alloc: A,
     tape: &mut R,
@@ -63,7 +85,7 @@ pub fn watch<A: Allocator + Copy, R: ByteSource, D: ByteSource, E: ByteSource, W
     // What is written is what is seen of the run.
     ensures watched { WritesAnswer
         (OfRun (R.remaining tape.old) (D.remaining declaration.old) (E.remaining list.old)
-        (IsWatchOf explained (words show.now)))
+        (IsWatch None explained (words show.now)))
         (output (W.mark out.new) (W.taken out.old) (W.taken out.new)) result }
     // The inputs are read in order; after good ones a write may fail, or memory be refused.
     ensures reads { ReadsRun (IsLaterFault IsMemoryFault)
@@ -73,7 +95,7 @@ pub fn watch<A: Allocator + Copy, R: ByteSource, D: ByteSource, E: ByteSource, W
         (declaration.new ≡ declaration.old) (list.new ≡ list.old) result }
 {
     match program_run_from(alloc, tape, declaration, list) {
-        Ok(given) => deliver(watch_of(alloc, &given, explained, show), out),
+        Ok(given) => deliver(watched_run(alloc, &given, explained, show), out),
         Err(fault) => Err(fault),
     }
 }

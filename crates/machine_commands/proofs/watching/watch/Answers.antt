@@ -9,11 +9,11 @@ pub returns-in-Err-clause-watched : goal.returns-in-Err-clause-watched
 returns-in-Err-clause-watched g c = nothing_written c.in-Err.fault c.requires.writable c.in-Err.ensures.unwritten
 
 pub returns-in-Ok-clause-reads : goal.returns-in-Ok-clause-reads
-returns-in-Ok-clause-reads g c = three_good c.deliver.result (delivers_by _ c.watch_of.result c.deliver.result c.watch_of.ensures.faults c.deliver.ensures.faults) c.in-Ok.ensures.reads
+returns-in-Ok-clause-reads g c = three_good c.deliver.result (delivers_by _ c.watched_run.result c.deliver.result c.watched_run.ensures.faults c.deliver.ensures.faults) c.in-Ok.ensures.reads
 
 pub returns-in-Ok-clause-watched : goal.returns-in-Ok-clause-watched
 returns-in-Ok-clause-watched g c =
-    delivered c.watch_of.result c.watch_of.ensures.told
+    delivered c.watched_run.result c.watched_run.ensures.told
     (λ status text is. record {
       image = c.in-Ok.given.program.image;
       tape = c.in-Ok.ensures.image;

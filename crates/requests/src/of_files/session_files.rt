@@ -3,17 +3,16 @@
 ghost use Rattle.std.specs.Prelude.{◌≡◌, false};
 
 use crate::files::open_input;
+use crate::of_machine::places::stops_of;
 use crate::replacing::ResultFile;
 use crate::standard_error::{NullSink, open_input_if, report_to, tell_to};
-use command_line::{Interrupt, Session, StopOptions, TeletypeSession};
-use command_parts::options::{SessionOptions, SummaryForm};
+use command_line::{Interrupt, Session, TeletypeSession};
+use command_parts::options::SummaryForm;
 use command_parts::status::{DeviceFault, Fault, Status};
 use command_parts::visible::visible_text;
 use either::Either;
 use machine_commands::interrupted::{InterruptibleKeys, OperatorPresence};
-use machine_commands::last_session::{run_session_with_last, teletype_with_last};
 use machine_commands::session::{Outputs, run_session};
-use machine_commands::stopping::no_stops;
 use machine_commands::teletype::{Typist, teletype};
 use std::alloc::{AllocError, Global};
 use std::io::{self, Printer};
@@ -95,45 +94,6 @@ fn form_with<'n>(form: SummaryForm<'_>, name: &'n Option<String>) -> SummaryForm
     }
 }
 
-/// Runs a tape with an operator, until it is stopped if that is requested, and shows its last instructions if that is
-/// requested.
-#[inline(never)]
-fn follow_session<
-    R: ByteSource,
-    F: ByteSource,
-    K: ByteSource,
-    W: ByteSink,
-    T: ByteSink,
-    P: ByteSink,
->(
-    alloc: Global,
-    frames: &mut R,
-    reader: &mut F,
-    keys: &mut K,
-    options: SessionOptions,
-    stopping: &Option<StopOptions>,
-    form: SummaryForm<'_>,
-    out: &mut Outputs<W, T, P>,
-) -> Result<Status, Fault>
-    requires readable { R.mark frames.old ≡ false }
-    requires reader_readable { F.mark reader.old ≡ false }
-    requires keys_readable { K.mark keys.old ≡ false }
-    requires writable { W.mark out.old.report ≡ false }
-    requires typable { T.mark out.old.teletype ≡ false }
-    requires punchable { P.mark out.old.punch ≡ false }
-{
-    let Some(stopping) = stopping else {
-        return run_session(alloc, frames, reader, keys, options, &no_stops(), form, out);
-    };
-    let stops = &stopping.stops;
-    match stopping.last {
-        None => run_session(alloc, frames, reader, keys, options, stops, form, out),
-        Some(most) => {
-            run_session_with_last(alloc, frames, reader, keys, options, stops, most, form, out)
-        }
-    }
-}
-
 /// Runs the tape of these frames with an operator. The reader's frames are opened first and then the keys; after that,
 /// it is checked that the file for the punch can be written.
 ///
@@ -162,13 +122,15 @@ pub(crate) fn hold_session_on<R: Files + Input + Print + Eprint, S: ByteSource>(
     };
     let options = session.options;
     let out = &mut outputs;
-    let answer = follow_session(
+    let stopping = stops_of(&session.stopping);
+    let answer = run_session(
         alloc,
         frames,
         &mut reader,
         &mut keys,
         options,
-        &session.stopping,
+        &stopping.stops,
+        stopping.last,
         form,
         out,
     );
@@ -219,39 +181,36 @@ fn report_interrupt_key<R: Eprint>(rt: &R, key: Option<u8>) {
     }
 }
 
-/// Holds a session at the teletype, until it is stopped if that is requested, and shows its last instructions if that is
-/// requested.
+/// Holds a session at the teletype with the frames of this reader and with these keys, until it is stopped if that is
+/// requested, and shows its last instructions if that is requested.
 #[inline(never)]
-fn follow_typist<
+fn hold_typed<
     R: ByteSource,
-    F: ByteSource,
-    K: ByteSource + OperatorPresence,
+    F: ByteSource + Drop,
+    K: ByteSource + OperatorPresence + Drop,
     W: ByteSink,
     T: ByteSink,
     P: ByteSink,
 >(
     alloc: Global,
     frames: &mut R,
-    typist: &mut Typist<F, K>,
-    stopping: &Option<StopOptions>,
+    reader: F,
+    keys: K,
+    session: &TeletypeSession<'_>,
     form: SummaryForm<'_>,
     out: &mut Outputs<W, T, P>,
 ) -> Result<Status, Fault>
     requires readable { R.mark frames.old ≡ false }
-    requires reader_readable { F.mark typist.old.reader ≡ false }
-    requires keys_readable { K.mark typist.old.keys ≡ false }
+    requires reader_readable { F.mark reader ≡ false }
+    requires keys_readable { K.mark keys ≡ false }
     requires writable { W.mark out.old.report ≡ false }
     requires typable { T.mark out.old.teletype ≡ false }
     requires punchable { P.mark out.old.punch ≡ false }
 {
-    let Some(stopping) = stopping else {
-        return teletype(alloc, frames, typist, &no_stops(), form, out);
-    };
-    let stops = &stopping.stops;
-    match stopping.last {
-        None => teletype(alloc, frames, typist, stops, form, out),
-        Some(most) => teletype_with_last(alloc, frames, typist, stops, most, form, out),
-    }
+    let mut typist = Typist::new(reader, keys, session.options);
+    let stopping = stops_of(&session.stopping);
+    let (stops, last) = (&stopping.stops, stopping.last);
+    teletype(alloc, frames, &mut typist, stops, last, form, out)
 }
 
 /// Holds a session at the teletype with the tape of these frames: keys come from standard input, what is printed goes
@@ -286,16 +245,11 @@ pub(crate) fn hold_teletype_session_on<R: Files + Input + Print + Eprint, S: Byt
         punch: StdWriter::new(&mut punch),
     };
     let out = &mut outputs;
-    let stopping = &session.stopping;
     let answer = match key {
-        None => {
-            let mut typist = Typist::new(reader, keys, session.options);
-            follow_typist(alloc, frames, &mut typist, stopping, form, out)
-        }
+        None => hold_typed(alloc, frames, reader, keys, session, form, out),
         Some(_) => {
             let keys = InterruptibleKeys::new(keys, key);
-            let mut typist = Typist::new(reader, keys, session.options);
-            follow_typist(alloc, frames, &mut typist, stopping, form, out)
+            hold_typed(alloc, frames, reader, keys, session, form, out)
         }
     };
     let failed = outputs.punch.failed();

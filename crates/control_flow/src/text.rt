@@ -2,12 +2,14 @@
 
 ghost use Rattle.std.specs.Prelude.{◌≡◌, ◌++◌, ◌∷◌, OnOk};
 ghost use Rattle.word12.specs.Words.{octal_text};
-ghost use Rattle.control_flow.specs.Texts.{StaysInFront, offset_text, offsets_text, range_text};
+ghost use Rattle.control_flow.specs.Texts.{offset_text, offsets_text};
+ghost use Rattle.declaration.specs.Written.{StaysInFront};
 ghost use Rattle.wordset.specs.Lanes.{words};
 ghost use Rattle.wordset.specs.Words.{between, meet};
 
 use crate::map::Map;
 use crate::tape::Tape;
+use declaration::writing::{push_address, push_range, push_ranges};
 use instruct::{Profile, name};
 use std::alloc::{AllocError, Allocator};
 use word12::Word;
@@ -17,43 +19,12 @@ use wordset::WordSet;
 /// letters it has 75 columns then.
 const MOST_RANGES: usize = 7;
 
-/// Adds a word in octal, after a space.
-fn push_word<A: Allocator>(text: &mut Vec<u8, A>, word: Word) -> Result<(), AllocError>
-    ensures { OnOk result (text.new.items ≡ text.old.items ++ 32 ∷ octal_text word) }
-{
-    text.extend_from_slice(b" ")?;
-    text.extend_from_slice(&word.to_octal())
-}
-
-/// Adds a range of words, after a space: its first word, and the last where it is another one.
-pub fn push_range<A: Allocator>(
-    text: &mut Vec<u8, A>,
-    first: Word,
-    last: Word,
-) -> Result<(), AllocError>
-    ensures { OnOk result (text.new.items ≡ text.old.items ++ 32 ∷ range_text first last) }
-{
-    push_word(text, first)?;
-    if first == last {
-        return Ok(());
-    }
-    text.extend_from_slice(b"-")?;
-    text.extend_from_slice(&last.to_octal())
-}
-
-/// Adds the ranges of a set.
-fn push_ranges<A: Allocator>(text: &mut Vec<u8, A>, set: &WordSet) -> Result<(), AllocError> {
-    for (first, last) in set.ranges() {
-        push_range(text, first, last)?;
-    }
-    Ok(())
-}
-
-/// Begins a line after so many ranges, if there is none yet or the last is full.
+/// Begins a line after so many ranges, if there is none yet or the last is full, which then gets this end.
 fn push_line_break<A: Allocator>(
     text: &mut Vec<u8, A>,
     kind: &[u8],
     ranges: usize,
+    end: &[u8],
 ) -> Result<(), AllocError>
     ensures { OnOk result (StaysInFront text.old.items text.new.items) }
 {
@@ -61,7 +32,7 @@ fn push_line_break<A: Allocator>(
         return Ok(());
     }
     if ranges != 0 {
-        text.extend_from_slice(b"\n")?;
+        text.extend_from_slice(end)?;
     }
     text.extend_from_slice(kind)
 }
@@ -74,14 +45,26 @@ pub fn push_cells<A: Allocator>(
 ) -> Result<(), AllocError>
     ensures { OnOk result (StaysInFront text.old.items text.new.items) }
 {
+    push_cells_ending(text, kind, set, b"\n")
+}
+
+/// The same, where each line has this end.
+pub fn push_cells_ending<A: Allocator>(
+    text: &mut Vec<u8, A>,
+    kind: &[u8],
+    set: &WordSet,
+    end: &[u8],
+) -> Result<(), AllocError>
+    ensures { OnOk result (StaysInFront text.old.items text.new.items) }
+{
     let mut ranges = 0usize;
     for (first, last) in set.ranges() {
-        push_line_break(text, kind, ranges)?;
+        push_line_break(text, kind, ranges, end)?;
         push_range(text, first, last)?;
         ranges = ranges.saturating_add(1);
     }
     if ranges != 0 {
-        text.extend_from_slice(b"\n")?;
+        text.extend_from_slice(end)?;
     }
     Ok(())
 }
@@ -92,6 +75,20 @@ pub fn push_reads<A: Allocator>(text: &mut Vec<u8, A>, cells: &WordSet) -> Resul
         return text.extend_from_slice(b"read\n");
     }
     push_cells(text, b"read", cells)
+}
+
+/// Adds the offsets of a set that are below 8, each after a space.
+pub fn push_low_offsets<A: Allocator>(
+    text: &mut Vec<u8, A>,
+    offsets: &WordSet,
+) -> Result<(), AllocError> {
+    for offset in 0..8usize {
+        if offsets.contains(Word::from_index(offset)) {
+            text.extend_from_slice(b" ")?;
+            text.push(b'0' + offset as u8)?;
+        }
+    }
+    Ok(())
 }
 
 /// Adds an offset in two octal digits, after a space.
@@ -199,7 +196,7 @@ impl Map {
     ) -> Result<(), AllocError> {
         for at in halts.iter() {
             text.extend_from_slice(kind)?;
-            push_word(text, at)?;
+            push_address(text, at)?;
             self.push_remark(text, tape, b" / ", at)?;
         }
         Ok(())
@@ -228,7 +225,7 @@ impl Map {
     ) -> Result<WordSet, AllocError> {
         let mut entries = WordSet::empty();
         let mut next = 0usize;
-        while let Some(entry) = self.entries.first_from(next) {
+        while let Some(entry) = self.known.entries.first_from(next) {
             let body = self.follow_routine(tape, entry);
             if !body.is_empty() {
                 self.push_routine(text, tape, entry, &body)?;
@@ -250,16 +247,11 @@ impl Map {
     ) -> Result<(), AllocError> {
         let offsets = self.offsets(tape, entry);
         text.extend_from_slice(b"sub")?;
-        push_word(text, entry)?;
+        push_address(text, entry)?;
         text.extend_from_slice(b" body")?;
         push_ranges(text, body)?;
         text.extend_from_slice(b" returns")?;
-        for offset in 0..8usize {
-            if offsets.contains(Word::from_index(offset)) {
-                text.extend_from_slice(b" ")?;
-                text.push(b'0' + offset as u8)?;
-            }
-        }
+        push_low_offsets(text, &offsets)?;
         self.push_remark(text, tape, b" / begins with ", entry.increment())
     }
 }

@@ -1,7 +1,8 @@
 //! The parts of a declaration while it is widened, and their text.
 
 use bin_tape::Image;
-use control_flow::{push_cells, push_further, push_range};
+use control_flow::{push_cells, push_further, push_low_offsets};
+use declaration::writing::{push_range, push_ranges};
 use declaration::{Declaration, Owner};
 use instruct::{Profile, name};
 use peripherals::NoMemory;
@@ -159,16 +160,9 @@ impl<A: Allocator + Copy> Sketch<A> {
         text.extend_from_slice(b"sub")?;
         push_range(text, routine.entry, routine.entry)?;
         text.extend_from_slice(b" body")?;
-        for (first, last) in routine.body.ranges() {
-            push_range(text, first, last)?;
-        }
+        push_ranges(text, &routine.body)?;
         text.extend_from_slice(b" returns")?;
-        for offset in 0..8usize {
-            if routine.returns.contains(Word::from_index(offset)) {
-                text.extend_from_slice(b" ")?;
-                text.push(b'0' + offset as u8)?;
-            }
-        }
+        push_low_offsets(text, &routine.returns)?;
         let first = routine.entry.increment();
         self.push_remark(text, image, b" / begins with ", first)
     }

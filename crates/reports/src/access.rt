@@ -8,6 +8,7 @@ use crate::writer::ReportWriter;
 use declaration::Declaration;
 use facts::{NarrowedFact, Place};
 use instruct::{Instruction, Operation, decode, refers_indirectly, target};
+use processor::is_auto_index;
 use std::alloc::Allocator;
 use word12::Word;
 use wordset::WordSet;
@@ -100,7 +101,7 @@ fn jumped<D: Allocator>(
 ) -> WordSet {
     let named = target(word, at);
     let words = words_at(place, fact, named);
-    if 0o10 <= named.value() && named.value() <= 0o17 {
+    if is_auto_index(named) {
         words.shift(Word::from_index(1))
     } else {
         words

@@ -1,0 +1,134 @@
+//! Points of a program, and sets of them.
+
+use word12::Word;
+use wordset::WordSet;
+
+/// How many offsets are told apart: a routine that increments its return word more often most likely does so in a loop.
+const OFFSETS: usize = 8;
+
+/// A cell of a program, and by how far the running routine's return word has been incremented when control is there.
+#[derive(Clone, Copy)]
+pub struct ProgramPoint {
+    pub at: Word,
+    pub offset: usize,
+}
+
+impl ProgramPoint {
+    /// Another cell with the same offset.
+    pub fn to(&self, at: Word) -> ProgramPoint {
+        ProgramPoint {
+            at,
+            offset: self.offset,
+        }
+    }
+
+    /// The next cell with the same offset.
+    pub fn next(&self) -> ProgramPoint {
+        self.to(self.at.increment())
+    }
+
+    /// The cell past the next one with the same offset.
+    pub fn past_next(&self) -> ProgramPoint {
+        self.next().next()
+    }
+
+    /// Whether its offset is one of those that are told apart, at most 7.
+    pub fn is_counted(&self) -> bool {
+        self.offset < OFFSETS
+    }
+
+    /// The same cell after the return word was incremented once more.
+    pub fn incremented(&self) -> ProgramPoint {
+        ProgramPoint {
+            at: self.at,
+            offset: self.offset.saturating_add(1),
+        }
+    }
+}
+
+/// A set of points with offsets of at most 7.
+#[derive(Clone, Copy, PartialEq, Eq)]
+pub struct PointSet {
+    by_offset: [WordSet; OFFSETS],
+}
+
+impl PointSet {
+    /// The set without points.
+    pub fn empty() -> PointSet {
+        PointSet {
+            by_offset: [WordSet::empty(); OFFSETS],
+        }
+    }
+
+    /// Adds a point. False if it was in the set before, or its offset is above 7.
+    pub fn insert(&mut self, point: ProgramPoint) -> bool {
+        let Some(cells) = self.by_offset.get_mut(point.offset) else {
+            return false;
+        };
+        if cells.contains(point.at) {
+            return false;
+        }
+        cells.insert(point.at);
+        true
+    }
+
+    /// Adds all points of another set.
+    pub fn insert_all(&mut self, other: &PointSet) {
+        for offset in 0..OFFSETS {
+            let both = self.by_offset[offset].union(&other.by_offset[offset]);
+            self.by_offset[offset] = both;
+        }
+    }
+
+    /// Adds all cells of a set with the offset 0.
+    pub fn insert_cells(&mut self, cells: &WordSet) {
+        self.by_offset[0] = self.by_offset[0].union(cells);
+    }
+
+    /// Takes out the point with the least offset, and among these the least cell.
+    pub fn take_first(&mut self) -> Option<ProgramPoint> {
+        for offset in 0..OFFSETS {
+            let cells = &mut self.by_offset[offset];
+            if let Some(at) = cells.least() {
+                cells.remove(at);
+                return Some(ProgramPoint { at, offset });
+            }
+        }
+        None
+    }
+
+    /// Takes out a cell with every offset.
+    pub fn remove_cell(&mut self, at: Word) {
+        for cells in self.by_offset.iter_mut() {
+            cells.remove(at);
+        }
+    }
+
+    /// The cells of its points.
+    pub fn cells(&self) -> WordSet {
+        let mut all = WordSet::empty();
+        for cells in &self.by_offset {
+            all = all.union(cells);
+        }
+        all
+    }
+
+    /// The cells of its points with an offset.
+    pub fn cells_with(&self, offset: usize) -> WordSet {
+        self.by_offset
+            .get(offset)
+            .copied()
+            .unwrap_or(WordSet::empty())
+    }
+
+    /// The offsets of its points with a cell.
+    pub fn offsets_of(&self, at: Word) -> WordSet {
+        let mut offsets = WordSet::empty();
+        for offset in 0..OFFSETS {
+            if self.by_offset[offset].contains(at) {
+                offsets.insert(Word::from_index(offset));
+            }
+        }
+        offsets
+    }
+}

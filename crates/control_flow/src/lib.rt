@@ -16,7 +16,7 @@ pub use exploration::{Findings, explore_runs};
 pub use map::Map;
 pub use tape::Tape;
 pub use text::{
-    above_seven, push_cells, push_cells_ending, push_further, push_low_offsets, push_reads,
+    CommentedTape, above_seven, push_cells, push_cells_ending, push_low_offsets, push_reads,
     push_skips,
 };
 pub use variables::VariableSelection;

@@ -9,6 +9,7 @@ ghost use Rattle.wordset.specs.Words.{between, meet};
 
 use crate::map::Map;
 use crate::tape::Tape;
+use bin_tape::Image;
 use declaration::writing::{push_address, push_range, push_ranges};
 use instruct::{Profile, name};
 use std::alloc::{AllocError, Allocator};
@@ -141,7 +142,7 @@ pub fn above_seven(offsets: &WordSet) -> WordSet
 }
 
 /// Adds a line with those offsets of a routine that are above 7, if there are any.
-pub fn push_further<A: Allocator>(
+fn push_further<A: Allocator>(
     text: &mut Vec<u8, A>,
     entry: Word,
     offsets: &WordSet,
@@ -154,6 +155,63 @@ pub fn push_further<A: Allocator>(
     }
     push_skips(text, entry, &further)?;
     text.extend_from_slice(b"\n")
+}
+
+/// A tape, and the machine for which comments name its words.
+#[derive(Clone, Copy)]
+pub struct CommentedTape<'a> {
+    pub image: &'a Image,
+    pub profile: Profile,
+}
+
+impl CommentedTape<'_> {
+    /// Adds a line for each halt of a set, with the name of its word.
+    pub fn push_halts<A: Allocator>(
+        &self,
+        text: &mut Vec<u8, A>,
+        kind: &[u8],
+        halts: &WordSet,
+    ) -> Result<(), AllocError> {
+        for at in halts.iter() {
+            text.extend_from_slice(kind)?;
+            push_address(text, at)?;
+            self.push_remark(text, b" / ", at)?;
+        }
+        Ok(())
+    }
+
+    /// Adds the line of a routine, with the name of its first word, and a line with those of its offsets that are above 7, if
+    /// there are any.
+    pub fn push_routine<A: Allocator>(
+        &self,
+        text: &mut Vec<u8, A>,
+        entry: Word,
+        body: &WordSet,
+        offsets: &WordSet,
+    ) -> Result<(), AllocError> {
+        text.extend_from_slice(b"sub")?;
+        push_address(text, entry)?;
+        text.extend_from_slice(b" body")?;
+        push_ranges(text, body)?;
+        text.extend_from_slice(b" returns")?;
+        push_low_offsets(text, offsets)?;
+        self.push_remark(text, b" / begins with ", entry.increment())?;
+        push_further(text, entry, offsets)
+    }
+
+    /// Ends a line with a comment that names the word at an address, if the tape has one.
+    fn push_remark<A: Allocator>(
+        &self,
+        text: &mut Vec<u8, A>,
+        before: &[u8],
+        at: Word,
+    ) -> Result<(), AllocError> {
+        if let Some(word) = self.image.get(at) {
+            text.extend_from_slice(before)?;
+            text.extend_from_slice(name(word, self.profile).as_bytes())?;
+        }
+        text.extend_from_slice(b"\n")
+    }
 }
 
 impl Map {
@@ -180,41 +238,19 @@ impl Map {
         push_cells(&mut text, b"var", variables)?;
         let halts = self.round.halts.union(&self.halted);
         let stops = halts.minus(&self.pauses);
-        self.push_halts(&mut text, tape, b"stop", &stops)?;
+        let commented = self.commented(tape);
+        commented.push_halts(&mut text, b"stop", &stops)?;
         let pauses = halts.meet(&self.pauses);
-        self.push_halts(&mut text, tape, b"pause", &pauses)?;
+        commented.push_halts(&mut text, b"pause", &pauses)?;
         Ok(text)
     }
 
-    /// Adds a line for each halt of a set, with the name of its word.
-    fn push_halts<A: Allocator>(
-        &self,
-        text: &mut Vec<u8, A>,
-        tape: &Tape<'_>,
-        kind: &[u8],
-        halts: &WordSet,
-    ) -> Result<(), AllocError> {
-        for at in halts.iter() {
-            text.extend_from_slice(kind)?;
-            push_address(text, at)?;
-            self.push_remark(text, tape, b" / ", at)?;
+    /// The tape, with the words of this machine.
+    fn commented<'a>(&self, tape: &Tape<'a>) -> CommentedTape<'a> {
+        CommentedTape {
+            image: tape.image,
+            profile: self.profile,
         }
-        Ok(())
-    }
-
-    /// Ends a line with a comment that names the word at an address, if the tape has one.
-    fn push_remark<A: Allocator>(
-        &self,
-        text: &mut Vec<u8, A>,
-        tape: &Tape<'_>,
-        before: &[u8],
-        at: Word,
-    ) -> Result<(), AllocError> {
-        if let Some(word) = tape.get(at) {
-            text.extend_from_slice(before)?;
-            text.extend_from_slice(name(word, self.profile).as_bytes())?;
-        }
-        text.extend_from_slice(b"\n")
     }
 
     /// Adds the lines of each routine, whose bodies are followed again, and gives their entries.
@@ -223,35 +259,17 @@ impl Map {
         text: &mut Vec<u8, A>,
         tape: &Tape<'_>,
     ) -> Result<WordSet, AllocError> {
+        let commented = self.commented(tape);
         let mut entries = WordSet::empty();
         let mut next = 0usize;
         while let Some(entry) = self.known.entries.first_from(next) {
             let body = self.follow_routine(tape, entry);
             if !body.is_empty() {
-                self.push_routine(text, tape, entry, &body)?;
-                push_further(text, entry, &self.offsets(tape, entry))?;
+                commented.push_routine(text, entry, &body, &self.offsets(tape, entry))?;
                 entries.insert(entry);
             }
             next = entry.index() + 1;
         }
         Ok(entries)
-    }
-
-    /// Adds the line of a routine, with the name of its first word.
-    fn push_routine<A: Allocator>(
-        &self,
-        text: &mut Vec<u8, A>,
-        tape: &Tape<'_>,
-        entry: Word,
-        body: &WordSet,
-    ) -> Result<(), AllocError> {
-        let offsets = self.offsets(tape, entry);
-        text.extend_from_slice(b"sub")?;
-        push_address(text, entry)?;
-        text.extend_from_slice(b" body")?;
-        push_ranges(text, body)?;
-        text.extend_from_slice(b" returns")?;
-        push_low_offsets(text, &offsets)?;
-        self.push_remark(text, tape, b" / begins with ", entry.increment())
     }
 }

@@ -29,16 +29,23 @@ condition_of operation.Dca = Never
 condition_of operation.Jms = Never
 condition_of operation.Jmp = Never
 
--- What a word of each kind does to control: a memory reference is told as it is, words of groups 1 and 3 never skip, a
--- word of group 2 skips by its tests and may halt, and a device word may skip if it asks for a flag.
+-- A word of group 2 skips by its tests, and may halt.
+abbrev pub effect_of_group2 : ℕ → ControlEffect
+effect_of_group2 word =
+    if is_halt word then effect.Halts (skip_condition_of word) else effect.GoesOn (skip_condition_of word)
+
+-- A device word may skip if it asks for a flag.
+abbrev pub device_condition : Profile → ℕ → SkipCondition
+device_condition profile word = if is_skip (device_action profile word) then Sometimes else Never
+
+-- What a word of each kind does to control: a memory reference is told as it is, and words of groups 1 and 3
+-- never skip.
 abbrev pub effect_by_kind : Instruction → Profile → ℕ → ℕ → ControlEffect
 effect_by_kind Memory profile word at = effect.Refers (reference_of word at)
 effect_by_kind Operate1 profile word at = effect.GoesOn Never
-effect_by_kind Operate2 profile word at =
-    if is_halt word then effect.Halts (skip_condition_of word) else effect.GoesOn (skip_condition_of word)
+effect_by_kind Operate2 profile word at = effect_of_group2 word
 effect_by_kind Operate3 profile word at = effect.GoesOn Never
-effect_by_kind Iot profile word at =
-    effect.GoesOn (if is_skip (device_action profile word) then Sometimes else Never)
+effect_by_kind Iot profile word at = effect.GoesOn (device_condition profile word)
 effect_by_kind Unsupported profile word at = effect.Unsupported
 
 -- What a word at an address does to control on a machine of a profile.

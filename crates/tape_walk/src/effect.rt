@@ -2,7 +2,7 @@
 
 ghost use Rattle.std.specs.Prelude.{◌≡◌};
 ghost use Rattle.processor.specs.Machine.{steps_pointer};
-ghost use Rattle.tape_walk.specs.Effects.{condition_of, effect_of, reference_of};
+ghost use Rattle.tape_walk.specs.Effects.{condition_of, device_condition, effect_of, effect_of_group2, reference_of};
 
 use instruct::{
     Instruction, Operation, Profile, SkipCondition, decode, halts, refers_indirectly,
@@ -73,18 +73,35 @@ impl ControlEffect {
     {
         match decode(word, profile) {
             Instruction::Memory => ControlEffect::Refers(MemoryReference::of(word, at)),
-            Instruction::Operate1 | Instruction::Operate3 => ControlEffect::GoesOn(
-                SkipCondition::Never,
-            ),
-            Instruction::Operate2 if halts(word) => ControlEffect::Halts(SkipCondition::of_tests(
-                word,
-            )),
-            Instruction::Operate2 => ControlEffect::GoesOn(SkipCondition::of_tests(word)),
-            Instruction::Iot if skips_on_flag(word, profile) => ControlEffect::GoesOn(
-                SkipCondition::Sometimes,
-            ),
-            Instruction::Iot => ControlEffect::GoesOn(SkipCondition::Never),
+            Instruction::Operate1 | Instruction::Operate3 => {
+                ControlEffect::GoesOn(SkipCondition::Never)
+            }
+            Instruction::Operate2 => effect_of_group2(word),
+            Instruction::Iot => ControlEffect::GoesOn(device_condition(word, profile)),
             Instruction::Unsupported => ControlEffect::Unsupported,
         }
+    }
+}
+
+/// What a word of group 2 does to control.
+fn effect_of_group2(word: Word) -> ControlEffect
+    ensures { result ≡ effect_of_group2 word }
+{
+    let condition = SkipCondition::of_tests(word);
+    if halts(word) {
+        ControlEffect::Halts(condition)
+    } else {
+        ControlEffect::GoesOn(condition)
+    }
+}
+
+/// When a device word skips.
+fn device_condition(word: Word, profile: Profile) -> SkipCondition
+    ensures { result ≡ device_condition profile word }
+{
+    if skips_on_flag(word, profile) {
+        SkipCondition::Sometimes
+    } else {
+        SkipCondition::Never
     }
 }

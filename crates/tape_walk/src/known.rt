@@ -1,5 +1,8 @@
 //! What a walk knows of the cells of a program.
 
+ghost use Rattle.std.specs.Prelude.{◌≡◌};
+ghost use Rattle.tape_walk.specs.Known.{address_told, may_change};
+
 use crate::effect::MemoryReference;
 use crate::points::{PointSet, ProgramPoint};
 use bin_tape::Image;
@@ -31,13 +34,17 @@ impl KnownCells {
 
     /// Whether the word of a cell may become another one than it is on the tape: an indirect reference steps it, a JMS keeps a
     /// return address in it, or the program stores in it.
-    pub fn may_change(&self, cell: Word) -> bool {
+    pub fn may_change(&self, cell: Word) -> bool
+        ensures { result ≡ may_change self.now cell }
+    {
         is_auto_index(cell) || self.stored.contains(cell) || self.entries.contains(cell)
     }
 
     /// The address that a memory reference refers to, if the words of a tape tell: the cell that it names, or the word of a pointer
     /// that does not change.
-    pub fn address(&self, image: &Image, reference: &MemoryReference) -> Option<Word> {
+    pub fn address(&self, image: &Image, reference: &MemoryReference) -> Option<Word>
+        ensures { result ≡ address_told self.now image.now reference.now }
+    {
         if !reference.is_indirect {
             Some(reference.named)
         } else if self.may_change(reference.named) {

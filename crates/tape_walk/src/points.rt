@@ -1,5 +1,10 @@
 //! Points of a program, and sets of them.
 
+ghost use Rattle.std.specs.Prelude.{ℕ, ◌≡◌, ◌<◌, ◌==◌, ◌&&◌, ◌||◌, not, nat_lt, false, ◌+◌};
+ghost use Rattle.wordset.specs.Lanes.{words};
+ghost use Rattle.wordset.specs.Words.{SameWords};
+ghost use Rattle.tape_walk.specs.Points.{cells_behind, has, has_cell, moved};
+
 use word12::Word;
 use wordset::WordSet;
 
@@ -15,7 +20,9 @@ pub struct ProgramPoint {
 
 impl ProgramPoint {
     /// Another cell with the same offset.
-    pub fn to(&self, at: Word) -> ProgramPoint {
+    pub fn to(&self, at: Word) -> ProgramPoint
+        ensures { result ≡ moved self.now at }
+    {
         ProgramPoint {
             at,
             offset: self.offset,
@@ -23,22 +30,32 @@ impl ProgramPoint {
     }
 
     /// The next cell with the same offset.
-    pub fn next(&self) -> ProgramPoint {
+    pub fn next(&self) -> ProgramPoint
+        ensures { result ≡ moved self.now (cells_behind self.now.at 1) }
+    {
         self.to(self.at.increment())
     }
 
     /// The cell past the next one with the same offset.
-    pub fn past_next(&self) -> ProgramPoint {
+    pub fn past_next(&self) -> ProgramPoint
+        ensures { result ≡ moved self.now (cells_behind self.now.at 2) }
+    {
         self.next().next()
     }
 
     /// Whether its offset is one of those that are told apart, at most 7.
-    pub fn is_counted(&self) -> bool {
+    pub fn is_counted(&self) -> bool
+        ensures { result ≡ nat_lt self.now.offset 8 }
+    {
         self.offset < OFFSETS
     }
 
     /// The same cell after the return word was incremented once more.
-    pub fn incremented(&self) -> ProgramPoint {
+    pub fn incremented(&self) -> ProgramPoint
+        ensures at { result.at ≡ self.now.at }
+        ensures offset { self.now.offset < 8 → result.offset ≡ self.now.offset + 1 }
+        ensures many { nat_lt self.now.offset 8 ≡ false → nat_lt result.offset 8 ≡ false }
+    {
         ProgramPoint {
             at: self.at,
             offset: self.offset.saturating_add(1),
@@ -54,14 +71,21 @@ pub struct PointSet {
 
 impl PointSet {
     /// The set without points.
-    pub fn empty() -> PointSet {
+    pub fn empty() -> PointSet
+        ensures { (offset at : ℕ) → offset < 8 → has result offset at ≡ false }
+    {
         PointSet {
             by_offset: [WordSet::empty(); OFFSETS],
         }
     }
 
     /// Adds a point. False if it was in the set before, or its offset is above 7.
-    pub fn insert(&mut self, point: ProgramPoint) -> bool {
+    pub fn insert(&mut self, point: ProgramPoint) -> bool
+        ensures is_new { result ≡
+            (nat_lt point.offset 8 && not (has self.old point.offset point.at)) }
+        ensures points { (offset at : ℕ) → offset < 8 → has self.new offset at ≡
+            (has self.old offset at || (point.offset == offset && point.at == at)) }
+    {
         let Some(cells) = self.by_offset.get_mut(point.offset) else {
             return false;
         };
@@ -105,7 +129,9 @@ impl PointSet {
     }
 
     /// The cells of its points.
-    pub fn cells(&self) -> WordSet {
+    pub fn cells(&self) -> WordSet
+        ensures { SameWords (words result) (has_cell self.now) }
+    {
         let mut all = WordSet::empty();
         for cells in &self.by_offset {
             all = all.union(cells);
@@ -114,7 +140,9 @@ impl PointSet {
     }
 
     /// The cells of its points with an offset.
-    pub fn cells_with(&self, offset: usize) -> WordSet {
+    pub fn cells_with(&self, offset: usize) -> WordSet
+        ensures { offset < 8 → words result ≡ has self.now offset }
+    {
         self.by_offset
             .get(offset)
             .copied()
@@ -122,7 +150,9 @@ impl PointSet {
     }
 
     /// The offsets of its points with a cell.
-    pub fn offsets_of(&self, at: Word) -> WordSet {
+    pub fn offsets_of(&self, at: Word) -> WordSet
+        ensures { (offset : ℕ) → offset < 8 → words result offset ≡ has self.now offset at }
+    {
         let mut offsets = WordSet::empty();
         for offset in 0..OFFSETS {
             if self.by_offset[offset].contains(at) {

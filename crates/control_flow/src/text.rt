@@ -1,7 +1,6 @@
 //! The text of a declaration.
 
 ghost use Rattle.std.specs.Prelude.{◌≡◌, ◌++◌, ◌∷◌, OnOk};
-ghost use Rattle.word12.specs.Words.{octal_text};
 ghost use Rattle.control_flow.specs.Texts.{offset_text, offsets_text};
 ghost use Rattle.declaration.specs.Written.{StaysInFront};
 ghost use Rattle.wordset.specs.Lanes.{words};

@@ -1,10 +1,10 @@
 //! What single bits of an operate word ask for. Each function reads its bit of any word; it is meant for words of the groups
 //! that it names.
 
-ghost use Rattle.std.specs.Prelude.{◌≡◌, ◌≢◌, ◌||◌, not, ◌==◌};
+ghost use Rattle.std.specs.Prelude.{◌≡◌, ◌||◌};
 ghost use Rattle.instruct.specs.Bits.{has_bit};
 ghost use Rattle.instruct.specs.Operates.{reads_switches_of};
-ghost use Rattle.instruct.specs.Skips.{tests_anything, skip_condition_of, may_go_on, may_skip};
+ghost use Rattle.instruct.specs.Skips.{may_go_on, may_skip, skip_condition_of};
 
 use crate::bits::{Group1, Group2};
 use bitflags::Flags;

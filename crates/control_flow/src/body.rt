@@ -5,20 +5,20 @@ use tape_walk::{ProgramPoint, Traversal};
 use word12::Word;
 use wordset::WordSet;
 
-/// A body while it is followed: the routine's entry, if it is not main's; whether its words do not tell by which offsets it returns;
-/// and the points that were met.
+/// A body while it is followed: whose it is, whether its words do not tell by which offsets its routine returns, and the points that
+/// were met.
 #[derive(Drop)]
 pub(crate) struct BodyTraversal {
-    pub(crate) entry: Option<Word>,
+    pub(crate) owner: Owner,
     pub(crate) is_open: bool,
     points: Traversal,
 }
 
 impl BodyTraversal {
     /// Nothing was met yet.
-    pub(crate) fn new(entry: Option<Word>) -> BodyTraversal {
+    pub(crate) fn new(owner: Owner) -> BodyTraversal {
         BodyTraversal {
-            entry,
+            owner,
             is_open: false,
             points: Traversal::new(),
         }
@@ -26,18 +26,7 @@ impl BodyTraversal {
 
     /// Whether a cell is the routine's entry.
     pub(crate) fn is_own(&self, cell: Word) -> bool {
-        match &self.entry {
-            None => false,
-            Some(entry) => *entry == cell,
-        }
-    }
-
-    /// Whose body it is.
-    pub(crate) fn owner(&self) -> Owner {
-        match self.entry {
-            None => Owner::Main,
-            Some(entry) => Owner::Routine(entry),
-        }
+        self.owner == Owner::Routine(cell)
     }
 
     /// Meets a point, from which to go on if it was not met. If the return word was incremented by more than 7, this is most likely

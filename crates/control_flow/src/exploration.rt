@@ -143,14 +143,6 @@ pub fn explore_runs<A: Allocator + Copy>(
     survey.finish(image, &search)
 }
 
-/// The entry of a routine; main has none.
-fn entry_of(owner: &Owner) -> Option<Word> {
-    match owner {
-        Owner::Main => None,
-        Owner::Routine(entry) => Some(*entry),
-    }
-}
-
 /// The runs of a record.
 fn seen_in<A: Allocator>(record: &Record<A>) -> ObservedRuns {
     ObservedRuns {
@@ -304,13 +296,12 @@ impl<A: Allocator + Copy> Exploration<A> {
     {
         for at in places.iter() {
             if let Some(owner) = record.owner(at) {
-                let entry = entry_of(&owner);
-                if let Some(called) = entry {
+                if let Owner::Routine(called) = owner {
                     self.called.insert(called);
                 }
                 let spot = ProgramPoint { at, offset };
                 self.places
-                    .push(Visit { entry, spot })
+                    .push(Visit { owner, spot })
                     .map_err(|_| NoMemory)?;
             }
         }

@@ -4,6 +4,7 @@ ghost use Rattle.std.specs.Prelude.{◌≡◌};
 
 use crate::body::BodyTraversal;
 use crate::tape::{Tape, Visit};
+use declaration::Owner;
 use instruct::Profile;
 use tape_walk::{KnownCells, ProgramPoint};
 use word12::Word;
@@ -165,7 +166,7 @@ impl Map {
 
     /// Follows main's body, and gives its cells.
     pub(crate) fn follow_main(&mut self, tape: &Tape<'_>) -> WordSet {
-        let mut walk = BodyTraversal::new(None);
+        let mut walk = BodyTraversal::new(Owner::Main);
         walk.meet(ProgramPoint {
             at: self.start,
             offset: 0,
@@ -179,7 +180,7 @@ impl Map {
     /// Follows the body of an entry, and gives its cells. Those of bodies that were followed before
     /// cannot be in it.
     pub(crate) fn follow_routine(&mut self, tape: &Tape<'_>, entry: Word) -> WordSet {
-        let mut walk = BodyTraversal::new(Some(entry));
+        let mut walk = BodyTraversal::new(Owner::Routine(entry));
         let here = ProgramPoint {
             at: entry,
             offset: 0,
@@ -203,7 +204,7 @@ impl Map {
     /// Meets the cells of these visits that the running routine's body may have.
     fn meet_all(&self, visits: &[Visit], walk: &mut BodyTraversal) {
         for visit in visits {
-            if visit.entry == walk.entry && !self.known.entries.contains(visit.spot.at) {
+            if visit.owner == walk.owner && !self.known.entries.contains(visit.spot.at) {
                 walk.meet(visit.spot);
             }
         }

@@ -7,6 +7,7 @@
 use crate::body::BodyTraversal;
 use crate::map::Map;
 use crate::tape::Tape;
+use declaration::Owner;
 use instruct::{Operation, SkipCondition};
 use processor::is_auto_index;
 use tape_walk::{ControlEffect, MemoryReference, ProgramPoint};
@@ -25,7 +26,7 @@ impl Map {
         let is_there = tape.get(to).is_some()
             || (self.known.stored.contains(to) && tape.may_be_code(to));
         let is_free = !self.known.entries.contains(to) && !self.round.code.contains(to);
-        if is_there && is_free && tape.may_be_in(walk.owner(), to) {
+        if is_there && is_free && tape.may_be_in(walk.owner, to) {
             walk.meet(here.to(to));
         } else {
             self.round.astray.insert(here.at);
@@ -236,7 +237,7 @@ impl Map {
         here: &ProgramPoint,
         to: Word,
     ) {
-        if walk.entry.is_some() && self.round.main.contains(to) {
+        if walk.owner != Owner::Main && self.round.main.contains(to) {
             self.round.abandons.insert(to);
         } else {
             self.go(tape, walk, here, to);

@@ -31,7 +31,7 @@ impl BodyTraversal {
 
     /// Meets a point, from which to go on if it was not met. If the return word was incremented by more than 7, this is most likely
     /// done in a loop.
-    pub(crate) fn meet(&mut self, point: ProgramPoint) {
+    pub(crate) fn meet(&mut self, point: &ProgramPoint) {
         if !point.is_counted() {
             self.is_open = true;
         }

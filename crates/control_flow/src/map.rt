@@ -167,7 +167,7 @@ impl Map {
     /// Follows main's body, and gives its cells.
     pub(crate) fn follow_main(&mut self, tape: &Tape<'_>) -> WordSet {
         let mut walk = BodyTraversal::new(Owner::Main);
-        walk.meet(ProgramPoint {
+        walk.meet(&ProgramPoint {
             at: self.start,
             offset: 0,
         });
@@ -205,7 +205,7 @@ impl Map {
     fn meet_all(&self, visits: &[Visit], walk: &mut BodyTraversal) {
         for visit in visits {
             if visit.owner == walk.owner && !self.known.entries.contains(visit.spot.at) {
-                walk.meet(visit.spot);
+                walk.meet(&visit.spot);
             }
         }
     }

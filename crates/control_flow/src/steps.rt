@@ -27,7 +27,7 @@ impl Map {
             || (self.known.stored.contains(to) && tape.may_be_code(to));
         let is_free = !self.known.entries.contains(to) && !self.round.code.contains(to);
         if is_there && is_free && tape.may_be_in(walk.owner, to) {
-            walk.meet(here.to(to));
+            walk.meet(&here.to(to));
         } else {
             self.round.astray.insert(here.at);
         }

@@ -131,11 +131,11 @@ impl Reach {
 
     /// Begins at a cell, where no return word has been incremented.
     fn begin_at(&mut self, image: &Image, at: Word) {
-        self.meet(image, ProgramPoint { at, offset: 0 });
+        self.meet(image, &ProgramPoint { at, offset: 0 });
     }
 
     /// Meets a point, if the tape has a word for its cell.
-    fn meet(&mut self, image: &Image, point: ProgramPoint) {
+    fn meet(&mut self, image: &Image, point: &ProgramPoint) {
         if image.get(point.at).is_some() {
             self.points.meet(point);
         }
@@ -144,10 +144,10 @@ impl Reach {
     /// Goes on behind a cell whose word skips under this condition.
     fn advance(&mut self, image: &Image, here: &ProgramPoint, condition: SkipCondition) {
         if condition.may_go_on() {
-            self.meet(image, here.next());
+            self.meet(image, &here.next());
         }
         if condition.may_skip() {
-            self.meet(image, here.past_next());
+            self.meet(image, &here.past_next());
         }
     }
 
@@ -169,7 +169,7 @@ impl Reach {
             Operation::Jms => self.call(image, here, reference),
             Operation::Jmp => self.jump(image, here, reference),
             Operation::Isz if self.is_return_word(reference) => {
-                self.meet(image, here.next().incremented());
+                self.meet(image, &here.next().incremented());
             }
             _ => {
                 self.note_operand(reference);
@@ -196,19 +196,20 @@ impl Reach {
     fn call(&mut self, image: &Image, here: &ProgramPoint, reference: &MemoryReference) {
         let entry = match self.known.address(image, reference) {
             Some(entry) if image.get(entry).is_some() => entry,
-            _ => return self.meet(image, here.next()),
+            _ => return self.meet(image, &here.next()),
         };
         self.known.entries.insert(entry);
         self.begin_at(image, entry.increment());
-        self.calls.insert(*here);
+        self.calls.insert(here);
         if self.texts.contains(entry) {
             if let Some(end) = text_end(image, here.at) {
-                self.meet(image, here.to(end.increment()));
+                self.meet(image, &here.to(end.increment()));
                 return;
             }
         }
-        for offset in self.known.returns.offsets_of(entry).iter() {
-            self.meet(image, here.to(here.next().at.add(offset)));
+        let offsets = self.known.returns.offsets_of(entry);
+        for offset in offsets.iter() {
+            self.meet(image, &here.to(here.next().at.add(offset)));
         }
     }
 
@@ -221,7 +222,7 @@ impl Reach {
             return;
         }
         if let Some(to) = self.known.address(image, reference) {
-            self.meet(image, here.to(to));
+            self.meet(image, &here.to(to));
         }
     }
 }

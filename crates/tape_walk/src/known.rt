@@ -56,6 +56,6 @@ impl KnownCells {
 
     /// Notes that the routine of an entry may return by the offset of a point. False if that was known.
     pub fn note_return(&mut self, entry: Word, point: &ProgramPoint) -> bool {
-        self.returns.insert(point.to(entry))
+        self.returns.insert(&point.to(entry))
     }
 }

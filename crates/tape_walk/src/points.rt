@@ -80,19 +80,21 @@ impl PointSet {
     }
 
     /// Adds a point. False if it was in the set before, or its offset is above 7.
-    pub fn insert(&mut self, point: ProgramPoint) -> bool
+    pub fn insert(&mut self, point: &ProgramPoint) -> bool
         ensures is_new { result ≡
-            (nat_lt point.offset 8 && not (has self.old point.offset point.at)) }
+            (nat_lt point.now.offset 8 && not (has self.old point.now.offset point.now.at)) }
         ensures points { (offset at : ℕ) → offset < 8 → has self.new offset at ≡
-            (has self.old offset at || (point.offset == offset && point.at == at)) }
+            (has self.old offset at || (offset == point.now.offset && at == point.now.at)) }
     {
-        let Some(cells) = self.by_offset.get_mut(point.offset) else {
+        if point.offset >= OFFSETS {
             return false;
-        };
+        }
+        let mut cells = self.by_offset[point.offset];
         if cells.contains(point.at) {
             return false;
         }
         cells.insert(point.at);
+        self.by_offset[point.offset] = cells;
         true
     }
 

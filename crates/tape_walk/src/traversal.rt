@@ -20,7 +20,7 @@ impl Traversal {
     }
 
     /// Meets a point, from which to go on if it was not met before. Points with offsets above 7 are left out.
-    pub fn meet(&mut self, point: ProgramPoint) {
+    pub fn meet(&mut self, point: &ProgramPoint) {
         if self.met.insert(point) {
             self.waiting.insert(point);
         }

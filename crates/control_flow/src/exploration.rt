@@ -296,12 +296,13 @@ impl<A: Allocator + Copy> Exploration<A> {
     {
         for at in places.iter() {
             if let Some(owner) = record.owner(at) {
-                if let Owner::Routine(called) = owner {
+                let entry = owner.entry();
+                if let Some(called) = entry {
                     self.called.insert(called);
                 }
                 let spot = ProgramPoint { at, offset };
                 self.places
-                    .push(Visit { owner, spot })
+                    .push(Visit { entry, spot })
                     .map_err(|_| NoMemory)?;
             }
         }

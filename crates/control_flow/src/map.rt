@@ -204,7 +204,7 @@ impl Map {
     /// Meets the cells of these visits that the running routine's body may have.
     fn meet_all(&self, visits: &[Visit], walk: &mut BodyTraversal) {
         for visit in visits {
-            if visit.owner == walk.owner && !self.known.entries.contains(visit.spot.at) {
+            if visit.entry == walk.owner.entry() && !self.known.entries.contains(visit.spot.at) {
                 walk.meet(&visit.spot);
             }
         }

@@ -9,10 +9,10 @@ use tape_walk::ProgramPoint;
 use word12::Word;
 use wordset::WordSet;
 
-/// Where a step was made, and whose body ran.
+/// Where a step was made, and the running routine's entry, if it was not main.
 #[derive(Clone, Copy)]
 pub(crate) struct Visit {
-    pub(crate) owner: Owner,
+    pub(crate) entry: Option<Word>,
     pub(crate) spot: ProgramPoint,
 }
 

@@ -11,8 +11,8 @@ use Rattle.command_parts.specs.declared.status.Status.TheVariants.{Done, Refused
 use Rattle.command_parts.proofs.InputLemmas.{all_or_more}
 use Rattle.search_commands.proofs.DeclareLemmas.{refused_not_done}
 use Rattle.search_commands.specs.Extending.{Extends, KeepsReads}
-use Rattle.search_commands.specs.Adding.{IsAddition, lists}
-use Rattle.search_commands.specs.CompleteText.{Completes, IsExtension}
+use Rattle.search_commands.specs.Adding.{lists}
+use Rattle.search_commands.specs.CompleteText.{Completes, CompletesBy, IsExtensionBy, IsFit}
 use Rattle.search_commands.specs.Keeping.{KeepsLines}
 use Rattle.search_commands.specs.Keeping.KeepsLines.{unchanged}
 
@@ -34,49 +34,58 @@ extends_own d = record {
   abandon = λ v small is. is;
 }
 
--- so its text is that of an extension of it
-pub own_extension : (d : Declaration) (text : List ℕ) → Declares text d → IsExtension (Some text) d text
-own_extension d text declares = record { declaration = d; declares = declares; extends = extends_own d; keeps = unchanged text }
-
 so_left : (a b : Bool) → a ≡ true → (a || b) ≡ true
 so_left a b is = rw is refl
 
--- and that of an addition to it, in which nothing is added
-pub own_addition : (given proposed : Declaration) (text : List ℕ) → Declares text given → IsAddition given proposed text
-own_addition given proposed text declares = record {
-  declaration = given;
-  declares = declares;
-  adds = λ a small. record {
-    body = λ r is. so_left (given.body r a) (proposed.body r a) is;
-    offset = λ o low is. so_left (given.offset a o) (proposed.offset a o) is;
-    entry = λ is. so_left (given.entry a) (proposed.entry a) is;
-    variable = λ is. so_left (given.variable a) (proposed.variable a) is;
-    stop = λ is. so_left (given.stop a) (proposed.stop a) is;
-    pause = λ is. so_left (given.pause a) (proposed.pause a) is;
-    read = λ is. so_left (lists given.reads a) (lists proposed.reads a) is;
-    moves = λ is. so_left (given.moves a) (proposed.moves a) is;
-    abandon = λ is. so_left (given.abandon a) (proposed.abandon a) is;
-  };
-}
-
--- with a certificate for what extends it
-pub shown_completes : (image : List (Option ℕ)) (bytes : List ℕ) (given d : Declaration) (text : List ℕ) → Declares text d → Extends given d → KeepsLines bytes text →
-    IsSafe (image_of image) d → Completes (Some bytes) image given Done text
-shown_completes image bytes given d text declares extends keeps safe = record {
-  is = record { declaration = d; declares = declares; extends = extends; keeps = keeps };
-  ends = inl refl;
-  safe = λ done. safe;
-}
+-- so its text is that of an extension of it, in which nothing is added
+pub own_extension : (given proposed : Declaration) (text : List ℕ) → Declares text given → IsFit text given proposed text
+own_extension given proposed text declares = (
+  given,
+  record {
+    declares = declares;
+    extends = extends_own given;
+    adds = λ a small. record {
+      body = λ r is. so_left (given.body r a) (proposed.body r a) is;
+      offset = λ o low is. so_left (given.offset a o) (proposed.offset a o) is;
+      entry = λ is. so_left (given.entry a) (proposed.entry a) is;
+      variable = λ is. so_left (given.variable a) (proposed.variable a) is;
+      stop = λ is. so_left (given.stop a) (proposed.stop a) is;
+      pause = λ is. so_left (given.pause a) (proposed.pause a) is;
+      read = λ is. so_left (lists given.reads a) (lists proposed.reads a) is;
+      moves = λ is. so_left (given.moves a) (proposed.moves a) is;
+      abandon = λ is. so_left (given.abandon a) (proposed.abandon a) is;
+    };
+    keeps = unchanged text;
+  },
+)
 
 -- with a certificate for the declaration itself
 pub own_completes : (image : List (Option ℕ)) (d : Declaration) (text : List ℕ) → Declares text d → IsSafe (image_of image) d →
     Completes (Some text) image d Done text
-own_completes image d text declares safe = shown_completes image text d d text declares (extends_own d) (unchanged text) safe
+own_completes image d text declares safe = record {
+  is = record { declaration = d; declares = declares; extends = extends_own d; keeps = unchanged text };
+  ends = inl refl;
+  safe = λ done. safe;
+}
+
+-- with a certificate for what extends it
+pub shown_completes : (image : List (Option ℕ)) (bytes : List ℕ) (given proposed more : Declaration) (text : List ℕ) → IsExtensionBy bytes given proposed more text →
+    IsSafe (image_of image) more → CompletesBy bytes image given proposed Done text
+shown_completes image bytes given proposed more text is safe = record { is = (more, is); ends = inl refl; safe = λ done. safe }
 
 -- without one
-pub lacking_completes : (image : List (Option ℕ)) (source : Option (List ℕ)) (given : Declaration) (text : List ℕ) → IsExtension source given text →
-    Completes source image given Refused text
-lacking_completes image source given text is = record { is = is; ends = inr refl; safe = λ done. refused_not_done done }
+pub lacking_completes : (image : List (Option ℕ)) (bytes : List ℕ) (given proposed : Declaration) (text : List ℕ) → IsFit bytes given proposed text →
+    CompletesBy bytes image given proposed Refused text
+lacking_completes image bytes given proposed text is = record { is = is; ends = inr refl; safe = λ done. refused_not_done done }
+
+-- what completes a declaration by what is proposed completes it
+pub completes_by : (image : List (Option ℕ)) (bytes : List ℕ) (given proposed : Declaration) (status : Status) (text : List ℕ) → CompletesBy bytes image given proposed status text →
+    Completes (Some bytes) image given status text
+completes_by image bytes given proposed status text by = record {
+  is = record { declaration = by.is.0; declares = by.is.1.declares; extends = by.is.1.extends; keeps = by.is.1.keeps };
+  ends = by.ends;
+  safe = by.safe;
+}
 
 -- a text that was read up to one byte more than a declaration may have is everything that its source had
 pub whole_text : (had : Option (List ℕ)) (text : List ℕ) (d : Declaration) → IfSome had (λ bytes. text ≡ take 16385 bytes) → Declares text d → IfSome had (λ bytes. bytes ≡ text)

@@ -1,10 +1,7 @@
 -- What is added to a declaration, out of what another declaration proposes.
-use Rattle.std.specs.Prelude.{ℕ, ◌≡◌, ◌<◌, ◌||◌, true, false, Bool, List, Option, Some, None, ⊤}
+use Rattle.std.specs.Prelude.{ℕ, ◌≡◌, ◌<◌, ◌||◌, true, false, Bool, Option, Some, None}
 use Rattle.wordset.specs.Words.{Words}
 use Rattle.declaration.specs.Declaration.{Declaration, Routine}
-use Rattle.declaration.specs.Text.{Declares}
-use Rattle.search_commands.specs.declared.completing.CompletionResult.{CompletionResult}
-use Rattle.search_commands.specs.declared.completing.CompletionResult.TheVariants.{Shown, Lacking, Unfit}
 
 -- Whether the cell is on the list of reads, if there is one.
 abbrev pub lists : Option Words → ℕ → Bool
@@ -29,15 +26,3 @@ pub record AddsToCell (given proposed more : Declaration) (a : ℕ) : Type 0 whe
 -- Nothing is allowed beyond the given declaration except what is proposed.
 abbrev pub AddsOnly : Declaration → Declaration → Declaration → Type 0
 AddsOnly given proposed more = (a : ℕ) → a < 4096 → AddsToCell given proposed more a
-
--- The text declares a program, and everything that it declares is given or proposed.
-pub record IsAddition (given proposed : Declaration) (text : List ℕ) : Type 0 where
-  pub declaration : Declaration
-  pub declares : Declares text declaration
-  pub adds : AddsOnly given proposed declaration
-
--- If a text is found fit, everything that it declares is given or proposed. Nothing is said about an unfit text.
-abbrev pub AddsIfFit : Declaration → Declaration → List ℕ → CompletionResult → Type 0
-AddsIfFit given proposed text Shown = IsAddition given proposed text
-AddsIfFit given proposed text (Lacking lack) = IsAddition given proposed text
-AddsIfFit given proposed text Unfit = ⊤

@@ -1,13 +1,12 @@
 -- What is written for a declaration to which what is missing is added.
-use Rattle.std.specs.Prelude.{ℕ, ◌≡◌, ◌⊎◌, ⊤, IfSome, List, Option, Some}
+use Rattle.std.specs.Prelude.{ℕ, ◌≡◌, ◌⊎◌, IfSome, List, Option}
 use Rattle.peripherals.specs.Loading.{image_of}
 use Rattle.declaration.specs.Declaration.{Declaration}
 use Rattle.declaration.specs.Text.{Declares}
 use Rattle.policy.specs.Runs.{IsSafe}
 use Rattle.command_parts.specs.declared.status.Status.{Status}
 use Rattle.command_parts.specs.declared.status.Status.TheVariants.{Done, Refused}
-use Rattle.search_commands.specs.declared.completing.CompletionResult.{CompletionResult}
-use Rattle.search_commands.specs.declared.completing.CompletionResult.TheVariants.{Shown, Lacking, Unfit}
+use Rattle.search_commands.specs.Adding.{AddsOnly}
 use Rattle.search_commands.specs.Extending.{Extends}
 use Rattle.search_commands.specs.Keeping.{KeepsLines}
 
@@ -26,9 +25,20 @@ pub record Completes (source : Option (List ℕ)) (image : List (Option ℕ)) (g
   pub ends : (status ≡ Done) ⊎ (status ≡ Refused)
   pub safe : status ≡ Done → IsSafe (image_of image) is.declaration
 
--- What is found about a text is true: its declaration extends the one that is given by these bytes and, if that is
--- shown, no run of the program with these words violates it. Nothing is said about an unfit text.
-abbrev pub IsTried : List (Option ℕ) → List ℕ → Declaration → List ℕ → CompletionResult → Type 0
-IsTried image bytes given text Shown = Completes (Some bytes) image given Done text
-IsTried image bytes given text (Lacking lack) = IsExtension (Some bytes) given text
-IsTried image bytes given text Unfit = ⊤
+-- The text declares this, which extends the given declaration by nothing but what is proposed, and it keeps the lines of
+-- the given text.
+pub record IsExtensionBy (bytes : List ℕ) (given proposed more : Declaration) (text : List ℕ) : Type 0 where
+  pub declares : Declares text more
+  pub extends : Extends given more
+  pub adds : AddsOnly given proposed more
+  pub keeps : KeepsLines bytes text
+
+-- The text declares something that extends the given declaration so.
+abbrev pub IsFit : List ℕ → Declaration → Declaration → List ℕ → Type 0
+IsFit bytes given proposed text = (more : Declaration) × IsExtensionBy bytes given proposed more text
+
+-- The text is fit. If the command is done, no run of the program with these words violates what the text declares.
+pub record CompletesBy (bytes : List ℕ) (image : List (Option ℕ)) (given proposed : Declaration) (status : Status) (text : List ℕ) : Type 0 where
+  pub is : IsFit bytes given proposed text
+  pub ends : (status ≡ Done) ⊎ (status ≡ Refused)
+  pub safe : status ≡ Done → IsSafe (image_of image) is.0

@@ -68,70 +68,6 @@ fn is_known(more: bool, given: bool, proposed: bool) -> bool
     !more || given || proposed
 }
 
-/// Whether a cell that is an entry, a variable, a halt or a listed read is one in one of two other declarations too.
-fn roles_are_known<A: Allocator, B: Allocator, C: Allocator>(
-    given: &Declaration<A>,
-    proposed: &Declaration<B>,
-    more: &Declaration<C>,
-    at: Word,
-) -> bool
-    ensures entry { result ≡ true → (meaning more.now).entry at ≡ true →
-        (meaning given.now).entry at || (meaning proposed.now).entry at ≡ true }
-    ensures variable { result ≡ true → (meaning more.now).variable at ≡ true →
-        (meaning given.now).variable at || (meaning proposed.now).variable at ≡ true }
-    ensures stop { result ≡ true → (meaning more.now).stop at ≡ true →
-        (meaning given.now).stop at || (meaning proposed.now).stop at ≡ true }
-    ensures pause { result ≡ true → (meaning more.now).pause at ≡ true →
-        (meaning given.now).pause at || (meaning proposed.now).pause at ≡ true }
-    ensures read { result ≡ true → lists (meaning more.now).reads at ≡ true →
-        lists (meaning given.now).reads at || lists (meaning proposed.now).reads at ≡ true }
-{
-    if !is_known(more.is_entry(at), given.is_entry(at), proposed.is_entry(at)) {
-        return false;
-    }
-    if !is_known(
-        more.is_variable(at),
-        given.is_variable(at),
-        proposed.is_variable(at),
-    ) {
-        return false;
-    }
-    if !is_known(more.is_stop(at), given.is_stop(at), proposed.is_stop(at)) {
-        return false;
-    }
-    if !is_known(more.is_pause(at), given.is_pause(at), proposed.is_pause(at)) {
-        return false;
-    }
-    is_known(
-        is_listed(more, at),
-        is_listed(given, at),
-        is_listed(proposed, at),
-    )
-}
-
-/// Whether a routine may store in its entry, and calls may be abandoned for a cell, only if that is allowed in one of
-/// two other declarations.
-fn leave_is_known<A: Allocator, B: Allocator, C: Allocator>(
-    given: &Declaration<A>,
-    proposed: &Declaration<B>,
-    more: &Declaration<C>,
-    at: Word,
-) -> bool
-    ensures moves { result ≡ true → (meaning more.now).moves at ≡ true →
-        (meaning given.now).moves at || (meaning proposed.now).moves at ≡ true }
-    ensures abandon { result ≡ true → (meaning more.now).abandon at ≡ true →
-        (meaning given.now).abandon at || (meaning proposed.now).abandon at ≡ true }
-{
-    if !is_known(more.may_move(at), given.may_move(at), proposed.may_move(at)) {
-        return false;
-    }
-    is_known(
-        more.is_abandon(at),
-        given.is_abandon(at),
-        proposed.is_abandon(at),
-    )
-}
-
 /// Whether everything that is allowed for a cell is allowed in one of two other declarations.
 fn adds_to_cell<A: Allocator, B: Allocator, C: Allocator>(
     given: &Declaration<A>,
@@ -148,10 +84,37 @@ fn adds_to_cell<A: Allocator, B: Allocator, C: Allocator>(
     if !offsets_are_known(given, proposed, more, at) {
         return false;
     }
-    if !leave_is_known(given, proposed, more, at) {
+    if !is_known(more.is_entry(at), given.is_entry(at), proposed.is_entry(at)) {
         return false;
     }
-    roles_are_known(given, proposed, more, at)
+    if !is_known(
+        more.is_variable(at),
+        given.is_variable(at),
+        proposed.is_variable(at),
+    ) {
+        return false;
+    }
+    if !is_known(more.is_stop(at), given.is_stop(at), proposed.is_stop(at)) {
+        return false;
+    }
+    if !is_known(more.is_pause(at), given.is_pause(at), proposed.is_pause(at)) {
+        return false;
+    }
+    if !is_known(more.may_move(at), given.may_move(at), proposed.may_move(at)) {
+        return false;
+    }
+    if !is_known(
+        more.is_abandon(at),
+        given.is_abandon(at),
+        proposed.is_abandon(at),
+    ) {
+        return false;
+    }
+    is_known(
+        is_listed(more, at),
+        is_listed(given, at),
+        is_listed(proposed, at),
+    )
 }
 
 /// Whether everything that the last declaration allows is allowed by one of the other two.

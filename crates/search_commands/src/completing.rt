@@ -1,30 +1,20 @@
 //! The command that adds what is missing to a declaration.
 
-ghost use Rattle.std.specs.Prelude.{◌≡◌, ◌⊎◌, false, Ok, Err, Some, None, IfSome, IfOk, IfErr, ℕ, List, Option};
+ghost use Rattle.std.specs.Prelude.{◌≡◌, false, Some, IfSome, IfOk, IfErr, ℕ, List, Option};
 ghost use Rattle.command_parts.specs.Answers.{IsLaterFault, IsMemoryFault, NeverFails, OfProgram, ReadsTwo, WritesAnswer, output};
 ghost use Rattle.command_parts.specs.Faults.{IsDeclarationInputFault, fails_to_read, fails_to_write};
 ghost use Rattle.command_parts.specs.Inputs.{HasDeclaration, HasImage, TakesAtMost, input};
-ghost use Rattle.command_parts.specs.declared.status.Status.TheVariants.{Done, Refused};
-ghost use Rattle.search_commands.specs.Adding.{AddsIfFit, AddsOnly, IsAddition};
-ghost use Rattle.search_commands.specs.CompleteText.{Completes, IsExtension, IsTried};
-ghost use Rattle.search_commands.specs.Extending.{Extends};
-ghost use Rattle.search_commands.specs.Keeping.{KeepsLines};
+ghost use Rattle.search_commands.specs.CompleteText.{Completes, CompletesBy, IsExtensionBy, IsFit};
 ghost use Rattle.search_commands.specs.SearchFaults.{IsProposeFault};
 ghost use Rattle.declaration.specs.DeclarationInCode.{meaning};
 ghost use Rattle.declaration.specs.Text.{Declares};
-ghost use Rattle.peripherals.specs.Loading.{image_of};
-ghost use Rattle.proposer.specs.Proposals.{IsTold};
-ghost use Rattle.policy.specs.Runs.{IsSafe};
 
 use crate::adding::adds_only;
-use crate::declaring::{
-    MOST_TURNS, copy_of, proposal_for, push_inconclusive_reason, push_seen, push_unfollowed,
-};
+use crate::declaring::{MOST_TURNS, copy_of, proposal_for, push_remarks};
 use crate::extending::extends;
 use crate::keeping::keeps_lines;
 use crate::merging::merged;
-use crate::verifying::{InconclusiveReason, inconclusive_reason_of};
-use analyser::guess;
+use crate::verifying::{InconclusiveReason, certificate_for};
 use bin_tape::Image;
 use command_parts::inputs::tape_from;
 use command_parts::options::DeclareOptions;
@@ -34,7 +24,7 @@ use declaration::{Declaration, DeclarationFault};
 use proposer::{ObservedRuns, Proposal};
 use std::alloc::{AllocError, Allocator};
 use streams::{ByteSink, ByteSource, read_at_most};
-use turns::{ProposeFault, Turns};
+use turns::Turns;
 use wordset::WordSet;
 
 /// One byte more than the text of a declaration may have, so that a longer text is seen to be too long.
@@ -52,17 +42,6 @@ struct ParsedDeclaration<A: Allocator> {
 struct ParsedProgram<A: Allocator> {
     image: Image,
     given: ParsedDeclaration<A>,
-}
-
-/// What is found about a text that may complete a declaration.
-#[derive(Clone, Copy, PartialEq, Eq, Debug)]
-pub(crate) enum CompletionResult {
-    /// It extends the declaration, and the program complies with it.
-    Shown,
-    /// It extends the declaration, but no certificate is found.
-    Lacking(InconclusiveReason),
-    /// It is not a text that extends the declaration.
-    Unfit,
 }
 
 /// Reads a declaration, and keeps its text.
@@ -115,25 +94,6 @@ fn given_program_from<A: Allocator + Copy, R: ByteSource, D: ByteSource>(
     Ok(ParsedProgram { image, given })
 }
 
-/// Why no certificate is found for a declaration, if none is.
-pub(crate) fn lack_in<A: Allocator + Copy, D: Allocator>(
-    alloc: A,
-    image: &Image,
-    declaration: &Declaration<D>,
-) -> Result<Option<InconclusiveReason>, Fault>
-    ensures shown { IfOk result (λ lack. lack ≡ None →
-        IsSafe (image_of image.now) (meaning declaration.now)) }
-    ensures faults { IfErr result IsMemoryFault }
-{
-    match guess(alloc, image, declaration) {
-        Ok(_certificate) => Ok(None),
-        Err(fault) => match inconclusive_reason_of(fault) {
-            Ok(lack) => Ok(Some(lack)),
-            Err(fault) => Err(fault),
-        },
-    }
-}
-
 /// What a text declares, if it keeps the lines of a given declaration and extends that declaration by what is proposed
 /// and by nothing else.
 fn extension<A: Allocator + Copy, D: Allocator>(
@@ -143,12 +103,8 @@ fn extension<A: Allocator + Copy, D: Allocator>(
     proposed: &Declaration<D>,
     text: &[u8],
 ) -> Result<Option<Declaration<A>>, Fault>
-    ensures keeps { IfOk result (λ found. IfSome found (λ d. KeepsLines bytes.now text.now)) }
-    ensures declares { IfOk result (λ found. IfSome found (λ d. Declares text.now (meaning d))) }
-    ensures extends { IfOk result (λ found.
-        IfSome found (λ d. Extends (meaning given.now) (meaning d))) }
-    ensures adds { IfOk result (λ found. IfSome found (λ d.
-        AddsOnly (meaning given.now) (meaning proposed.now) (meaning d))) }
+    ensures extends { IfOk result (λ found. IfSome found (λ d. IsExtensionBy bytes.now
+        (meaning given.now) (meaning proposed.now) (meaning d) text.now)) }
     ensures faults { IfErr result IsMemoryFault }
 {
     if !keeps_lines(bytes, text) {
@@ -166,28 +122,6 @@ fn extension<A: Allocator + Copy, D: Allocator>(
         }
         Err(DeclarationFault::NoMemory) => Err(Fault::NoMemory),
         Err(_) => Ok(None),
-    }
-}
-
-/// What is found about a text that may complete a declaration.
-fn tried<A: Allocator + Copy, D: Allocator>(
-    alloc: A,
-    image: &Image,
-    bytes: &[u8],
-    given: &Declaration<D>,
-    proposed: &Declaration<D>,
-    text: &[u8],
-) -> Result<CompletionResult, Fault>
-    ensures tried { IfOk result (IsTried image.now bytes.now (meaning given.now) text.now) }
-    ensures adds { IfOk result (AddsIfFit (meaning given.now) (meaning proposed.now) text.now) }
-    ensures faults { IfErr result IsMemoryFault }
-{
-    let Some(more) = extension(alloc, bytes, given, proposed, text)? else {
-        return Ok(CompletionResult::Unfit);
-    };
-    match lack_in(alloc, image, &more)? {
-        None => Ok(CompletionResult::Shown),
-        Some(lack) => Ok(CompletionResult::Lacking(lack)),
     }
 }
 
@@ -210,83 +144,47 @@ fn with_remarks<A: Allocator + Copy>(
 ) -> Result<Vec<u8, A>, AllocError> {
     let mut more = copy_of(alloc, text)?;
     end_text(&mut more)?;
-    push_inconclusive_reason(&mut more, lack)?;
-    push_seen(&mut more, seen)?;
-    push_unfollowed(&mut more, unfollowed)?;
+    push_remarks(&mut more, lack, seen, unfollowed)?;
     Ok(more)
 }
 
-/// A text that extends a declaration, with comments after it if there is room for them.
-fn remarked<A: Allocator + Copy, D: Allocator>(
+/// What is written for a text that extends a declaration if no certificate is found: the text, with comments after it if
+/// there is room for them.
+fn lacking<A: Allocator + Copy>(
     alloc: A,
-    bytes: &[u8],
-    given: &Declaration<D>,
-    proposed: &Declaration<D>,
+    given: &ParsedDeclaration<A>,
+    proposal: &Proposal<A>,
     text: &[u8],
     lack: InconclusiveReason,
     seen: Option<ObservedRuns>,
-    unfollowed: &WordSet,
-) -> Result<Vec<u8, A>, Fault>
-    requires extends { IsExtension (Some bytes.now) (meaning given.now) text.now }
-    requires adds { IsAddition (meaning given.now) (meaning proposed.now) text.now }
-    ensures adds { IfOk result (λ more.
-        IsAddition (meaning given.now) (meaning proposed.now) more.items) }
-    ensures extends { IfOk result (λ more.
-        IsExtension (Some bytes.now) (meaning given.now) more.items) }
+) -> Result<CommandResult<A>, Fault>
+    requires { IsFit given.now.text.items (meaning given.now.declaration)
+        (meaning proposal.now.declaration) text.now }
+    ensures completes { (image : List (Option ℕ)) → IfOk result (λ c. CompletesBy
+        given.now.text.items image (meaning given.now.declaration)
+        (meaning proposal.now.declaration) c.status c.text.items) }
     ensures faults { IfErr result IsMemoryFault }
 {
-    let more = with_remarks(alloc, text, lack, seen, unfollowed)?;
-    match extension(alloc, bytes, given, proposed, &more)? {
-        Some(_found) => Ok(more),
-        None => Ok(copy_of(alloc, text)?),
+    let status = Status::Refused;
+    let more = with_remarks(alloc, text, lack, seen, &proposal.unfollowed)?;
+    let bytes = given.text.as_slice();
+    match extension(
+        alloc,
+        bytes,
+        &given.declaration,
+        &proposal.declaration,
+        &more,
+    )? {
+        Some(_found) => Ok(CommandResult { text: more, status }),
+        None => {
+            let text = copy_of(alloc, text)?;
+            Ok(CommandResult { text, status })
+        }
     }
 }
 
-/// What is proposed for a tape with the start and the machine of a declaration, with a list of reads if the declaration
-/// has one and that is requested.
-fn proposal_by<A: Allocator + Copy>(
-    alloc: A,
-    image: &Image,
-    given: &Declaration<A>,
-    reads: bool,
-) -> Result<Proposal<A>, ProposeFault>
-    ensures { IfErr result IsTold }
-{
-    let options = DeclareOptions {
-        start: given.start(),
-        profile: given.profile(),
-        reads: reads && given.reads_listed(),
-    };
-    proposal_for(alloc, image, &options, &mut Turns::new(MOST_TURNS))
-}
-
-/// What is written for a text that extends a declaration if no certificate is found.
-fn lacking<A: Allocator + Copy, D: Allocator>(
-    alloc: A,
-    bytes: &[u8],
-    given: &Declaration<D>,
-    proposed: &Declaration<D>,
-    text: &[u8],
-    lack: InconclusiveReason,
-    seen: Option<ObservedRuns>,
-    unfollowed: &WordSet,
-) -> Result<CommandResult<A>, Fault>
-    requires extends { IsExtension (Some bytes.now) (meaning given.now) text.now }
-    requires adds { IsAddition (meaning given.now) (meaning proposed.now) text.now }
-    ensures completes { (image : List (Option ℕ)) → IfOk result (λ c.
-        Completes (Some bytes.now) image (meaning given.now) c.status c.text.items) }
-    ensures adds { IfOk result (λ c.
-        IsAddition (meaning given.now) (meaning proposed.now) c.text.items) }
-    ensures faults { IfErr result IsMemoryFault }
-{
-    let more = remarked(alloc, bytes, given, proposed, text, lack, seen, unfollowed)?;
-    Ok(CommandResult {
-        text: more,
-        status: Status::Refused,
-    })
-}
-
-/// The text that completes a declaration for which no certificate is found, with what is proposed for the tape.
+/// The text that completes a declaration for which no certificate is found, with what is proposed for the tape. If
+/// nothing is added, nothing depends on what runs did.
 fn completed<A: Allocator + Copy>(
     alloc: A,
     image: &Image,
@@ -295,55 +193,27 @@ fn completed<A: Allocator + Copy>(
     proposal: &Proposal<A>,
 ) -> Result<CommandResult<A>, Fault>
     requires { Declares given.now.text.items (meaning given.now.declaration) }
-    ensures completes { IfOk result (λ c. Completes (Some given.now.text.items) image.now
-        (meaning given.now.declaration) c.status c.text.items) }
-    ensures adds { IfOk result (λ c. IsAddition (meaning given.now.declaration)
-        (meaning proposal.now.declaration) c.text.items) }
+    ensures completes { IfOk result (λ c. CompletesBy given.now.text.items image.now
+        (meaning given.now.declaration) (meaning proposal.now.declaration) c.status c.text.items) }
     ensures faults { IfErr result IsMemoryFault }
 {
     let bytes = given.text.as_slice();
-    let promised = &given.declaration;
-    let proposed = &proposal.declaration;
-    let text = merged(alloc, bytes, promised, proposed)?;
-    match tried(alloc, image, bytes, promised, proposed, &text)? {
-        CompletionResult::Shown => Ok(CommandResult {
+    let (declared, proposed) = (&given.declaration, &proposal.declaration);
+    let text = merged(alloc, bytes, declared, proposed)?;
+    let Some(more) = extension(alloc, bytes, declared, proposed, &text)? else {
+        return lacking(alloc, given, proposal, bytes, lack, None);
+    };
+    match certificate_for(alloc, image, &more)? {
+        Ok(_certificate) => Ok(CommandResult {
             text,
             status: Status::Done,
         }),
-        CompletionResult::Lacking(lack) => {
-            let seen = proposal.seen;
-            let unfollowed = &proposal.unfollowed;
-            lacking(
-                alloc, bytes, promised, proposed, &text, lack, seen, unfollowed,
-            )
-        }
-        CompletionResult::Unfit => as_given(alloc, given, proposed, lack, &proposal.unfollowed),
+        Err(lack) => lacking(alloc, given, proposal, &text, lack, proposal.seen),
     }
 }
 
-/// What is written if nothing is added to the given text. In this case nothing depends on what runs did.
-fn as_given<A: Allocator + Copy>(
-    alloc: A,
-    given: &ParsedDeclaration<A>,
-    proposed: &Declaration<A>,
-    lack: InconclusiveReason,
-    unfollowed: &WordSet,
-) -> Result<CommandResult<A>, Fault>
-    requires { Declares given.now.text.items (meaning given.now.declaration) }
-    ensures completes { (image : List (Option ℕ)) → IfOk result (λ c. Completes
-        (Some given.now.text.items) image (meaning given.now.declaration) c.status c.text.items) }
-    ensures adds { IfOk result (λ c. IsAddition (meaning given.now.declaration)
-        (meaning proposed.now) c.text.items) }
-    ensures faults { IfErr result IsMemoryFault }
-{
-    let bytes = given.text.as_slice();
-    let promised = &given.declaration;
-    lacking(
-        alloc, bytes, promised, proposed, bytes, lack, None, unfollowed,
-    )
-}
-
-/// The text that completes a declaration, and whether compliance with it is shown.
+/// The text that completes a declaration, and whether compliance with it is shown. What is proposed for the tape has a
+/// list of reads if the declaration has one and that is requested.
 fn completion_of<A: Allocator + Copy>(
     alloc: A,
     program: ParsedProgram<A>,
@@ -356,12 +226,17 @@ fn completion_of<A: Allocator + Copy>(
     ensures unwritten { fails_to_write result ≡ false }
 {
     let ParsedProgram { image, given } = program;
-    let Some(lack) = lack_in(alloc, &image, &given.declaration)? else {
+    let Err(lack) = certificate_for(alloc, &image, &given.declaration)? else {
         let ParsedDeclaration { text, .. } = given;
         let status = Status::Done;
         return Ok(CommandResult { text, status });
     };
-    let proposal = proposal_by(alloc, &image, &given.declaration, reads)?;
+    let options = DeclareOptions {
+        start: given.declaration.start(),
+        profile: given.declaration.profile(),
+        reads: reads && given.declaration.reads_listed(),
+    };
+    let proposal = proposal_for(alloc, &image, &options, &mut Turns::new(MOST_TURNS))?;
     completed(alloc, &image, &given, lack, &proposal)
 }
 

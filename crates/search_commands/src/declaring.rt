@@ -29,7 +29,7 @@ use wordset::WordSet;
 pub(crate) const MOST_TURNS: u32 = 300_000;
 
 /// Adds a comment for each address at which control is not followed.
-pub(crate) fn push_unfollowed<A: Allocator>(
+fn push_unfollowed<A: Allocator>(
     text: &mut Vec<u8, A>,
     addresses: &WordSet,
 ) -> Result<(), AllocError> {
@@ -41,7 +41,7 @@ pub(crate) fn push_unfollowed<A: Allocator>(
 }
 
 /// Adds a comment that says why no certificate is found.
-pub(crate) fn push_inconclusive_reason<A: Allocator>(
+fn push_inconclusive_reason<A: Allocator>(
     text: &mut Vec<u8, A>,
     lack: InconclusiveReason,
 ) -> Result<(), AllocError> {
@@ -58,20 +58,8 @@ pub(crate) fn push_inconclusive_reason<A: Allocator>(
     text.extend_from_slice(b".\n")
 }
 
-/// Adds the same comment for a verdict without a certificate; nothing for a verdict with one.
-fn push_verdict<A: Allocator, B: Allocator>(
-    text: &mut Vec<u8, A>,
-    verdict: &Verdict<B>,
-) -> Result<(), AllocError> {
-    match verdict {
-        Verdict::Safe(_) => Ok(()),
-        Verdict::Stuck(at) => push_inconclusive_reason(text, InconclusiveReason::Stuck(*at)),
-        Verdict::TurnsSpent => push_inconclusive_reason(text, InconclusiveReason::TurnsSpent),
-    }
-}
-
 /// Adds a comment that says in which runs the behaviour of the program was seen, if it was.
-pub(crate) fn push_seen<A: Allocator>(
+fn push_seen<A: Allocator>(
     text: &mut Vec<u8, A>,
     seen: Option<ObservedRuns>,
 ) -> Result<(), AllocError> {
@@ -83,6 +71,19 @@ pub(crate) fn push_seen<A: Allocator>(
     text.extend_from_slice(b" runs of ")?;
     text.extend_from_slice(Buffer::new().format(seen.steps).as_bytes())?;
     text.extend_from_slice(b" steps in all, but not proved.\n")
+}
+
+/// Adds comments that say why no certificate is found, in which runs the behaviour of the program was seen, and at which
+/// addresses control is not followed.
+pub(crate) fn push_remarks<A: Allocator>(
+    text: &mut Vec<u8, A>,
+    lack: InconclusiveReason,
+    seen: Option<ObservedRuns>,
+    unfollowed: &WordSet,
+) -> Result<(), AllocError> {
+    push_inconclusive_reason(text, lack)?;
+    push_seen(text, seen)?;
+    push_unfollowed(text, unfollowed)
 }
 
 /// The proposal for a tape's words, with a list of reads if one is requested.
@@ -119,15 +120,24 @@ pub(crate) fn copy_of<A: Allocator>(alloc: A, text: &[u8]) -> Result<Vec<u8, A>,
     Ok(copy)
 }
 
+/// Why there is no certificate, if the verdict is without one.
+fn lack_of<A: Allocator>(verdict: &Verdict<A>) -> Option<InconclusiveReason> {
+    match verdict {
+        Verdict::Safe(_) => None,
+        Verdict::Stuck(at) => Some(InconclusiveReason::Stuck(*at)),
+        Verdict::TurnsSpent => Some(InconclusiveReason::TurnsSpent),
+    }
+}
+
 /// Comments that say what is missing, followed by the text of a proposal.
 fn remarks_and_text<A: Allocator + Copy>(
     alloc: A,
     proposal: &Proposal<A>,
 ) -> Result<Vec<u8, A>, AllocError> {
     let mut text = Vec::new(alloc);
-    push_verdict(&mut text, &proposal.verdict)?;
-    push_seen(&mut text, proposal.seen)?;
-    push_unfollowed(&mut text, &proposal.unfollowed)?;
+    if let Some(lack) = lack_of(&proposal.verdict) {
+        push_remarks(&mut text, lack, proposal.seen, &proposal.unfollowed)?;
+    }
     text.extend_from_slice(&proposal.text)?;
     Ok(text)
 }

@@ -27,26 +27,22 @@ fn keeps_reads(given: Option<&WordSet>, more: Option<&WordSet>) -> bool
     }
 }
 
-/// Whether all variables and halts are kept.
+/// Whether all variables and halts are kept, and routines may still move their return words, and calls may still be
+/// abandoned, wherever that was allowed.
 fn keeps_sets<A: Allocator, B: Allocator>(given: &Declaration<A>, more: &Declaration<B>) -> bool
     ensures variables { result ≡ true →
         IsWithin (meaning given.now).variable (meaning more.now).variable }
     ensures stops { result ≡ true → IsWithin (meaning given.now).stop (meaning more.now).stop }
     ensures pauses { result ≡ true → IsWithin (meaning given.now).pause (meaning more.now).pause }
+    ensures moves { result ≡ true → IsWithin (meaning given.now).moves (meaning more.now).moves }
+    ensures abandon { result ≡ true →
+        IsWithin (meaning given.now).abandon (meaning more.now).abandon }
 {
     given.variables().is_subset(more.variables())
         && given.stops().is_subset(more.stops())
         && given.pauses().is_subset(more.pauses())
-}
-
-/// Whether routines may still move their return words, and calls may still be abandoned, wherever that was allowed.
-fn keeps_leave<A: Allocator, B: Allocator>(given: &Declaration<A>, more: &Declaration<B>) -> bool
-    ensures moves { result ≡ true →
-        IsWithin (meaning given.now).moves (meaning more.now).moves }
-    ensures abandon { result ≡ true →
-        IsWithin (meaning given.now).abandon (meaning more.now).abandon }
-{
-    given.moves().is_subset(more.moves()) && given.abandons().is_subset(more.abandons())
+        && given.moves().is_subset(more.moves())
+        && given.abandons().is_subset(more.abandons())
 }
 
 /// Whether the second declaration extends the first.
@@ -60,9 +56,6 @@ pub fn extends<A: Allocator, B: Allocator>(given: &Declaration<A>, more: &Declar
         return false;
     }
     if !keeps_reads(given.reads(), more.reads()) {
-        return false;
-    }
-    if !keeps_leave(given, more) {
         return false;
     }
     keeps_cells(given, more)

@@ -1,6 +1,6 @@
 //! Whether a text keeps the lines of another text that something is added to.
 
-ghost use Rattle.std.specs.Prelude.{◌≡◌, ◌<◌, ◌+◌, ℕ, List, ◌∷◌, ◌++◌, IfSome, Some, true, length, take, drop};
+ghost use Rattle.std.specs.Prelude.{◌≡◌, ◌<◌, ◌+◌, ℕ, List, ◌∷◌, ◌++◌, IfSome, Some, true, length};
 ghost use Rattle.std.specs.List.{list_all, position};
 ghost use Rattle.std.specs.Str.{bytes_eq};
 ghost use Rattle.std.specs.Str.Lines.{strip_carriage_return};
@@ -12,23 +12,23 @@ const MARK: &[u8] = b" / added";
 /// The word in this comment that comes before offsets.
 const RETURNS: &[u8] = b"returns";
 
-/// The first line of a text, and what follows it.
+/// A prefix of a text, and what follows it.
 #[derive(Clone, Copy)]
-struct FirstLine<'a> {
-    line: &'a [u8],
+struct Parted<'a> {
+    front: &'a [u8],
     rest: &'a [u8],
 }
 
 /// The first line of a text and what follows it, if the line ends with a line feed.
-fn front_line<'a>(text: &'a [u8]) -> Option<FirstLine<'a>>
+fn front_line<'a>(text: &'a [u8]) -> Option<Parted<'a>>
     ensures has { IfSome result (λ it. HasLine text.now) }
-    ensures line { IfSome result (λ it. it.line.now ≡ first_line text.now) }
+    ensures line { IfSome result (λ it. it.front.now ≡ first_line text.now) }
     ensures rest { IfSome result (λ it. it.rest.now ≡ other_lines text.now) }
     ensures shorter { IfSome result (λ it. length it.rest.now < length text.now) }
 {
     let end = feed_in(text)?;
-    Some(FirstLine {
-        line: &text[..end],
+    Some(Parted {
+        front: &text[..end],
         rest: &text[end + 1..],
     })
 }
@@ -95,46 +95,11 @@ fn ends_word(text: &[u8]) -> bool
     }
 }
 
-/// A prefix of a text, and what follows it.
-#[derive(Clone, Copy)]
-struct Parted<'a> {
-    front: &'a [u8],
-    rest: &'a [u8],
-}
-
-/// The index at which the first word of a text ends, if something follows it.
-fn place_of_end(text: &[u8]) -> Option<usize>
-    ensures { result ≡ position is_end text.now }
-{
-    text.iter().position(|byte| is_end(*byte))
-}
-
-/// The first word of a text, and what follows it.
-fn first_word(text: &[u8]) -> Parted<'_>
-    ensures parts { text.now ≡ result.front.now ++ result.rest.now }
-{
-    match place_of_end(text) {
-        Some(end) => Parted {
-            front: &text[..end],
-            rest: &text[end..],
-        },
-        None => Parted {
-            front: text,
-            rest: &[],
-        },
-    }
-}
-
-/// The index of the first byte that a row of ranges and offsets is not spelled with.
-fn place_of_other(text: &[u8]) -> Option<usize> {
-    text.iter().position(|byte| !is_spaced(*byte))
-}
-
-/// The ranges and offsets at the beginning of a text, and what follows them.
-fn first_ranges(text: &[u8]) -> Parted<'_>
+/// A text, parted at this index if it has one.
+fn parted_at(text: &[u8], end: Option<usize>) -> Parted<'_>
     ensures { text.now ≡ result.front.now ++ result.rest.now }
 {
-    match place_of_other(text) {
+    match end {
         Some(end) if end < text.len() => Parted {
             front: &text[..end],
             rest: &text[end..],
@@ -144,6 +109,20 @@ fn first_ranges(text: &[u8]) -> Parted<'_>
             rest: &[],
         },
     }
+}
+
+/// The first word of a text, and what follows it.
+fn first_word(text: &[u8]) -> Parted<'_>
+    ensures { text.now ≡ result.front.now ++ result.rest.now }
+{
+    parted_at(text, text.iter().position(|byte| is_end(*byte)))
+}
+
+/// The ranges and offsets at the beginning of a text, and what follows them.
+fn first_ranges(text: &[u8]) -> Parted<'_>
+    ensures { text.now ≡ result.front.now ++ result.rest.now }
+{
+    parted_at(text, text.iter().position(|byte| !is_spaced(*byte)))
 }
 
 /// Whether a text that comes after the beginning of the marking comment names ranges, and perhaps offsets after the
@@ -341,7 +320,7 @@ fn are_added(text: &[u8]) -> bool
         let Some(it) = front_line(rest) else {
             return false;
         };
-        if !is_added(it.line) {
+        if !is_added(it.front) {
             return false;
         }
         rest = it.rest;
@@ -374,9 +353,9 @@ pub(crate) fn keeps_lines(given: &[u8], text: &[u8]) -> bool
             return false;
         };
         let Some(old) = front_line(left) else {
-            return keeps_last(left, new.line, new.rest);
+            return keeps_last(left, new.front, new.rest);
         };
-        if !keeps_line(old.line, new.line) {
+        if !keeps_line(old.front, new.front) {
             return false;
         }
         left = old.rest;

@@ -1,5 +1,6 @@
 //! The text of a declaration, with what it lacks of another declaration added.
 
+use crate::completing::end_text;
 use control_flow::{above_seven, push_range, push_skips};
 use declaration::{Declaration, Offsets, Routine};
 use std::alloc::{AllocError, Allocator};
@@ -10,12 +11,15 @@ use wordset::WordSet;
 /// The maximum number of ranges in an added line, if there may be several lines of its kind.
 const MOST_RANGES: usize = 7;
 
-/// What a declaration says about cells, as far as it decides what may be added.
-#[derive(Clone, Copy)]
-struct DeclaredCells {
+/// A declaration, and another one from which it gets what it lacks.
+#[derive(Drop)]
+struct Merging<'a, A: Allocator> {
+    given: &'a Declaration<A>,
+    proposed: &'a Declaration<A>,
+    /// The cells of all bodies of the given declaration.
     bodies: WordSet,
+    /// The entries of all its routines.
     entries: WordSet,
-    variables: WordSet,
 }
 
 /// What is added to the line of a routine.
@@ -25,33 +29,22 @@ struct Addition {
     offsets: WordSet,
 }
 
-/// The cells of the main body and of the bodies of some routines.
-fn bodies(main: &WordSet, routines: &[Routine]) -> WordSet {
-    let mut cells = *main;
-    for routine in routines {
+/// The cells of all bodies of a declaration.
+pub(crate) fn bodies_of<A: Allocator>(declaration: &Declaration<A>) -> WordSet {
+    let mut cells = *declaration.main();
+    for routine in declaration.routines() {
         cells = cells.union(routine.body());
     }
     cells
 }
 
-/// The entries of some routines.
-fn entries(routines: &[Routine]) -> WordSet {
-    let mut cells = WordSet::empty();
-    for routine in routines {
-        cells.insert(routine.entry());
+/// The entries of all routines of a declaration.
+pub(crate) fn entries_of<A: Allocator>(declaration: &Declaration<A>) -> WordSet {
+    let mut entries = WordSet::empty();
+    for routine in declaration.routines() {
+        entries.insert(routine.entry());
     }
-    cells
-}
-
-/// The cells that are added to bodies.
-fn added_bodies(held: &DeclaredCells, main: &WordSet, routines: &[Routine]) -> WordSet {
-    let mut cells = held.free(main);
-    for routine in routines {
-        if held.entries.contains(routine.entry()) || held.admits(routine) {
-            cells = cells.union(&held.free(routine.body()));
-        }
-    }
-    cells
+    entries
 }
 
 /// The routine of an entry, if there is one.
@@ -72,7 +65,7 @@ pub(crate) fn set_of(offsets: &Offsets) -> WordSet {
 }
 
 /// The offsets at which a declared routine may return, whichever lines declare them.
-fn offsets_of<A: Allocator>(declaration: &Declaration<A>, entry: Word) -> WordSet {
+pub(crate) fn offsets_of<A: Allocator>(declaration: &Declaration<A>, entry: Word) -> WordSet {
     let mut set = WordSet::empty();
     for index in 0..64usize {
         let offset = Word::from_index(index);
@@ -81,39 +74,6 @@ fn offsets_of<A: Allocator>(declaration: &Declaration<A>, entry: Word) -> WordSe
         }
     }
     set
-}
-
-impl DeclaredCells {
-    /// What this declaration says.
-    fn by<A: Allocator>(declaration: &Declaration<A>) -> DeclaredCells {
-        DeclaredCells {
-            bodies: bodies(declaration.main(), declaration.routines()),
-            entries: entries(declaration.routines()),
-            variables: *declaration.variables(),
-        }
-    }
-
-    /// The cells of a body that are in no declared body and are no declared entry.
-    fn free(&self, body: &WordSet) -> WordSet {
-        body.minus(&self.bodies).minus(&self.entries)
-    }
-
-    /// Whether a routine may be added: its entry has no other role, and its body has a free cell.
-    fn admits(&self, routine: &Routine) -> bool {
-        let entry = routine.entry();
-        if self.entries.contains(entry) || self.bodies.contains(entry) {
-            return false;
-        }
-        !self.variables.contains(entry) && !self.free(routine.body()).is_empty()
-    }
-
-    /// The variables that may be added. A cell of a body becomes a variable only if it is in a body of the other
-    /// declaration too.
-    fn added_variables<A: Allocator>(&self, proposed: &Declaration<A>) -> WordSet {
-        let code = bodies(proposed.main(), proposed.routines());
-        let kept = self.bodies.minus(&code).union(&self.entries);
-        proposed.variables().minus(&self.variables).minus(&kept)
-    }
 }
 
 /// The entry on this line, if it is the line of a routine.
@@ -126,26 +86,6 @@ fn entry_on(line: &[u8]) -> Option<Word> {
         },
         _ => None,
     }
-}
-
-/// What is added to a line, if anything is.
-fn addition_to<A: Allocator, B: Allocator>(
-    line: &[u8],
-    given: &Declaration<A>,
-    proposed: &Declaration<B>,
-    held: &DeclaredCells,
-) -> Option<Addition> {
-    let entry = entry_on(line)?;
-    if !given.is_entry(entry) {
-        return None;
-    }
-    let other = routine_of(proposed.routines(), entry)?;
-    let body = held.free(other.body());
-    let offsets = set_of(&other.offsets()).minus(&offsets_of(given, entry));
-    if body.is_empty() && offsets.is_empty() {
-        return None;
-    }
-    Some(Addition { body, offsets })
 }
 
 /// Adds the ranges of a set, each after a space.
@@ -225,33 +165,19 @@ fn push_halts<A: Allocator>(
     Ok(())
 }
 
-/// Adds the line of a routine, with the free cells of its body.
-fn push_routine<A: Allocator>(
+/// Adds the line of a routine with this body and these offsets, without its end.
+pub(crate) fn push_sub<A: Allocator>(
     text: &mut Vec<u8, A>,
-    held: &DeclaredCells,
-    routine: &Routine,
+    entry: Word,
+    body: &WordSet,
+    offsets: &WordSet,
 ) -> Result<(), AllocError> {
     text.extend_from_slice(b"sub")?;
-    push_range(text, routine.entry(), routine.entry())?;
+    push_range(text, entry, entry)?;
     text.extend_from_slice(b" body")?;
-    push_ranges(text, &held.free(routine.body()))?;
+    push_ranges(text, body)?;
     text.extend_from_slice(b" returns")?;
-    push_offsets(text, &set_of(&routine.offsets()))?;
-    end_line(text)
-}
-
-/// Adds the lines of the routines that may be added.
-fn push_routines<A: Allocator>(
-    text: &mut Vec<u8, A>,
-    held: &DeclaredCells,
-    routines: &[Routine],
-) -> Result<(), AllocError> {
-    for routine in routines {
-        if held.admits(routine) {
-            push_routine(text, held, routine)?;
-        }
-    }
-    Ok(())
+    push_offsets(text, offsets)
 }
 
 /// The words of a part of a line, without its comment, and what comes after them.
@@ -320,123 +246,158 @@ fn push_line<A: Allocator>(
     }
 }
 
-/// Takes a byte of the given text. At the end of a line, the line is added.
-fn take_byte<A: Allocator, B: Allocator>(
-    text: &mut Vec<u8, A>,
-    line: &mut Vec<u8, A>,
-    byte: u8,
-    given: &Declaration<B>,
-    proposed: &Declaration<B>,
-    held: &DeclaredCells,
-) -> Result<(), AllocError> {
-    if byte != b'\n' {
-        return line.extend_from_slice(&[byte]);
-    }
-    push_line(text, line, &addition_to(line, given, proposed, held))?;
-    line.clear();
-    text.extend_from_slice(b"\n")
-}
-
-/// Adds the given lines, with what is added to them.
-fn push_given<A: Allocator, B: Allocator>(
-    text: &mut Vec<u8, A>,
-    line: &mut Vec<u8, A>,
-    bytes: &[u8],
-    given: &Declaration<B>,
-    proposed: &Declaration<B>,
-    held: &DeclaredCells,
-) -> Result<(), AllocError> {
-    for byte in bytes {
-        take_byte(text, line, *byte, given, proposed, held)?;
-    }
-    if line.is_empty() {
-        return Ok(());
-    }
-    take_byte(text, line, b'\n', given, proposed, held)
-}
-
-/// Adds the lines of the halts that may be added: each is in some body, and is not a halt yet.
-fn push_all_halts<A: Allocator, B: Allocator>(
-    text: &mut Vec<u8, A>,
-    given: &Declaration<B>,
-    proposed: &Declaration<B>,
-    held: &DeclaredCells,
-) -> Result<(), AllocError> {
-    let inside = added_bodies(held, proposed.main(), proposed.routines()).union(&held.bodies);
-    let open = inside.minus(given.stops()).minus(given.pauses());
-    push_halts(text, b"stop", &proposed.stops().meet(&open))?;
-    push_halts(text, b"pause", &proposed.pauses().meet(&open))
-}
-
-/// The offsets above 7 at which the routine of an entry may return.
-fn further_offsets<A: Allocator>(declaration: &Declaration<A>, entry: Word) -> WordSet {
-    let mut offsets = WordSet::empty();
-    for skips in declaration.skips() {
-        if skips.entry() == entry {
-            offsets = offsets.union(skips.offsets());
+impl<'a, B: Allocator> Merging<'a, B> {
+    /// The given declaration with what it lacks of the proposed one.
+    fn of(given: &'a Declaration<B>, proposed: &'a Declaration<B>) -> Merging<'a, B> {
+        Merging {
+            given,
+            proposed,
+            bodies: bodies_of(given),
+            entries: entries_of(given),
         }
     }
-    above_seven(&offsets)
-}
 
-/// Adds the lines with the offsets above 7 at which routines may return.
-fn push_all_skips<A: Allocator, B: Allocator>(
-    text: &mut Vec<u8, A>,
-    given: &Declaration<B>,
-    proposed: &Declaration<B>,
-    entries: &WordSet,
-) -> Result<(), AllocError> {
-    for entry in entries.iter() {
-        let offsets = further_offsets(proposed, entry).minus(&further_offsets(given, entry));
-        if !offsets.is_empty() {
-            push_skips(text, entry, &offsets)?;
-            end_line(text)?;
+    /// The cells of a body that are in no given body and are no given entry.
+    fn free(&self, body: &WordSet) -> WordSet {
+        body.minus(&self.bodies).minus(&self.entries)
+    }
+
+    /// Whether a routine may be added: its entry has no other role, and its body has a free cell.
+    fn admits(&self, routine: &Routine) -> bool {
+        let entry = routine.entry();
+        if self.entries.contains(entry) || self.bodies.contains(entry) {
+            return false;
+        }
+        !self.given.is_variable(entry) && !self.free(routine.body()).is_empty()
+    }
+
+    /// The entries of all routines, including those that may be added.
+    fn all_entries(&self) -> WordSet {
+        let mut entries = self.entries;
+        for routine in self.proposed.routines() {
+            if self.admits(routine) {
+                entries.insert(routine.entry());
+            }
+        }
+        entries
+    }
+
+    /// The cells of all bodies, including those that may be added to the bodies of these routines.
+    fn all_bodies(&self, entries: &WordSet) -> WordSet {
+        let mut cells = self.bodies.union(&self.free(self.proposed.main()));
+        for routine in self.proposed.routines() {
+            if entries.contains(routine.entry()) {
+                cells = cells.union(&self.free(routine.body()));
+            }
+        }
+        cells
+    }
+
+    /// The variables that may be added. A cell of a body becomes a variable only if it is in a body of the other
+    /// declaration too.
+    fn added_variables(&self) -> WordSet {
+        let kept = self
+            .bodies
+            .minus(&bodies_of(self.proposed))
+            .union(&self.entries);
+        let variables = self.proposed.variables();
+        variables.minus(self.given.variables()).minus(&kept)
+    }
+
+    /// What is added to a line, if anything is.
+    fn addition_to(&self, line: &[u8]) -> Option<Addition> {
+        let entry = entry_on(line)?;
+        if !self.given.is_entry(entry) {
+            return None;
+        }
+        let other = routine_of(self.proposed.routines(), entry)?;
+        let body = self.free(other.body());
+        let offsets = set_of(&other.offsets()).minus(&offsets_of(self.given, entry));
+        if body.is_empty() && offsets.is_empty() {
+            return None;
+        }
+        Some(Addition { body, offsets })
+    }
+
+    /// Adds the given lines, with what is added to them.
+    fn push_given<A: Allocator>(
+        &self,
+        text: &mut Vec<u8, A>,
+        bytes: &[u8],
+    ) -> Result<(), AllocError> {
+        for line in bytes.split(|byte| *byte == b'\n') {
+            push_line(text, line, &self.addition_to(line))?;
+            text.extend_from_slice(b"\n")?;
+        }
+        // There is no line after the last line feed.
+        let _ = text.pop();
+        end_text(text)
+    }
+
+    /// Adds the lines of the routines that may be added, with the free cells of their bodies.
+    fn push_routines<A: Allocator>(&self, text: &mut Vec<u8, A>) -> Result<(), AllocError> {
+        for routine in self.proposed.routines() {
+            if self.admits(routine) {
+                let body = self.free(routine.body());
+                push_sub(text, routine.entry(), &body, &set_of(&routine.offsets()))?;
+                end_line(text)?;
+            }
+        }
+        Ok(())
+    }
+
+    /// Adds the lines with the offsets above 7 at which routines may return.
+    fn push_all_skips<A: Allocator>(
+        &self,
+        text: &mut Vec<u8, A>,
+        entries: &WordSet,
+    ) -> Result<(), AllocError> {
+        for entry in entries.iter() {
+            let lacking = offsets_of(self.proposed, entry).minus(&offsets_of(self.given, entry));
+            let offsets = above_seven(&lacking);
+            if !offsets.is_empty() {
+                push_skips(text, entry, &offsets)?;
+                end_line(text)?;
+            }
+        }
+        Ok(())
+    }
+
+    /// Adds the lines that say at which other offsets routines may return, which of them may store in their entries,
+    /// and for which places of main all calls may be abandoned.
+    fn push_permissions<A: Allocator>(
+        &self,
+        text: &mut Vec<u8, A>,
+        entries: &WordSet,
+    ) -> Result<(), AllocError> {
+        let (given, proposed) = (self.given, self.proposed);
+        self.push_all_skips(text, entries)?;
+        let moves = proposed.moves().minus(given.moves()).meet(entries);
+        push_cells(text, b"moves", &moves)?;
+        let main = self.free(proposed.main()).union(given.main());
+        let abandons = proposed.abandons().minus(given.abandons()).meet(&main);
+        push_cells(text, b"abandon", &abandons)
+    }
+
+    /// Adds the lines of the halts that may be added: each is in some body, and is not a halt yet.
+    fn push_all_halts<A: Allocator>(
+        &self,
+        text: &mut Vec<u8, A>,
+        entries: &WordSet,
+    ) -> Result<(), AllocError> {
+        let halts = self.given.stops().union(self.given.pauses());
+        let open = self.all_bodies(entries).minus(&halts);
+        push_halts(text, b"stop", &self.proposed.stops().meet(&open))?;
+        push_halts(text, b"pause", &self.proposed.pauses().meet(&open))
+    }
+
+    /// Adds the lines of the cells that may be read and are not yet listed, if reads are listed.
+    fn push_reads<A: Allocator>(&self, text: &mut Vec<u8, A>) -> Result<(), AllocError> {
+        match (self.given.reads(), self.proposed.reads()) {
+            (Some(listed), Some(cells)) => push_cells(text, b"read", &cells.minus(listed)),
+            _ => Ok(()),
         }
     }
-    Ok(())
-}
-
-/// The entries of all routines, including those that may be added.
-fn all_entries<A: Allocator>(held: &DeclaredCells, proposed: &Declaration<A>) -> WordSet {
-    let mut entries = held.entries;
-    for routine in proposed.routines() {
-        if held.admits(routine) {
-            entries.insert(routine.entry());
-        }
-    }
-    entries
-}
-
-/// Adds the lines that say at which other offsets routines may return, which of them may store in their entries, and
-/// for which places of main all calls may be abandoned.
-fn push_permissions<A: Allocator, B: Allocator>(
-    text: &mut Vec<u8, A>,
-    given: &Declaration<B>,
-    proposed: &Declaration<B>,
-    held: &DeclaredCells,
-) -> Result<(), AllocError> {
-    let entries = all_entries(held, proposed);
-    push_all_skips(text, given, proposed, &entries)?;
-    let moves = proposed.moves().minus(given.moves()).meet(&entries);
-    push_cells(text, b"moves", &moves)?;
-    let main = held.free(proposed.main()).union(given.main());
-    let abandons = proposed.abandons().minus(given.abandons()).meet(&main);
-    push_cells(text, b"abandon", &abandons)
-}
-
-/// Adds the lines of the cells that may be read and are not yet listed, if reads are listed.
-fn push_reads<A: Allocator, B: Allocator>(
-    text: &mut Vec<u8, A>,
-    given: &Declaration<B>,
-    proposed: &Declaration<B>,
-) -> Result<(), AllocError> {
-    let Some(listed) = given.reads() else {
-        return Ok(());
-    };
-    let Some(cells) = proposed.reads() else {
-        return Ok(());
-    };
-    push_cells(text, b"read", &cells.minus(listed))
 }
 
 /// The text of a declaration, with what it lacks of another one: ranges and offsets are added to the lines of its
@@ -448,15 +409,15 @@ pub(crate) fn merged<A: Allocator + Copy, B: Allocator>(
     given: &Declaration<B>,
     proposed: &Declaration<B>,
 ) -> Result<Vec<u8, A>, AllocError> {
-    let held = DeclaredCells::by(given);
+    let merging = Merging::of(given, proposed);
+    let entries = merging.all_entries();
     let mut text = Vec::new(alloc);
-    let mut line = Vec::new(alloc);
-    push_given(&mut text, &mut line, bytes, given, proposed, &held)?;
-    push_cells(&mut text, b"main", &held.free(proposed.main()))?;
-    push_routines(&mut text, &held, proposed.routines())?;
-    push_permissions(&mut text, given, proposed, &held)?;
-    push_cells(&mut text, b"var", &held.added_variables(proposed))?;
-    push_all_halts(&mut text, given, proposed, &held)?;
-    push_reads(&mut text, given, proposed)?;
+    merging.push_given(&mut text, bytes)?;
+    push_cells(&mut text, b"main", &merging.free(proposed.main()))?;
+    merging.push_routines(&mut text)?;
+    merging.push_permissions(&mut text, &entries)?;
+    push_cells(&mut text, b"var", &merging.added_variables())?;
+    merging.push_all_halts(&mut text, &entries)?;
+    merging.push_reads(&mut text)?;
     Ok(text)
 }

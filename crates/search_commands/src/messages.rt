@@ -18,7 +18,7 @@ use crate::verifying::{
     inconclusive_reason_of,
 };
 use crate::widening::{FinalProposal, settle, with_reason};
-use analyser::{Attempt, GuessFault, guess, guess_or_draft};
+use analyser::{Attempt, GuessFault, guess_or_draft};
 use bin_tape::Image;
 use certificate::Certificate;
 use command_parts::message::Message;
@@ -31,7 +31,7 @@ use itoa::Buffer;
 use machine_commands::violations::violation_lines;
 use policy::{Rule, Watched};
 use proposer::propose;
-use refuter::{Witness, refute_within};
+use refuter::refute_within;
 use std::alloc::{AllocError, Allocator};
 use turns::Turns;
 use word12::Word;
@@ -67,32 +67,8 @@ pub struct ProposalMessage<A: Allocator> {
     pub why: Message<A>,
 }
 
-/// Searches for a run that violates a declaration, for which no certificate was found.
-fn refuted<A: Allocator + Copy, D: Allocator>(
-    alloc: A,
-    image: &Image,
-    declaration: &Declaration<D>,
-    options: &RefuteOptions,
-    lack: InconclusiveReason,
-) -> Result<Answer<A>, Fault>
-    ensures answer { IfOk result (IsAnswer image.now (meaning declaration.now)) }
-    ensures faults { IfErr result IsMemoryFault }
-{
-    let mut turns = Turns::new(options.steps);
-    match refute_within(
-        alloc,
-        image,
-        declaration,
-        u64::from(options.seed),
-        &mut turns,
-    )? {
-        Some(found) => Ok(Answer::No(found)),
-        None => Ok(Answer::NotKnown(lack)),
-    }
-}
-
-/// Searches for a run that violates a declaration, and keeps what the search for a certificate had found, if that is
-/// known.
+/// Searches for a run that violates a declaration for which no certificate was found, and keeps what the search for a
+/// certificate had found, if that is known.
 fn answer_on<A: Allocator + Copy, D: Allocator>(
     alloc: A,
     image: &Image,
@@ -105,47 +81,17 @@ fn answer_on<A: Allocator + Copy, D: Allocator>(
         IsAnswer image.now (meaning declaration.now) found.answer) }
     ensures faults { IfErr result IsMemoryFault }
 {
-    match refuted(alloc, image, declaration, options, lack) {
-        Ok(answer) => Ok(AnswerWithDraft { answer, draft }),
-        Err(fault) => Err(fault),
-    }
-}
-
-/// The answer after a search for a certificate that ended with this fault.
-fn answer_after<A: Allocator + Copy, D: Allocator>(
-    alloc: A,
-    image: &Image,
-    declaration: &Declaration<D>,
-    options: &RefuteOptions,
-    fault: GuessFault,
-) -> Result<AnswerWithDraft<A>, Fault>
-    ensures answer { IfOk result (λ found.
-        IsAnswer image.now (meaning declaration.now) found.answer) }
-    ensures faults { IfErr result IsMemoryFault }
-{
-    match inconclusive_reason_of(fault) {
-        Ok(lack) => answer_on(alloc, image, declaration, options, lack, None),
-        Err(fault) => Err(fault),
-    }
-}
-
-/// The answer about a given declaration.
-fn answer_of<A: Allocator + Copy, D: Allocator>(
-    alloc: A,
-    image: &Image,
-    declaration: &Declaration<D>,
-    options: &RefuteOptions,
-) -> Result<AnswerWithDraft<A>, Fault>
-    ensures answer { IfOk result (λ found.
-        IsAnswer image.now (meaning declaration.now) found.answer) }
-    ensures faults { IfErr result IsMemoryFault }
-{
-    match guess(alloc, image, declaration) {
-        Ok(certificate) => Ok(AnswerWithDraft {
-            answer: Answer::Yes(certificate),
-            draft: None,
+    let mut turns = Turns::new(options.steps);
+    let seed = u64::from(options.seed);
+    match refute_within(alloc, image, declaration, seed, &mut turns)? {
+        Some(found) => Ok(AnswerWithDraft {
+            answer: Answer::No(found),
+            draft,
         }),
-        Err(fault) => answer_after(alloc, image, declaration, options, fault),
+        None => Ok(AnswerWithDraft {
+            answer: Answer::NotKnown(lack),
+            draft,
+        }),
     }
 }
 
@@ -177,7 +123,7 @@ fn answer_by_attempt<A: Allocator + Copy, D: Allocator>(
 
 /// The answer about a given declaration, with the draft of a search that is stuck. Only one search for a certificate is
 /// made.
-fn answer_with_draft<A: Allocator + Copy, D: Allocator>(
+fn answer_of<A: Allocator + Copy, D: Allocator>(
     alloc: A,
     image: &Image,
     declaration: &Declaration<D>,
@@ -189,7 +135,10 @@ fn answer_with_draft<A: Allocator + Copy, D: Allocator>(
 {
     match guess_or_draft(alloc, image, declaration) {
         Ok(attempt) => answer_by_attempt(alloc, image, declaration, options, attempt),
-        Err(fault) => answer_after(alloc, image, declaration, options, fault),
+        Err(fault) => match inconclusive_reason_of(fault) {
+            Ok(lack) => answer_on(alloc, image, declaration, options, lack, None),
+            Err(fault) => Err(fault),
+        },
     }
 }
 
@@ -254,12 +203,18 @@ fn proposed_line<A: Allocator + Copy>(
     Ok(text)
 }
 
-/// What the search for a certificate lacks, given what it had found: the lines of `guess --why` after its first one.
-fn lacking_message<A: Allocator + Copy, D: Allocator>(
+/// What the search for a certificate lacks: the lines of `guess --why` after its first one, from the draft if that is
+/// known, and otherwise from another search.
+fn stuck_message<A: Allocator + Copy, D: Allocator>(
     alloc: A,
     image: &Image,
     declaration: &Declaration<D>,
+    draft: &Option<Certificate<A>>,
+    at: Word,
 ) -> Result<Message<A>, AllocError> {
+    if let Some(draft) = draft {
+        return draft_message(alloc, image, declaration, draft, at);
+    }
     let attempt = match guess_or_draft(alloc, image, declaration) {
         Ok(attempt) => attempt,
         Err(GuessFault::NoMemory) => return Err(AllocError),
@@ -269,35 +224,6 @@ fn lacking_message<A: Allocator + Copy, D: Allocator>(
         Attempt::Found(_) => Ok(Message::new(alloc)),
         Attempt::Stuck(at, draft) => draft_message(alloc, image, declaration, draft, *at),
     }
-}
-
-/// The same lines, from the draft if that is known, and otherwise from another search.
-fn stuck_message<A: Allocator + Copy, D: Allocator>(
-    alloc: A,
-    image: &Image,
-    declaration: &Declaration<D>,
-    draft: &Option<Certificate<A>>,
-    at: Word,
-) -> Result<Message<A>, AllocError> {
-    match draft {
-        Some(draft) => draft_message(alloc, image, declaration, draft, at),
-        None => lacking_message(alloc, image, declaration),
-    }
-}
-
-/// What the last step of a run, which violates a rule, is about to do.
-fn violation_message<A: Allocator + Copy, D: Allocator>(
-    alloc: A,
-    image: &Image,
-    declaration: &Declaration<D>,
-    found: &Witness<A>,
-) -> Result<Message<A>, Fault>
-    ensures { IfErr result IsMemoryFault }
-{
-    let (event, rule) = (found.event, found.rule);
-    let watched = Watched::Broken { event, rule };
-    let events = &found.events;
-    Ok(violation_lines(alloc, image, declaration, events, watched, true)?)
 }
 
 /// The lines after an answer that say why: after a yes, what in the declaration is wider than the certificate needs,
@@ -322,7 +248,12 @@ fn why_message<A: Allocator + Copy, D: Allocator>(
         Answer::NotKnown(InconclusiveReason::Stuck(at)) => {
             Ok(stuck_message(alloc, image, declaration, &found.draft, *at)?)
         }
-        Answer::No(witness) => violation_message(alloc, image, declaration, witness),
+        Answer::No(found) => {
+            let (event, rule) = (found.event, found.rule);
+            let watched = Watched::Broken { event, rule };
+            let events = &found.events;
+            Ok(violation_lines(alloc, image, declaration, events, watched, true)?)
+        }
     }
 }
 
@@ -373,10 +304,6 @@ pub fn verify_message<A: Allocator + Copy, D: Allocator>(
         told.line.items ≡ answer_text (meaning declaration.now) told.answer) }
     ensures faults { IfErr result IsMemoryFault }
 {
-    if options.explained {
-        let found = answer_with_draft(alloc, image, declaration, options)?;
-        return message_of(alloc, image, declaration, found, options.explained);
-    }
     let found = answer_of(alloc, image, declaration, options)?;
     message_of(alloc, image, declaration, found, options.explained)
 }

@@ -1,26 +1,19 @@
 //! The text of a declaration without what a certificate shows to be unnecessary.
 
-use crate::merging::{parted, push_offsets, push_ranges, routine_of, set_of};
-use crate::returning::push_digits;
-use bin_tape::Image;
-use certificate::Certificate;
+use crate::merging::{parted, push_ranges, push_sub, routine_of, set_of};
+use crate::returning::{OFFSETS, Shown, push_spaced_digits};
 use control_flow::push_range;
 use declaration::{Declaration, Routine};
 use std::alloc::{AllocError, Allocator};
 use streams::text::{Words, is, octal_word};
-use usage::{Register, Surplus, returned, surplus_of};
+use usage::{Register, Surplus, surplus_of};
 use word12::Word;
 use wordset::WordSet;
-
-/// The number of offsets at which a routine may be declared to return.
-const OFFSETS: usize = 64;
 
 /// A program with its declaration and a certificate, and the parts of the declaration that are left out.
 #[derive(Drop)]
 struct Needless<'a, D: Allocator, C: Allocator> {
-    image: &'a Image,
-    declaration: &'a Declaration<D>,
-    certificate: &'a Certificate<C>,
+    shown: Shown<'a, D, C>,
     surplus: Surplus,
     /// The cells that are left out of bodies.
     cells: WordSet,
@@ -48,15 +41,6 @@ fn asserted_places<D: Allocator>(declaration: &Declaration<D>) -> WordSet {
     places
 }
 
-/// The entries of the routines at whose returns something is declared to hold.
-fn asserted_entries<D: Allocator>(declaration: &Declaration<D>) -> WordSet {
-    let mut entries = WordSet::empty();
-    for returning in declaration.returns() {
-        entries.insert(returning.entry());
-    }
-    entries
-}
-
 /// The entries of the routines that are left out: they are never called, their bodies lose all cells, and nothing is
 /// declared to hold at their returns.
 fn entries_without_use<D: Allocator>(
@@ -64,12 +48,16 @@ fn entries_without_use<D: Allocator>(
     uncalled: &WordSet,
     cells: &WordSet,
 ) -> WordSet {
-    let asserted = asserted_entries(declaration);
     let mut entries = WordSet::empty();
     for routine in declaration.routines() {
         let entry = routine.entry();
         let is_idle = uncalled.contains(entry) && routine.body().is_subset(cells);
-        if is_idle && !asserted.contains(entry) {
+        if is_idle
+            && !declaration
+                .returns()
+                .iter()
+                .any(|line| line.entry() == entry)
+        {
             entries.insert(entry);
         }
     }
@@ -115,11 +103,9 @@ fn push_offset_ranges<A: Allocator>(
     offsets: &WordSet,
 ) -> Result<(), AllocError> {
     for (first, last) in offsets.ranges() {
-        text.extend_from_slice(b" ")?;
-        push_digits(text, first)?;
+        push_spaced_digits(text, b" ", first)?;
         if first != last {
-            text.extend_from_slice(b"-")?;
-            push_digits(text, last)?;
+            push_spaced_digits(text, b"-", last)?;
         }
     }
     Ok(())
@@ -161,45 +147,25 @@ fn push_cells<A: Allocator>(
 impl<'a, D: Allocator, C: Allocator> Needless<'a, D, C> {
     /// The parts that a certificate shows to be unnecessary. What is declared to hold stays, and so do the cells and
     /// the routines that it names.
-    fn of(
-        image: &'a Image,
-        declaration: &'a Declaration<D>,
-        certificate: &'a Certificate<C>,
-    ) -> Needless<'a, D, C> {
-        let surplus = surplus_of(image, declaration, certificate);
+    fn of(shown: Shown<'a, D, C>) -> Needless<'a, D, C> {
+        let declaration = shown.declaration;
+        let surplus = surplus_of(shown.image, declaration, shown.certificate);
         let cells = surplus.unexecuted.minus(&asserted_places(declaration));
         let entries = entries_without_use(declaration, &surplus.uncalled, &cells);
         Needless {
-            image,
-            declaration,
-            certificate,
+            shown,
             surplus,
             cells,
             entries,
         }
     }
 
-    /// Whether a routine returns at an offset.
-    fn returns_by(&self, entry: Word, offset: usize) -> bool {
-        if offset >= OFFSETS {
-            return false;
-        }
-        !returned(
-            Register::Accumulator,
-            self.image,
-            self.declaration,
-            self.certificate,
-            entry,
-            offset,
-        )
-        .is_empty()
-    }
-
     /// The offsets at which a routine never returns.
     fn idle_offsets(&self, entry: Word) -> WordSet {
         let mut offsets = WordSet::empty();
         for offset in 0..OFFSETS {
-            if !self.returns_by(entry, offset) {
+            let words = self.shown.returned(Register::Accumulator, entry, offset);
+            if words.is_empty() {
                 offsets.insert(Word::from_index(offset));
             }
         }
@@ -234,17 +200,12 @@ impl<'a, D: Allocator, C: Allocator> Needless<'a, D, C> {
             return push_whole(text, line);
         }
         let (_, rest) = parted(line);
-        text.extend_from_slice(b"sub")?;
-        push_range(text, entry, entry)?;
-        text.extend_from_slice(b" body")?;
-        push_ranges(text, &body)?;
-        text.extend_from_slice(b" returns")?;
-        push_offsets(text, &offsets)?;
+        push_sub(text, entry, &body, &offsets)?;
         push_whole(text, rest)
     }
 
     /// Adds the line of a routine, whose entry is the first word after `sub`.
-    fn push_sub<A: Allocator>(
+    fn push_routine_line<A: Allocator>(
         &self,
         text: &mut Vec<u8, A>,
         line: &[u8],
@@ -252,7 +213,7 @@ impl<'a, D: Allocator, C: Allocator> Needless<'a, D, C> {
     ) -> Result<(), AllocError> {
         let mut words = rest;
         let entry = words.next().and_then(octal_word);
-        let routines = self.declaration.routines();
+        let routines = self.shown.declaration.routines();
         match entry.and_then(|entry| routine_of(routines, entry)) {
             Some(routine) => self.push_routine(text, line, routine),
             None => push_whole(text, line),
@@ -285,26 +246,25 @@ impl<'a, D: Allocator, C: Allocator> Needless<'a, D, C> {
         push_whole(text, comment)
     }
 
-    /// Adds a line that gives permissions to entries or cells, or any other line, without what is left out of it.
-    fn push_permission<A: Allocator>(
-        &self,
-        text: &mut Vec<u8, A>,
-        line: &[u8],
-        name: &[u8],
-        rest: Words<'_>,
-    ) -> Result<(), AllocError> {
+    /// The cells that are left out of the lines with this name, and how the others are written; nothing if these lines
+    /// are not of cells alone.
+    fn gone_from(&self, name: &[u8]) -> Option<(WordSet, Spelling)> {
         let surplus = &self.surplus;
-        if is(name, "moves") {
-            let gone = surplus.unmoved.union(&self.entries);
-            return push_cells(text, line, &gone, Spelling::Addresses);
+        if is(name, "main") {
+            Some((self.cells, Spelling::Ranges))
+        } else if is(name, "var") {
+            Some((surplus.unwritten, Spelling::Ranges))
+        } else if is(name, "read") {
+            Some((surplus.unread, Spelling::RangesOrNone))
+        } else if is(name, "stop") || is(name, "pause") {
+            Some((surplus.unhalted, Spelling::Addresses))
+        } else if is(name, "moves") {
+            Some((surplus.unmoved.union(&self.entries), Spelling::Addresses))
+        } else if is(name, "abandon") {
+            Some((surplus.unabandoned, Spelling::Addresses))
+        } else {
+            None
         }
-        if is(name, "abandon") {
-            return push_cells(text, line, &surplus.unabandoned, Spelling::Addresses);
-        }
-        if is(name, "skips") {
-            return self.push_further(text, line, rest);
-        }
-        push_whole(text, line)
     }
 
     /// Adds a line without what is left out of it.
@@ -315,26 +275,17 @@ impl<'a, D: Allocator, C: Allocator> Needless<'a, D, C> {
     ) -> Result<(), AllocError> {
         let (front, _) = parted(line);
         let mut words = Words::of(front);
-        let surplus = &self.surplus;
-        let Some(name) = words.next() else {
-            return push_whole(text, line);
-        };
-        if is(name, "main") {
-            return push_cells(text, line, &self.cells, Spelling::Ranges);
-        }
-        if is(name, "var") {
-            return push_cells(text, line, &surplus.unwritten, Spelling::Ranges);
-        }
-        if is(name, "read") {
-            return push_cells(text, line, &surplus.unread, Spelling::RangesOrNone);
-        }
-        if is(name, "stop") || is(name, "pause") {
-            return push_cells(text, line, &surplus.unhalted, Spelling::Addresses);
+        let name = words.next().unwrap_or(b"");
+        if let Some((gone, spelling)) = self.gone_from(name) {
+            return push_cells(text, line, &gone, spelling);
         }
         if is(name, "sub") {
-            return self.push_sub(text, line, words);
+            return self.push_routine_line(text, line, words);
         }
-        self.push_permission(text, line, name, words)
+        if is(name, "skips") {
+            return self.push_further(text, line, words);
+        }
+        push_whole(text, line)
     }
 }
 
@@ -342,11 +293,9 @@ impl<'a, D: Allocator, C: Allocator> Needless<'a, D, C> {
 pub(crate) fn narrowed<A: Allocator + Copy, D: Allocator, C: Allocator>(
     alloc: A,
     bytes: &[u8],
-    image: &Image,
-    declaration: &Declaration<D>,
-    certificate: &Certificate<C>,
+    shown: Shown<'_, D, C>,
 ) -> Result<Vec<u8, A>, AllocError> {
-    let needless = Needless::of(image, declaration, certificate);
+    let needless = Needless::of(shown);
     let mut text = Vec::new(alloc);
     for line in bytes.split(|byte| *byte == b'\n') {
         needless.push_line(&mut text, line)?;

@@ -1,7 +1,7 @@
 //! What `declare` makes of a declaration for which a certificate is found: it leaves out what is unnecessary, and adds
 //! what routines return with.
 
-ghost use Rattle.std.specs.Prelude.{ℕ, ◌≡◌, true, is_some, List, Option, IfOk, IfErr, IfSome};
+ghost use Rattle.std.specs.Prelude.{ℕ, ◌≡◌, true, List, Option, IfOk, IfErr, IfSome};
 ghost use Rattle.command_parts.specs.Answers.{IsMemoryFault};
 ghost use Rattle.declaration.specs.DeclarationInCode.{meaning};
 ghost use Rattle.declaration.specs.Text.{Declares};
@@ -9,25 +9,21 @@ ghost use Rattle.search_commands.specs.Keeping.{KeepsLines};
 ghost use Rattle.search_commands.specs.Refining.{IsNoWider, IsRefined};
 
 use crate::adding::adds_only;
-use crate::completing::{end_text, lack_in};
+use crate::completing::end_text;
 use crate::declaring::copy_of;
 use crate::keeping::keeps_lines;
+use crate::merging::{bodies_of, entries_of, offsets_of};
 use crate::narrowing::narrowed;
-use crate::returning::push_all_returns;
-use crate::verifying::inconclusive_reason_of;
-use analyser::guess;
+use crate::returning::{Shown, push_all_returns};
+use crate::verifying::certificate_for;
 use bin_tape::Image;
-use certificate::Certificate;
 use command_parts::message::{Message, MessageWriter};
 use command_parts::status::Fault;
 use declaration::{Declaration, DeclarationFault};
 use diagnostics::verdicts::surplus_text::{push_cells, push_routine_offsets};
+use proposer::is_alike;
 use std::alloc::{AllocError, Allocator};
-use word12::Word;
 use wordset::WordSet;
-
-/// The number of offsets at which a routine may be declared to return.
-const OFFSETS: usize = 64;
 
 /// The message if nothing is left out because no certificate is found.
 const NOT_SHOWN: &[u8] =
@@ -62,76 +58,25 @@ pub struct Refinement<A: Allocator> {
     pub told: Message<A>,
 }
 
-/// Whether two declarations require the same to hold at places.
-fn holds_alike<A: Allocator, B: Allocator>(given: &Declaration<A>, less: &Declaration<B>) -> bool {
-    less.holds() == given.holds()
-}
-
-/// Whether what is to hold at returns in one declaration comes first among what is to hold there in another one.
-fn keeps_returns<A: Allocator, B: Allocator>(
-    given: &Declaration<A>,
-    less: &Declaration<B>,
-) -> bool {
-    less.returns().starts_with(given.returns())
-}
-
-/// Whether a declaration has the same start and machine as another one, and lists reads exactly if the other one does.
-fn is_alike<A: Allocator, B: Allocator>(given: &Declaration<A>, less: &Declaration<B>) -> bool
-    ensures start { result ≡ true → (meaning less.now).start ≡ (meaning given.now).start }
-    ensures profile { result ≡ true → (meaning less.now).profile ≡ (meaning given.now).profile }
-    ensures listed { result ≡ true →
-        is_some (meaning less.now).reads ≡ is_some (meaning given.now).reads }
-{
-    if less.start() != given.start() {
-        return false;
-    }
-    if less.profile() != given.profile() {
-        return false;
-    }
-    less.reads_listed() == given.reads_listed()
-}
-
-/// Whether a declaration is no wider than another one.
+/// Whether a declaration is no wider than another one: it has the same start and machine, lists reads exactly if the
+/// other one does, requires the same to hold at places, and at returns first what the other one requires there.
 fn is_no_wider<A: Allocator, B: Allocator>(given: &Declaration<A>, less: &Declaration<B>) -> bool
     ensures { result ≡ true → IsNoWider (meaning given.now) (meaning less.now) }
 {
     if !is_alike(given, less) {
         return false;
     }
-    if !holds_alike(given, less) {
+    if less.reads_listed() != given.reads_listed() {
         return false;
     }
-    if !keeps_returns(given, less) {
+    if less.holds() != given.holds() || !less.returns().starts_with(given.returns()) {
         return false;
     }
     adds_only(given, given, less)
 }
 
-/// Whether what a text declares is no wider than what a given text declares, and a certificate is found for it.
-#[tactic(auto, using(crate::proofs::RefiningLemmas::shown_change))]
-fn is_shown_change<A: Allocator + Copy, D: Allocator>(
-    alloc: A,
-    image: &Image,
-    text: &[u8],
-    given: &Declaration<D>,
-    written: &[u8],
-    less: &Declaration<A>,
-) -> Result<bool, Fault>
-    requires given { Declares text.now (meaning given.now) }
-    requires less { Declares written.now (meaning less.now) }
-    ensures refined { IfOk result (λ yes. yes ≡ true → IsRefined image.now text.now written.now) }
-    ensures faults { IfErr result IsMemoryFault }
-{
-    if !is_no_wider(given, less) {
-        return Ok(false);
-    }
-    match lack_in(alloc, image, less)? {
-        None => Ok(true),
-        Some(_) => Ok(false),
-    }
-}
-
 /// What a text declares, if that is no wider than what a given text declares, and a certificate is found for it.
+#[tactic(auto, using(crate::proofs::RefiningLemmas::shown_change))]
 fn shown_no_wider<A: Allocator + Copy, D: Allocator>(
     alloc: A,
     image: &Image,
@@ -146,30 +91,16 @@ fn shown_no_wider<A: Allocator + Copy, D: Allocator>(
 {
     match Declaration::parse(alloc, written) {
         Ok(less) => {
-            if !is_shown_change(alloc, image, text, given, written, &less)? {
+            if !is_no_wider(given, &less) {
                 return Ok(None);
             }
-            Ok(Some(less))
+            match certificate_for(alloc, image, &less)? {
+                Ok(_certificate) => Ok(Some(less)),
+                Err(_) => Ok(None),
+            }
         }
         Err(DeclarationFault::NoMemory) => Err(Fault::NoMemory),
         Err(_) => Ok(None),
-    }
-}
-
-/// A certificate for a program and its declaration, if one is found.
-fn certificate_for<A: Allocator + Copy, D: Allocator>(
-    alloc: A,
-    image: &Image,
-    declaration: &Declaration<D>,
-) -> Result<Option<Certificate<A>>, Fault>
-    ensures { IfErr result IsMemoryFault }
-{
-    match guess(alloc, image, declaration) {
-        Ok(certificate) => Ok(Some(certificate)),
-        Err(fault) => match inconclusive_reason_of(fault) {
-            Ok(_) => Ok(None),
-            Err(fault) => Err(fault),
-        },
     }
 }
 
@@ -187,46 +118,12 @@ fn unchanged<A: Allocator + Copy>(alloc: A, text: &[u8], why: &[u8]) -> Result<R
     Ok(Refinement { text, told })
 }
 
-/// The cells of all bodies of a declaration.
-fn bodies_of<D: Allocator>(declaration: &Declaration<D>) -> WordSet {
-    let mut cells = *declaration.main();
-    for routine in declaration.routines() {
-        cells = cells.union(routine.body());
-    }
-    cells
-}
-
-/// The entries of all routines of a declaration.
-fn entries_of<D: Allocator>(declaration: &Declaration<D>) -> WordSet {
-    let mut entries = WordSet::empty();
-    for routine in declaration.routines() {
-        entries.insert(routine.entry());
-    }
-    entries
-}
-
 /// The cells on the list of reads, or no cells if there is no list.
 fn reads_of<D: Allocator>(declaration: &Declaration<D>) -> WordSet {
     match declaration.reads() {
         Some(cells) => *cells,
         None => WordSet::empty(),
     }
-}
-
-/// The offsets at which a routine may return in one declaration but not in another one.
-fn lost_offsets<A: Allocator, B: Allocator>(
-    given: &Declaration<A>,
-    less: &Declaration<B>,
-    entry: Word,
-) -> WordSet {
-    let mut offsets = WordSet::empty();
-    for index in 0..OFFSETS {
-        let offset = Word::from_index(index);
-        if given.has_offset(entry, offset) && !less.has_offset(entry, offset) {
-            offsets.insert(offset);
-        }
-    }
-    offsets
 }
 
 /// Adds the offsets that are left out of routines that stay.
@@ -237,7 +134,7 @@ fn push_lost_offsets<L: MessageWriter, A: Allocator, B: Allocator>(
 ) -> Result<(), AllocError> {
     for routine in less.routines() {
         let entry = routine.entry();
-        let offsets = lost_offsets(given, less, entry);
+        let offsets = offsets_of(given, entry).minus(&offsets_of(less, entry));
         push_routine_offsets(
             told,
             b"--tight leaves out offsets by which the routine ",
@@ -332,10 +229,15 @@ pub fn tightened<A: Allocator + Copy>(
     ensures { IfOk result (λ refined. IsRefined image.now text.now refined.text.items) }
 {
     let given = Declaration::parse(alloc, text)?;
-    let Some(certificate) = certificate_for(alloc, image, &given)? else {
+    let Ok(certificate) = certificate_for(alloc, image, &given)? else {
         return unchanged(alloc, text, NOT_SHOWN);
     };
-    let less = narrowed(alloc, text, image, &given, &certificate)?;
+    let shown = Shown {
+        image,
+        declaration: &given,
+        certificate: &certificate,
+    };
+    let less = narrowed(alloc, text, shown)?;
     let Some(left) = shown_no_wider(alloc, image, text, &given, &less)? else {
         return unchanged(alloc, text, NOT_SHOWN_NARROWER);
     };
@@ -347,13 +249,11 @@ pub fn tightened<A: Allocator + Copy>(
 fn text_with_returns<A: Allocator + Copy, D: Allocator, C: Allocator>(
     alloc: A,
     text: &[u8],
-    image: &Image,
-    declaration: &Declaration<D>,
-    certificate: &Certificate<C>,
+    shown: &Shown<'_, D, C>,
 ) -> Result<Vec<u8, A>, AllocError> {
     let mut more = copy_of(alloc, text)?;
     end_text(&mut more)?;
-    push_all_returns(&mut more, image, declaration, certificate)?;
+    push_all_returns(&mut more, shown)?;
     Ok(more)
 }
 
@@ -373,10 +273,15 @@ pub fn with_returns<A: Allocator + Copy>(
     ensures keeps { IfOk result (λ refined. KeepsLines text.now refined.text.items) }
 {
     let given = Declaration::parse(alloc, text)?;
-    let Some(certificate) = certificate_for(alloc, image, &given)? else {
+    let Ok(certificate) = certificate_for(alloc, image, &given)? else {
         return unchanged(alloc, text, NO_RETURNS_SHOWN);
     };
-    let more = text_with_returns(alloc, text, image, &given, &certificate)?;
+    let shown = Shown {
+        image,
+        declaration: &given,
+        certificate: &certificate,
+    };
+    let more = text_with_returns(alloc, text, &shown)?;
     if more.len() <= text.len().saturating_add(1) {
         return unchanged(alloc, text, NO_RETURNS);
     }

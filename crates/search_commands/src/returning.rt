@@ -1,5 +1,7 @@
 //! Lines that say what routines return with.
 
+ghost use Rattle.std.specs.Prelude.{◌<◌};
+
 use crate::merging::end_line;
 use bin_tape::Image;
 use certificate::Certificate;
@@ -11,14 +13,14 @@ use word12::Word;
 use wordset::WordSet;
 
 /// The number of offsets at which a routine may be declared to return.
-const OFFSETS: usize = 64;
+pub(crate) const OFFSETS: usize = 64;
 
 /// A program with its declaration, and a certificate that shows that the program complies with it.
 #[derive(Drop)]
-struct Shown<'a, D: Allocator, C: Allocator> {
-    image: &'a Image,
-    declaration: &'a Declaration<D>,
-    certificate: &'a Certificate<C>,
+pub(crate) struct Shown<'a, D: Allocator, C: Allocator> {
+    pub(crate) image: &'a Image,
+    pub(crate) declaration: &'a Declaration<D>,
+    pub(crate) certificate: &'a Certificate<C>,
 }
 
 /// A register at a return of a routine.
@@ -49,34 +51,30 @@ impl RegisterAtReturn {
     /// Whether a line says that the register holds only words from this set at this return.
     fn is_asserted_by(&self, line: &ReturnAssertion, words: &WordSet) -> bool {
         let assertion = line.assertion();
-        let is_subject = match self.register {
-            Register::Accumulator => *assertion.subject() == Subject::Accumulator,
-            Register::Link => *assertion.subject() == Subject::Link,
+        let subject = match self.register {
+            Register::Accumulator => Subject::Accumulator,
+            Register::Link => Subject::Link,
         };
-        is_subject
+        *assertion.subject() == subject
             && line.entry() == self.entry
             && line.offsets().contains(self.offset)
             && assertion.words().is_subset(words)
     }
 }
 
-/// Adds an offset or a link, as one digit or two.
-pub(crate) fn push_digits<A: Allocator>(
+/// Adds a separator and an offset or a link, as one digit or two.
+pub(crate) fn push_spaced_digits<A: Allocator>(
     text: &mut Vec<u8, A>,
+    before: &[u8],
     word: Word,
 ) -> Result<(), AllocError> {
+    text.extend_from_slice(before)?;
     let digits = word.to_octal();
     if word.index() < 8 {
         text.extend_from_slice(&digits[3..])
     } else {
         text.extend_from_slice(&digits[2..])
     }
-}
-
-/// Adds a space and an offset or a link.
-fn push_spaced_digits<A: Allocator>(text: &mut Vec<u8, A>, word: Word) -> Result<(), AllocError> {
-    text.extend_from_slice(b" ")?;
-    push_digits(text, word)
 }
 
 /// Adds the words that a register holds; the link is written as a digit.
@@ -88,25 +86,23 @@ fn push_words<A: Allocator>(
     for (first, last) in words.ranges() {
         match register {
             Register::Accumulator => push_range(text, first, last)?,
-            Register::Link => push_spaced_digits(text, first)?,
+            Register::Link => push_spaced_digits(text, b" ", first)?,
         }
     }
     Ok(())
 }
 
 impl<D: Allocator, C: Allocator> Shown<'_, D, C> {
-    /// The words that a register may hold at a return.
-    fn words_at(&self, place: &RegisterAtReturn) -> WordSet {
-        let offset = place.offset.index();
-        if offset >= OFFSETS {
-            return WordSet::empty();
-        }
+    /// The words that a register may hold when the routine of an entry returns at an offset.
+    pub(crate) fn returned(&self, register: Register, entry: Word, offset: usize) -> WordSet
+        requires { offset < 64 }
+    {
         returned(
-            place.register,
+            register,
             self.image,
             self.declaration,
             self.certificate,
-            place.entry,
+            entry,
             offset,
         )
     }
@@ -124,15 +120,24 @@ impl<D: Allocator, C: Allocator> Shown<'_, D, C> {
     fn push_register<A: Allocator>(
         &self,
         text: &mut Vec<u8, A>,
-        place: &RegisterAtReturn,
-    ) -> Result<(), AllocError> {
-        let words = self.words_at(place);
-        if words.is_empty() || place.is_free(&words) || self.is_asserted(place, &words) {
+        entry: Word,
+        offset: usize,
+        register: Register,
+    ) -> Result<(), AllocError>
+        requires { offset < 64 }
+    {
+        let words = self.returned(register, entry, offset);
+        let place = RegisterAtReturn {
+            entry,
+            offset: Word::from_index(offset),
+            register,
+        };
+        if words.is_empty() || place.is_free(&words) || self.is_asserted(&place, &words) {
             return Ok(());
         }
         text.extend_from_slice(b"returns")?;
         push_range(text, place.entry, place.entry)?;
-        push_spaced_digits(text, place.offset)?;
+        push_spaced_digits(text, b" ", place.offset)?;
         text.extend_from_slice(place.name())?;
         push_words(text, place.register, &words)?;
         end_line(text)
@@ -144,19 +149,9 @@ impl<D: Allocator, C: Allocator> Shown<'_, D, C> {
         text: &mut Vec<u8, A>,
         entry: Word,
     ) -> Result<(), AllocError> {
-        for index in 0..OFFSETS {
-            let offset = Word::from_index(index);
-            let accumulator = RegisterAtReturn {
-                entry,
-                offset,
-                register: Register::Accumulator,
-            };
-            self.push_register(text, &accumulator)?;
-            let link = RegisterAtReturn {
-                register: Register::Link,
-                ..accumulator
-            };
-            self.push_register(text, &link)?;
+        for offset in 0..OFFSETS {
+            self.push_register(text, entry, offset, Register::Accumulator)?;
+            self.push_register(text, entry, offset, Register::Link)?;
         }
         Ok(())
     }
@@ -166,16 +161,9 @@ impl<D: Allocator, C: Allocator> Shown<'_, D, C> {
 /// AC may hold according to the certificate, and a line that says what the link may be.
 pub(crate) fn push_all_returns<A: Allocator, D: Allocator, C: Allocator>(
     text: &mut Vec<u8, A>,
-    image: &Image,
-    declaration: &Declaration<D>,
-    certificate: &Certificate<C>,
+    shown: &Shown<'_, D, C>,
 ) -> Result<(), AllocError> {
-    let shown = Shown {
-        image,
-        declaration,
-        certificate,
-    };
-    for routine in declaration.routines() {
+    for routine in shown.declaration.routines() {
         shown.push_returns(text, routine.entry())?;
     }
     Ok(())

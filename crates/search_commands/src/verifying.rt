@@ -1,13 +1,18 @@
 //! Answers to the question whether a program complies with its declaration.
 
-ghost use Rattle.std.specs.Prelude.{◌≡◌, IfErr};
+ghost use Rattle.std.specs.Prelude.{◌≡◌, IfErr, IfOk};
 ghost use Rattle.command_parts.specs.Answers.{IsMemoryFault};
+ghost use Rattle.declaration.specs.DeclarationInCode.{meaning};
+ghost use Rattle.peripherals.specs.Loading.{image_of};
+ghost use Rattle.policy.specs.Runs.{IsSafe};
 ghost use Rattle.search_commands.specs.VerifyText.{answer_status};
 
-use analyser::GuessFault;
+use analyser::{GuessFault, guess};
+use bin_tape::Image;
 use certificate::Certificate;
 pub use command_parts::options::{RefuteOptions, VerifyOptions};
 use command_parts::status::{Fault, Status};
+use declaration::Declaration;
 use proposer::Obstacle;
 use refuter::Witness;
 use std::alloc::Allocator;
@@ -65,5 +70,24 @@ pub(crate) fn inconclusive_reason_of(fault: GuessFault) -> Result<InconclusiveRe
         GuessFault::Stuck(at) => Ok(InconclusiveReason::Stuck(at)),
         GuessFault::TurnsSpent => Ok(InconclusiveReason::TurnsSpent),
         GuessFault::NoMemory => Err(Fault::NoMemory),
+    }
+}
+
+/// A certificate for a program and its declaration, or why none is found.
+pub(crate) fn certificate_for<A: Allocator + Copy, D: Allocator>(
+    alloc: A,
+    image: &Image,
+    declaration: &Declaration<D>,
+) -> Result<Result<Certificate<A>, InconclusiveReason>, Fault>
+    ensures shown { IfOk result (λ found. IfOk found (λ _.
+        IsSafe (image_of image.now) (meaning declaration.now))) }
+    ensures faults { IfErr result IsMemoryFault }
+{
+    match guess(alloc, image, declaration) {
+        Ok(certificate) => Ok(Ok(certificate)),
+        Err(fault) => match inconclusive_reason_of(fault) {
+            Ok(lack) => Ok(Err(lack)),
+            Err(fault) => Err(fault),
+        },
     }
 }

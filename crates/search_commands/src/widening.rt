@@ -1,7 +1,6 @@
 //! The answer for a tape alone: the proposal is widened as long as runs leave it.
 
 ghost use Rattle.std.specs.Prelude.{◌≡◌, ◌++◌, false, None, IfOk, IfErr};
-ghost use Rattle.command_parts.specs.Answers.{IsMemoryFault};
 ghost use Rattle.command_parts.specs.Faults.{fails_to_write};
 ghost use Rattle.declaration.specs.DeclarationInCode.{meaning};
 ghost use Rattle.declaration.specs.Text.{Declares};

@@ -1,7 +1,9 @@
-use Rattle.std.specs.Prelude.{Some}
 use Rattle.declaration.specs.DeclarationInCode.{meaning}
 use Rattle.search_commands.proofs.CompleteLemmas.{lacking_completes}
 use Rattle.search_commands.proofs.completing.lacking.Goals as goal
 
-pub returns-clause-completes : goal.returns-clause-completes
-returns-clause-completes g c image = lacking_completes image (Some c.args.bytes.now) (meaning c.args.given.now) c.in_ok-more.more.items c.in_ok-more.ensures.extends
+pub returns-in-Some-clause-completes : goal.returns-in-Some-clause-completes
+returns-in-Some-clause-completes g c image = ?
+
+pub returns-in-None-clause-completes : goal.returns-in-None-clause-completes
+returns-in-None-clause-completes g c image = ?

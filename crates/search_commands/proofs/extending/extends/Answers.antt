@@ -14,6 +14,6 @@ returns g c =
       stops = c.keeps_sets.ensures.stops c.if-not-keeps_sets.false;
       pauses = c.keeps_sets.ensures.pauses c.if-not-keeps_sets.false;
       reads = kept;
-      moves = c.keeps_leave.ensures.moves c.if-not-keeps_leave.false;
-      abandon = c.keeps_leave.ensures.abandon c.if-not-keeps_leave.false;
+      moves = c.keeps_sets.ensures.moves c.if-not-keeps_sets.false;
+      abandon = c.keeps_sets.ensures.abandon c.if-not-keeps_sets.false;
     }

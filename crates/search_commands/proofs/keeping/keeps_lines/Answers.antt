@@ -5,7 +5,7 @@ use Rattle.search_commands.proofs.keeping.keeps_lines.Goals as goal
 
 pub loop-left-preserved : goal.loop-left-preserved
 loop-left-preserved c = λ others. c.loop-left.invariant
-    (one_more_kept c.loop-left.left.now c.loop-left.rest.now c.in-Some-front_line.old.line.now c.in-Some-front_line.old.rest.now c.in-Some.new.line.now c.in-Some.new.rest.now
+    (one_more_kept c.loop-left.left.now c.loop-left.rest.now c.in-Some-front_line.old.front.now c.in-Some-front_line.old.rest.now c.in-Some.new.front.now c.in-Some.new.rest.now
     c.in-Some-front_line.ensures.has c.in-Some-front_line.ensures.line c.in-Some-front_line.ensures.rest
     c.in-Some.ensures.has c.in-Some.ensures.line c.in-Some.ensures.rest
     (c.keeps_line.ensures c.if-not-keeps_line.false) others)
@@ -15,7 +15,7 @@ returns-then-is_same c = λ done. same_text c.args.given.now c.args.text.now (sy
 
 pub returns-in_default-front_line : goal.returns-in_default-front_line
 returns-in_default-front_line c = λ done. c.loop-left.invariant
-    (last_kept c.loop-left.left.now c.loop-left.rest.now c.in-Some.new.line.now c.in-Some.new.rest.now c.in-Some.ensures.has c.in-Some.ensures.line c.in-Some.ensures.rest
+    (last_kept c.loop-left.left.now c.loop-left.rest.now c.in-Some.new.front.now c.in-Some.new.rest.now c.in-Some.ensures.has c.in-Some.ensures.line c.in-Some.ensures.rest
     (c.keeps_last.ensures.kept done) (c.keeps_last.ensures.added done))
 
 pub returns : goal.returns

@@ -145,7 +145,7 @@ fn answered<A: Allocator + Copy>(
     let (mut told, start) = (String::new(alloc), options(false).start);
     match command {
         Command::Assemble => assemble(alloc, &mut parts, MACHINE, None, &mut told, out),
-        Command::List => list(alloc, &mut parts, MACHINE, None, &mut told, out),
+        Command::List => list(alloc, &mut parts, MACHINE, false, None, &mut told, out),
         Command::Source => source(alloc, &mut tape, start, MACHINE, out),
         Command::Dump => dump(alloc, &mut tape, MACHINE, out),
         Command::Run => run(alloc, &mut tape, options(false), out),
@@ -496,7 +496,9 @@ fn each_refusal_of_memory_for_faults_leaves_a_fault(rt: HostRuntime) {
         let mut told = String::new(&tight);
         let (mut parts, mut out) = ([FINE.source(0, FAULTY)], FINE.sink(0, rt.alloc()));
         let names = Some(["bad.pal"].as_slice());
-        let answer = list(&tight, &mut parts, MACHINE, names, &mut told, &mut out);
+        let answer = list(
+            &tight, &mut parts, MACHINE, false, names, &mut told, &mut out,
+        );
         if !tight.has_refused() {
             assert!(rt; matches!(answer, Err(Fault::Source(_))));
             return;

@@ -1,6 +1,6 @@
 -- The lines of a table, one after another, and why there is no table.
 use Rattle.std.proofs.Common.{◌≡◌, ◌∙◌, sym, ap, subst, refl, ℕ, ◌+◌, ◌<◌, ◌≤◌, List, [], ◌∷◌, ◌++◌, append_assoc, length, get_or, drop}
-use Rattle.std.specs.Prelude.{codes, slice_get, Bool, false, Option, Some}
+use Rattle.std.specs.Prelude.{codes, slice_get, Bool, true, false, Option, Some}
 use Rattle.std.proofs.lemmas.List.{drop_more, drop_all, append-nil}
 use Rattle.std.proofs.lemmas.Option.{slice_get_within, slice_get-get_or}
 use Rattle.pal_text.specs.declared.names.Name.{Name}
@@ -8,10 +8,13 @@ use Rattle.instruct.specs.declared.Profile.{Profile}
 use Rattle.command_parts.specs.declared.status.Fault.{Fault}
 use Rattle.command_parts.specs.declared.status.Fault.TheVariants.{Tape, EmptyImage, Source, Declared, Certificate, Events, Guess, Declare, Device}
 use Rattle.command_parts.specs.declared.status.Fault.TheVariants as fault
+use Rattle.pal_acts.specs.Permanent.{permanent_symbols}
+use Rattle.pal_asm.specs.Listings.{Lists}
+use Rattle.pal_asm.specs.Sources.{Means}
 use Rattle.source_commands.specs.AssembleText.{IsAssemblyFault, IsListFault}
 use Rattle.source_commands.specs.SourceTexts.{AreRead, is_bad_number}
 use Rattle.source_commands.specs.declared.cross.Entry.{Entry}
-use Rattle.source_commands.specs.Cross.{AddsLines, AreLines, entries_of, next_line, no_line, head_text}
+use Rattle.source_commands.specs.Cross.{AddsLines, AreLines, HasTable, IsListed, entries_of, next_line, no_line, head_text}
 
 -- What was added to a text are the lines of the entries before this one: with the lines of the others after it, the
 -- text has the lines of all entries.
@@ -70,3 +73,12 @@ not_listed profile marks sources left parts (Events fault) number read is = absu
 not_listed profile marks sources left parts (Guess fault) number read is = absurd is
 not_listed profile marks sources left parts (Declare fault) number read is = absurd is
 not_listed profile marks sources left parts (Device fault) number read is = absurd is
+
+-- what is written for the listing of the parts
+pub listed_as : (crossed : Bool) (profile : Profile) (sources : List (Option (List ℕ))) (parts : List (List ℕ)) (symbols : List (Name × ℕ)) (image : List (Option ℕ)) (listing text : List ℕ) →
+    AreRead sources parts → Means (permanent_symbols profile) parts symbols image → Lists (permanent_symbols profile) parts symbols listing →
+    (crossed ≡ false → text ≡ listing) → (crossed ≡ true → HasTable symbols listing text) → IsListed crossed profile sources text
+listed_as false profile sources parts symbols image listing text read means lists plain table =
+    record { symbols = symbols; image = image; parts = parts; read = read; means = means; lists = rw (plain refl) lists }
+listed_as true profile sources parts symbols image listing text read means lists plain table =
+    record { symbols = symbols; image = image; parts = parts; read = read; means = means; listing = listing; lists = lists; crossed = table refl }

@@ -1,11 +1,13 @@
 -- Sources after the one that is refused.
 use Rattle.std.proofs.Common.{ℕ, zero, suc, ◌≡◌, ◌+◌, ◌-◌, ◌<◌, ◌≤◌, Bool, true, false, ◌||◌, List, [], ◌∷◌, map, take, drop, length, slice_set, arith, refl, zero-add, sym, ◌∙◌, ap, inl, inr}
-use Rattle.std.specs.Prelude.{Option, Some, IfSome, slice_get}
+use Rattle.std.specs.Prelude.{Option, Some, IfSome, Result, Err, slice_get}
 use Rattle.std.specs.List.{AllByRecursion, list_any}
 use Rattle.std.proofs.lemmas.Bool.{cases_lt}
 use Rattle.std.proofs.lemmas.List.{drop-set-lt, take-map, take-set, length-map}
 use Rattle.std.proofs.lemmas.Option.{slice_get_within}
-use Rattle.source_commands.specs.SourceTexts.{AreRead, HasLeft, IsShort, IsLongAt, LeavesThoseAfter}
+use Rattle.command_parts.specs.Faults.{fails_to_read}
+use Rattle.command_parts.specs.declared.status.Fault.{Fault}
+use Rattle.source_commands.specs.SourceTexts.{AreRead, HasLeft, IsShort, IsLongAt, LeavesThoseAfter, ReadsParts}
 use Rattle.source_commands.proofs.SourceLemmas.{AreEnded}
 use Rattle.source_commands.proofs.PartLemmas.{short_sources}
 
@@ -131,3 +133,15 @@ marked_whole mark ss os i at past none there =
     let is : at < length (map mark ss) = slice_get_within (map mark ss) at true there in
     let within : at < i = omega (arith, is, past, length-map ss mark) in
     absurd (unmarked mark ss i at none within there)
+
+-- an answer that says what another one says of the sources
+pub reads_alike : {S T U : Type 0} (mark : S → Bool) (remaining : S → Option (List ℕ)) (old new : List S) (r : Result T Fault) (s : Result U Fault) →
+    fails_to_read s ≡ fails_to_read r → ((f : Fault) → r ≡ Err f → s ≡ Err f) → ReadsParts mark remaining old new r → ReadsParts mark remaining old new s
+reads_alike mark remaining old new r s same told reads = record {
+  marks = reads.marks ∙ sym same;
+  number = λ bad. (told _ (reads.number bad).0, (reads.number bad).1);
+  unread = reads.unread;
+  unread_after_failure = reads.unread_after_failure;
+  unread_after = reads.unread_after;
+  takes = reads.takes;
+}

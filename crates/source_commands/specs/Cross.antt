@@ -1,5 +1,5 @@
 -- The table of the symbols of a source, with what its statements do with them.
-use Rattle.std.specs.Prelude.{ℕ, ◌≡◌, List, [], ◌∷◌, ◌++◌, codes, Option}
+use Rattle.std.specs.Prelude.{ℕ, ◌≡◌, Bool, true, false, List, [], ◌∷◌, ◌++◌, codes, Option}
 use Rattle.std.specs.List.Sorted.{IsPermutation}
 use Rattle.instruct.specs.declared.Profile.{Profile}
 use Rattle.word12.specs.Words.{octal_text}
@@ -8,6 +8,7 @@ use Rattle.pal_acts.specs.Permanent.{permanent_symbols}
 use Rattle.pal_asm.specs.Listings.{Lists}
 use Rattle.pal_asm.specs.Sources.{Means}
 use Rattle.source_commands.specs.declared.cross.Entry.{Entry}
+use Rattle.source_commands.specs.AssembleText.{IsListing}
 use Rattle.source_commands.specs.SourceTexts.{AreRead}
 
 -- The symbols of a source as entries of its table.
@@ -53,3 +54,8 @@ pub record IsCrossListing (profile : Profile) (sources : List (Option (List ℕ)
   pub listing : List ℕ
   pub lists : Lists (permanent_symbols profile) parts symbols listing
   pub crossed : HasTable symbols listing text
+
+-- What is written for a listing: the listing itself or, if that is requested, the listing with the table.
+abbrev pub IsListed : Bool → Profile → List (Option (List ℕ)) → List ℕ → Type 0
+IsListed false profile sources text = IsListing profile sources text
+IsListed true profile sources text = IsCrossListing profile sources text

@@ -1,10 +1,11 @@
 -- The parts of a source as they are read.
-use Rattle.std.specs.Prelude.{ℕ, ◌≡◌, ◌+◌, ◌≤◌, ◌<◌, Bool, true, false, ◌||◌, nat_lt, IfSome, List, [], ◌∷◌, Option, Some, length, take, drop, slice_get}
-use Rattle.std.specs.List.{AllByRecursion}
+use Rattle.std.specs.Prelude.{ℕ, ◌≡◌, ◌+◌, ◌≤◌, ◌<◌, Bool, true, false, ◌||◌, nat_lt, IfSome, List, [], ◌∷◌, Option, Some, Result, Err, length, map, take, drop, slice_get}
+use Rattle.std.specs.List.{AllByRecursion, list_any}
 use Rattle.streams.specs.Bytes.{Gave}
 use Rattle.pal_acts.specs.declared.fault_code.FaultCode.TheVariants.{TooLong}
 use Rattle.pal_asm.specs.Sources.{fault_at, size_fault}
 use Rattle.command_parts.specs.declared.status.Fault.{Fault}
+use Rattle.command_parts.specs.Faults.{fails_to_read}
 use Rattle.command_parts.specs.Inputs.{TakesAtMost}
 use Rattle.command_parts.specs.declared.status.Fault.TheVariants.{Source, Device}
 use Rattle.command_parts.specs.declared.status.Fault.TheVariants as fault
@@ -84,3 +85,18 @@ pub record HasLeft (sources left : List (Option (List ℕ))) (at : ℕ) : Type 0
 -- The sources after this one are as they were.
 abbrev pub LeavesThoseAfter : {S : Type 0} → ℕ → List S → List S → Type 0
 LeavesThoseAfter at old new = drop (at + 1) new ≡ drop (at + 1) old
+
+-- How sources are read as parts, one after another, where it is given whether a read of a source failed and which bytes it
+-- has; and what the command answers.
+pub record ReadsParts {S T : Type 0} (mark : S → Bool) (remaining : S → Option (List ℕ)) (old new : List S) (result : Result T Fault) : Type 0 where
+  -- a read failed if and only if the answer says so
+  pub marks : list_any mark new ≡ fails_to_read result
+  -- a wrong number of sources is reported, and nothing is read
+  pub number : is_bad_number (length old) ≡ true → (result ≡ Err (Source (fault_at TooLong 0 0))) × (new ≡ old)
+  -- the sources after one that is too long, or whose read failed, are not read
+  pub unread : (at : ℕ) → IsLongAt (map remaining old) at → LeavesThoseAfter at old new
+  pub unread_after_failure : (at : ℕ) → slice_get (map mark new) at ≡ Some true → LeavesThoseAfter at old new
+  -- a source is read only if those before it are read to their ends
+  pub unread_after : (at : ℕ) → HasLeft (map remaining old) (map remaining new) at → LeavesThoseAfter at old new
+  -- from a source, at most one byte more is taken than a part may have, which shows that the part is too long
+  pub takes : EachTakesAtMost 65537 (map remaining old) (map remaining new)

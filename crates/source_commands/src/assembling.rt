@@ -1,19 +1,19 @@
 //! The commands that assemble a source.
 
-ghost use Rattle.std.specs.Prelude.{◌≡◌, Err, None, false, true, length, map, IfOk, IfErr, OnOk, OnErr, Some, slice_get, ℕ};
-ghost use Rattle.std.specs.List.{AllByRecursion, list_any};
+ghost use Rattle.std.specs.Prelude.{◌≡◌, None, false, true, map, IfOk, IfErr, OnOk, OnErr};
+ghost use Rattle.std.specs.List.{AllByRecursion};
 ghost use Rattle.pal_acts.specs.Permanent.{permanent_symbols};
 ghost use Rattle.pal_asm.specs.Listings.{Lists};
 ghost use Rattle.pal_asm.specs.Programs.{symbols_of, image_of, listing_of, symbols_in, image_in};
-ghost use Rattle.pal_acts.specs.declared.fault_code.FaultCode.TheVariants.{TooLong};
-ghost use Rattle.pal_asm.specs.Sources.{fault_at, texts, Means};
-ghost use Rattle.source_commands.specs.AssembleText.{IsAssembled, IsAssemblyFault, IsListFault, IsListing, IsSourceFault};
-ghost use Rattle.command_parts.specs.Faults.{fails_to_read, fails_to_write};
-ghost use Rattle.source_commands.specs.SourceTexts.{EachTakesAtMost, HasLeft, IsLongAt, LeavesThoseAfter, is_bad_number};
+ghost use Rattle.pal_asm.specs.Sources.{texts, Means};
+ghost use Rattle.source_commands.specs.AssembleText.{IsAssembled, IsAssemblyFault, IsListFault, IsSourceFault};
+ghost use Rattle.command_parts.specs.Faults.{fails_to_write};
+ghost use Rattle.source_commands.specs.Cross.{IsListed};
+ghost use Rattle.source_commands.specs.SourceTexts.{ReadsParts};
 ghost use Rattle.command_parts.specs.Writes.{FrontOf, Writes};
-ghost use Rattle.command_parts.specs.declared.status.Fault.TheVariants.{Source};
 ghost use Rattle.command_parts.specs.declared.status.Status.TheVariants.{Done};
 
+use crate::crossing::text_of;
 use crate::sources::{byte_slices, read_parts};
 use bin_tape::laws::written_tapes_read_back;
 use bin_tape::{WriteTapeFault, write_tape};
@@ -22,7 +22,7 @@ use instruct::Profile;
 use pal_asm::{AssembleFault, Program, Translation};
 use pal_diagnostics::push_faults;
 use std::alloc::{AllocError, Allocator};
-use streams::{ByteSink, ByteSource, WriteFault};
+use streams::{ByteSink, ByteSource, put};
 
 /// Adds the lines about the faults of a source to `told`, if the names of its parts are given.
 fn tell_faults<A: Allocator + Copy>(
@@ -65,7 +65,7 @@ fn translation_of<A: Allocator + Copy>(
 }
 
 /// Assembles the parts of a source, with its listing.
-pub(crate) fn program_of<A: Allocator + Copy>(
+fn program_of<A: Allocator + Copy>(
     alloc: A,
     parts: &[&[u8]],
     profile: Profile,
@@ -124,24 +124,9 @@ pub fn assemble<A: Allocator + Copy, R: ByteSource, W: ByteSink>(
         (W.taken out.old) (W.taken out.new) }
     // and any other fault leaves the output as it was.
     ensures nothing { OnErr result (W.mark out.new ≡ false → W.taken out.new ≡ W.taken out.old) }
-    // A write failed if and only if the answer says so, and so did a read.
+    // A write failed if and only if the answer says so.
     ensures marks { W.mark out.new ≡ fails_to_write result }
-    ensures reads { list_any R.mark sources.new ≡ fails_to_read result }
-    // A wrong number of sources is reported, and nothing is read.
-    ensures number { is_bad_number (length sources.old) ≡ true →
-        (result ≡ Err (Source (fault_at TooLong 0 0))) × (sources.new ≡ sources.old) }
-    // The sources after one that is too long, or whose read failed, are not read.
-    ensures unread { (at : ℕ) → IsLongAt (map R.remaining sources.old) at →
-        LeavesThoseAfter at sources.old sources.new }
-    ensures unread_after_failure { (at : ℕ) → slice_get (map R.mark sources.new) at ≡ Some true →
-        LeavesThoseAfter at sources.old sources.new }
-    // A source is read only if those before it are read to their ends.
-    ensures unread_after { (at : ℕ) →
-        HasLeft (map R.remaining sources.old) (map R.remaining sources.new) at →
-        LeavesThoseAfter at sources.old sources.new }
-    // From a source, at most one byte more is taken than a part may have.
-    ensures takes { EachTakesAtMost 65537 (map R.remaining sources.old)
-        (map R.remaining sources.new) }
+    ensures order { ReadsParts R.mark R.remaining sources.old sources.new result }
     // Lines are added only about faults, and only if names are given.
     ensures untold { OnOk result (told.new ≡ told.old) }
     ensures unasked { names.entry ≡ None → told.new ≡ told.old }
@@ -157,7 +142,8 @@ pub fn assemble<A: Allocator + Copy, R: ByteSource, W: ByteSink>(
     }
 }
 
-/// Assembles a source of one or more parts, in order, and writes its listing.
+/// Assembles a source of one or more parts, in order, and writes its listing or, if it is to be crossed, its listing, an
+/// empty line, and a table of its symbols with what the statements do with each.
 ///
 /// # Errors
 ///
@@ -166,6 +152,7 @@ pub fn list<A: Allocator + Copy, R: ByteSource, W: ByteSink>(
     alloc: A,
     sources: &mut [R],
     profile: Profile,
+    crossed: bool,
     names: Option<&[&str]>,
     told: &mut String<A>,
     out: &mut W,
@@ -173,35 +160,25 @@ pub fn list<A: Allocator + Copy, R: ByteSource, W: ByteSink>(
     requires readable { AllByRecursion (λ source. R.mark source ≡ false) sources.old }
     requires writable { W.mark out.old ≡ false }
     ensures done { IfOk result (λ status. status ≡ Done) }
-    ensures listing { OnOk result (Writes (IsListing profile (map R.remaining sources.old))
+    ensures listing { OnOk result (Writes (IsListed crossed profile (map R.remaining sources.old))
         (W.taken out.old) (W.taken out.new)) }
     ensures faults { IfErr result (IsListFault profile (map R.mark sources.new)
         (map R.remaining sources.old) (map R.remaining sources.new)) }
     ensures front { W.mark out.new ≡ true →
-        FrontOf (IsListing profile (map R.remaining sources.old))
+        FrontOf (IsListed crossed profile (map R.remaining sources.old))
         (W.taken out.old) (W.taken out.new) }
     ensures nothing { OnErr result (W.mark out.new ≡ false → W.taken out.new ≡ W.taken out.old) }
     ensures marks { W.mark out.new ≡ fails_to_write result }
-    ensures reads { list_any R.mark sources.new ≡ fails_to_read result }
-    ensures number { is_bad_number (length sources.old) ≡ true →
-        (result ≡ Err (Source (fault_at TooLong 0 0))) × (sources.new ≡ sources.old) }
-    ensures unread { (at : ℕ) → IsLongAt (map R.remaining sources.old) at →
-        LeavesThoseAfter at sources.old sources.new }
-    ensures unread_after_failure { (at : ℕ) → slice_get (map R.mark sources.new) at ≡ Some true →
-        LeavesThoseAfter at sources.old sources.new }
-    ensures unread_after { (at : ℕ) →
-        HasLeft (map R.remaining sources.old) (map R.remaining sources.new) at →
-        LeavesThoseAfter at sources.old sources.new }
-    ensures takes { EachTakesAtMost 65537 (map R.remaining sources.old)
-        (map R.remaining sources.new) }
+    ensures order { ReadsParts R.mark R.remaining sources.old sources.new result }
     ensures untold { OnOk result (told.new ≡ told.old) }
     ensures unasked { names.entry ≡ None → told.new ≡ told.old }
 {
     let parts = read_parts(alloc, sources)?;
     let slices = byte_slices(alloc, &parts)?;
     let program = program_of(alloc, &slices, profile, names, told)?;
-    match program.write_listing(out) {
+    let text = text_of(alloc, &slices, profile, &program, crossed)?;
+    match put(out, &text) {
         Ok(()) => Ok(Status::Done),
-        Err(WriteFault) => Err(Fault::Device(DeviceFault::Write)),
+        Err(_) => Err(Fault::Device(DeviceFault::Write)),
     }
 }

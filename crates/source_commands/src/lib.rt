@@ -4,7 +4,7 @@
 
 pub mod assembling;
 pub mod cross;
-pub mod crossing;
+mod crossing;
 pub mod mentions;
 mod sources;
 pub mod sourcing;

@@ -1,14 +1,14 @@
 //! Reads the parts of a source.
 
-ghost use Rattle.std.specs.Prelude.{◌≡◌, Err, true, false, length, map, IfOk, IfErr, IfSome, List, ℕ, Some, slice_get};
-ghost use Rattle.std.specs.List.{AllByRecursion, list_any};
+ghost use Rattle.std.specs.Prelude.{◌≡◌, false, length, map, IfOk, IfErr, IfSome, List, ℕ};
+ghost use Rattle.std.specs.List.{AllByRecursion};
 ghost use Rattle.std.specs.Io.KnownBytes.{IsAtEnd};
 ghost use Rattle.pal_acts.specs.declared.fault_code.FaultCode.TheVariants.{TooLong};
 ghost use Rattle.pal_asm.specs.Sources.{fault_at, texts};
 ghost use Rattle.command_parts.specs.declared.status.Fault.TheVariants.{Source};
 ghost use Rattle.command_parts.specs.Faults.{fails_to_read};
 ghost use Rattle.command_parts.specs.Inputs.{TakesAtMost};
-ghost use Rattle.source_commands.specs.SourceTexts.{AreRead, EachTakesAtMost, HasLeft, IsShort, IsPartFault, ArePartsFault, IsLongAt, LeavesThoseAfter, is_bad_number};
+ghost use Rattle.source_commands.specs.SourceTexts.{AreRead, IsShort, IsPartFault, ArePartsFault, ReadsParts, is_bad_number};
 
 use command_parts::status::Fault;
 use pal_asm::{FaultCode, PalFault};
@@ -77,22 +77,7 @@ pub(crate) fn read_parts<A: Allocator + Copy, R: ByteSource>(
         (map R.remaining sources.old) (map (λ part. part.items) parts.items)) }
     ensures faults { IfErr result (ArePartsFault (map R.mark sources.new)
         (map R.remaining sources.old) (map R.remaining sources.new)) }
-    ensures marks { list_any R.mark sources.new ≡ fails_to_read result }
-    // A wrong number of parts is reported, and nothing is read.
-    ensures told { is_bad_number (length sources.old) ≡ true →
-        (result ≡ Err (Source (fault_at TooLong 0 0))) × (sources.new ≡ sources.old) }
-    // The sources after one that is too long, or whose read failed, are not read.
-    ensures unread { (at : ℕ) → IsLongAt (map R.remaining sources.old) at →
-        LeavesThoseAfter at sources.old sources.new }
-    ensures unread_after_failure { (at : ℕ) → slice_get (map R.mark sources.new) at ≡ Some true →
-        LeavesThoseAfter at sources.old sources.new }
-    // A source is read only if those before it are read to their ends.
-    ensures unread_after { (at : ℕ) →
-        HasLeft (map R.remaining sources.old) (map R.remaining sources.new) at →
-        LeavesThoseAfter at sources.old sources.new }
-    // From a source, at most one byte more is taken than a part may have, which shows that the part is too long.
-    ensures takes { EachTakesAtMost 65537 (map R.remaining sources.old)
-        (map R.remaining sources.new) }
+    ensures order { ReadsParts R.mark R.remaining sources.old sources.new result }
 {
     if is_bad_number(sources.len()) {
         return Err(too_long(0));

@@ -1,8 +1,5 @@
 //! Assembles and lists sources, and reports their faults.
 
-ghost use Rattle.std.specs.Prelude.{◌≡◌, false};
-ghost use Rattle.std.specs.List.{AllByRecursion};
-
 use crate::file_kinds::part_hint;
 use crate::files::{ResultSink, finish, open_inputs, open_output, open_parts};
 use crate::source_faults::{
@@ -13,12 +10,11 @@ use crate::telling::{tell, tell_lines, tell_with};
 use command_line::{AssembleRequest, ListRequest};
 use command_parts::status::{DeviceFault, Fault, Status};
 use source_commands::assembling::{assemble, list};
-use source_commands::crossing::list_crossed;
 use std::alloc::Global;
 use std::io;
 use std::rt::Files;
+use streams::ByteSource;
 use streams::standard::StdWriter;
-use streams::{ByteSink, ByteSource};
 
 /// The name of the first part that could not be read.
 fn failed_part<'n, S: ByteSource>(names: &'n [&'n str], parts: &[S]) -> &'n str {
@@ -66,25 +62,6 @@ fn report_fault<R: Eprint, S: ByteSource>(
     }
 }
 
-/// Lists a source, with a table of its symbols if that is requested.
-fn list_as_requested<S: ByteSource, W: ByteSink>(
-    alloc: Global,
-    parts: &mut [S],
-    request: &ListRequest<'_>,
-    names: Option<&[&str]>,
-    lines: &mut String,
-    out: &mut W,
-) -> Result<Status, Fault>
-    requires readable { AllByRecursion (λ part. S.mark part ≡ false) parts.old }
-    requires writable { W.mark out.old ≡ false }
-{
-    if request.crossed {
-        list_crossed(alloc, parts, request.profile, names, lines, out)
-    } else {
-        list(alloc, parts, request.profile, names, lines, out)
-    }
-}
-
 /// Lists the source whose parts are in these files. Below the line of a fault, it says what is wrong, with the names of
 /// the files as they are shown.
 fn list_or_report<R: Files + Input + Print + Eprint>(
@@ -105,10 +82,11 @@ fn list_or_report<R: Files + Input + Print + Eprint>(
     }
     let mut out = StdWriter::new(io::writer(rt));
     let mut lines = String::new(alloc);
-    match list_as_requested(
+    match list(
         alloc,
         &mut parts,
-        request,
+        request.profile,
+        request.crossed,
         Some(shown),
         &mut lines,
         &mut out,
@@ -182,7 +160,7 @@ fn assemble_or_report<R: Files + Input + Print + Eprint>(
 ///
 /// # Errors
 ///
-/// As for `list` and `list_crossed`, and `Device` if a file cannot be opened. If an explanation is requested, these
+/// As for `list`, and `Device` if a file cannot be opened. If an explanation is requested, these
 /// faults are reported instead, and only `NoMemory` is returned.
 #[inline(never)]
 pub fn list_from<R: Files + Input + Print + Eprint>(
@@ -198,7 +176,15 @@ pub fn list_from<R: Files + Input + Print + Eprint>(
     let mut parts = open_inputs(rt, alloc, &request.sources)?;
     let mut out = StdWriter::new(io::writer(rt));
     let mut lines = String::new(alloc);
-    list_as_requested(alloc, &mut parts, request, None, &mut lines, &mut out)
+    list(
+        alloc,
+        &mut parts,
+        request.profile,
+        request.crossed,
+        None,
+        &mut lines,
+        &mut out,
+    )
 }
 
 /// Assembles the parts in these files into a tape.

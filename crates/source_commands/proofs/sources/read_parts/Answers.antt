@@ -1,6 +1,7 @@
-use Rattle.std.proofs.Common.{rules, ◌≡◌, ◌+◌, ◌<◌, ◌≤◌, [], ◌∷◌, ◌++◌, map, length, ◌∙◌, false, Vec, Err, ℕ}
+use Rattle.std.proofs.Common.{rules, refl, sym, ◌≡◌, ◌+◌, ◌<◌, ◌≤◌, [], ◌∷◌, ◌++◌, map, length, ◌∙◌, false, Vec, Err, ℕ}
 use Rattle.command_parts.specs.Faults.{fails_to_read}
 use Rattle.std.specs.List.{AllByRecursion}
+use Rattle.std.proofs.lemmas.Bool.{true≢false}
 use Rattle.std.proofs.lemmas.List.{map-append}
 use Rattle.source_commands.specs.SourceTexts.{IsShort}
 use Rattle.source_commands.proofs.PartLemmas.{all_push, none_marked, one_tells, none_more, bad_number, parts_fault}
@@ -12,15 +13,33 @@ pub returns-then-is_bad_number-clause-faults : goal.returns-then-is_bad_number-c
 returns-then-is_bad_number-clause-faults g c =
     rw c.too_long.ensures (bad_number g.R.ByteSource.remaining (map g.R.ByteSource.mark c.args.sources.now) (map g.R.ByteSource.remaining c.args.sources.now) c.args.sources.now (search rules))
 
-pub returns-then-is_bad_number-clause-marks : goal.returns-then-is_bad_number-clause-marks
-returns-then-is_bad_number-clause-marks g c = rw c.too_long.ensures (none_marked g.R.ByteSource.mark c.args.sources.now c.requires)
+pub returns-then-is_bad_number-clause-order : goal.returns-then-is_bad_number-clause-order
+returns-then-is_bad_number-clause-order g c =
+    rw c.too_long.ensures (
+    record {
+      marks = none_marked g.R.ByteSource.mark c.args.sources.now c.requires;
+      number = λ bad. (refl, refl);
+      unread = λ at long. refl;
+      unread_after_failure = λ at there. refl;
+      unread_after = λ at has. refl;
+      takes = none_taken 65537 (map g.R.ByteSource.remaining c.args.sources.now);
+    }
+    )
 
-pub returns-then-is_err-clause-marks : goal.returns-then-is_err-clause-marks
-returns-then-is_err-clause-marks g c =
+pub returns-then-is_err-clause-order : goal.returns-then-is_err-clause-order
+returns-then-is_err-clause-order g c =
     let inv = c.loop-source.invariant in
     let within : c.loop-source.source-index < length c.loop-source.sources = search rules in
+    let short : c.loop-source.source-index < length c.args.sources.now = search rules in
     let told : g.R.ByteSource.mark c.read_part.new.source ≡ false = search rules in
-    one_tells g.R.ByteSource.mark c.loop-source.sources c.loop-source.source-index c.read_part.new.source within inv.2 inv.3 ∙ told
+    record {
+      marks = one_tells g.R.ByteSource.mark c.loop-source.sources c.loop-source.source-index c.read_part.new.source within inv.2 inv.3 ∙ told;
+      number = λ bad. absurd (true≢false (sym bad ∙ inv.5));
+      unread = λ at long. unread_long g.R.ByteSource.remaining (λ part. part.items) c.loop-source.sources c.args.sources.now c.loop-source.source-index c.read_part.new.source c.loop-source.parts.items at inv.0 inv.1 inv.4 long;
+      unread_after_failure = λ at there. unread_failed g.R.ByteSource.mark c.loop-source.sources c.args.sources.now c.loop-source.source-index c.read_part.new.source at within inv.2 inv.4 there;
+      unread_after = λ at has. unread_left g.R.ByteSource.remaining c.loop-source.sources c.args.sources.now c.loop-source.source-index c.read_part.new.source at inv.7 inv.4 has;
+      takes = takes_next 65537 g.R.ByteSource.remaining c.loop-source.sources c.args.sources.now c.loop-source.source-index c.source-item.result c.read_part.new.source within short inv.4 inv.6 c.in-Ok.ensures.takes;
+    }
 
 pub returns-in-Err-clause-faults : goal.returns-in-Err-clause-faults
 returns-in-Err-clause-faults g c =
@@ -29,12 +48,20 @@ returns-in-Err-clause-faults g c =
     parts_fault (Vec ℕ g.row.A.Denot) g.R.ByteSource.mark g.R.ByteSource.remaining (λ part. part.items) c.loop-source.sources c.args.sources.now c.loop-source.source-index c.source-item.result c.read_part.new.source c.loop-source.parts.items c.in-Err.fault
     (search rules) (search rules) inv.4 inv.5 inv.0 inv.1 c.in-Err.ensures.marks (rw number c.in-Err.ensures.faults)
 
-pub returns-in-Err-clause-marks : goal.returns-in-Err-clause-marks
-returns-in-Err-clause-marks g c =
+pub returns-in-Err-clause-order : goal.returns-in-Err-clause-order
+returns-in-Err-clause-order g c =
     let inv = c.loop-source.invariant in
     let within : c.loop-source.source-index < length c.loop-source.sources = search rules in
+    let short : c.loop-source.source-index < length c.args.sources.now = search rules in
     let told : g.R.ByteSource.mark c.read_part.new.source ≡ fails_to_read {T = Vec (Vec ℕ g.row.A.Denot) g.row.A.Denot} (Err c.in-Err.fault) = search rules in
-    one_tells g.R.ByteSource.mark c.loop-source.sources c.loop-source.source-index c.read_part.new.source within inv.2 inv.3 ∙ told
+    record {
+      marks = one_tells g.R.ByteSource.mark c.loop-source.sources c.loop-source.source-index c.read_part.new.source within inv.2 inv.3 ∙ told;
+      number = λ bad. absurd (true≢false (sym bad ∙ inv.5));
+      unread = λ at long. unread_long g.R.ByteSource.remaining (λ part. part.items) c.loop-source.sources c.args.sources.now c.loop-source.source-index c.read_part.new.source c.loop-source.parts.items at inv.0 inv.1 inv.4 long;
+      unread_after_failure = λ at there. unread_failed g.R.ByteSource.mark c.loop-source.sources c.args.sources.now c.loop-source.source-index c.read_part.new.source at within inv.2 inv.4 there;
+      unread_after = λ at has. unread_left g.R.ByteSource.remaining c.loop-source.sources c.args.sources.now c.loop-source.source-index c.read_part.new.source at inv.7 inv.4 has;
+      takes = takes_next 65537 g.R.ByteSource.remaining c.loop-source.sources c.args.sources.now c.loop-source.source-index c.source-item.result c.read_part.new.source within short inv.4 inv.6 c.in-Err.ensures.takes;
+    }
 
 pub loop-source-preserved : goal.loop-source-preserved
 loop-source-preserved g c =
@@ -57,72 +84,16 @@ loop-source-preserved g c =
       ended_next g.R.ByteSource.remaining c.loop-source.sources c.args.sources.now c.loop-source.source-index c.source-item.result c.read_part.new.source within short inv.4 inv.7 c.in-Ok.ensures.ended,
     )
 
-pub returns-then-is_err-clause-unread : goal.returns-then-is_err-clause-unread
-returns-then-is_err-clause-unread g c = λ at long.
-    let inv = c.loop-source.invariant in
-    unread_long g.R.ByteSource.remaining (λ part. part.items) c.loop-source.sources c.args.sources.now c.loop-source.source-index c.read_part.new.source c.loop-source.parts.items at inv.0 inv.1 inv.4 long
-
-pub returns-then-is_err-clause-unread_after_failure : goal.returns-then-is_err-clause-unread_after_failure
-returns-then-is_err-clause-unread_after_failure g c = λ at there.
-    let inv = c.loop-source.invariant in
-    let within : c.loop-source.source-index < length c.loop-source.sources = search rules in
-    unread_failed g.R.ByteSource.mark c.loop-source.sources c.args.sources.now c.loop-source.source-index c.read_part.new.source at within inv.2 inv.4 there
-
-pub returns-in-Err-clause-unread : goal.returns-in-Err-clause-unread
-returns-in-Err-clause-unread g c = λ at long.
-    let inv = c.loop-source.invariant in
-    unread_long g.R.ByteSource.remaining (λ part. part.items) c.loop-source.sources c.args.sources.now c.loop-source.source-index c.read_part.new.source c.loop-source.parts.items at inv.0 inv.1 inv.4 long
-
-pub returns-in-Err-clause-unread_after_failure : goal.returns-in-Err-clause-unread_after_failure
-returns-in-Err-clause-unread_after_failure g c = λ at there.
-    let inv = c.loop-source.invariant in
-    let within : c.loop-source.source-index < length c.loop-source.sources = search rules in
-    unread_failed g.R.ByteSource.mark c.loop-source.sources c.args.sources.now c.loop-source.source-index c.read_part.new.source at within inv.2 inv.4 there
-
-pub returns-clause-unread : goal.returns-clause-unread
-returns-clause-unread g c = λ at long.
+pub returns-clause-order : goal.returns-clause-order
+returns-clause-order g c =
     let inv = c.loop-source.invariant in
     let past : length c.args.sources.now ≤ c.loop-source.source-index = search rules in
-    read_whole g.R.ByteSource.remaining (λ part. part.items) c.loop-source.sources c.args.sources.now c.loop-source.source-index c.loop-source.parts.items at past inv.0 inv.1 long
-
-pub returns-clause-unread_after_failure : goal.returns-clause-unread_after_failure
-returns-clause-unread_after_failure g c = λ at there.
-    let inv = c.loop-source.invariant in
-    let past : length c.loop-source.sources ≤ c.loop-source.source-index = search rules in
-    marked_whole g.R.ByteSource.mark c.loop-source.sources c.args.sources.now c.loop-source.source-index at past inv.2 there
-
-pub returns-then-is_bad_number-clause-takes : goal.returns-then-is_bad_number-clause-takes
-returns-then-is_bad_number-clause-takes g c = none_taken 65537 (map g.R.ByteSource.remaining c.args.sources.now)
-
-pub returns-then-is_err-clause-takes : goal.returns-then-is_err-clause-takes
-returns-then-is_err-clause-takes g c =
-    let inv = c.loop-source.invariant in
-    let within : c.loop-source.source-index < length c.loop-source.sources = search rules in
-    let short : c.loop-source.source-index < length c.args.sources.now = search rules in
-    takes_next 65537 g.R.ByteSource.remaining c.loop-source.sources c.args.sources.now c.loop-source.source-index c.source-item.result c.read_part.new.source within short inv.4 inv.6 c.in-Ok.ensures.takes
-
-pub returns-in-Err-clause-takes : goal.returns-in-Err-clause-takes
-returns-in-Err-clause-takes g c =
-    let inv = c.loop-source.invariant in
-    let within : c.loop-source.source-index < length c.loop-source.sources = search rules in
-    let short : c.loop-source.source-index < length c.args.sources.now = search rules in
-    takes_next 65537 g.R.ByteSource.remaining c.loop-source.sources c.args.sources.now c.loop-source.source-index c.source-item.result c.read_part.new.source within short inv.4 inv.6 c.in-Err.ensures.takes
-
-pub returns-clause-takes : goal.returns-clause-takes
-returns-clause-takes g c = c.loop-source.invariant.6
-
-pub returns-then-is_err-clause-unread_after : goal.returns-then-is_err-clause-unread_after
-returns-then-is_err-clause-unread_after g c = λ at has.
-    let inv = c.loop-source.invariant in
-    unread_left g.R.ByteSource.remaining c.loop-source.sources c.args.sources.now c.loop-source.source-index c.read_part.new.source at inv.7 inv.4 has
-
-pub returns-in-Err-clause-unread_after : goal.returns-in-Err-clause-unread_after
-returns-in-Err-clause-unread_after g c = λ at has.
-    let inv = c.loop-source.invariant in
-    unread_left g.R.ByteSource.remaining c.loop-source.sources c.args.sources.now c.loop-source.source-index c.read_part.new.source at inv.7 inv.4 has
-
-pub returns-clause-unread_after : goal.returns-clause-unread_after
-returns-clause-unread_after g c = λ at has.
-    let inv = c.loop-source.invariant in
-    let past : length c.args.sources.now ≤ c.loop-source.source-index = search rules in
-    left_whole g.R.ByteSource.remaining c.loop-source.sources c.args.sources.now c.loop-source.source-index at past inv.7 has
+    let done : length c.loop-source.sources ≤ c.loop-source.source-index = search rules in
+    record {
+      marks = search rules;
+      number = λ bad. absurd (true≢false (sym bad ∙ inv.5));
+      unread = λ at long. read_whole g.R.ByteSource.remaining (λ part. part.items) c.loop-source.sources c.args.sources.now c.loop-source.source-index c.loop-source.parts.items at past inv.0 inv.1 long;
+      unread_after_failure = λ at there. marked_whole g.R.ByteSource.mark c.loop-source.sources c.args.sources.now c.loop-source.source-index at done inv.2 there;
+      unread_after = λ at has. left_whole g.R.ByteSource.remaining c.loop-source.sources c.args.sources.now c.loop-source.source-index at past inv.7 has;
+      takes = inv.6;
+    }

@@ -4,7 +4,7 @@ use Rattle.pal_text.proofs.Cuts.{told_on}
 use Rattle.source_commands.specs.AssembleText.{IsAssemblyFault, IsListFault}
 use Rattle.source_commands.specs.SourceTexts.{is_bad_number}
 use Rattle.source_commands.proofs.CrossLemmas.{not_listed}
-use Rattle.source_commands.proofs.crossing.list_crossed.Goals as goal
+use Rattle.source_commands.proofs.assembling.list.Goals as goal
 
 pub returns-in_err-text-clause-faults : goal.returns-in_err-text-clause-faults
 returns-in_err-text-clause-faults g c =

@@ -198,67 +198,11 @@ fn word_role(source: &[u8], tokens: &[Token]) -> Role
     }
 }
 
-/// Whether a token is one of the source's own symbols.
-fn is_own<S: Allocator + Copy>(own: &SymbolTable<S>, source: &[u8], token: Token) -> bool
-    requires { IsWithin (length source.now) token }
-    ensures { result ≡ is_own own.now.entries source.now token }
-{
-    is_symbol(token.kind) && own.get(&name_of(source, token)).is_some()
-}
-
-/// Adds what a token does, if it is one of the source's own symbols, and returns whether it is one.
-fn push_use<A: Allocator, S: Allocator + Copy>(
-    own: &SymbolTable<S>,
-    source: &[u8],
-    site: &Site,
-    role: Role,
-    token: Token,
-    mentions: &mut Vec<Mention, A>,
-) -> Result<bool, AllocError>
-    requires { IsWithin (length source.now) token }
-    ensures own { IfOk result (λ is. is ≡ is_own own.now.entries source.now token) }
-    ensures added { OnOk result (mentions.new.items ≡ mentions.old.items ++
-        use_of own.now.entries source.now site.now role token) }
-{
-    if !is_own(own, source, token) {
-        return Ok(false);
-    }
-    mentions.push(Mention {
-        name: name_of(source, token),
-        role,
-        site: *site,
-    })?;
-    Ok(true)
-}
-
 /// What is done with the next symbol after a token, depending on whether that token is one of the source's own symbols.
 fn role_behind(is_own: bool, role: Role, later: Role) -> Role
     ensures { result ≡ role_behind is_own role later }
 {
     if is_own { later } else { role }
-}
-
-/// Adds what tokens do with the source's own symbols among them: one role for the first of these symbols, and another
-/// for each later one.
-fn push_uses<A: Allocator, S: Allocator + Copy>(
-    own: &SymbolTable<S>,
-    source: &[u8],
-    site: &Site,
-    first: Role,
-    later: Role,
-    tokens: &[Token],
-    mentions: &mut Vec<Mention, A>,
-) -> Result<(), AllocError>
-    requires { AllByRecursion (IsWithin (length source.now)) tokens.now }
-    ensures { OnOk result (mentions.new.items ≡ mentions.old.items ++
-        uses own.now.entries source.now site.now first later tokens.now) }
-{
-    let mut role = first;
-    for token in tokens {
-        let is_own = push_use(own, source, site, role, *token, mentions)?;
-        role = role_behind(is_own, role, later);
-    }
-    Ok(())
 }
 
 /// The first of these tokens, if there is one.
@@ -281,113 +225,140 @@ fn behind_one(tokens: &[Token]) -> &[Token]
     }
 }
 
-/// Adds what an assignment does: it defines its symbol, and computes with the others.
-fn push_assignment<A: Allocator, S: Allocator + Copy>(
-    own: &SymbolTable<S>,
-    source: &[u8],
-    line: &Site,
-    body: &[Token],
-    mentions: &mut Vec<Mention, A>,
-) -> Result<(), AllocError>
-    requires { AllByRecursion (IsWithin (length source.now)) body.now }
-    ensures { OnOk result (mentions.new.items ≡ mentions.old.items ++
-        assignment_uses own.now.entries source.now line.now body.now) }
-{
-    let (defines, computes) = (Role::Defines, Role::Computes);
-    push_uses(
-        own,
-        source,
-        line,
-        defines,
-        computes,
-        front_of(body),
-        mentions,
-    )?;
-    push_uses(
-        own,
-        source,
-        line,
-        computes,
-        computes,
-        behind_one(body),
-        mentions,
-    )
+/// A part of a source, and the source's own symbols.
+#[derive(Clone, Copy)]
+struct PartSymbols<'s, S: Allocator + Copy> {
+    own: &'s SymbolTable<S>,
+    source: &'s [u8],
 }
 
-/// Adds what a word does.
-fn push_word_uses<A: Allocator, S: Allocator + Copy>(
-    own: &SymbolTable<S>,
-    source: &[u8],
-    word: &Site,
-    body: &[Token],
-    mentions: &mut Vec<Mention, A>,
-) -> Result<(), AllocError>
-    requires { AllByRecursion (IsWithin (length source.now)) body.now }
-    ensures { OnOk result (mentions.new.items ≡ mentions.old.items ++
-        word_uses own.now.entries source.now word.now body.now) }
-{
-    let role = word_role(source, body);
-    push_uses(own, source, word, role, Role::Holds, body, mentions)
-}
-
-/// Adds what a statement does after its tags.
-fn push_body<A: Allocator, S: Allocator + Copy>(
-    own: &SymbolTable<S>,
-    source: &[u8],
-    standing: &StatementSites,
-    form: Form,
-    body: &[Token],
-    mentions: &mut Vec<Mention, A>,
-) -> Result<(), AllocError>
-    requires { AllByRecursion (IsWithin (length source.now)) body.now }
-    ensures { OnOk result (mentions.new.items ≡ mentions.old.items ++
-        body_uses own.now.entries source.now standing.now form body.now) }
-{
-    let computes = Role::Computes;
-    match form {
-        Form::Assign => push_assignment(own, source, &standing.line, body, mentions),
-        Form::Origin => {
-            push_uses(
-                own,
-                source,
-                &standing.line,
-                computes,
-                computes,
-                body,
-                mentions,
-            )
-        }
-        Form::Word => push_word_uses(own, source, &standing.word, body, mentions),
-        _ => Ok(()),
+impl<S: Allocator + Copy> PartSymbols<'_, S> {
+    /// Whether a token is one of the source's own symbols.
+    fn is_own(&self, token: Token) -> bool
+        requires { IsWithin (length self.now.source.now) token }
+        ensures { result ≡ is_own self.now.own.now.entries self.now.source.now token }
+    {
+        is_symbol(token.kind) && self.own.get(&name_of(self.source, token)).is_some()
     }
-}
 
-/// Adds what a statement does with the source's own symbols. The first `tags` of its tokens are its tags.
-fn push_statement<A: Allocator, S: Allocator + Copy>(
-    own: &SymbolTable<S>,
-    source: &[u8],
-    standing: &StatementSites,
-    tags: usize,
-    form: Form,
-    tokens: &[Token],
-    mentions: &mut Vec<Mention, A>,
-) -> Result<(), AllocError>
-    requires within { AllByRecursion (IsWithin (length source.now)) tokens.now }
-    requires tags { tags ≤ length tokens.now }
-    ensures { OnOk result (mentions.new.items ≡ mentions.old.items ++
-        statement_uses own.now.entries source.now standing.now tags form tokens.now) }
-{
-    let defines = Role::Defines;
-    push_uses(
-        own,
-        source,
-        &standing.line,
-        defines,
-        defines,
-        &tokens[..tags],
-        mentions,
-    )?;
-    push_body(own, source, standing, form, &tokens[tags..], mentions)
+    /// Adds what a token does, if it is one of the source's own symbols, and returns whether it is one.
+    fn push_use<A: Allocator>(
+        &self,
+        site: &Site,
+        role: Role,
+        token: Token,
+        mentions: &mut Vec<Mention, A>,
+    ) -> Result<bool, AllocError>
+        requires { IsWithin (length self.now.source.now) token }
+        ensures own { IfOk result (λ is.
+            is ≡ is_own self.now.own.now.entries self.now.source.now token) }
+        ensures added { OnOk result (mentions.new.items ≡ mentions.old.items ++
+            use_of self.now.own.now.entries self.now.source.now site.now role token) }
+    {
+        if !self.is_own(token) {
+            return Ok(false);
+        }
+        mentions.push(Mention {
+            name: name_of(self.source, token),
+            role,
+            site: *site,
+        })?;
+        Ok(true)
+    }
+
+    /// Adds what tokens do with the source's own symbols among them: one role for the first of these symbols, and
+    /// another for each later one.
+    fn push_uses<A: Allocator>(
+        &self,
+        site: &Site,
+        first: Role,
+        later: Role,
+        tokens: &[Token],
+        mentions: &mut Vec<Mention, A>,
+    ) -> Result<(), AllocError>
+        requires { AllByRecursion (IsWithin (length self.now.source.now)) tokens.now }
+        ensures { OnOk result (mentions.new.items ≡ mentions.old.items ++
+            uses self.now.own.now.entries self.now.source.now site.now first later tokens.now) }
+    {
+        let mut role = first;
+        for token in tokens {
+            let is_own = self.push_use(site, role, *token, mentions)?;
+            role = role_behind(is_own, role, later);
+        }
+        Ok(())
+    }
+
+    /// Adds what an assignment does: it defines its symbol, and computes with the others.
+    fn push_assignment<A: Allocator>(
+        &self,
+        line: &Site,
+        body: &[Token],
+        mentions: &mut Vec<Mention, A>,
+    ) -> Result<(), AllocError>
+        requires { AllByRecursion (IsWithin (length self.now.source.now)) body.now }
+        ensures { OnOk result (mentions.new.items ≡ mentions.old.items ++
+            assignment_uses self.now.own.now.entries self.now.source.now line.now body.now) }
+    {
+        let (defines, computes) = (Role::Defines, Role::Computes);
+        self.push_uses(line, defines, computes, front_of(body), mentions)?;
+        self.push_uses(line, computes, computes, behind_one(body), mentions)
+    }
+
+    /// Adds what a word does.
+    fn push_word_uses<A: Allocator>(
+        &self,
+        word: &Site,
+        body: &[Token],
+        mentions: &mut Vec<Mention, A>,
+    ) -> Result<(), AllocError>
+        requires { AllByRecursion (IsWithin (length self.now.source.now)) body.now }
+        ensures { OnOk result (mentions.new.items ≡ mentions.old.items ++
+            word_uses self.now.own.now.entries self.now.source.now word.now body.now) }
+    {
+        let role = word_role(self.source, body);
+        self.push_uses(word, role, Role::Holds, body, mentions)
+    }
+
+    /// Adds what a statement does after its tags.
+    fn push_body<A: Allocator>(
+        &self,
+        standing: &StatementSites,
+        form: Form,
+        body: &[Token],
+        mentions: &mut Vec<Mention, A>,
+    ) -> Result<(), AllocError>
+        requires { AllByRecursion (IsWithin (length self.now.source.now)) body.now }
+        ensures { OnOk result (mentions.new.items ≡ mentions.old.items ++
+            body_uses self.now.own.now.entries self.now.source.now standing.now form body.now) }
+    {
+        let computes = Role::Computes;
+        match form {
+            Form::Assign => self.push_assignment(&standing.line, body, mentions),
+            Form::Origin => self.push_uses(&standing.line, computes, computes, body, mentions),
+            Form::Word => self.push_word_uses(&standing.word, body, mentions),
+            _ => Ok(()),
+        }
+    }
+
+    /// Adds what a statement does with the source's own symbols. The first `tags` of its tokens are its tags.
+    fn push_statement<A: Allocator>(
+        &self,
+        standing: &StatementSites,
+        tags: usize,
+        form: Form,
+        tokens: &[Token],
+        mentions: &mut Vec<Mention, A>,
+    ) -> Result<(), AllocError>
+        requires within { AllByRecursion (IsWithin (length self.now.source.now)) tokens.now }
+        requires tags { tags ≤ length tokens.now }
+        ensures { OnOk result (mentions.new.items ≡ mentions.old.items ++
+            statement_uses self.now.own.now.entries self.now.source.now standing.now tags form
+            tokens.now) }
+    {
+        let defines = Role::Defines;
+        self.push_uses(&standing.line, defines, defines, &tokens[..tags], mentions)?;
+        self.push_body(standing, form, &tokens[tags..], mentions)
+    }
 }
 
 /// The address of the next word, or 0 if there is none.
@@ -434,15 +405,11 @@ fn push_placed<A: Allocator + Copy, S: Allocator + Copy>(
         word: Site::Word(at),
     };
     let tags = tag_tokens(statement, tokens);
-    push_statement(
+    let symbols = PartSymbols {
         own,
-        part.source,
-        &standing,
-        tags,
-        statement.form,
-        tokens,
-        mentions,
-    )
+        source: part.source,
+    };
+    symbols.push_statement(&standing, tags, statement.form, tokens, mentions)
 }
 
 /// Adds what the statements of the part with this number do. `words` are the words of the source from this part on;

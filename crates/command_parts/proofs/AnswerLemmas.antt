@@ -61,10 +61,10 @@ pub read_alone : {T : Type 0} {F : Input → Fault → Type 0} {G : Option (List
 read_alone (Ok x) is good marks takes rest = record { takes = takes; ends = inr (record { good = good.0; marks = marks; rest = good.1 }) }
 read_alone (Err f) is good marks takes rest = record { takes = takes; ends = inl (record { fault = f; is = refl; has = is; marks = marks; rest = rest }) }
 
--- a good input, after which a command does its work
-pub good_alone : {T : Type 0} {F : Input → Fault → Type 0} {G : Option (List ℕ) → Type 0} {K : Option (List ℕ) → Option (List ℕ) → Type 0} {one : Input} {u : Type 0} {W : Fault → Type 0} (result : Result T Fault) →
-    FailsBy W result → G one.had → one.failed ≡ false → K one.had one.left → Reads {T = T} F G K one u (FailsBy W) result
-good_alone result later good marks takes = record { takes = takes; ends = inr (record { good = good; marks = marks; rest = later }) }
+-- a good input, after which a command goes on
+pub good_alone : {T : Type 0} {F : Input → Fault → Type 0} {G : Option (List ℕ) → Type 0} {K : Option (List ℕ) → Option (List ℕ) → Type 0} {one : Input} {u : Type 0} {R : Result T Fault → Type 0} (result : Result T Fault) →
+    R result → G one.had → one.failed ≡ false → K one.had one.left → Reads {T = T} F G K one u R result
+good_alone result rest good marks takes = record { takes = takes; ends = inr (record { good = good; marks = marks; rest = rest }) }
 
 -- a tape and a declaration, of which one is refused
 pub two_refused : {S T : Type 0} {tape text : Input} {u : Type 0} {W : Fault → Type 0} {f : Fault} → ReadsTwo {T = S} NeverFails tape text u (Err f) → ReadsTwo {T = T} W tape text u (Err f)

@@ -1,6 +1,6 @@
-use Rattle.std.proofs.Common.{◌≡◌, rules, refl, Err, Ok, inr}
+use Rattle.std.proofs.Common.{◌≡◌, rules, refl, Err, Ok}
 use Rattle.declaration.specs.DeclarationInCode.{meaning}
-use Rattle.command_parts.proofs.AnswerLemmas.{read_alone}
+use Rattle.command_parts.proofs.AnswerLemmas.{good_alone, read_alone}
 use Rattle.command_parts.proofs.programs.program_from.Goals as goal
 
 pub returns-in_err-image-clause-reads : goal.returns-in_err-image-clause-reads
@@ -11,22 +11,10 @@ returns-in_err-image-clause-reads g c =
 pub returns-in_err-declaration-clause-reads : goal.returns-in_err-declaration-clause-reads
 returns-in_err-declaration-clause-reads g c =
     let told : c.from_residual-in_err-declaration.result ≡ Err c.in_err-declaration.field-0.0 = search rules in
-    rw told (record {
-      takes = c.in_ok-image.ensures.takes;
-      ends = inr (record {
-        good = record { image = c.in_ok-image.image; tape = c.in_ok-image.ensures.tape };
-        marks = c.in_ok-image.ensures.marks;
-        rest = read_alone (Err _) c.in_err-declaration.ensures.faults tt (search rules) c.in_err-declaration.ensures.takes tt;
-      });
-    })
+    rw told (good_alone (Err _) (read_alone (Err _) c.in_err-declaration.ensures.faults tt (search rules) c.in_err-declaration.ensures.takes tt)
+    (record { image = c.in_ok-image.image; tape = c.in_ok-image.ensures.tape }) c.in_ok-image.ensures.marks c.in_ok-image.ensures.takes)
 
 pub returns-clause-reads : goal.returns-clause-reads
-returns-clause-reads g c = record {
-  takes = c.in_ok-image.ensures.takes;
-  ends = inr (record {
-    good = record { image = c.in_ok-image.image; tape = c.in_ok-image.ensures.tape };
-    marks = c.in_ok-image.ensures.marks;
-    rest = read_alone (Ok _) tt (record { declaration = meaning c.in_ok-declaration.declaration; declares = c.in_ok-declaration.ensures.declares }, tt)
-        c.in_ok-declaration.ensures.marks c.in_ok-declaration.ensures.takes tt;
-  });
-}
+returns-clause-reads g c =
+    good_alone (Ok _) (good_alone (Ok _) tt (record { declaration = meaning c.in_ok-declaration.declaration; declares = c.in_ok-declaration.ensures.declares }) c.in_ok-declaration.ensures.marks c.in_ok-declaration.ensures.takes)
+    (record { image = c.in_ok-image.image; tape = c.in_ok-image.ensures.tape }) c.in_ok-image.ensures.marks c.in_ok-image.ensures.takes

@@ -1,7 +1,7 @@
-use Rattle.std.proofs.Common.{◌≡◌, false, rules, Err, inr}
+use Rattle.std.proofs.Common.{◌≡◌, false, rules, Err}
 use Rattle.certificate_lines.specs.CertificateInCode.{meaning as lines_of}
 use Rattle.command_parts.specs.Faults.{fails_to_write}
-use Rattle.command_parts.proofs.AnswerLemmas.{nothing_written, read_alone, written_so, write_follows}
+use Rattle.command_parts.proofs.AnswerLemmas.{good_alone, nothing_written, read_alone, written_so, write_follows}
 use Rattle.search_commands.proofs.migrating.migrate.Goals as goal
 
 pub returns-in_err-claims-clause-reads : goal.returns-in_err-claims-clause-reads
@@ -16,14 +16,9 @@ returns-in_err-claims-clause-migrated g c =
     rw told (nothing_written c.in_err-claims.field-0.0 c.requires.writable (rw told at unwritten))
 
 pub returns-clause-reads : goal.returns-clause-reads
-returns-clause-reads g c = record {
-  takes = c.in_ok-claims.ensures.takes;
-  ends = inr (record {
-    good = record { lines = lines_of c.in_ok-claims.claims; claims = c.in_ok-claims.ensures.claims };
-    marks = c.in_ok-claims.ensures.marks;
-    rest = write_follows _ c.write_certificate.result c.write_certificate.ensures.faults;
-  });
-}
+returns-clause-reads g c =
+    good_alone c.write_certificate.result (write_follows _ c.write_certificate.result c.write_certificate.ensures.faults)
+    (record { lines = lines_of c.in_ok-claims.claims; claims = c.in_ok-claims.ensures.claims }) c.in_ok-claims.ensures.marks c.in_ok-claims.ensures.takes
 
 pub returns-clause-migrated : goal.returns-clause-migrated
 returns-clause-migrated g c =

@@ -1,10 +1,10 @@
-use Rattle.std.proofs.Common.{◌≡◌, false, rules, refl, ap, ◌∙◌, Err, inl, inr}
+use Rattle.std.proofs.Common.{◌≡◌, false, rules, refl, ap, ◌∙◌, Err, inl}
 use Rattle.certificate_lines.specs.CertificateInCode.{meaning as lines_of}
 use Rattle.certificate_lines.specs.Laws.{bytes_of}
 use Rattle.declaration.specs.DeclarationInCode.{meaning}
 use Rattle.command_parts.specs.Faults.{fails_to_write}
 use Rattle.command_parts.specs.declared.status.Fault.TheVariants.{NoMemory}
-use Rattle.command_parts.proofs.AnswerLemmas.{nothing_written, read_alone, written_so, write_follows}
+use Rattle.command_parts.proofs.AnswerLemmas.{good_alone, nothing_written, read_alone, written_so, write_follows}
 use Rattle.search_commands.proofs.migrating.migrate_with_sites.Goals as goal
 
 pub returns-in_err-promised-clause-reads : goal.returns-in_err-promised-clause-reads
@@ -21,14 +21,8 @@ returns-in_err-promised-clause-sited g c =
 pub returns-in_err-claims-clause-reads : goal.returns-in_err-claims-clause-reads
 returns-in_err-claims-clause-reads g c =
     let told : c.from_residual-in_err-claims.result ≡ Err c.in_err-claims.field-0.0 = search rules in
-    rw told (record {
-      takes = c.in_ok-promised.ensures.takes;
-      ends = inr (record {
-        good = record { declaration = meaning c.in_ok-promised.promised; declares = c.in_ok-promised.ensures.declares };
-        marks = c.in_ok-promised.ensures.marks;
-        rest = read_alone (Err _) c.in_err-claims.ensures.faults tt (search rules) c.in_err-claims.ensures.takes tt;
-      });
-    })
+    rw told (good_alone (Err _) (read_alone (Err _) c.in_err-claims.ensures.faults tt (search rules) c.in_err-claims.ensures.takes tt)
+    (record { declaration = meaning c.in_ok-promised.promised; declares = c.in_ok-promised.ensures.declares }) c.in_ok-promised.ensures.marks c.in_ok-promised.ensures.takes)
 
 pub returns-in_err-claims-clause-sited : goal.returns-in_err-claims-clause-sited
 returns-in_err-claims-clause-sited g c =
@@ -39,21 +33,8 @@ returns-in_err-claims-clause-sited g c =
 pub returns-in_err-migrated-clause-reads : goal.returns-in_err-migrated-clause-reads
 returns-in_err-migrated-clause-reads g c =
     let told : c.from_residual-in_err-migrated.result ≡ Err NoMemory = search rules in
-    rw told (record {
-      takes = c.in_ok-promised.ensures.takes;
-      ends = inr (record {
-        good = record { declaration = meaning c.in_ok-promised.promised; declares = c.in_ok-promised.ensures.declares };
-        marks = c.in_ok-promised.ensures.marks;
-        rest = record {
-          takes = c.in_ok-claims.ensures.takes;
-          ends = inr (record {
-            good = record { lines = lines_of c.in_ok-claims.claims; claims = c.in_ok-claims.ensures.claims };
-            marks = c.in_ok-claims.ensures.marks;
-            rest = inl refl;
-          });
-        };
-      });
-    })
+    rw told (good_alone (Err _) (good_alone (Err _) (inl refl) (record { lines = lines_of c.in_ok-claims.claims; claims = c.in_ok-claims.ensures.claims }) c.in_ok-claims.ensures.marks c.in_ok-claims.ensures.takes)
+    (record { declaration = meaning c.in_ok-promised.promised; declares = c.in_ok-promised.ensures.declares }) c.in_ok-promised.ensures.marks c.in_ok-promised.ensures.takes)
 
 pub returns-in_err-migrated-clause-sited : goal.returns-in_err-migrated-clause-sited
 returns-in_err-migrated-clause-sited g c =
@@ -61,21 +42,9 @@ returns-in_err-migrated-clause-sited g c =
     rw told (nothing_written NoMemory c.requires.writable refl)
 
 pub returns-clause-reads : goal.returns-clause-reads
-returns-clause-reads g c = record {
-  takes = c.in_ok-promised.ensures.takes;
-  ends = inr (record {
-    good = record { declaration = meaning c.in_ok-promised.promised; declares = c.in_ok-promised.ensures.declares };
-    marks = c.in_ok-promised.ensures.marks;
-    rest = record {
-      takes = c.in_ok-claims.ensures.takes;
-      ends = inr (record {
-        good = record { lines = lines_of c.in_ok-claims.claims; claims = c.in_ok-claims.ensures.claims };
-        marks = c.in_ok-claims.ensures.marks;
-        rest = write_follows _ c.write_certificate.result c.write_certificate.ensures.faults;
-      });
-    };
-  });
-}
+returns-clause-reads g c =
+    good_alone c.write_certificate.result (good_alone c.write_certificate.result (write_follows _ c.write_certificate.result c.write_certificate.ensures.faults) (record { lines = lines_of c.in_ok-claims.claims; claims = c.in_ok-claims.ensures.claims }) c.in_ok-claims.ensures.marks c.in_ok-claims.ensures.takes)
+    (record { declaration = meaning c.in_ok-promised.promised; declares = c.in_ok-promised.ensures.declares }) c.in_ok-promised.ensures.marks c.in_ok-promised.ensures.takes
 
 pub returns-clause-sited : goal.returns-clause-sited
 returns-clause-sited g c =

@@ -29,10 +29,7 @@ pub fn tape_from<R: ByteSource>(source: &mut R) -> Result<Image, Fault>
     ensures marks { R.mark source.new ≡ fails_to_read result }
     ensures takes { TakesTape (R.remaining source.old) (R.remaining source.new) }
 {
-    match read_from(source) {
-        Ok(image) => Ok(image),
-        Err(fault) => Err(Fault::from(fault)),
-    }
+    Ok(read_from(source)?)
 }
 
 /// Reads a declaration.
@@ -69,10 +66,7 @@ pub fn bytes_from<A: Allocator, R: ByteSource>(
     ensures marks { R.mark source.new ≡ fails_to_read result }
     ensures takes { TakesAtMost most (R.remaining source.old) (R.remaining source.new) }
 {
-    match read_at_most(alloc, source, most as usize) {
-        Ok(bytes) => Ok(bytes),
-        Err(fault) => Err(Fault::from(fault)),
-    }
+    Ok(read_at_most(alloc, source, most as usize)?)
 }
 
 /// Reads a list of events.

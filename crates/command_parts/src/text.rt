@@ -1,9 +1,8 @@
 //! Words, places and lines of a dump, as commands write them.
 
-ghost use Rattle.std.specs.Prelude.{ℕ, ◌≡◌, ◌≤◌, false, ◌++◌, codes, decimal, is_err, OnOk, IfOk};
+ghost use Rattle.std.specs.Prelude.{◌≡◌, ◌++◌, OnOk, IfOk};
 ghost use Rattle.word12.specs.Words.{octal_text};
-ghost use Rattle.bin_tape.specs.Image.{word_at};
-ghost use Rattle.command_parts.specs.Dumping.{dump_line, dump_below, dump_text};
+ghost use Rattle.command_parts.specs.Dumping.{dump_line, dump_text};
 
 use bin_tape::Image;
 use instruct::{Profile, name};

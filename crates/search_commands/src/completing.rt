@@ -198,7 +198,8 @@ fn completed<A: Allocator + Copy>(
     ensures faults { IfErr result IsMemoryFault }
 {
     let bytes = given.text.as_slice();
-    let (declared, proposed) = (&given.declaration, &proposal.declaration);
+    let declared = &given.declaration;
+    let proposed = &proposal.declaration;
     let text = merged(alloc, bytes, declared, proposed)?;
     let Some(more) = extension(alloc, bytes, declared, proposed, &text)? else {
         return lacking(alloc, given, proposal, bytes, lack, None);

@@ -27,7 +27,7 @@ same_fault T f e is = cc
 no_fault : (T : Type 0) (x : T) (e : Fault) → answered T x ≡ refused T e → ⊥
 no_fault T x e is = cc
 
-reads_alike : (S T : Type 0) (f : Fault) → fails_to_read (refused S f) ≡ fails_to_read (refused T f)
+pub reads_alike : (S T : Type 0) (f : Fault) → fails_to_read (refused S f) ≡ fails_to_read (refused T f)
 reads_alike S T (Device Read) = refl
 reads_alike S T (Device Write) = refl
 reads_alike S T _ = refl

@@ -37,6 +37,11 @@ extends_own d = record {
 so_left : (a b : Bool) → a ≡ true → (a || b) ≡ true
 so_left a b is = rw is refl
 
+-- what is found to be such an extension shows that the text is fit
+pub fit_if : {D : Type 0} (declared : D → Declaration) (bytes : List ℕ) (given proposed : Declaration) (text : List ℕ) (found : Option D) (d : D) → found ≡ Some d →
+    IfSome found (λ more. IsExtensionBy bytes given proposed (declared more) text) → IsFit bytes given proposed text
+fit_if declared bytes given proposed text found d is extends = (declared d, rw is at extends)
+
 -- so its text is that of an extension of it, in which nothing is added
 pub own_extension : (given proposed : Declaration) (text : List ℕ) → Declares text given → IsFit text given proposed text
 own_extension given proposed text declares = (

@@ -227,18 +227,23 @@ fn completion_of<A: Allocator + Copy>(
     ensures unwritten { fails_to_write result ≡ false }
 {
     let ParsedProgram { image, given } = program;
-    let Err(lack) = certificate_for(alloc, &image, &given.declaration)? else {
-        let ParsedDeclaration { text, .. } = given;
-        let status = Status::Done;
-        return Ok(CommandResult { text, status });
-    };
-    let options = DeclareOptions {
-        start: given.declaration.start(),
-        profile: given.declaration.profile(),
-        reads: reads && given.declaration.reads_listed(),
-    };
-    let proposal = proposal_for(alloc, &image, &options, &mut Turns::new(MOST_TURNS))?;
-    completed(alloc, &image, &given, lack, &proposal)
+    match certificate_for(alloc, &image, &given.declaration)? {
+        Ok(_certificate) => {
+            let ParsedDeclaration { text, .. } = given;
+            let status = Status::Done;
+            Ok(CommandResult { text, status })
+        }
+        Err(lack) => {
+            let options = DeclareOptions {
+                start: given.declaration.start(),
+                profile: given.declaration.profile(),
+                reads: reads && given.declaration.reads_listed(),
+            };
+            let mut turns = Turns::new(MOST_TURNS);
+            let proposal = proposal_for(alloc, &image, &options, &mut turns)?;
+            completed(alloc, &image, &given, lack, &proposal)
+        }
+    }
 }
 
 /// Adds to a declaration what it lacks according to the tape, and writes its text. What it said before is kept: each

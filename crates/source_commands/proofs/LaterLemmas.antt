@@ -1,11 +1,12 @@
 -- Sources after the one that is refused.
 use Rattle.std.proofs.Common.{ℕ, zero, suc, ◌≡◌, ◌+◌, ◌-◌, ◌<◌, ◌≤◌, Bool, true, false, ◌||◌, List, [], ◌∷◌, map, take, drop, length, slice_set, arith, refl, zero-add, sym, ◌∙◌, ap, inl, inr}
-use Rattle.std.specs.Prelude.{Option, Some, IfSome, Result, Err, slice_get}
+use Rattle.std.specs.Prelude.{Option, Some, IfSome, Result, Ok, Err, slice_get}
 use Rattle.std.specs.List.{AllByRecursion, list_any}
 use Rattle.std.proofs.lemmas.Bool.{cases_lt}
 use Rattle.std.proofs.lemmas.List.{drop-set-lt, take-map, take-set, length-map}
 use Rattle.std.proofs.lemmas.Option.{slice_get_within}
 use Rattle.command_parts.specs.Faults.{fails_to_read}
+use Rattle.command_parts.proofs.AnswerLemmas.{reads_alike, refused, same_fault}
 use Rattle.command_parts.specs.declared.status.Fault.{Fault}
 use Rattle.source_commands.specs.SourceTexts.{AreRead, HasLeft, IsShort, IsLongAt, LeavesThoseAfter, ReadsParts}
 use Rattle.source_commands.proofs.SourceLemmas.{AreEnded}
@@ -134,12 +135,27 @@ marked_whole mark ss os i at past none there =
     let within : at < i = omega (arith, is, past, length-map ss mark) in
     absurd (unmarked mark ss i at none within there)
 
--- an answer that says what another one says of the sources
-pub reads_alike : {S T U : Type 0} (mark : S → Bool) (remaining : S → Option (List ℕ)) (old new : List S) (r : Result T Fault) (s : Result U Fault) →
-    fails_to_read s ≡ fails_to_read r → ((f : Fault) → r ≡ Err f → s ≡ Err f) → ReadsParts mark remaining old new r → ReadsParts mark remaining old new s
-reads_alike mark remaining old new r s same told reads = record {
-  marks = reads.marks ∙ sym same;
-  number = λ bad. (told _ (reads.number bad).0, (reads.number bad).1);
+-- a fault of reading is that of the command too
+pub parts_refused : {S T U : Type 0} {mark : S → Bool} {remaining : S → Option (List ℕ)} {old new : List S} {f : Fault} →
+    ReadsParts {T = T} mark remaining old new (Err f) → ReadsParts {T = U} mark remaining old new (Err f)
+parts_refused {T = T} {U = U} {f = f} reads = record {
+  marks = reads.marks ∙ reads_alike T U f;
+  number = λ bad. (ap (refused U) (same_fault T f _ (reads.number bad).0), (reads.number bad).1);
+  unread = reads.unread;
+  unread_after_failure = reads.unread_after_failure;
+  unread_after = reads.unread_after;
+  takes = reads.takes;
+}
+
+no_fault : {T : Type 0} (x : T) (f : Fault) → ◌≡◌ {A = Result T Fault} (Ok x) (Err f) → ⊥
+no_fault x f is = cc
+
+-- once all parts are read, the command does not say that a read failed
+pub parts_read : {S T U : Type 0} {mark : S → Bool} {remaining : S → Option (List ℕ)} {old new : List S} {x : T} {result : Result U Fault} →
+    fails_to_read result ≡ false → ReadsParts {T = T} mark remaining old new (Ok x) → ReadsParts {T = U} mark remaining old new result
+parts_read {x = x} fine reads = record {
+  marks = reads.marks ∙ sym fine;
+  number = λ bad. absurd (no_fault x _ (reads.number bad).0);
   unread = reads.unread;
   unread_after_failure = reads.unread_after_failure;
   unread_after = reads.unread_after;

@@ -1,9 +1,16 @@
-use Rattle.std.proofs.Common.{◌≡◌, None, rules}
+use Rattle.std.specs.Prelude.{Some}
+use Rattle.std.proofs.lemmas.Result.{IfOk-weaker}
 use Rattle.declaration.specs.DeclarationInCode.{meaning}
-use Rattle.search_commands.proofs.CompleteLemmas.{own_completes}
+use Rattle.search_commands.specs.CompleteText.{Completes, CompletesBy}
+use Rattle.search_commands.proofs.CompleteLemmas.{completes_by, own_completes}
 use Rattle.search_commands.proofs.completing.completion_of.Goals as goal
 
-pub returns-in_default-clause-completes : goal.returns-in_default-clause-completes
-returns-in_default-clause-completes g c =
-    let none : c.in_ok-lack.field-0 ≡ None = search rules in
-    own_completes c.args.program.image (meaning c.args.program.given.declaration) c.args.program.given.text.items c.requires (c.in_ok-lack.ensures.shown none)
+pub returns-in-Ok-clause-completes : goal.returns-in-Ok-clause-completes
+returns-in-Ok-clause-completes g c = own_completes _ _ _ c.requires (rw c.in-Ok.is at c.in_ok-certificate_for.ensures.shown)
+
+pub returns-in-Err-clause-completes : goal.returns-in-Err-clause-completes
+returns-in-Err-clause-completes g c =
+    IfOk-weaker c.completed.result
+    (λ told. CompletesBy c.args.program.given.text.items c.args.program.image (meaning c.args.program.given.declaration) (meaning c.in_ok-proposal.proposal.declaration) told.status told.text.items)
+    (λ told. Completes (Some c.args.program.given.text.items) c.args.program.image (meaning c.args.program.given.declaration) told.status told.text.items)
+    (λ told by. completes_by _ _ _ _ _ _ by) c.completed.ensures.completes

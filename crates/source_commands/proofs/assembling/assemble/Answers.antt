@@ -8,6 +8,7 @@ use Rattle.pal_acts.specs.Permanent.{permanent_symbols}
 use Rattle.pal_asm.specs.Programs.{symbols_in, image_in}
 use Rattle.pal_asm.specs.Sources.{Means}
 use Rattle.source_commands.proofs.AssembleLemmas.{is_empty, not_empty}
+use Rattle.source_commands.proofs.LaterLemmas.{parts_read, parts_refused}
 use Rattle.source_commands.proofs.assembling.assemble.Goals as goal
 
 pub returns-in-Err-EmptyImage-clause-faults : goal.returns-in-Err-EmptyImage-clause-faults
@@ -41,3 +42,23 @@ returns-clause-front g c = λ marked.
       };
       front = front;
     }
+
+pub returns-in_err-parts-clause-order : goal.returns-in_err-parts-clause-order
+returns-in_err-parts-clause-order g c =
+    let told : c.from_residual.result ≡ Err c.in_err-parts.field-0.0 = search rules in
+    rw told (parts_refused c.in_err-parts.ensures.order)
+
+pub returns-in_err-slices-clause-order : goal.returns-in_err-slices-clause-order
+returns-in_err-slices-clause-order g c = parts_read (search rules) c.in_ok-parts.ensures.order
+
+pub returns-in_err-translation-clause-order : goal.returns-in_err-translation-clause-order
+returns-in_err-translation-clause-order g c = parts_read (search rules) c.in_ok-parts.ensures.order
+
+pub returns-in-Ok-clause-order : goal.returns-in-Ok-clause-order
+returns-in-Ok-clause-order g c = parts_read (search rules) c.in_ok-parts.ensures.order
+
+pub returns-in-Err-EmptyImage-clause-order : goal.returns-in-Err-EmptyImage-clause-order
+returns-in-Err-EmptyImage-clause-order g c = parts_read (search rules) c.in_ok-parts.ensures.order
+
+pub returns-clause-order : goal.returns-clause-order
+returns-clause-order g c = parts_read (search rules) c.in_ok-parts.ensures.order

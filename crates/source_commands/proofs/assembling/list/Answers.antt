@@ -1,9 +1,10 @@
-use Rattle.std.proofs.Common.{rules, ◌≡◌, ◌∙◌, ap, false, length, map}
+use Rattle.std.proofs.Common.{rules, Err, ◌≡◌, ◌∙◌, ap, false, length, map}
 use Rattle.std.proofs.lemmas.List.{length-map}
 use Rattle.pal_text.proofs.Cuts.{told_on}
 use Rattle.source_commands.specs.AssembleText.{IsAssemblyFault, IsListFault}
 use Rattle.source_commands.specs.SourceTexts.{is_bad_number}
 use Rattle.source_commands.proofs.CrossLemmas.{not_listed}
+use Rattle.source_commands.proofs.LaterLemmas.{parts_read, parts_refused}
 use Rattle.source_commands.proofs.assembling.list.Goals as goal
 
 pub returns-in_err-text-clause-faults : goal.returns-in_err-text-clause-faults
@@ -14,3 +15,23 @@ returns-in_err-text-clause-faults g c =
     (IsListFault c.args.profile (map g.R.ByteSource.mark c.read_parts.new.sources) (map g.R.ByteSource.remaining c.args.sources.now) (map g.R.ByteSource.remaining c.read_parts.new.sources))
     c.from_residual-in_err-text.ensures.1
     (not_listed c.args.profile _ _ _ (map (λ part. part.items) c.in_ok-parts.parts.items) c.in_err-text.field-0.0 number c.in_ok-parts.ensures.read refused)
+
+pub returns-in_err-parts-clause-order : goal.returns-in_err-parts-clause-order
+returns-in_err-parts-clause-order g c =
+    let told : c.from_residual.result ≡ Err c.in_err-parts.field-0.0 = search rules in
+    rw told (parts_refused c.in_err-parts.ensures.order)
+
+pub returns-in_err-slices-clause-order : goal.returns-in_err-slices-clause-order
+returns-in_err-slices-clause-order g c = parts_read (search rules) c.in_ok-parts.ensures.order
+
+pub returns-in_err-program-clause-order : goal.returns-in_err-program-clause-order
+returns-in_err-program-clause-order g c = parts_read (search rules) c.in_ok-parts.ensures.order
+
+pub returns-in_err-text-clause-order : goal.returns-in_err-text-clause-order
+returns-in_err-text-clause-order g c = parts_read (search rules) c.in_ok-parts.ensures.order
+
+pub returns-in-Ok-clause-order : goal.returns-in-Ok-clause-order
+returns-in-Ok-clause-order g c = parts_read (search rules) c.in_ok-parts.ensures.order
+
+pub returns-in-Err-clause-order : goal.returns-in-Err-clause-order
+returns-in-Err-clause-order g c = parts_read (search rules) c.in_ok-parts.ensures.order

@@ -1,5 +1,5 @@
 -- How the answer of a command follows from what it read, from its work and from what it wrote.
-use Rattle.std.proofs.Common.{ℕ, ◌≡◌, ◌⊎◌, Bool, true, false, List, refl, sym, ◌∙◌, ap, subst, inl, inr}
+use Rattle.std.proofs.Common.{ℕ, ◌≡◌, ◌⊎◌, Bool, true, false, List, refl, sym, ◌∙◌, subst, inl, inr}
 use Rattle.std.specs.Prelude.{Option, Result, Ok, Err, IfOk, IfErr, IsOkAnd}
 use Rattle.std.specs.Io.KnownBytes.{Appends}
 use Rattle.std.proofs.lemmas.Bool.{true≢false}
@@ -12,7 +12,7 @@ use Rattle.command_parts.specs.declared.status.DeviceFault.TheVariants.{Read, Wr
 use Rattle.command_parts.specs.Answers.{EndsAt, FailsBy, GoesOn, IsLaterFault, NeverFails, Output, Reads, ReadsDeclaration, ReadsTape, ReadsTwo, WritesAnswer, output}
 use Rattle.command_parts.specs.Faults.{IsWriteFault, fails_to_read, fails_to_write}
 use Rattle.command_parts.specs.Inputs.{Input}
-use Rattle.command_parts.specs.Writes.{FrontOf, Writes}
+use Rattle.command_parts.specs.Writes.{Writes}
 
 -- a fault as an answer
 abbrev pub refused : (T : Type 0) → Fault → Result T Fault
@@ -31,11 +31,6 @@ pub reads_alike : (S T : Type 0) (f : Fault) → fails_to_read (refused S f) ≡
 reads_alike S T (Device Read) = refl
 reads_alike S T (Device Write) = refl
 reads_alike S T _ = refl
-
-writes_alike : (S T : Type 0) (f : Fault) → fails_to_write (refused S f) ≡ fails_to_write (refused T f)
-writes_alike S T (Device Read) = refl
-writes_alike S T (Device Write) = refl
-writes_alike S T _ = refl
 
 -- of a call that had a fault its caller has it too
 pub refused_so : {S T : Type 0} {F : Input → Fault → Type 0} {G : Option (List ℕ) → Type 0} {K : Option (List ℕ) → Option (List ℕ) → Type 0} {one : Input} {u v : Type 0}
@@ -149,25 +144,6 @@ delivers_by W told (Ok x) is faults = tt
 delivers_by W (Ok o) (Err f) is (inl same) = absurd (no_fault _ o f same)
 delivers_by W (Err e) (Err f) is (inl same) = inl (subst W (same_fault _ e f same) is)
 delivers_by W told (Err f) is (inr write) = inr write
-
--- a text that is written, and the answer that it is right for
-pub text_put : {S T : Type 0} {P : T → List ℕ → Type 0} {out : Output} {s : S} (answer : T) (text : List ℕ) → P answer text →
-    WritesAnswer {T = S} (λ done t. t ≡ text) out (Ok s) → WritesAnswer {T = T} P out (Ok answer)
-text_put {P = P} answer text is w = record {
-  written = record { text = text; is = is; written = rw w.written.is at w.written.written };
-  front = λ marked. let told = w.front marked in record { text = text; is = (answer, is); front = rw told.is.1 at told.front };
-  nothing = tt;
-  marks = w.marks;
-}
-
-pub text_failed : {S T : Type 0} {P : T → List ℕ → Type 0} {out : Output} {f : Fault} (answer : T) (text : List ℕ) → P answer text →
-    WritesAnswer {T = S} (λ done t. t ≡ text) out (Err f) → WritesAnswer {T = T} P out (Err f)
-text_failed {S = S} {T = T} {f = f} answer text is w = record {
-  written = tt;
-  front = λ marked. let told = w.front marked in record { text = text; is = (answer, is); front = rw told.is.1 at told.front };
-  nothing = w.nothing;
-  marks = w.marks ∙ writes_alike S T f;
-}
 
 -- after the work only a write fails
 pub write_follows : {T : Type 0} (W : Fault → Type 0) (result : Result T Fault) → IfErr result IsWriteFault → FailsBy (IsLaterFault W) result

@@ -1,8 +1,8 @@
-use Rattle.std.proofs.Common.{rules, refl, sym, ◌≡◌, ◌+◌, ◌<◌, ◌≤◌, [], ◌∷◌, ◌++◌, map, length, ◌∙◌, false, Vec, Err, ℕ}
+use Rattle.std.proofs.Common.{rules, refl, sym, ap, ◌≡◌, ◌+◌, ◌<◌, ◌≤◌, [], ◌∷◌, ◌++◌, map, length, ◌∙◌, false, Vec, Err, ℕ}
 use Rattle.command_parts.specs.Faults.{fails_to_read}
-use Rattle.std.specs.List.{AllByRecursion}
+use Rattle.std.specs.List.{AllByRecursion, list_any}
 use Rattle.std.proofs.lemmas.Bool.{true≢false}
-use Rattle.std.proofs.lemmas.List.{map-append}
+use Rattle.std.proofs.lemmas.List.{map-append, take_all}
 use Rattle.source_commands.specs.SourceTexts.{IsShort}
 use Rattle.source_commands.proofs.PartLemmas.{all_push, none_marked, one_tells, none_more, bad_number, parts_fault}
 use Rattle.source_commands.proofs.LaterLemmas.{unread_long, unread_failed, unread_left, read_whole, marked_whole, left_whole}
@@ -90,7 +90,7 @@ returns-clause-order g c =
     let past : length c.args.sources.now ≤ c.loop-source.source-index = search rules in
     let done : length c.loop-source.sources ≤ c.loop-source.source-index = search rules in
     record {
-      marks = search rules;
+      marks = ap (list_any g.R.ByteSource.mark) (sym (take_all c.loop-source.source-index c.loop-source.sources done)) ∙ inv.2;
       number = λ bad. absurd (true≢false (sym bad ∙ inv.5));
       unread = λ at long. read_whole g.R.ByteSource.remaining (λ part. part.items) c.loop-source.sources c.args.sources.now c.loop-source.source-index c.loop-source.parts.items at past inv.0 inv.1 long;
       unread_after_failure = λ at there. marked_whole g.R.ByteSource.mark c.loop-source.sources c.args.sources.now c.loop-source.source-index at done inv.2 there;

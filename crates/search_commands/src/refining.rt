@@ -76,7 +76,6 @@ fn is_no_wider<A: Allocator, B: Allocator>(given: &Declaration<A>, less: &Declar
 }
 
 /// What a text declares, if that is no wider than what a given text declares, and a certificate is found for it.
-#[tactic(auto, using(crate::proofs::RefiningLemmas::shown_change))]
 fn shown_no_wider<A: Allocator + Copy, D: Allocator>(
     alloc: A,
     image: &Image,

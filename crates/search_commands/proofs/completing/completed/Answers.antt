@@ -12,10 +12,10 @@ pub returns-in-Ok-clause-completes : goal.returns-in-Ok-clause-completes
 returns-in-Ok-clause-completes g c =
     shown_completes c.args.image.now _ _ _ (meaning c.in-Some.more) _
     (rw (c.as_slice-bytes.ensures.value, c.deref.ensures.value) at (rw c.in-Some.is at c.in_ok-more.ensures.extends))
-    (rw c.in-Ok.is at c.in_ok-certificate_for.ensures.shown)
+    (rw c.in-Ok.is at c.in_ok-_certificate.ensures.shown)
 
-pub lacking-in-Err-requires : goal.lacking-in-Err-requires
-lacking-in-Err-requires g c =
+pub lacking-requires-in-Err : goal.lacking-requires-in-Err
+lacking-requires-in-Err g c =
     rw c.deref-in-Err.ensures.value (rw (c.as_slice-bytes.ensures.value, c.deref.ensures.value) at (fit_if meaning _ _ _ _ _ _ c.in-Some.is c.in_ok-more.ensures.extends))
 
 pub returns-in-Err-clause-completes : goal.returns-in-Err-clause-completes

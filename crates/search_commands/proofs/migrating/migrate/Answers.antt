@@ -1,7 +1,7 @@
 use Rattle.std.proofs.Common.{◌≡◌, false, rules, Err}
 use Rattle.certificate_lines.specs.CertificateInCode.{meaning as lines_of}
 use Rattle.command_parts.specs.Faults.{fails_to_write}
-use Rattle.command_parts.proofs.AnswerLemmas.{good_alone, nothing_written, read_alone, written_so, write_follows}
+use Rattle.command_parts.proofs.AnswerLemmas.{good_alone, nothing_written, read_alone, write_follows, written_so}
 use Rattle.search_commands.proofs.migrating.migrate.Goals as goal
 
 pub returns-in_err-claims-clause-reads : goal.returns-in_err-claims-clause-reads

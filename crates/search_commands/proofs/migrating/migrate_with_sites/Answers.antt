@@ -4,7 +4,7 @@ use Rattle.certificate_lines.specs.Laws.{bytes_of}
 use Rattle.declaration.specs.DeclarationInCode.{meaning}
 use Rattle.command_parts.specs.Faults.{fails_to_write}
 use Rattle.command_parts.specs.declared.status.Fault.TheVariants.{NoMemory}
-use Rattle.command_parts.proofs.AnswerLemmas.{good_alone, nothing_written, read_alone, written_so, write_follows}
+use Rattle.command_parts.proofs.AnswerLemmas.{good_alone, nothing_written, read_alone, write_follows, written_so}
 use Rattle.search_commands.proofs.migrating.migrate_with_sites.Goals as goal
 
 pub returns-in_err-promised-clause-reads : goal.returns-in_err-promised-clause-reads

@@ -1,3 +1,4 @@
+use Rattle.std.proofs.Common.{rules}
 use Rattle.search_commands.proofs.refining.is_no_wider.Goals as goal
 
 pub returns : goal.returns
@@ -5,5 +6,5 @@ returns g c = λ yes. record {
   start_is = c.is_alike.ensures.start c.if-not-is_alike.false;
   profile_is = c.is_alike.ensures.profile c.if-not-is_alike.false;
   adds = c.adds_only.ensures yes;
-  listed = c.is_alike.ensures.listed c.if-not-is_alike.false;
+  listed = search rules;
 }

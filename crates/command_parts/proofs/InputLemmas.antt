@@ -49,6 +49,11 @@ events_fault_is (events_fault.BadLine n) failed had left text taken is fails = a
 pub has_declaration : (had : Option (List ℕ)) (text : List ℕ) (d : Declaration) → IfSome had (λ bytes. text ≡ take 16385 bytes) → Declares text d → HasDeclaration had d
 has_declaration had text d is declares = all_or_more (λ bytes. Declares bytes d) had text 16384 is declares (λ bytes long more s. absurd (let short = s.good.short in omega (arith, short, long)))
 
+-- a text that was read up to one byte more than a declaration may have is everything that its source had
+pub whole_text : (had : Option (List ℕ)) (text : List ℕ) (d : Declaration) → IfSome had (λ bytes. text ≡ take 16385 bytes) → Declares text d → IfSome had (λ bytes. bytes ≡ text)
+whole_text had text d is declares =
+    all_or_more (λ bytes. bytes ≡ text) had text 16384 is refl (λ bytes long more e. absurd (let short = declares.good.short in omega (arith, short, long)))
+
 at_line : (fault : DeclarationFault) (had : Option (List ℕ)) (text : List ℕ) → IfSome had (λ bytes. text ≡ take 16385 bytes) → FailsAtLine text fault → IfSome had (λ bytes. FailsAtLine bytes fault)
 at_line fault had text is fails = all_or_more (λ bytes. FailsAtLine bytes fault) had text 16384 is fails (λ bytes long more f. absurd (let short = f.stands.short in omega (arith, short, long)))
 

@@ -1,8 +1,9 @@
 //! What commands read: tapes, declarations and lists of events.
 
-ghost use Rattle.std.specs.Prelude.{◌≡◌, false, IfOk, IfErr};
+ghost use Rattle.std.specs.Prelude.{◌≡◌, false, IfOk, IfErr, IfSome};
 ghost use Rattle.std.specs.Io.KnownBytes.{Consumes};
 ghost use Rattle.declaration.specs.DeclarationInCode.{meaning};
+ghost use Rattle.declaration.specs.Text.{Declares};
 ghost use Rattle.command_parts.specs.Faults.{IsTapeInputFault, IsDeclarationInputFault, IsEventsInputFault, IsBytesFault, fails_to_read};
 ghost use Rattle.command_parts.specs.Inputs.{AreFirst, HasImage, HasDeclaration, HasEvents, TakesAtMost, TakesTape, input};
 
@@ -20,6 +21,15 @@ const MOST_DECLARATION: usize = 16_385;
 /// The same of a text of events.
 const MOST_EVENTS: usize = 65_537;
 
+/// A declaration and its text.
+#[derive(Drop)]
+pub struct ParsedDeclaration<A: Allocator> {
+    /// The text.
+    pub text: Vec<u8, A>,
+    /// What it declares.
+    pub declaration: Declaration<A>,
+}
+
 /// Reads a tape.
 pub fn tape_from<R: ByteSource>(source: &mut R) -> Result<Image, Fault>
     requires { R.mark source.old ≡ false }
@@ -32,13 +42,18 @@ pub fn tape_from<R: ByteSource>(source: &mut R) -> Result<Image, Fault>
     Ok(read_from(source)?)
 }
 
-/// Reads a declaration.
+/// Reads a declaration, and keeps its text.
 pub fn declaration_from<A: Allocator + Copy, R: ByteSource>(
     alloc: A,
     source: &mut R,
-) -> Result<Declaration<A>, Fault>
+) -> Result<ParsedDeclaration<A>, Fault>
     requires { R.mark source.old ≡ false }
-    ensures declares { IfOk result (λ d. HasDeclaration (R.remaining source.old) (meaning d)) }
+    ensures declares { IfOk result (λ parsed.
+        HasDeclaration (R.remaining source.old) (meaning parsed.declaration)) }
+    ensures text { IfOk result (λ parsed.
+        Declares parsed.text.items (meaning parsed.declaration)) }
+    ensures whole { IfOk result (λ parsed.
+        IfSome (R.remaining source.old) (λ bytes. bytes ≡ parsed.text.items)) }
     ensures faults { IfErr result (IsDeclarationInputFault
         (input (R.mark source.new) (R.remaining source.old) (R.remaining source.new))) }
     ensures marks { R.mark source.new ≡ fails_to_read result }
@@ -46,7 +61,7 @@ pub fn declaration_from<A: Allocator + Copy, R: ByteSource>(
 {
     let text = read_at_most(alloc, source, MOST_DECLARATION)?;
     match Declaration::parse(alloc, &text) {
-        Ok(declaration) => Ok(declaration),
+        Ok(declaration) => Ok(ParsedDeclaration { text, declaration }),
         Err(fault) => Err(Fault::from(fault)),
     }
 }

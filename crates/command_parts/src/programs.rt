@@ -1,12 +1,13 @@
 //! What several commands read: a program with its declaration, alone or with a text of events.
 
-ghost use Rattle.std.specs.Prelude.{◌≡◌, false, IfOk};
+ghost use Rattle.std.specs.Prelude.{◌≡◌, false, IfOk, IfSome};
 ghost use Rattle.declaration.specs.DeclarationInCode.{meaning};
+ghost use Rattle.declaration.specs.Text.{Declares};
 ghost use Rattle.command_parts.specs.Answers.{NeverFails, ReadsRun, ReadsTwo};
 ghost use Rattle.command_parts.specs.Faults.{fails_to_write};
 ghost use Rattle.command_parts.specs.Inputs.{HasDeclaration, HasEvents, HasImage, input};
 
-use crate::inputs::{declaration_from, events_from, tape_from};
+use crate::inputs::{ParsedDeclaration, declaration_from, events_from, tape_from};
 use crate::status::Fault;
 use bin_tape::Image;
 use declaration::Declaration;
@@ -21,6 +22,8 @@ pub struct ProgramWithDeclaration<A: Allocator> {
     pub image: Image,
     /// What the program may do.
     pub declaration: Declaration<A>,
+    /// The text of the declaration.
+    pub text: Vec<u8, A>,
 }
 
 /// A program with its declaration, and events of a run.
@@ -43,6 +46,10 @@ pub fn program_from<A: Allocator + Copy, R: ByteSource, D: ByteSource>(
     ensures image { IfOk result (λ program. HasImage (R.remaining tape.old) program.image) }
     ensures declares { IfOk result (λ program.
         HasDeclaration (D.remaining declaration.old) (meaning program.declaration)) }
+    ensures text { IfOk result (λ program.
+        Declares program.text.items (meaning program.declaration)) }
+    ensures whole { IfOk result (λ program.
+        IfSome (D.remaining declaration.old) (λ bytes. bytes ≡ program.text.items)) }
     ensures reads { ReadsTwo NeverFails
         (input (R.mark tape.new) (R.remaining tape.old) (R.remaining tape.new))
         (input (D.mark declaration.new) (D.remaining declaration.old) (D.remaining declaration.new))
@@ -51,8 +58,13 @@ pub fn program_from<A: Allocator + Copy, R: ByteSource, D: ByteSource>(
     ensures unwritten { fails_to_write result ≡ false }
 {
     let image = tape_from(tape)?;
-    let declaration = declaration_from(alloc, declaration)?;
-    Ok(ProgramWithDeclaration { image, declaration })
+    let parsed = declaration_from(alloc, declaration)?;
+    let ParsedDeclaration { text, declaration } = parsed;
+    Ok(ProgramWithDeclaration {
+        image,
+        declaration,
+        text,
+    })
 }
 
 /// Reads a tape, after a good one a declaration, and after that a text of events.

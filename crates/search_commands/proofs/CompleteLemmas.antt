@@ -1,5 +1,5 @@
 -- What `complete` writes.
-use Rattle.std.proofs.Common.{ℕ, ◌≡◌, ◌||◌, Bool, true, List, Option, refl, inl, inr, sym, subst, take, arith}
+use Rattle.std.proofs.Common.{ℕ, ◌≡◌, ◌||◌, Bool, true, List, Option, refl, inl, inr, sym, subst}
 use Rattle.std.specs.Prelude.{Some, None, IfSome}
 use Rattle.wordset.specs.Words.{Words}
 use Rattle.peripherals.specs.Loading.{image_of}
@@ -8,7 +8,6 @@ use Rattle.declaration.specs.Text.{Declares}
 use Rattle.policy.specs.Runs.{IsSafe}
 use Rattle.command_parts.specs.declared.status.Status.{Status}
 use Rattle.command_parts.specs.declared.status.Status.TheVariants.{Done, Refused}
-use Rattle.command_parts.proofs.InputLemmas.{all_or_more}
 use Rattle.search_commands.proofs.DeclareLemmas.{refused_not_done}
 use Rattle.search_commands.specs.Extending.{Extends, KeepsReads}
 use Rattle.search_commands.specs.Adding.{lists}
@@ -86,11 +85,6 @@ completes_by image bytes given proposed status text by = record {
   ends = by.ends;
   safe = by.safe;
 }
-
--- a text that was read up to one byte more than a declaration may have is everything that its source had
-pub whole_text : (had : Option (List ℕ)) (text : List ℕ) (d : Declaration) → IfSome had (λ bytes. text ≡ take 16385 bytes) → Declares text d → IfSome had (λ bytes. bytes ≡ text)
-whole_text had text d is declares =
-    all_or_more (λ bytes. bytes ≡ text) had text 16384 is refl (λ bytes long more e. absurd (let short = declares.good.short in omega (arith, short, long)))
 
 -- a text that keeps the lines of what was read from a source keeps the lines of the source
 keeps_source : (source : Option (List ℕ)) (bytes text : List ℕ) → IfSome source (λ all. all ≡ bytes) → KeepsLines bytes text → IfSome source (λ all. KeepsLines all text)

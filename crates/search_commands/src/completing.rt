@@ -1,9 +1,9 @@
 //! The command that adds what is missing to a declaration.
 
-ghost use Rattle.std.specs.Prelude.{◌≡◌, false, Some, IfSome, IfOk, IfErr, ℕ, List, Option};
-ghost use Rattle.command_parts.specs.Answers.{IsLaterFault, IsMemoryFault, NeverFails, OfProgram, ReadsTwo, WritesAnswer, output};
-ghost use Rattle.command_parts.specs.Faults.{IsDeclarationInputFault, fails_to_read, fails_to_write};
-ghost use Rattle.command_parts.specs.Inputs.{HasDeclaration, HasImage, TakesAtMost, input};
+ghost use Rattle.std.specs.Prelude.{◌≡◌, false, Some, IfSome, IfOk, IfErr};
+ghost use Rattle.command_parts.specs.Answers.{IsLaterFault, IsMemoryFault, OfProgram, ReadsTwo, WritesAnswer, output};
+ghost use Rattle.command_parts.specs.Faults.{fails_to_write};
+ghost use Rattle.command_parts.specs.Inputs.{input};
 ghost use Rattle.search_commands.specs.CompleteText.{Completes, CompletesBy, IsExtensionBy, IsFit};
 ghost use Rattle.search_commands.specs.SearchFaults.{IsProposeFault};
 ghost use Rattle.declaration.specs.DeclarationInCode.{meaning};
@@ -15,84 +15,16 @@ use crate::extending::extends;
 use crate::keeping::keeps_lines;
 use crate::merging::merged;
 use crate::verifying::{InconclusiveReason, certificate_for};
-use bin_tape::Image;
-use command_parts::inputs::tape_from;
 use command_parts::options::DeclareOptions;
 use command_parts::outcome::{CommandResult, deliver};
+use command_parts::programs::{ProgramWithDeclaration, program_from};
 use command_parts::status::{Fault, Status};
 use declaration::{Declaration, DeclarationFault};
 use proposer::{ObservedRuns, Proposal};
 use std::alloc::{AllocError, Allocator};
-use streams::{ByteSink, ByteSource, read_at_most};
+use streams::{ByteSink, ByteSource};
 use turns::Turns;
 use wordset::WordSet;
-
-/// One byte more than the text of a declaration may have, so that a longer text is seen to be too long.
-const MOST_BYTES: usize = 16_385;
-
-/// A declaration and its text.
-#[derive(Drop)]
-struct ParsedDeclaration<A: Allocator> {
-    text: Vec<u8, A>,
-    declaration: Declaration<A>,
-}
-
-/// The words of a tape, and a declaration with its text.
-#[derive(Drop)]
-struct ParsedProgram<A: Allocator> {
-    image: Image,
-    given: ParsedDeclaration<A>,
-}
-
-/// Reads a declaration, and keeps its text.
-fn given_from<A: Allocator + Copy, R: ByteSource>(
-    alloc: A,
-    source: &mut R,
-) -> Result<ParsedDeclaration<A>, Fault>
-    requires { R.mark source.old ≡ false }
-    ensures declares { IfOk result (λ given.
-        HasDeclaration (R.remaining source.old) (meaning given.declaration)) }
-    ensures text { IfOk result (λ given.
-        Declares given.text.items (meaning given.declaration)) }
-    ensures whole { IfOk result (λ given.
-        IfSome (R.remaining source.old) (λ bytes. bytes ≡ given.text.items)) }
-    ensures faults { IfErr result (IsDeclarationInputFault
-        (input (R.mark source.new) (R.remaining source.old) (R.remaining source.new))) }
-    ensures marks { R.mark source.new ≡ fails_to_read result }
-    ensures takes { TakesAtMost 16385 (R.remaining source.old) (R.remaining source.new) }
-{
-    let text = read_at_most(alloc, source, MOST_BYTES)?;
-    match Declaration::parse(alloc, &text) {
-        Ok(declaration) => Ok(ParsedDeclaration { text, declaration }),
-        Err(fault) => Err(Fault::from(fault)),
-    }
-}
-
-/// Reads a tape and, if that has no fault, a declaration, whose text it keeps.
-fn given_program_from<A: Allocator + Copy, R: ByteSource, D: ByteSource>(
-    alloc: A,
-    tape: &mut R,
-    declaration: &mut D,
-) -> Result<ParsedProgram<A>, Fault>
-    requires readable { R.mark tape.old ≡ false }
-    requires declaration_readable { D.mark declaration.old ≡ false }
-    ensures image { IfOk result (λ program. HasImage (R.remaining tape.old) program.image) }
-    ensures declares { IfOk result (λ program.
-        HasDeclaration (D.remaining declaration.old) (meaning program.given.declaration)) }
-    ensures text { IfOk result (λ program.
-        Declares program.given.text.items (meaning program.given.declaration)) }
-    ensures whole { IfOk result (λ program. IfSome (D.remaining declaration.old)
-        (λ bytes. bytes ≡ program.given.text.items)) }
-    ensures reads { ReadsTwo NeverFails
-        (input (R.mark tape.new) (R.remaining tape.old) (R.remaining tape.new))
-        (input (D.mark declaration.new) (D.remaining declaration.old) (D.remaining declaration.new))
-        (declaration.new ≡ declaration.old) result }
-    ensures unwritten { fails_to_write result ≡ false }
-{
-    let image = tape_from(tape)?;
-    let given = given_from(alloc, declaration)?;
-    Ok(ParsedProgram { image, given })
-}
 
 /// What a text declares, if it keeps the lines of a given declaration and extends that declaration by what is proposed
 /// and by nothing else.
@@ -152,26 +84,26 @@ fn with_remarks<A: Allocator + Copy>(
 /// there is room for them.
 fn lacking<A: Allocator + Copy>(
     alloc: A,
-    given: &ParsedDeclaration<A>,
+    program: &ProgramWithDeclaration<A>,
     proposal: &Proposal<A>,
     text: &[u8],
     lack: InconclusiveReason,
     seen: Option<ObservedRuns>,
 ) -> Result<CommandResult<A>, Fault>
-    requires { IsFit given.now.text.items (meaning given.now.declaration)
+    requires { IsFit program.now.text.items (meaning program.now.declaration)
         (meaning proposal.now.declaration) text.now }
-    ensures completes { (image : List (Option ℕ)) → IfOk result (λ c. CompletesBy
-        given.now.text.items image (meaning given.now.declaration)
-        (meaning proposal.now.declaration) c.status c.text.items) }
+    ensures completes { IfOk result (λ c. CompletesBy program.now.text.items program.now.image
+        (meaning program.now.declaration) (meaning proposal.now.declaration)
+        c.status c.text.items) }
     ensures faults { IfErr result IsMemoryFault }
 {
     let status = Status::Refused;
     let more = with_remarks(alloc, text, lack, seen, &proposal.unfollowed)?;
-    let bytes = given.text.as_slice();
+    let bytes = program.text.as_slice();
     match extension(
         alloc,
         bytes,
-        &given.declaration,
+        &program.declaration,
         &proposal.declaration,
         &more,
     )? {
@@ -187,29 +119,29 @@ fn lacking<A: Allocator + Copy>(
 /// nothing is added, nothing depends on what runs did.
 fn completed<A: Allocator + Copy>(
     alloc: A,
-    image: &Image,
-    given: &ParsedDeclaration<A>,
+    program: &ProgramWithDeclaration<A>,
     lack: InconclusiveReason,
     proposal: &Proposal<A>,
 ) -> Result<CommandResult<A>, Fault>
-    requires { Declares given.now.text.items (meaning given.now.declaration) }
-    ensures completes { IfOk result (λ c. CompletesBy given.now.text.items image.now
-        (meaning given.now.declaration) (meaning proposal.now.declaration) c.status c.text.items) }
+    requires { Declares program.now.text.items (meaning program.now.declaration) }
+    ensures completes { IfOk result (λ c. CompletesBy program.now.text.items program.now.image
+        (meaning program.now.declaration) (meaning proposal.now.declaration)
+        c.status c.text.items) }
     ensures faults { IfErr result IsMemoryFault }
 {
-    let bytes = given.text.as_slice();
-    let declared = &given.declaration;
+    let bytes = program.text.as_slice();
+    let declared = &program.declaration;
     let proposed = &proposal.declaration;
     let text = merged(alloc, bytes, declared, proposed)?;
     let Some(more) = extension(alloc, bytes, declared, proposed, &text)? else {
-        return lacking(alloc, given, proposal, bytes, lack, None);
+        return lacking(alloc, program, proposal, bytes, lack, None);
     };
-    match certificate_for(alloc, image, &more)? {
+    match certificate_for(alloc, &program.image, &more)? {
         Ok(_certificate) => Ok(CommandResult {
             text,
             status: Status::Done,
         }),
-        Err(lack) => lacking(alloc, given, proposal, &text, lack, proposal.seen),
+        Err(lack) => lacking(alloc, program, proposal, &text, lack, proposal.seen),
     }
 }
 
@@ -217,28 +149,29 @@ fn completed<A: Allocator + Copy>(
 /// list of reads if the declaration has one and that is requested.
 fn completion_of<A: Allocator + Copy>(
     alloc: A,
-    program: ParsedProgram<A>,
+    program: ProgramWithDeclaration<A>,
     reads: bool,
 ) -> Result<CommandResult<A>, Fault>
-    requires { Declares program.given.text.items (meaning program.given.declaration) }
-    ensures completes { IfOk result (λ told. Completes (Some program.given.text.items)
-        program.image (meaning program.given.declaration) told.status told.text.items) }
+    requires { Declares program.text.items (meaning program.declaration) }
+    ensures completes { IfOk result (λ told. Completes (Some program.text.items) program.image
+        (meaning program.declaration) told.status told.text.items) }
     ensures faults { IfErr result IsProposeFault }
     ensures unwritten { fails_to_write result ≡ false }
 {
-    let ParsedProgram { image, given } = program;
-    let Err(lack) = certificate_for(alloc, &image, &given.declaration)? else {
-        let ParsedDeclaration { text, .. } = given;
+    let declared = &program.declaration;
+    let Err(lack) = certificate_for(alloc, &program.image, declared)? else {
+        let ProgramWithDeclaration { text, .. } = program;
         let status = Status::Done;
         return Ok(CommandResult { text, status });
     };
     let options = DeclareOptions {
-        start: given.declaration.start(),
-        profile: given.declaration.profile(),
-        reads: reads && given.declaration.reads_listed(),
+        start: declared.start(),
+        profile: declared.profile(),
+        reads: reads && declared.reads_listed(),
     };
-    let proposal = proposal_for(alloc, &image, &options, &mut Turns::new(MOST_TURNS))?;
-    completed(alloc, &image, &given, lack, &proposal)
+    let mut turns = Turns::new(MOST_TURNS);
+    let proposal = proposal_for(alloc, &program.image, &options, &mut turns)?;
+    completed(alloc, &program, lack, &proposal)
 }
 
 /// Adds to a declaration what it lacks according to the tape, and writes its text. What it said before is kept: each
@@ -278,7 +211,7 @@ pub fn complete<A: Allocator + Copy, R: ByteSource, D: ByteSource, W: ByteSink>(
         (input (D.mark declaration.new) (D.remaining declaration.old) (D.remaining declaration.new))
         (declaration.new ≡ declaration.old) result }
 {
-    match given_program_from(alloc, tape, declaration) {
+    match program_from(alloc, tape, declaration) {
         Ok(program) => deliver(completion_of(alloc, program, reads), out),
         Err(fault) => Err(fault),
     }

@@ -100,6 +100,6 @@ pub fn migrate_with_sites<A: Allocator + Copy, D: ByteSource, C: ByteSource, W: 
 {
     let promised = declaration_from(alloc, declaration)?;
     let claims = certificate_from(alloc, certificate)?;
-    let migrated = sited(alloc, &promised, claims)?;
+    let migrated = sited(alloc, &promised.declaration, claims)?;
     write_certificate(&migrated, out)
 }

@@ -106,7 +106,7 @@ pub fn declared_source<A: Allocator + Copy, R: ByteSource, D: ByteSource, W: Byt
 {
     let image = tape_from(tape)?;
     let promised = declaration_from(alloc, declaration)?;
-    let text = declared_source_of(alloc, &image, &promised)?;
+    let text = declared_source_of(alloc, &image, &promised.declaration)?;
     put(out, &text)?;
     Ok(Status::Done)
 }

@@ -106,7 +106,11 @@ pub(crate) fn run_guess<R: Files + Print + Eprint, I: Read + Drop>(
 ) -> Result<Status, Fault> {
     let mut file = open_output(rt, alloc, out)?;
     let source = opened.source;
-    let ProgramWithDeclaration { image, declaration } = opened.read(alloc)?;
+    let ProgramWithDeclaration {
+        image,
+        declaration,
+        ..
+    } = opened.read(alloc)?;
     if !request.explained && report.is_none() {
         return write_found(
             &mut file,
@@ -139,7 +143,11 @@ pub(crate) fn run_refute<R: Files + Print + Eprint, I: Read + Drop>(
 ) -> Result<Status, Fault> {
     let mut file = open_output(rt, alloc, out)?;
     let source = opened.labels(options.explained);
-    let ProgramWithDeclaration { image, declaration } = opened.read(alloc)?;
+    let ProgramWithDeclaration {
+        image,
+        declaration,
+        ..
+    } = opened.read(alloc)?;
     let found = refute_message(alloc, &image, &declaration, options)?;
     let lines = lines_of(alloc, source, &found.told)?;
     put(&mut StdWriter::new(&mut file), &found.events)?;

@@ -64,7 +64,11 @@ fn run_check<R: Files + Input + Print, I: Read + Drop>(
         let mut out = StdWriter::new(io::writer(rt));
         return deliver(verdict_of(alloc, &certified), &mut out);
     }
-    let ProgramWithDeclaration { image, declaration } = &certified.program;
+    let ProgramWithDeclaration {
+        image,
+        declaration,
+        ..
+    } = &certified.program;
     let verdict = check_message(alloc, image, declaration, &certified.certificate)?;
     print_message(rt, alloc, source, &verdict.told)?;
     Ok(verdict.status)
@@ -133,7 +137,11 @@ fn run_watch<R: Files + Input + Print, I: Read + Drop>(
 ) -> Result<Status, Fault> {
     let mut list = open_input(rt, events)?;
     let source = opened.labels(explained);
-    let ProgramWithDeclaration { image, declaration } = opened.read(alloc)?;
+    let ProgramWithDeclaration {
+        image,
+        declaration,
+        ..
+    } = opened.read(alloc)?;
     let events = events_from(alloc, &mut list)?;
     let stopping = stops_of(&places.stopping);
     let options = watch_options_of(&stopping, explained, &places.show);
@@ -162,7 +170,11 @@ fn run_watch_session<R: Files + Input + Print, I: Read + Drop>(
         ..session.options
     };
     let source = opened.labels(explained);
-    let ProgramWithDeclaration { image, declaration } = opened.read(alloc)?;
+    let ProgramWithDeclaration {
+        image,
+        declaration,
+        ..
+    } = opened.read(alloc)?;
     let frames = bytes_from(alloc, &mut reader, options.run.rounds)?;
     let struck = bytes_from(alloc, &mut keys, options.run.rounds)?;
     let stopping = stops_of(&places.stopping);

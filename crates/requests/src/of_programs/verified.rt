@@ -25,7 +25,11 @@ fn run_verify_declared<R: Files + Input + Print + Eprint, I: Read + Drop>(
     options: &VerifyOptions,
 ) -> Result<Status, Fault> {
     let source = opened.labels(options.search.explained);
-    let ProgramWithDeclaration { image, declaration } = opened.read(alloc)?;
+    let ProgramWithDeclaration {
+        image,
+        declaration,
+        ..
+    } = opened.read(alloc)?;
     let found = verify_message(alloc, &image, &declaration, &options.search)?;
     let message = answer_message(alloc, &image, &declaration, &found)?;
     let lines = lines_of(alloc, source, &message)?;

@@ -8,13 +8,13 @@ returns-in_err-image-clause-reads g c =
     let told : c.from_residual.result ≡ Err c.in_err-image.field-0.0 = search rules in
     rw told (read_alone (Err _) c.in_err-image.ensures.faults tt (search rules) c.in_err-image.ensures.takes refl)
 
-pub returns-in_err-declaration-clause-reads : goal.returns-in_err-declaration-clause-reads
-returns-in_err-declaration-clause-reads g c =
-    let told : c.from_residual-in_err-declaration.result ≡ Err c.in_err-declaration.field-0.0 = search rules in
-    rw told (good_alone (Err _) (read_alone (Err _) c.in_err-declaration.ensures.faults tt (search rules) c.in_err-declaration.ensures.takes tt)
+pub returns-in_err-parsed-clause-reads : goal.returns-in_err-parsed-clause-reads
+returns-in_err-parsed-clause-reads g c =
+    let told : c.from_residual-in_err-parsed.result ≡ Err c.in_err-parsed.field-0.0 = search rules in
+    rw told (good_alone (Err _) (read_alone (Err _) c.in_err-parsed.ensures.faults tt (search rules) c.in_err-parsed.ensures.takes tt)
     (record { image = c.in_ok-image.image; tape = c.in_ok-image.ensures.tape }) c.in_ok-image.ensures.marks c.in_ok-image.ensures.takes)
 
 pub returns-clause-reads : goal.returns-clause-reads
 returns-clause-reads g c =
-    good_alone (Ok _) (good_alone (Ok _) tt (record { declaration = meaning c.in_ok-declaration.declaration; declares = c.in_ok-declaration.ensures.declares }) c.in_ok-declaration.ensures.marks c.in_ok-declaration.ensures.takes)
+    good_alone (Ok _) (good_alone (Ok _) tt (record { declaration = meaning c.in_ok-parsed.parsed.declaration; declares = c.in_ok-parsed.ensures.declares }) c.in_ok-parsed.ensures.marks c.in_ok-parsed.ensures.takes)
     (record { image = c.in_ok-image.image; tape = c.in_ok-image.ensures.tape }) c.in_ok-image.ensures.marks c.in_ok-image.ensures.takes

@@ -18,7 +18,7 @@ returns-in-Ok-clause-completed g c =
     (λ status text is. record {
       image = c.in-Ok.program.image;
       tape = c.in-Ok.ensures.image;
-      declaration = meaning c.in-Ok.program.given.declaration;
+      declaration = meaning c.in-Ok.program.declaration;
       declares = c.in-Ok.ensures.declares;
       is = completes_source _ _ _ _ status text c.in-Ok.ensures.whole is;
     })

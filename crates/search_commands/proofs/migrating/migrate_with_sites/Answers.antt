@@ -22,7 +22,7 @@ pub returns-in_err-claims-clause-reads : goal.returns-in_err-claims-clause-reads
 returns-in_err-claims-clause-reads g c =
     let told : c.from_residual-in_err-claims.result ≡ Err c.in_err-claims.field-0.0 = search rules in
     rw told (good_alone (Err _) (read_alone (Err _) c.in_err-claims.ensures.faults tt (search rules) c.in_err-claims.ensures.takes tt)
-    (record { declaration = meaning c.in_ok-promised.promised; declares = c.in_ok-promised.ensures.declares }) c.in_ok-promised.ensures.marks c.in_ok-promised.ensures.takes)
+    (record { declaration = meaning c.in_ok-promised.promised.declaration; declares = c.in_ok-promised.ensures.declares }) c.in_ok-promised.ensures.marks c.in_ok-promised.ensures.takes)
 
 pub returns-in_err-claims-clause-sited : goal.returns-in_err-claims-clause-sited
 returns-in_err-claims-clause-sited g c =
@@ -34,7 +34,7 @@ pub returns-in_err-migrated-clause-reads : goal.returns-in_err-migrated-clause-r
 returns-in_err-migrated-clause-reads g c =
     let told : c.from_residual-in_err-migrated.result ≡ Err NoMemory = search rules in
     rw told (good_alone (Err _) (good_alone (Err _) (inl refl) (record { lines = lines_of c.in_ok-claims.claims; claims = c.in_ok-claims.ensures.claims }) c.in_ok-claims.ensures.marks c.in_ok-claims.ensures.takes)
-    (record { declaration = meaning c.in_ok-promised.promised; declares = c.in_ok-promised.ensures.declares }) c.in_ok-promised.ensures.marks c.in_ok-promised.ensures.takes)
+    (record { declaration = meaning c.in_ok-promised.promised.declaration; declares = c.in_ok-promised.ensures.declares }) c.in_ok-promised.ensures.marks c.in_ok-promised.ensures.takes)
 
 pub returns-in_err-migrated-clause-sited : goal.returns-in_err-migrated-clause-sited
 returns-in_err-migrated-clause-sited g c =
@@ -44,14 +44,14 @@ returns-in_err-migrated-clause-sited g c =
 pub returns-clause-reads : goal.returns-clause-reads
 returns-clause-reads g c =
     good_alone c.write_certificate.result (good_alone c.write_certificate.result (write_follows _ c.write_certificate.result c.write_certificate.ensures.faults) (record { lines = lines_of c.in_ok-claims.claims; claims = c.in_ok-claims.ensures.claims }) c.in_ok-claims.ensures.marks c.in_ok-claims.ensures.takes)
-    (record { declaration = meaning c.in_ok-promised.promised; declares = c.in_ok-promised.ensures.declares }) c.in_ok-promised.ensures.marks c.in_ok-promised.ensures.takes
+    (record { declaration = meaning c.in_ok-promised.promised.declaration; declares = c.in_ok-promised.ensures.declares }) c.in_ok-promised.ensures.marks c.in_ok-promised.ensures.takes
 
 pub returns-clause-sited : goal.returns-clause-sited
 returns-clause-sited g c =
     written_so (λ status text same. (
       same.0,
       record {
-        declared = meaning c.in_ok-promised.promised;
+        declared = meaning c.in_ok-promised.promised.declaration;
         declares = c.in_ok-promised.ensures.declares;
         lines = lines_of c.in_ok-claims.claims;
         claims = c.in_ok-claims.ensures.claims;

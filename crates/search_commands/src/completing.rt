@@ -158,12 +158,12 @@ fn completion_of<A: Allocator + Copy>(
     ensures faults { IfErr result IsProposeFault }
     ensures unwritten { fails_to_write result ≡ false }
 {
-    let declared = &program.declaration;
-    let Err(lack) = certificate_for(alloc, &program.image, declared)? else {
+    let Err(lack) = certificate_for(alloc, &program.image, &program.declaration)? else {
         let ProgramWithDeclaration { text, .. } = program;
         let status = Status::Done;
         return Ok(CommandResult { text, status });
     };
+    let declared = &program.declaration;
     let options = DeclareOptions {
         start: declared.start(),
         profile: declared.profile(),

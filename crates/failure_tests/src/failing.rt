@@ -303,6 +303,7 @@ fn operated<A: Allocator + Copy>(alloc: A, heap: Global, plan: &Plan) -> Observe
         &mut plan.source(2, b"A"),
         session(),
         &no_stops(),
+        None,
         SummaryForm::WHOLE,
         &mut outputs,
     );

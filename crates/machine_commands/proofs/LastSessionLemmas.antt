@@ -1,5 +1,5 @@
 -- A run by a schedule of which the last instructions are shown.
-use Rattle.std.proofs.Common.{ℕ, ◌≡◌, Bool, true, false, List, [], ◌++◌, Option, None, refl, IfOk, Ok, Err, Result}
+use Rattle.std.proofs.Common.{ℕ, ◌≡◌, Bool, true, false, List, [], ◌++◌, Option, Some, None, refl, IfOk, Ok, Err, Result}
 use Rattle.std.specs.Io.KnownBytes.{Appends}
 use Rattle.std.proofs.KnownBytes.{Appends-trans}
 use Rattle.instruct.specs.declared.Profile.{Profile}
@@ -17,7 +17,7 @@ use Rattle.command_parts.specs.declared.status.Fault.{Fault}
 use Rattle.command_parts.specs.declared.status.Status.{Status}
 use Rattle.command_parts.specs.Inputs.{AreFirst, HasImage}
 use Rattle.machine_commands.specs.declared.follow.RunOutcome.{RunOutcome}
-use Rattle.machine_commands.specs.LastSession.{IsHeldBehind, IsSessionBehind, IsTypedBehind, joined}
+use Rattle.machine_commands.specs.LastSession.{IsHeldBehind, IsHeldTold, IsSessionBehind, IsSessionTold, IsTypedBehind, IsTypedTold, joined}
 use Rattle.machine_commands.specs.LongTrace.{quiet}
 use Rattle.machine_commands.specs.Running.{fresh, status_of}
 use Rattle.machine_commands.specs.Schedule.{Extent, Whole}
@@ -28,7 +28,7 @@ use Rattle.machine_commands.specs.Teletype.{run_of}
 use Rattle.machine_commands.specs.TypingParts.{Source}
 use Rattle.machine_commands.proofs.SessionLemmas.{writes_by}
 use Rattle.machine_commands.proofs.StoppedLemmas.{held_to_stop}
-use Rattle.machine_commands.proofs.StoppedSessionLemmas.{operates, session_held, typed_stop_held}
+use Rattle.machine_commands.proofs.StoppedSessionLemmas.{operates, session_held, stopped_session_ok, typed_stop_held, typed_stop_ok}
 use Rattle.machine_commands.proofs.TeletypeLemmas.{begun}
 
 -- a trace that is not told
@@ -68,7 +68,7 @@ attended_behind comes options stops form left image p w x outcome status lines o
       to_punch = punched;
     }
 
-pub session_behind : (options : SessionOptions) (stops : Stops) (form : SummaryForm) (tape reader keys : Option (List ℕ)) (image : List (Option ℕ)) (frames bytes : List ℕ) (o : Operator) (r : Result Status Fault) (old new : Taken) →
+session_behind : (options : SessionOptions) (stops : Stops) (form : SummaryForm) (tape reader keys : Option (List ℕ)) (image : List (Option ℕ)) (frames bytes : List ℕ) (o : Operator) (r : Result Status Fault) (old new : Taken) →
     HasImage tape image → AreFirst options.run.rounds reader frames → AreFirst options.run.rounds keys bytes → plan_of o ≡ plan_for options frames bytes → o.last ≡ None →
     IfOk r (λ status. WritesAll (λ text printed punched. IsHeldBehind (operates o) options.run stops form false image text printed punched status) old new) →
     IfOk r (λ status. WritesAll (IsSessionBehind options stops form tape reader keys status) old new)
@@ -87,7 +87,7 @@ session_behind options stops form tape reader keys image frames bytes o (Ok stat
     }) writes
 session_behind options stops form tape reader keys image frames bytes o (Err fault) old new has_image frames_are bytes_are is first writes = tt
 
-pub typed_behind : (options : TeletypeOptions) (stops : Stops) (form : SummaryForm) (left : Bool) (tape : Option (List ℕ)) (reader keys : Source) (image : List (Option ℕ)) (r : Result Status Fault) (old new : Taken) → HasImage tape image →
+typed_behind : (options : TeletypeOptions) (stops : Stops) (form : SummaryForm) (left : Bool) (tape : Option (List ℕ)) (reader keys : Source) (image : List (Option ℕ)) (r : Result Status Fault) (old new : Taken) → HasImage tape image →
     IfOk r (λ status. WritesAll (λ text printed punched. IsHeldBehind (begun options reader keys) (run_of options) stops form left image text printed punched status) old new) →
     IfOk r (λ status. WritesAll (IsTypedBehind options stops form left tape reader.told keys.told status) old new)
 typed_behind options stops form left tape reader keys image (Ok status) old new has_image writes =
@@ -103,3 +103,19 @@ typed_behind options stops form left tape reader keys image (Ok status) old new 
       session = record { lines = behind.lines; rest = behind.rest; held = held.session; text_is = behind.text_is };
     }) writes
 typed_behind options stops form left tape reader keys image (Err fault) old new has_image writes = tt
+
+-- what is told with and without the lines of the last instructions
+pub session_told : (last : Option ℕ) (options : SessionOptions) (stops : Stops) (form : SummaryForm) (tape reader keys : Option (List ℕ)) (image : List (Option ℕ)) (frames bytes : List ℕ) (o : Operator) (r : Result Status Fault) (old new : Taken) →
+    HasImage tape image → AreFirst options.run.rounds reader frames → AreFirst options.run.rounds keys bytes → plan_of o ≡ plan_for options frames bytes → o.last ≡ None →
+    IfOk r (λ status. WritesAll (λ text printed punched. IsHeldTold last (operates o) options.run stops form false image text printed punched status) old new) →
+    IfOk r (λ status. WritesAll (IsSessionTold last options stops form tape reader keys status) old new)
+session_told None options stops form tape reader keys image frames bytes o r old new has_image frames_are bytes_are is first writes =
+    stopped_session_ok options stops form tape reader keys image frames bytes o r old new has_image frames_are bytes_are is first writes
+session_told (Some most) options stops form tape reader keys image frames bytes o r old new has_image frames_are bytes_are is first writes =
+    session_behind options stops form tape reader keys image frames bytes o r old new has_image frames_are bytes_are is first writes
+
+pub typed_told : (last : Option ℕ) (options : TeletypeOptions) (stops : Stops) (form : SummaryForm) (left : Bool) (tape : Option (List ℕ)) (reader keys : Source) (image : List (Option ℕ)) (r : Result Status Fault) (old new : Taken) → HasImage tape image →
+    IfOk r (λ status. WritesAll (λ text printed punched. IsHeldTold last (begun options reader keys) (run_of options) stops form left image text printed punched status) old new) →
+    IfOk r (λ status. WritesAll (IsTypedTold last options stops form left tape reader.told keys.told status) old new)
+typed_told None options stops form left tape reader keys image r old new has_image writes = typed_stop_ok options stops form left tape reader keys image r old new has_image writes
+typed_told (Some most) options stops form left tape reader keys image r old new has_image writes = typed_behind options stops form left tape reader keys image r old new has_image writes

@@ -7,7 +7,7 @@ mod declared_run;
 pub mod follow;
 pub mod interrupted;
 pub mod last;
-pub mod last_session;
+mod last_session;
 pub mod laws;
 pub mod long_trace;
 pub mod messages;

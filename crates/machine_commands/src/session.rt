@@ -1,20 +1,22 @@
 //! A run with an operator: frames in the reader, keys to strike, the teletype and the punch.
 
-ghost use Rattle.std.specs.Prelude.{◌≡◌, ◌<◌, ◌≤◌, ◌+◌, ◌||◌, ◌⊎◌, ◌%◌, [], ◌∷◌, false, true, Err, drop, get_or, is_err, map, IfSome, IfOk, IfErr, OnOk, OnErr};
+ghost use Rattle.std.specs.Prelude.{◌≡◌, ◌<◌, ◌≤◌, ◌+◌, ◌||◌, ◌⊎◌, ◌%◌, [], ◌∷◌, false, true, None, Err, drop, get_or, is_err, map, IfSome, IfOk, IfErr, OnOk, OnErr};
 ghost use Rattle.std.specs.Io.KnownBytes.{Appends};
 ghost use Rattle.streams.specs.Bytes.{AppendsFront, Gave};
 ghost use Rattle.peripherals.specs.World.{view, profile_of};
 ghost use Rattle.command_parts.specs.declared.status.Fault.TheVariants.{NoMemory};
 ghost use Rattle.command_parts.specs.Faults.{is_fault_of_tape, fails_to_read, fails_to_write, IsRunFault, IsSessionFault};
 ghost use Rattle.command_parts.specs.Inputs.{AreFirst, HasCome, TakesAtMost, TakesTape, input};
+ghost use Rattle.machine_commands.specs.LastSession.{IsHeldTold, IsSessionTold};
 ghost use Rattle.machine_commands.specs.Schedule.{Whole};
 ghost use Rattle.machine_commands.specs.Session.{BrokeOff, FrontsOf, IsHeldFault, WritesAll, character, failures, taken};
 ghost use Rattle.machine_commands.specs.SessionParts.{Played, PlayedFront, is_step, steps_in};
-ghost use Rattle.machine_commands.specs.StoppedSession.{leaving, IsHeldToStop, IsSessionToStop, NothingOrStoppedFronts, StoppedSessionFronts};
+ghost use Rattle.machine_commands.specs.StoppedSession.{leaving, IsHeldToStop, NothingOrStoppedFronts, StoppedSessionFronts};
 ghost use Rattle.machine_commands.specs.StoppedParts.{IsPartToStop, OperatedToStop, Passes, unstopped};
 
 use crate::follow::{End, RunOutcome, advance, end_of};
 use crate::interrupted::OperatorPresence;
+use crate::last_session::run_with_last;
 use crate::running::status_of;
 use crate::schedule::Scheduler;
 use crate::stops::{stops_before, visits_with};
@@ -229,7 +231,7 @@ pub(crate) fn leaving<A: Allocator>(left: bool, ran: RunOutcome, world: &World<A
 
 /// Runs an image by a schedule up to where it is stopped, and writes what was punched in the end, even if the run
 /// broke off, and the summary in this form.
-pub(crate) fn run_scheduled<
+fn run_reported<
     A: Allocator + Copy,
     S: Scheduler + OperatorPresence,
     W: ByteSink,
@@ -283,6 +285,54 @@ pub(crate) fn run_scheduled<
     Ok(status_of(outcome.end))
 }
 
+/// Runs an image by a schedule up to where it is stopped, and writes what was punched in the end, even if the run
+/// broke off, the lines of the last instructions, if so many or all are requested, and the summary in this form.
+pub(crate) fn run_scheduled<
+    A: Allocator + Copy,
+    S: Scheduler + OperatorPresence,
+    W: ByteSink,
+    T: ByteSink,
+    P: ByteSink,
+>(
+    alloc: A,
+    image: &Image,
+    schedule: &mut S,
+    stops: &Stops,
+    last: Option<u32>,
+    options: RunOptions,
+    form: SummaryForm<'_>,
+    out: &mut Outputs<W, T, P>,
+) -> Result<Status, Fault>
+    requires writable { W.mark out.old.report ≡ false }
+    requires typable { T.mark out.old.teletype ≡ false }
+    requires punchable { P.mark out.old.punch ≡ false }
+    requires readable { S.unread schedule.old ≡ false }
+    requires few { S.steps_to_come schedule.old < 18446744073709551616 }
+    ensures run { IfOk result (λ status.
+        WritesAll (λ text printed punched.
+        IsHeldTold last (S.brings schedule.old) options stops.now form.entry (S.left schedule.new) image.now
+        text printed punched status)
+        (taken (W.taken out.old.report) (T.taken out.old.teletype) (P.taken out.old.punch))
+        (taken (W.taken out.new.report) (T.taken out.new.teletype) (P.taken out.new.punch))) }
+    ensures front { last ≡ None → OnErr result (FrontsOf
+        (IsPartToStop (S.brings schedule.old) options stops.now form.entry (S.left schedule.new) (W.mark out.new.report)
+        (T.mark out.new.teletype) (S.unread schedule.new) image.now)
+        (failures (W.mark out.new.report) (T.mark out.new.teletype) (P.mark out.new.punch))
+        (taken (W.taken out.old.report) (T.taken out.old.teletype) (P.taken out.old.punch))
+        (taken (W.taken out.new.report) (T.taken out.new.teletype) (P.taken out.new.punch))) }
+    ensures faults { IfErr result IsHeldFault }
+    ensures marks { (W.mark out.new.report || T.mark out.new.teletype) || P.mark out.new.punch
+        ≡ fails_to_write result }
+    ensures reads { fails_to_read result ≡ true → S.unread schedule.new ≡ true }
+    ensures read_told { S.unread schedule.new ≡ true →
+        (fails_to_read result ≡ true) ⊎ (P.mark out.new.punch ≡ true) }
+{
+    match last {
+        None => run_reported(alloc, image, schedule, stops, options, form, out),
+        Some(most) => run_with_last(alloc, image, schedule, stops, most, options, form, out),
+    }
+}
+
 /// Shows that rounds are few.
 fn are_few(rounds: u32)
     ensures { rounds < 18446744073709551616 }
@@ -293,7 +343,8 @@ fn are_few(rounds: u32)
 /// typed as characters, what is punched is written as it is, and the trace, if it is requested, and
 /// the summary, in the form that is requested, are the report. The run ends early as that of `run`, and
 /// before the first step that is to stop it; the summary then says where that is, and shows the machine as
-/// it was there. Nothing stops a run with [`crate::stopping::no_stops`].
+/// it was there. Nothing stops a run with [`crate::stopping::no_stops`]. Where `last` is given, the report has the lines
+/// of the last instructions, so many or all, in place of a trace; which lines these are is tested and not proved.
 ///
 /// # Errors
 ///
@@ -315,6 +366,7 @@ pub fn run_session<
     keys: &mut K,
     options: SessionOptions,
     stops: &Stops,
+    last: Option<u32>,
     form: SummaryForm<'_>,
     out: &mut Outputs<W, T, P>,
 ) -> Result<Status, Fault>
@@ -325,9 +377,9 @@ pub fn run_session<
     requires typable { T.mark out.old.teletype ≡ false }
     requires punchable { P.mark out.old.punch ≡ false }
     // What is written, typed and punched is that of the run of the events that come, up to the first step that stops
-    // it.
+    // it, behind the lines of the last instructions where these are requested.
     ensures run { IfOk result (λ status.
-        WritesAll (IsSessionToStop options stops.now form.entry Whole (R.remaining tape.old)
+        WritesAll (IsSessionTold last options stops.now form.entry (R.remaining tape.old)
         (F.remaining reader.old) (K.remaining keys.old) status)
         (taken (W.taken out.old.report) (T.taken out.old.teletype) (P.taken out.old.punch))
         (taken (W.taken out.new.report) (T.taken out.new.teletype) (P.taken out.new.punch))) }
@@ -335,21 +387,22 @@ pub fn run_session<
         (input (R.mark tape.new) (R.remaining tape.old) (R.remaining tape.new))
         (input (F.mark reader.new) (F.remaining reader.old) (F.remaining reader.new))
         (input (K.mark keys.new) (K.remaining keys.old) (K.remaining keys.new))) }
-    // After a fault fronts of what the first events leave went out, and all of it where no write
-    // failed, or of the whole with its summary where the report failed; or nothing at all,
-    ensures front { OnErr result (NothingOrStoppedFronts options stops.now form.entry
+    // Unless last instructions are requested, after a fault fronts of what the first events leave went out,
+    // and all of it where no write failed, or of the whole with its summary where the report failed; or
+    // nothing at all,
+    ensures front { last ≡ None → OnErr result (NothingOrStoppedFronts options stops.now form.entry
         (failures (W.mark out.new.report) (T.mark out.new.teletype) (P.mark out.new.punch))
         (R.remaining tape.old) (F.remaining reader.old) (K.remaining keys.old)
         (taken (W.taken out.old.report) (T.taken out.old.teletype) (P.taken out.old.punch))
         (taken (W.taken out.new.report) (T.taken out.new.teletype) (P.taken out.new.punch))) }
     // of which the fronts are sure where a write failed,
-    ensures front_of_failure { fails_to_write result ≡ true → StoppedSessionFronts options stops.now form.entry
+    ensures front_of_failure { last ≡ None → fails_to_write result ≡ true → StoppedSessionFronts options stops.now form.entry
         (failures (W.mark out.new.report) (T.mark out.new.teletype) (P.mark out.new.punch))
         (R.remaining tape.old) (F.remaining reader.old) (K.remaining keys.old)
         (taken (W.taken out.old.report) (T.taken out.old.teletype) (P.taken out.old.punch))
         (taken (W.taken out.new.report) (T.taken out.new.teletype) (P.taken out.new.punch)) }
     // and where memory was refused, unless it may have been wanted for the frames or the keys;
-    ensures broke_off { result ≡ Err NoMemory →
+    ensures broke_off { last ≡ None → result ≡ Err NoMemory →
         HasCome (input (F.mark reader.new) (F.remaining reader.old) (F.remaining reader.new))
         ⊎ (HasCome (input (K.mark keys.new) (K.remaining keys.old) (K.remaining keys.new))
         ⊎ StoppedSessionFronts options stops.now form.entry
@@ -357,7 +410,7 @@ pub fn run_session<
         (R.remaining tape.old) (F.remaining reader.old) (K.remaining keys.old)
         (taken (W.taken out.old.report) (T.taken out.old.teletype) (P.taken out.old.punch))
         (taken (W.taken out.new.report) (T.taken out.new.teletype) (P.taken out.new.punch))) }
-    // and nothing is written where the tape is refused or a read failed.
+    // and in any case nothing is written where the tape is refused or a read failed.
     ensures nothing { IfErr result (λ fault. is_fault_of_tape fault ≡ true → out.new ≡ out.old) }
     ensures nothing_after_failure { fails_to_read result ≡ true → out.new ≡ out.old }
     // A write failed if and only if the answer says so, and so did a read.
@@ -394,5 +447,14 @@ pub fn run_session<
         options.mark,
     );
     are_few(options.run.rounds);
-    run_scheduled(alloc, &image, &mut operator, stops, options.run, form, out)
+    run_scheduled(
+        alloc,
+        &image,
+        &mut operator,
+        stops,
+        last,
+        options.run,
+        form,
+        out,
+    )
 }

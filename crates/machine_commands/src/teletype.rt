@@ -1,11 +1,11 @@
 //! The command that holds a session at the teletype.
 
-ghost use Rattle.std.specs.Prelude.{◌≡◌, ◌||◌, ◌⊎◌, false, true, IfOk, IfErr};
+ghost use Rattle.std.specs.Prelude.{◌≡◌, ◌||◌, ◌⊎◌, false, true, None, IfOk, IfErr};
 ghost use Rattle.command_parts.specs.Faults.{is_fault_of_tape, fails_to_read, fails_to_write};
 ghost use Rattle.command_parts.specs.Inputs.{TakesTape, input};
-ghost use Rattle.machine_commands.specs.Schedule.{Whole};
+ghost use Rattle.machine_commands.specs.LastSession.{IsTypedTold};
 ghost use Rattle.machine_commands.specs.Session.{WritesAll, failures, taken};
-ghost use Rattle.machine_commands.specs.StoppedSession.{IsTypedToStop, StoppedTypedFronts};
+ghost use Rattle.machine_commands.specs.StoppedSession.{StoppedTypedFronts};
 ghost use Rattle.machine_commands.specs.Teletype.{IsTypedFault, run_of};
 
 use crate::interrupted::OperatorPresence;
@@ -37,7 +37,8 @@ pub(crate) fn run_of(options: TeletypeOptions) -> RunOptions
 /// then the summary in the form that is requested. The session ends early at a halt, at an unsupported word, where a key
 /// is requested and none is left, and before the first step that is to stop it; nothing stops one with
 /// [`crate::stopping::no_stops`]. The summary says where it was stopped, or where the key was struck that interrupts it,
-/// and shows the machine as it was there.
+/// and shows the machine as it was there. Where `last` is given, the lines of the last instructions, so many or all, come
+/// before it; which lines these are is tested and not proved.
 ///
 /// # Errors
 ///
@@ -56,6 +57,7 @@ pub fn teletype<
     tape: &mut R,
     typist: &mut Typist<F, K>,
     stops: &Stops,
+    last: Option<u32>,
     form: SummaryForm<'_>,
     out: &mut Outputs<W, T, P>,
 ) -> Result<Status, Fault>
@@ -66,18 +68,18 @@ pub fn teletype<
     requires typable { T.mark out.old.teletype ≡ false }
     requires punchable { P.mark out.old.punch ≡ false }
     // What is written, typed and punched is that of the run of the events that come, up to the first step that stops
-    // it.
+    // it, behind the lines of the last instructions where these are requested.
     ensures run { IfOk result (λ status.
-        WritesAll (IsTypedToStop typist.old.options stops.now form.entry Whole (K.left typist.new.keys) (R.remaining tape.old)
+        WritesAll (IsTypedTold last typist.old.options stops.now form.entry (K.left typist.new.keys) (R.remaining tape.old)
         (F.remaining typist.old.reader) (K.remaining typist.old.keys) status)
         (taken (W.taken out.old.report) (T.taken out.old.teletype) (P.taken out.old.punch))
         (taken (W.taken out.new.report) (T.taken out.new.teletype) (P.taken out.new.punch))) }
     ensures faults { IfErr result (IsTypedFault
         (input (R.mark tape.new) (R.remaining tape.old) (R.remaining tape.new))) }
-    // After a fault of a good tape fronts of what the first events leave went out, and all of it where no
-    // write failed: even if a read of a frame or a key failed, what was printed before is typed, and what
-    // was punched before is written.
-    ensures front { IfErr result (λ fault. (is_fault_of_tape fault ≡ true) ⊎ ((R.mark tape.new ≡ true)
+    // Unless last instructions are requested, after a fault of a good tape fronts of what the first events
+    // leave went out, and all of it where no write failed: even if a read of a frame or a key failed, what
+    // was printed before is typed, and what was punched before is written.
+    ensures front { last ≡ None → IfErr result (λ fault. (is_fault_of_tape fault ≡ true) ⊎ ((R.mark tape.new ≡ true)
         ⊎ StoppedTypedFronts typist.old.options stops.now form.entry (K.left typist.new.keys)
         (failures (W.mark out.new.report) (T.mark out.new.teletype) (P.mark out.new.punch))
         (F.mark typist.new.reader || K.mark typist.new.keys)
@@ -104,5 +106,5 @@ pub fn teletype<
     let image = tape_from(tape)?;
     let options = run_of(typist.options());
     typist.begin();
-    run_scheduled(alloc, &image, typist, stops, options, form, out)
+    run_scheduled(alloc, &image, typist, stops, last, options, form, out)
 }

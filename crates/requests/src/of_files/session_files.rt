@@ -6,20 +6,19 @@ use crate::files::open_input;
 use crate::replacing::ResultFile;
 use crate::standard_error::{NullSink, open_input_if, report_to, tell_to};
 use command_line::{Interrupt, Session, StopOptions, TeletypeSession};
-use command_parts::options::{SessionOptions, SummaryForm};
+use command_parts::options::{Stops, SummaryForm};
 use command_parts::status::{DeviceFault, Fault, Status};
 use command_parts::visible::visible_text;
 use either::Either;
-use machine_commands::interrupted::{InterruptibleKeys, OperatorPresence};
-use machine_commands::last_session::{run_session_with_last, teletype_with_last};
+use machine_commands::interrupted::InterruptibleKeys;
 use machine_commands::session::{Outputs, run_session};
 use machine_commands::stopping::no_stops;
 use machine_commands::teletype::{Typist, teletype};
 use std::alloc::{AllocError, Global};
 use std::io::{self, Printer};
 use std::rt::Files;
+use streams::ByteSource;
 use streams::standard::{StdReader, StdWriter};
-use streams::{ByteSink, ByteSource};
 
 /// Where the punched bytes go: to a file, or nowhere.
 type Punch<'r, R> = Either<ResultFile<'r, R>, NullSink>;
@@ -95,42 +94,11 @@ fn form_with<'n>(form: SummaryForm<'_>, name: &'n Option<String>) -> SummaryForm
     }
 }
 
-/// Runs a tape with an operator, until it is stopped if that is requested, and shows its last instructions if that is
-/// requested.
-#[inline(never)]
-fn follow_session<
-    R: ByteSource,
-    F: ByteSource,
-    K: ByteSource,
-    W: ByteSink,
-    T: ByteSink,
-    P: ByteSink,
->(
-    alloc: Global,
-    frames: &mut R,
-    reader: &mut F,
-    keys: &mut K,
-    options: SessionOptions,
-    stopping: &Option<StopOptions>,
-    form: SummaryForm<'_>,
-    out: &mut Outputs<W, T, P>,
-) -> Result<Status, Fault>
-    requires readable { R.mark frames.old ≡ false }
-    requires reader_readable { F.mark reader.old ≡ false }
-    requires keys_readable { K.mark keys.old ≡ false }
-    requires writable { W.mark out.old.report ≡ false }
-    requires typable { T.mark out.old.teletype ≡ false }
-    requires punchable { P.mark out.old.punch ≡ false }
-{
-    let Some(stopping) = stopping else {
-        return run_session(alloc, frames, reader, keys, options, &no_stops(), form, out);
-    };
-    let stops = &stopping.stops;
-    match stopping.last {
-        None => run_session(alloc, frames, reader, keys, options, stops, form, out),
-        Some(most) => {
-            run_session_with_last(alloc, frames, reader, keys, options, stops, most, form, out)
-        }
+/// Where a session is stopped, which is nowhere unless that is requested, and how many last instructions are shown.
+fn stops_of<'s>(stopping: &'s Option<StopOptions>, none: &'s Stops) -> (&'s Stops, Option<u32>) {
+    match stopping {
+        None => (none, None),
+        Some(stopping) => (&stopping.stops, stopping.last),
     }
 }
 
@@ -162,13 +130,16 @@ pub(crate) fn hold_session_on<R: Files + Input + Print + Eprint, S: ByteSource>(
     };
     let options = session.options;
     let out = &mut outputs;
-    let answer = follow_session(
+    let none = no_stops();
+    let (stops, last) = stops_of(&session.stopping, &none);
+    let answer = run_session(
         alloc,
         frames,
         &mut reader,
         &mut keys,
         options,
-        &session.stopping,
+        stops,
+        last,
         form,
         out,
     );
@@ -219,41 +190,6 @@ fn report_interrupt_key<R: Eprint>(rt: &R, key: Option<u8>) {
     }
 }
 
-/// Holds a session at the teletype, until it is stopped if that is requested, and shows its last instructions if that is
-/// requested.
-#[inline(never)]
-fn follow_typist<
-    R: ByteSource,
-    F: ByteSource,
-    K: ByteSource + OperatorPresence,
-    W: ByteSink,
-    T: ByteSink,
-    P: ByteSink,
->(
-    alloc: Global,
-    frames: &mut R,
-    typist: &mut Typist<F, K>,
-    stopping: &Option<StopOptions>,
-    form: SummaryForm<'_>,
-    out: &mut Outputs<W, T, P>,
-) -> Result<Status, Fault>
-    requires readable { R.mark frames.old ≡ false }
-    requires reader_readable { F.mark typist.old.reader ≡ false }
-    requires keys_readable { K.mark typist.old.keys ≡ false }
-    requires writable { W.mark out.old.report ≡ false }
-    requires typable { T.mark out.old.teletype ≡ false }
-    requires punchable { P.mark out.old.punch ≡ false }
-{
-    let Some(stopping) = stopping else {
-        return teletype(alloc, frames, typist, &no_stops(), form, out);
-    };
-    let stops = &stopping.stops;
-    match stopping.last {
-        None => teletype(alloc, frames, typist, stops, form, out),
-        Some(most) => teletype_with_last(alloc, frames, typist, stops, most, form, out),
-    }
-}
-
 /// Holds a session at the teletype with the tape of these frames: keys come from standard input, what is printed goes
 /// to standard output, and the summary goes to standard error. The reader's frames are opened first; after that, it is
 /// checked that the file for the punch can be written.
@@ -286,16 +222,17 @@ pub(crate) fn hold_teletype_session_on<R: Files + Input + Print + Eprint, S: Byt
         punch: StdWriter::new(&mut punch),
     };
     let out = &mut outputs;
-    let stopping = &session.stopping;
+    let none = no_stops();
+    let (stops, last) = stops_of(&session.stopping, &none);
     let answer = match key {
         None => {
             let mut typist = Typist::new(reader, keys, session.options);
-            follow_typist(alloc, frames, &mut typist, stopping, form, out)
+            teletype(alloc, frames, &mut typist, stops, last, form, out)
         }
         Some(_) => {
             let keys = InterruptibleKeys::new(keys, key);
             let mut typist = Typist::new(reader, keys, session.options);
-            follow_typist(alloc, frames, &mut typist, stopping, form, out)
+            teletype(alloc, frames, &mut typist, stops, last, form, out)
         }
     };
     let failed = outputs.punch.failed();

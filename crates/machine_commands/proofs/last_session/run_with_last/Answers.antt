@@ -11,7 +11,7 @@ use Rattle.machine_commands.specs.Session.{summary_where}
 use Rattle.machine_commands.proofs.SessionLemmas.{or_right, whole_front}
 use Rattle.machine_commands.proofs.LastSessionLemmas.{attended_behind}
 use Rattle.machine_commands.proofs.StoppedLemmas.{left_so}
-use Rattle.machine_commands.proofs.last_session.run_scheduled_with_last.Goals as goal
+use Rattle.machine_commands.proofs.last_session.run_with_last.Goals as goal
 
 pub returns-clause-run : goal.returns-clause-run
 returns-clause-run g c =

@@ -1,5 +1,5 @@
 -- The events that come in a run that goes on at pauses, gathered one after the other.
-use Rattle.std.proofs.Common.{ℕ, ◌≡◌, ◌∙◌, ◌+◌, ◌≤◌, Bool, true, false, not, List, [], ◌∷◌, ◌++◌, ◌⊎◌, Option, Some, None, refl, sym, ap, suc, length, take, append-nil, append_assoc, arith}
+use Rattle.std.proofs.Common.{ℕ, ◌≡◌, ◌∙◌, ◌+◌, ◌≤◌, Bool, true, false, not, refl, List, [], ◌∷◌, ◌++◌, ◌⊎◌, Option, Some, None, ap, suc, length, take, append-nil, append_assoc, arith}
 use Rattle.std.proofs.lemmas.List.{take_all}
 use Rattle.peripherals.specs.declared.Event.{Event}
 use Rattle.peripherals.specs.declared.Event.TheVariants.{Continue}
@@ -10,9 +10,25 @@ use Rattle.peripherals.specs.Operator.{Plan, due, left_after}
 use Rattle.peripherals.specs.EventOutcomes.{seen_of}
 use Rattle.declaration.specs.Declaration.{Declaration}
 use Rattle.machine_commands.specs.Follows.{goes_on}
-use Rattle.machine_commands.specs.Schedule.{Place, first_place, operating}
+use Rattle.machine_commands.specs.Schedule.{Comes, Place, Whole, first_place, operating}
+use Rattle.machine_commands.specs.Schedule as schedule
 use Rattle.machine_commands.specs.Continued.{ComesOn, Over, Final, Pressed, Then, IsAtPause, press_of, presses}
-use Rattle.machine_commands.proofs.WatchedSessionLemmas.{place}
+
+-- The place of an operator with this plan, after this event.
+abbrev pub place : Plan → Option Event → Place
+place plan last = record { plan = plan; last = last }
+
+-- a test that was turned round
+pub not_back : (a b : Bool) → not a ≡ b → a ≡ not b
+not_back true b is = rw (← is) refl
+not_back false b is = rw (← is) refl
+
+-- where CONTINUE is never pressed these are the events of a run with an operator
+pub plain_comes : (d : Declaration) (n : ℕ) (s : Place) (w : WorldState) (es : List Event) → n ≡ 0 → ComesOn d n s w es → Comes operating d.profile Whole s w es
+plain_comes d n s w es none (Over _ _ _ is) = schedule.Over s w is
+plain_comes d n s w es none (Final _ _ _ x e is ends happens cannot) = schedule.Final s w e is ends
+plain_comes d n s w es none (Pressed k _ _ m v e fs is ends happens pause goes on) = absurd (omega (arith, none))
+plain_comes d n s w es none (Then _ _ _ m e fs is on happens rest) = schedule.Then s w m e fs is on happens (plain_comes d n (operating.after s w e) m fs none rest)
 
 -- These events came, with so many presses left, and whatever comes further comes after them.
 pub record GatheredOn (d : Declaration) (n left : ℕ) (plan now : Plan) (last : Option Event) (w x : WorldState) (events : List Event) : Type 0 where

@@ -1,5 +1,5 @@
 -- A declared run, event by event: its trace, and where it is stopped.
-use Rattle.std.proofs.Common.{ℕ, zero, suc, ◌≡◌, ◌+◌, ◌<◌, ◌≤◌, Bool, true, false, if◌then◌else◌, List, [], ◌∷◌, ◌++◌, length, take, drop, get_or, refl, sym, ◌∙◌, ap, append_assoc, append-nil, add_assoc, add-zero, zero-add, arith, true≢false, Option, Some, None}
+use Rattle.std.proofs.Common.{ℕ, zero, suc, ◌≡◌, ◌+◌, ◌<◌, ◌≤◌, Bool, true, false, if◌then◌else◌, List, [], ◌∷◌, ◌++◌, length, drop, get_or, refl, sym, ◌∙◌, ap, append_assoc, append-nil, add_assoc, add-zero, arith, true≢false, Option, Some, None}
 use Rattle.std.specs.Prelude.{not, is_some}
 use Rattle.std.proofs.lemmas.List.{drop_all, drop_more}
 use Rattle.instruct.specs.declared.Profile.{Profile}
@@ -8,14 +8,11 @@ use Rattle.command_parts.specs.declared.options.Stops.{Stops}
 use Rattle.declaration.specs.Declaration.{Declaration}
 use Rattle.peripherals.specs.declared.Event.{Event}
 use Rattle.peripherals.specs.declared.Event.TheVariants.{Step, Key, PrinterDone, ReaderDone, PunchDone, Switches, Continue}
-use Rattle.peripherals.specs.declared.Seen.{Seen}
 use Rattle.peripherals.specs.declared.Seen.TheVariants as seen
 use Rattle.peripherals.specs.Devices.{WorldState, word_at_pc}
-use Rattle.peripherals.specs.Events.{Happens}
 use Rattle.peripherals.specs.EventOutcomes.{seen_of}
 use Rattle.policy.specs.Runs.{HappensDeclared, resumed}
 use Rattle.policy.specs.WatchedSteps.{waits}
-use Rattle.policy.proofs.WatchLemmas.{goes_on}
 use Rattle.machine_commands.specs.DeclaredRun.{Ended, Traces, Continues, Here, Later, NeverDeclared, Over, StopsDeclared, Went, is_continue}
 use Rattle.machine_commands.specs.Follows.{counted}
 use Rattle.machine_commands.specs.SessionParts.{steps_in}
@@ -34,21 +31,6 @@ continue_is Continue is = refl
 
 halted_so : WorldState → Option ℕ → WorldState
 halted_so w halted = record w { halted_at = halted }
-
--- a CONTINUE that is not waited for
-resumed_declared : (d : Declaration) (w x : WorldState) → waits d w.halted_at ≡ false → Happens d.profile w Continue x → HappensDeclared d w Continue x
-unfolding halted_so
-resumed_declared d w x on happens = happens ∙ ap (halted_so w) (sym (goes_on d w.halted_at on))
-
--- an event that counts
-pub happens_declared : (d : Declaration) (w x : WorldState) (e : Event) → (is_continue e ≡ true → waits d w.halted_at ≡ false) → Happens d.profile w e x → HappensDeclared d w e x
-happens_declared d w x Continue on happens = resumed_declared d w x (on refl) happens
-happens_declared d w x Step on happens = happens
-happens_declared d w x (Key byte) on happens = happens
-happens_declared d w x PrinterDone on happens = happens
-happens_declared d w x (ReaderDone byte) on happens = happens
-happens_declared d w x PunchDone on happens = happens
-happens_declared d w x (Switches word) on happens = happens
 
 still : (d : Declaration) (halted : Option ℕ) → waits d halted ≡ true → resumed d halted ≡ halted
 still d None is = cc
@@ -82,22 +64,12 @@ waits_line p w e lines is =
 pub waits_steps : (p : Profile) (w : WorldState) (e : Event) → is_continue e ≡ true → 0 ≡ counted (seen_of p w e)
 waits_steps p w e is = rw (continue_is e is) (sym (uncounted (is_some w.halted_at)))
 
-pub few_steps : (what : Seen) → counted what ≤ 1
-few_steps seen.Ran = omega arith
-few_steps seen.Halted = omega arith
-few_steps seen.NotEnabled = omega arith
-few_steps seen.Changed = omega arith
-few_steps (seen.Unsupported word) = omega arith
-
 front_of : (es : List Event) (i : ℕ) (e : Event) → i < length es → e ≡ get_or es i e → drop i es ≡ e ∷ drop (i + 1) es
 front_of es i e within is = drop_more es i e within ∙ ap (λ (x : Event). x ∷ drop (i + 1) es) (sym is)
 
 -- So many of the events led to x, with these lines and so many instructions: whatever the others bring comes behind them.
 pub record Gone (d : Declaration) (es : List Event) (w : WorldState) (i : ℕ) (lines : List ℕ) (n : ℕ) (x : WorldState) : Type 0 where
   pub more : (ls : List ℕ) (m : ℕ) (y : WorldState) → Traces d (drop i es) x ls m y → Traces d es w (lines ++ ls) (n + m) y
-
-pub gone_none : (d : Declaration) (es : List Event) (w : WorldState) → Gone d es w 0 [] 0 w
-gone_none d es w = record { more = λ ls m y goes. rw (zero-add m) goes }
 
 pub gone_more : (d : Declaration) (es : List Event) (w : WorldState) (i : ℕ) (lines new : List ℕ) (n k : ℕ) (e : Event) (x y : WorldState) →
     Gone d es w i lines n x → i < length es → e ≡ get_or es i e → HappensDeclared d x e y → new ≡ lines ++ trace_of d.profile x e y → k ≡ counted (seen_of d.profile x e) →
@@ -118,12 +90,6 @@ gone_all d es w i lines n x gone past =
 pub record PassedDeclared (stops : Stops) (d : Declaration) (es : List Event) (w : WorldState) (index visits : ℕ) (x : WorldState) : Type 0 where
   pub stop_later : (count : ℕ) → StopsDeclared stops d visits (drop index es) x count → StopsDeclared stops d 0 es w (index + count)
   pub never_later : NeverDeclared stops d visits (drop index es) x → NeverDeclared stops d 0 es w
-
-pub declared_none : (stops : Stops) (d : Declaration) (es : List Event) (w : WorldState) → PassedDeclared stops d es w 0 0 w
-declared_none stops d es w = record {
-  stop_later = λ count stop. rw (zero-add count) stop;
-  never_later = λ never. never;
-}
 
 pub declared_more : (stops : Stops) (d : Declaration) (es : List Event) (w : WorldState) (i visits more : ℕ) (e : Event) (x y : WorldState) →
     PassedDeclared stops d es w i visits x → i < length es → e ≡ get_or es i e → Passes stops d.profile visits x e (Some more) → HappensDeclared d x e y →

@@ -18,7 +18,7 @@ use Rattle.machine_commands.specs.declared.follow.End.{End}
 use Rattle.machine_commands.specs.declared.follow.End.TheVariants.{Unsupported}
 use Rattle.machine_commands.specs.declared.follow.RunOutcome.{RunOutcome}
 use Rattle.machine_commands.specs.Course.{Ran, RanIntoLine, RanToOutput, event_of_round}
-use Rattle.machine_commands.specs.Follows.{Follows, Ended, Stuck, Stopped, Went, IsReached, IsTraceOfSome, IsTraceUpToOutput, end_of, goes_on, counted, rounds}
+use Rattle.machine_commands.specs.Follows.{Follows, Ended, Stuck, Stopped, Went, IsTraceOfSome, IsTraceUpToOutput, end_of, goes_on, counted, rounds}
 use Rattle.processor.specs.Machine.{State}
 use Rattle.machine_commands.specs.Trace.{line_of, trace_of, traced}
 use Rattle.command_parts.specs.Writes.{FrontOf, Writes}
@@ -71,13 +71,18 @@ came_more p ends trace es i e w x y n what old mid new came within is sees goes 
   wrote = joined trace old mid new came.lines (trace_of p x e y) came.wrote wrote;
 }
 
+-- the run as it came so far
+pub came_here : (p : Profile) (ends trace : Bool) (es : List Event) (w x : WorldState) (n : ℕ) (old new : Option (List ℕ)) → (came : Came p ends trace es w n x old new) → Follows p ends es w came.lines n (end_of x) x
+came_here p ends trace es w x n old new came =
+    let done : Follows p ends (es ++ []) w (came.lines ++ []) (n + 0) (end_of x) x = came.leads [] [] 0 (end_of x) x (Ended x) in
+    rw (append-nil es, append-nil came.lines, add-zero n) at done
+
 -- there is nothing more
 pub came_all : (p : Profile) (ends trace : Bool) (es : List Event) (w x : WorldState) (outcome : RunOutcome) (old new : Option (List ℕ)) →
     Came p ends trace es w outcome.steps x old new → outcome.end ≡ end_of x → Ran p ends trace es w outcome x old new
 came_all p ends trace es w x outcome old new came ends_so = record {
   lines = came.lines;
-  follows = let done : Follows p ends (es ++ []) w (came.lines ++ []) (outcome.steps + 0) (end_of x) x = came.leads [] [] 0 (end_of x) x (Ended x) in
-      rw ends_so (rw (append-nil es, append-nil came.lines, add-zero outcome.steps) at done);
+  follows = rw ends_so (came_here p ends trace es w x outcome.steps old new came);
   wrote = came.wrote;
 }
 
@@ -149,27 +154,12 @@ front_after a b c first second whole front = record {
   out = rw (take-append-add first second front.count) (Appends-trans a b c first (take front.count second) whole front.out);
 }
 
--- the write of a line failed
-pub came_to_fault : (p : Profile) (ends trace : Bool) (es : List Event) (i : ℕ) (e : Event) (w x y : WorldState) (n : ℕ) (old mid new : Option (List ℕ)) →
-    Came p ends trace (take i es) w n x old mid → i < length es → e ≡ get_or es i Step → trace ≡ true → Happens p x e y →
-    AppendsFront mid new (trace_of p x e y) → FrontOf (IsTraceOfSome p ends es w) old new
-came_to_fault p ends trace es i e w x y n old mid new came within is asked happens front =
-    let one = one_by p ends e x y (seen_of p x e) refl happens in
-    let follows : Follows p ends (take i es ++ e ∷ []) w (came.lines ++ trace_of p x e y) (n + one.steps) one.end y = came.leads (e ∷ []) (trace_of p x e y) one.steps one.end y one.follows in
-    let wrote : Appends old mid came.lines = rw asked at came.wrote in
-    record {
-      text = came.lines ++ trace_of p x e y;
-      is = record { count = i + 1; steps = n + one.steps; end = one.end; final = y; follows = rw (more_events es i e within is) follows };
-      front = front_after old mid new came.lines (trace_of p x e y) wrote front;
-    }
-
--- and of that line a part or nothing went out
+-- the write of a line failed, and a part of it or nothing went out
 pub came_into_line : (p : Profile) (ends trace : Bool) (es : List Event) (i : ℕ) (e : Event) (w x y : WorldState) (n : ℕ) (old mid new : Option (List ℕ)) →
     Came p ends trace (take i es) w n x old mid → i < length es → e ≡ get_or es i Step → trace ≡ true → Happens p x e y →
     AppendsFront mid new (trace_of p x e y) → RanIntoLine p ends es w y old new
 came_into_line p ends trace es i e w x y n old mid new came within is asked happens front =
     let one = one_by p ends e x y (seen_of p x e) refl happens in
-    let led : Follows p ends (take i es ++ []) w (came.lines ++ []) (n + 0) (end_of x) x = came.leads [] [] 0 (end_of x) x (Ended x) in
     let follows : Follows p ends (take i es ++ e ∷ []) w (came.lines ++ trace_of p x e y) (n + one.steps) one.end y = came.leads (e ∷ []) (trace_of p x e y) one.steps one.end y one.follows in
     let wrote : Appends old mid came.lines = rw asked at came.wrote in
     record {
@@ -179,7 +169,7 @@ came_into_line p ends trace es i e w x y n old mid new came within is asked happ
       lines = came.lines;
       steps_before = n;
       end_before = end_of x;
-      led = rw (append-nil (take i es), append-nil came.lines, add-zero n) at led;
+      led = came_here p ends trace (take i es) w x n old mid came;
       line = trace_of p x e y;
       line_is = ap (λ (e : Event). trace_of p x e y) is;
       steps = n + one.steps;
@@ -194,14 +184,13 @@ came_into_line p ends trace es i e w x y n old mid new came within is asked happ
 pub came_to_refusal : (p : Profile) (ends trace : Bool) (es : List Event) (i : ℕ) (e : Event) (w x y : WorldState) (n : ℕ) (old mid new : Option (List ℕ)) →
     Came p ends trace (take i es) w n x old mid → i < length es → e ≡ get_or es i Step → puts_out x e ≡ true → y ≡ x → new ≡ mid → RanToOutput p ends trace es w y old new
 came_to_refusal p ends trace es i e w x y n old mid new came within here puts same kept =
-    let follows : Follows p ends (take i es ++ []) w (came.lines ++ []) (n + 0) (end_of x) x = came.leads [] [] 0 (end_of x) x (Ended x) in
     let stops : RanToOutput p ends trace es w x old mid = record {
       count = i;
       within = within;
       lines = came.lines;
       steps = n;
       end = end_of x;
-      follows = rw (append-nil (take i es), append-nil came.lines, add-zero n) at follows;
+      follows = came_here p ends trace (take i es) w x n old mid came;
       puts = rw here at puts;
       wrote = came.wrote;
     } in
@@ -218,17 +207,17 @@ output_traced p ends trace es w x old new ran asked =
       written = wrote;
     }
 
--- the world after these events, or after one event more
-pub came_to_world : (p : Profile) (ends trace : Bool) (es : List Event) (i : ℕ) (e : Event) (w x y : WorldState) (n : ℕ) (old mid : Option (List ℕ)) (marked : Bool) →
-    Came p ends trace (take i es) w n x old mid → i < length es → e ≡ get_or es i Step → (marked ≡ true → Happens p x e y) → (marked ≡ false → y ≡ x) → IsReached p ends es w y
-came_to_world p ends trace es i e w x y n old mid true came within is happens same =
-    let one = one_by p ends e x y (seen_of p x e) refl (happens refl) in
-    let follows : Follows p ends (take i es ++ e ∷ []) w (came.lines ++ trace_of p x e y) (n + one.steps) one.end y = came.leads (e ∷ []) (trace_of p x e y) one.steps one.end y one.follows in
-    record { count = i + 1; lines = came.lines ++ trace_of p x e y; steps = n + one.steps; end = one.end; follows = rw (more_events es i e within is) follows }
-came_to_world p ends trace es i e w x y n old mid false came within is happens same =
-    let follows : Follows p ends (take i es ++ []) w (came.lines ++ []) (n + 0) (end_of x) x = came.leads [] [] 0 (end_of x) x (Ended x) in
-    let here : IsReached p ends es w x = record { count = i; lines = came.lines; steps = n; end = end_of x; follows = rw (append-nil (take i es), append-nil came.lines, add-zero n) at follows } in
-    rw (same refl) here
+-- what went out then is a front of the trace of some first events
+pub into_line_front : (p : Profile) (ends : Bool) (es : List Event) (w x : WorldState) (old new : Option (List ℕ)) → RanIntoLine p ends es w x old new → FrontOf (IsTraceOfSome p ends es w) old new
+into_line_front p ends es w x old new into = record {
+  text = into.lines ++ into.line;
+  is = record { count = into.count + 1; steps = into.steps; end = into.end; final = x; follows = into.follows };
+  front = record {
+    count = length into.lines + into.written;
+    within = let e = length-append into.lines into.line in let part = into.part in omega (arith, e, part);
+    out = rw (take-append-add into.lines into.line into.written) into.wrote;
+  };
+}
 
 -- all events
 pub ran_whole : (p : Profile) (ends trace : Bool) (es : List Event) (w x : WorldState) (outcome : RunOutcome) (old new : Option (List ℕ)) →

@@ -1,26 +1,10 @@
--- The last lines of a text, and the run whose trace they end.
+-- The last lines of a text.
 use Rattle.std.proofs.Common.{ℕ, zero, suc, ◌≡◌, ◌+◌, ◌-◌, ◌==◌, ◌<◌, ◌≤◌, Bool, true, false, List, [], ◌∷◌, ◌++◌, length, take, drop, get_or, refl, sym, ap, ◌∙◌, inl, inr, arith}
-use Rattle.std.specs.Prelude.{◌⊎◌, if◌then◌else◌, Option, Some}
-use Rattle.std.specs.Io.KnownBytes.{Appends}
+use Rattle.std.specs.Prelude.{if◌then◌else◌}
 use Rattle.std.proofs.lemmas.Bool.{true≢false}
 use Rattle.std.proofs.lemmas.Bool.Decides.{eqb_tells}
 use Rattle.std.proofs.lemmas.List.{drop_all, drop_more, take_all, take_more}
-use Rattle.streams.specs.Bytes.{AppendsFront}
-use Rattle.instruct.specs.declared.Profile.{Profile}
-use Rattle.wordset.specs.Lanes.{words}
-use Rattle.peripherals.specs.declared.Event.{Event}
-use Rattle.peripherals.specs.Devices.{WorldState}
-use Rattle.command_parts.specs.declared.options.RunOptions.{RunOptions}
-use Rattle.command_parts.specs.declared.options.Stops.{Stops}
-use Rattle.command_parts.specs.declared.status.Status.{Status}
-use Rattle.command_parts.specs.Writes.{FrontOf, Writes}
-use Rattle.machine_commands.specs.declared.follow.End.{End}
-use Rattle.machine_commands.specs.declared.follow.RunOutcome.{RunOutcome}
-use Rattle.machine_commands.specs.Course.{Ran}
-use Rattle.machine_commands.specs.Follows.{Follows}
-use Rattle.machine_commands.specs.Last.{IsCut, IsLastOfRun, IsLastText, last_lines, lines_in, told, without_lines}
-use Rattle.machine_commands.specs.Running.{fresh, status_of}
-use Rattle.machine_commands.specs.Summary.{closing}
+use Rattle.machine_commands.specs.Last.{lines_in, without_lines}
 
 -- one byte more
 push_either : (p q : Bool) (bs cs : List ℕ) → lines_in cs ≡ (if q then suc (lines_in bs) else lines_in bs) →
@@ -76,47 +60,3 @@ skip_done text n i left is none = elim (eqb_tells left 0) [
   | inl same ↦ (let nothing : left ≡ 0 = same.1 in sym (rw nothing at is))
   | inr apart ↦ absurd (true≢false (sym none ∙ apart.0))
 ]
-
--- the run whose last lines are shown
-last_run : (options : RunOptions) (stops : Stops) (most : ℕ) (ends cut_ends : Bool) (events cut : List Event) (stopped : Bool) (image : List (Option ℕ)) (p : Profile) (w x : WorldState) (ran outcome : RunOutcome) (old : Option (List ℕ)) (lines : List ℕ) (status : Status) →
-    p ≡ options.profile → w ≡ fresh image options.start → IsCut stops options ends events cut (fresh image options.start) stopped → cut_ends ≡ ends →
-    Follows p cut_ends cut w lines ran.steps ran.end x → outcome.steps ≡ ran.steps → outcome.end ≡ told stopped ran.end x → status ≡ status_of outcome.end →
-    IsLastOfRun options stops most ends events image (last_lines most lines ++ closing (words options.show) outcome.end x outcome.steps) status
-last_run options stops most ends cut_ends events cut stopped image p w x ran outcome old lines status profile begins is_cut same_ends follows steps ends_so is = record {
-  cut = cut;
-  stopped = stopped;
-  is_cut = is_cut;
-  lines = lines;
-  steps = ran.steps;
-  last = ran.end;
-  final = x;
-  follows = rw (profile, begins, same_ends) at follows;
-  text_is = rw (steps, ends_so) refl;
-  status_is = rw ends_so at is;
-}
-
-pub last_whole : (options : RunOptions) (stops : Stops) (most : ℕ) (ends cut_ends : Bool) (events cut : List Event) (stopped : Bool) (image : List (Option ℕ)) (p : Profile) (w x : WorldState) (ran outcome : RunOutcome) (lines : List ℕ) (status : Status) (old new : Option (List ℕ)) →
-    p ≡ options.profile → w ≡ fresh image options.start → IsCut stops options ends events cut (fresh image options.start) stopped → cut_ends ≡ ends →
-    Follows p cut_ends cut w lines ran.steps ran.end x → outcome.steps ≡ ran.steps → outcome.end ≡ told stopped ran.end x → status ≡ status_of outcome.end →
-    Appends old new (last_lines most lines ++ closing (words options.show) outcome.end x outcome.steps) →
-    Writes (λ text. IsLastOfRun options stops most ends events image text status) old new
-last_whole options stops most ends cut_ends events cut stopped image p w x ran outcome lines status old new profile begins is_cut same_ends follows steps ends_so is written = record {
-  text = last_lines most lines ++ closing (words options.show) outcome.end x outcome.steps;
-  is = last_run options stops most ends cut_ends events cut stopped image p w x ran outcome old lines status profile begins is_cut same_ends follows steps ends_so is;
-  written = written;
-}
-
-pub last_front : (options : RunOptions) (stops : Stops) (most : ℕ) (ends cut_ends : Bool) (events cut : List Event) (stopped : Bool) (image : List (Option ℕ)) (p : Profile) (w x : WorldState) (ran outcome : RunOutcome) (lines : List ℕ) (old new : Option (List ℕ)) →
-    p ≡ options.profile → w ≡ fresh image options.start → IsCut stops options ends events cut (fresh image options.start) stopped → cut_ends ≡ ends →
-    Follows p cut_ends cut w lines ran.steps ran.end x → outcome.steps ≡ ran.steps → outcome.end ≡ told stopped ran.end x →
-    AppendsFront old new (last_lines most lines ++ closing (words options.show) outcome.end x outcome.steps) →
-    FrontOf (IsLastText options stops most ends events image) old new
-last_front options stops most ends cut_ends events cut stopped image p w x ran outcome lines old new profile begins is_cut same_ends follows steps ends_so front = record {
-  text = last_lines most lines ++ closing (words options.show) outcome.end x outcome.steps;
-  is = (status_of outcome.end, last_run options stops most ends cut_ends events cut stopped image p w x ran outcome old lines (status_of outcome.end) profile begins is_cut same_ends follows steps ends_so refl);
-  front = front;
-}
-
--- the text of a trace that is kept from nothing on
-pub kept_lines : (lines text : List ℕ) (old new : Option (List ℕ)) → old ≡ Some [] → new ≡ Some text → Appends old new lines → text ≡ lines
-kept_lines lines text old new begins ends wrote = rw (begins, ends) at wrote

@@ -4,7 +4,6 @@ pub mod SummaryLemmas
 pub mod WatchLemmas
 pub mod RunLemmas
 pub mod SessionLemmas
-pub mod WatchedSessionLemmas
 pub mod HeldLemmas
 pub mod TypistLemmas
 pub mod TeletypeLemmas
@@ -18,6 +17,5 @@ pub mod StoppedSessionLemmas
 pub mod DeclaredLemmas
 pub mod InterruptedLemmas
 pub mod LongTraceLemmas
-pub mod LastSessionLemmas
 pub mod StoppedWatchLemmas
 pub mod ViolationLemmas

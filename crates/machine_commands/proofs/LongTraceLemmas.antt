@@ -1,5 +1,5 @@
 -- A run behind its long trace.
-use Rattle.std.proofs.Common.{ℕ, ◌≡◌, Bool, List, [], ◌++◌, Option, refl, IfOk, Ok, Err, Result}
+use Rattle.std.proofs.Common.{ℕ, Bool, List, [], ◌++◌, Option, None, refl, IfOk, Ok, Err, Result}
 use Rattle.std.specs.Io.KnownBytes.{Appends}
 use Rattle.std.proofs.KnownBytes.{Appends-nil, Appends-trans}
 use Rattle.peripherals.specs.declared.Event.{Event}
@@ -22,7 +22,7 @@ some_more a b c first second = record { text = first.text ++ second.text; wrote 
 
 -- what a run writes without a trace, behind some lines
 pub behind_some : (options : RunOptions) (stops : Stops) (ends : Bool) (events : List Event) (image : List (Option ℕ)) (r : Result Status Fault) (a b c : Option (List ℕ)) → Appended a b →
-    IfOk r (λ status. Writes (λ text. IsRunWithStops (quiet options) stops ends events image text status) b c) → IfOk r (λ status. Writes (λ text. IsRunBehind options stops ends events image text status) a c)
+    IfOk r (λ status. Writes (λ text. IsRunWithStops (quiet options) stops None ends events image text status) b c) → IfOk r (λ status. Writes (λ text. IsRunBehind options stops ends events image text status) a c)
 behind_some options stops ends events image (Ok status) a b c lines rest = record {
   text = lines.text ++ rest.text;
   is = record { lines = lines.text; rest = rest.text; run = rest.is; text_is = refl };

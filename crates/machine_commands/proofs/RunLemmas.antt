@@ -1,6 +1,6 @@
 -- What a run writes, from its parts.
 use Rattle.std.proofs.Common.{ℕ, ◌≡◌, Bool, true, false, List, ◌++◌, refl, inl, inr}
-use Rattle.std.specs.Prelude.{◌⊎◌, Option, Result, Err, IfErr, OnErr}
+use Rattle.std.specs.Prelude.{◌⊎◌, Option, None, Result, Err, IfErr, OnErr}
 use Rattle.std.specs.Io.KnownBytes.{Appends}
 use Rattle.std.proofs.KnownBytes.{Appends-trans}
 use Rattle.streams.specs.Bytes.{AppendsFront}
@@ -17,42 +17,59 @@ use Rattle.machine_commands.specs.Course.{Ran, RanToOutput}
 use Rattle.command_parts.specs.Faults.{IsEventsInputFault, IsTapeInputFault, fails_to_write}
 use Rattle.machine_commands.specs.Follows.{Follows, IsTraceOfSome, IsTraceUpToOutput, rounds}
 use Rattle.command_parts.specs.Inputs.{HasCome, HasEvents, HasImage, Input}
-use Rattle.machine_commands.specs.Running.{IsPartOf, IsRunOf, IsTraceOfEvents, IsTraceOfRounds, IsTraceToOutput, fresh, status_of}
+use Rattle.machine_commands.specs.Running.{IsPartOf, IsRunText, IsRunTold, IsTraceOfEvents, IsTraceOfRounds, IsTraceToOutput, fresh, shown_of, status_of}
+use Rattle.machine_commands.specs.Last.{told}
 use Rattle.machine_commands.specs.Summary.{closing}
 use Rattle.machine_commands.specs.Trace.{traced}
 use Rattle.command_parts.specs.Writes.{FrontOf, Writes}
 use Rattle.machine_commands.proofs.FollowLemmas.{front_after, output_traced, ran_whole}
 
-run_of : (options : RunOptions) (ends : Bool) (events : List Event) (image : List (Option ℕ)) (p : Profile) (w x : WorldState) (outcome : RunOutcome) (old mid : Option (List ℕ)) →
-    p ≡ options.profile → w ≡ fresh image options.start → (ran : Ran p ends options.trace events w outcome x old mid) → (status : Status) → status ≡ status_of outcome.end →
-    IsRunOf options ends events image (traced options.trace ran.lines ++ closing (words options.show) outcome.end x outcome.steps) status
-run_of options ends events image p w x outcome old mid profile begins ran status is = record {
-  lines = ran.lines;
-  steps = outcome.steps;
-  end = outcome.end;
+run_told : (options : RunOptions) (shown : Option ℕ) (stopped ends : Bool) (events : List Event) (image : List (Option ℕ)) (p : Profile) (w x : WorldState) (ran outcome : RunOutcome) (lines : List ℕ) (status : Status) →
+    p ≡ options.profile → w ≡ fresh image options.start → Follows p ends events w lines ran.steps ran.end x → outcome.steps ≡ ran.steps → outcome.end ≡ told stopped ran.end x → status ≡ status_of outcome.end →
+    IsRunTold options shown stopped ends events image (shown_of options.trace shown lines ++ closing (words options.show) outcome.end x outcome.steps) status
+run_told options shown stopped ends events image p w x ran outcome lines status profile begins follows steps ends_so is = record {
+  lines = lines;
+  steps = ran.steps;
+  end = ran.end;
   final = x;
-  follows = let follows : Follows p ends events w ran.lines outcome.steps outcome.end x = ran.follows in rw (profile, begins) at follows;
-  text_is = refl;
-  status_is = is;
+  follows = rw (profile, begins) at follows;
+  text_is = rw (steps, ends_so) refl;
+  status_is = rw ends_so at is;
 }
 
-pub run_whole : (options : RunOptions) (ends : Bool) (events : List Event) (image : List (Option ℕ)) (p : Profile) (w x : WorldState) (outcome : RunOutcome) (status : Status) (old mid new : Option (List ℕ)) →
-    p ≡ options.profile → w ≡ fresh image options.start → Ran p ends options.trace events w outcome x old mid → Appends mid new (closing (words options.show) outcome.end x outcome.steps) → status ≡ status_of outcome.end →
-    Writes (λ text. IsRunOf options ends events image text status) old new
-run_whole options ends events image p w x outcome status old mid new profile begins ran written is = record {
-  text = traced options.trace ran.lines ++ closing (words options.show) outcome.end x outcome.steps;
-  is = run_of options ends events image p w x outcome old mid profile begins ran status is;
-  written = Appends-trans old mid new (traced options.trace ran.lines) (closing (words options.show) outcome.end x outcome.steps) ran.wrote written;
+pub told_whole : (options : RunOptions) (shown : Option ℕ) (stopped ends : Bool) (events : List Event) (image : List (Option ℕ)) (p : Profile) (w x : WorldState) (ran outcome : RunOutcome) (lines : List ℕ) (status : Status) (old new : Option (List ℕ)) →
+    p ≡ options.profile → w ≡ fresh image options.start → Follows p ends events w lines ran.steps ran.end x → outcome.steps ≡ ran.steps → outcome.end ≡ told stopped ran.end x → status ≡ status_of outcome.end →
+    Appends old new (shown_of options.trace shown lines ++ closing (words options.show) outcome.end x outcome.steps) → Writes (λ text. IsRunTold options shown stopped ends events image text status) old new
+told_whole options shown stopped ends events image p w x ran outcome lines status old new profile begins follows steps ends_so is written = record {
+  text = shown_of options.trace shown lines ++ closing (words options.show) outcome.end x outcome.steps;
+  is = run_told options shown stopped ends events image p w x ran outcome lines status profile begins follows steps ends_so is;
+  written = written;
 }
 
-pub run_front : (options : RunOptions) (ends : Bool) (events : List Event) (image : List (Option ℕ)) (p : Profile) (w x : WorldState) (outcome : RunOutcome) (old mid new : Option (List ℕ)) →
-    p ≡ options.profile → w ≡ fresh image options.start → Ran p ends options.trace events w outcome x old mid → AppendsFront mid new (closing (words options.show) outcome.end x outcome.steps) →
-    FrontOf (IsPartOf options ends events image) old new
-run_front options ends events image p w x outcome old mid new profile begins ran front = record {
-  text = traced options.trace ran.lines ++ closing (words options.show) outcome.end x outcome.steps;
-  is = inl (status_of outcome.end, run_of options ends events image p w x outcome old mid profile begins ran (status_of outcome.end) refl);
-  front = front_after old mid new (traced options.trace ran.lines) (closing (words options.show) outcome.end x outcome.steps) ran.wrote front;
+pub told_front : (options : RunOptions) (shown : Option ℕ) (stopped ends : Bool) (events : List Event) (image : List (Option ℕ)) (p : Profile) (w x : WorldState) (ran outcome : RunOutcome) (lines : List ℕ) (old new : Option (List ℕ)) →
+    p ≡ options.profile → w ≡ fresh image options.start → Follows p ends events w lines ran.steps ran.end x → outcome.steps ≡ ran.steps → outcome.end ≡ told stopped ran.end x →
+    AppendsFront old new (shown_of options.trace shown lines ++ closing (words options.show) outcome.end x outcome.steps) → FrontOf (IsRunText options shown stopped ends events image) old new
+told_front options shown stopped ends events image p w x ran outcome lines old new profile begins follows steps ends_so front = record {
+  text = shown_of options.trace shown lines ++ closing (words options.show) outcome.end x outcome.steps;
+  is = (status_of outcome.end, run_told options shown stopped ends events image p w x ran outcome lines (status_of outcome.end) profile begins follows steps ends_so refl);
+  front = front;
 }
+
+-- the trace, and then the summary
+pub run_whole : (options : RunOptions) (stopped ends : Bool) (events : List Event) (image : List (Option ℕ)) (p : Profile) (w x : WorldState) (ran outcome : RunOutcome) (status : Status) (old mid new : Option (List ℕ)) →
+    p ≡ options.profile → w ≡ fresh image options.start → Ran p ends options.trace events w ran x old mid → outcome.steps ≡ ran.steps → outcome.end ≡ told stopped ran.end x →
+    Appends mid new (closing (words options.show) outcome.end x outcome.steps) → status ≡ status_of outcome.end → Writes (λ text. IsRunTold options None stopped ends events image text status) old new
+run_whole options stopped ends events image p w x ran outcome status old mid new profile begins come steps ends_so written is =
+    told_whole options None stopped ends events image p w x ran outcome come.lines status old new profile begins come.follows steps ends_so is
+    (Appends-trans old mid new (traced options.trace come.lines) (closing (words options.show) outcome.end x outcome.steps) come.wrote written)
+
+pub run_front : (options : RunOptions) (stopped ends : Bool) (events : List Event) (image : List (Option ℕ)) (p : Profile) (w x : WorldState) (ran outcome : RunOutcome) (old mid new : Option (List ℕ)) →
+    p ≡ options.profile → w ≡ fresh image options.start → Ran p ends options.trace events w ran x old mid → outcome.steps ≡ ran.steps → outcome.end ≡ told stopped ran.end x →
+    AppendsFront mid new (closing (words options.show) outcome.end x outcome.steps) → FrontOf (IsPartOf options stopped ends events image) old new
+run_front options stopped ends events image p w x ran outcome old mid new profile begins come steps ends_so front =
+    let whole = told_front options None stopped ends events image p w x ran outcome come.lines old new profile begins come.follows steps ends_so
+    (front_after old mid new (traced options.trace come.lines) (closing (words options.show) outcome.end x outcome.steps) come.wrote front) in
+    record { text = whole.text; is = inl whole.is; front = whole.front }
 
 -- the lines of the events before one that puts out a byte, and no more
 trace_only : (options : RunOptions) (ends : Bool) (events : List Event) (image : List (Option ℕ)) (p : Profile) (w : WorldState) (old new : Option (List ℕ)) →
@@ -77,10 +94,10 @@ pub trace_whole : (options : RunOptions) (ends : Bool) (events : List Event) (im
 trace_whole options ends events image p w x outcome old new profile begins asked ran =
     trace_only options ends events image p w old new profile begins asked (ran_whole p ends options.trace events w x outcome old new ran asked)
 
-pub trace_front : (options : RunOptions) (ends : Bool) (events : List Event) (image : List (Option ℕ)) (p : Profile) (w : WorldState) (old new : Option (List ℕ)) →
+pub trace_front : (options : RunOptions) (stopped ends : Bool) (events : List Event) (image : List (Option ℕ)) (p : Profile) (w : WorldState) (old new : Option (List ℕ)) →
     p ≡ options.profile → w ≡ fresh image options.start → options.trace ≡ true → FrontOf (IsTraceOfSome p ends events w) old new →
-    FrontOf (IsPartOf options ends events image) old new
-trace_front options ends events image p w old new profile begins asked front = record {
+    FrontOf (IsPartOf options stopped ends events image) old new
+trace_front options stopped ends events image p w old new profile begins asked front = record {
   text = front.text;
   is = inr (record { asked = asked; is = let some : IsTraceOfSome p ends events w front.text = front.is in rw (profile, begins) at some });
   front = front.front;

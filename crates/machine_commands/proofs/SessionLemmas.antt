@@ -20,19 +20,18 @@ use Rattle.peripherals.specs.Devices.{Devices, Writer, WorldState, Instructs, wo
 use Rattle.peripherals.specs.Events.{Happens, Steps, completed, done, with_devices}
 use Rattle.peripherals.specs.Operator.{Plan, due, first_due, frame_due, key_due, left_after, plan_of, round_due}
 use Rattle.peripherals.specs.EventOutcomes.{puts_out, seen_of}
-use Rattle.machine_commands.specs.declared.follow.End.TheVariants.{Unsupported}
-use Rattle.machine_commands.specs.declared.follow.RunOutcome.{RunOutcome}
 use Rattle.machine_commands.specs.Course.{Ran}
-use Rattle.machine_commands.specs.Follows.{Follows, Ended, Stuck, Stopped, end_of, goes_on, counted}
+use Rattle.machine_commands.specs.Follows.{goes_on, counted}
 use Rattle.command_parts.specs.declared.status.Fault.{Fault}
 use Rattle.command_parts.specs.declared.status.Fault.TheVariants.{NoMemory}
 use Rattle.command_parts.specs.Faults.{IsBytesFault, fails_to_write}
 use Rattle.command_parts.specs.Inputs.{AreFirst, HasCome, Input}
-use Rattle.machine_commands.specs.Schedule.{Comes, Cut, Due, Final, Then, Extent, ToStep, UpToRead, UpToAny, operating}
-use Rattle.machine_commands.specs.Session.{AppendsSome, extent_unread, BrokeOff, FrontsOf, WritesAll, character, comes_by, printed_in, taken, Taken, Failures}
-use Rattle.machine_commands.specs.SessionParts.{IsNext, Played, Unplayed, Faltered, PlayedFront, events_left, has_stepped, place_of, printed_from, rank, steps_in}
+use Rattle.machine_commands.specs.Schedule.{Comes, Cut, Due, Final, Then, Extent, ToStep, UpToAny, first_place, operating}
+use Rattle.machine_commands.specs.Session.{AppendsSome, AppendsUnless, FrontsOf, WritesAll, character, printed_in, taken, Taken, Failures}
+use Rattle.machine_commands.specs.SessionParts.{IsNext, PlayedFront, events_left, has_stepped, place_of, printed_from, rank, steps_in}
+use Rattle.machine_commands.specs.TypingParts.{rounds_left}
 use Rattle.machine_commands.specs.Trace.{line_of, trace_of, traced}
-use Rattle.machine_commands.proofs.FollowLemmas.{Came, came_none, came_all, joined, leads_both, leads_one, front_after, no_line, one_by}
+use Rattle.machine_commands.proofs.FollowLemmas.{Came, joined, leads_both, leads_one, front_after}
 
 pub or_left : (a b : Bool) → a || b ≡ false → a ≡ false
 or_left true b is = is
@@ -128,25 +127,17 @@ one_printed p w x e happens =
     omega (arith, few, same)
 
 -- so all that was printed is one character more at most than what was typed, where some of the last was
-nearly_all : (p : Profile) (w x : WorldState) (e : Event) (count : ℕ) → Happens p w e x → length (printed_in x) ≤ length (printed_in w) + count + 1
+pub nearly_all : (p : Profile) (w x : WorldState) (e : Event) (count : ℕ) → Happens p w e x → length (printed_in x) ≤ length (printed_in w) + count + 1
 nearly_all p w x e count happens =
     let all : length (printed_in x) ≡ length (printed_in w ++ printed_from w x) = ap length (printed_more p w x e happens) in
     let sum : length (printed_in w ++ printed_from w x) ≡ length (printed_in w) + length (printed_from w x) = length-append (printed_in w) (printed_from w x) in
     let one : length (printed_from w x) ≤ 1 = one_printed p w x e happens in
     omega (arith, all, sum, one)
 
-one_over : (n : ℕ) → n ≤ n + 1
+pub one_over : (n : ℕ) → n ≤ n + 1
 one_over n = omega arith
 
--- a front of a piece is a front of more
-pub front_of_more : (old new : Option (List ℕ)) (piece more : List ℕ) → AppendsSome old new piece → AppendsSome old new (piece ++ more)
-front_of_more old new piece more front = record {
-  count = front.count;
-  within = let e = length-append piece more in let f = front.within in omega (arith, e, f);
-  out = rw (take-append-le front.count piece more front.within) front.out;
-}
-
--- and where it isn't all of the piece it isn't all of more
+-- a front that isn't all of a piece isn't all of more
 cut_of_more : (old new : Option (List ℕ)) (piece more : List ℕ) → AppendsFront old new piece → AppendsFront old new (piece ++ more)
 cut_of_more old new piece more front = record {
   count = front.count;
@@ -155,7 +146,7 @@ cut_of_more old new piece more front = record {
 }
 
 -- some of a piece that is the same
-some_same : (old new : Option (List ℕ)) (piece other : List ℕ) → piece ≡ other → AppendsSome old new other → AppendsSome old new piece
+unfoldable pub some_same : (old new : Option (List ℕ)) (piece other : List ℕ) → piece ≡ other → AppendsSome old new other → AppendsSome old new piece
 some_same old new piece other same some = record { count = some.count; within = rw same some.within; out = rw same some.out }
 
 -- a whole piece is a front of itself
@@ -175,35 +166,11 @@ some_of old new piece front = record {
 }
 
 -- a whole piece, and some of the next
-some_after : (a b c : Option (List ℕ)) (first second : List ℕ) → Appends a b first → AppendsSome b c second → AppendsSome a c (first ++ second)
+unfoldable pub some_after : (a b c : Option (List ℕ)) (first second : List ℕ) → Appends a b first → AppendsSome b c second → AppendsSome a c (first ++ second)
 some_after a b c first second whole front = record {
   count = length first + front.count;
   within = let e = length-append first second in let f = front.within in omega (arith, e, f);
   out = rw (take-append-add first second front.count) (Appends-trans a b c first (take front.count second) whole front.out);
-}
-
--- A run came to its end in x, which is told to any extent: the trace, if one was requested, and the characters that were printed were
--- appended.
-pub record Operated (comes : Extent → List Event → Type 0) (profile : Profile) (trace : Bool) (w : WorldState) (outcome : RunOutcome) (x : WorldState) (old new told tells : Option (List ℕ)) : Type 0 where
-  pub events : List Event
-  pub come : (extent : Extent) → comes extent events
-  pub ran : Ran profile true trace events w outcome x old new
-  pub printed : Appends told tells (printed_in x)
-
--- The run came so far: these events came, and whatever comes further comes after them.
-pub record Sat {S : Type 0} (brings : S → Profile → WorldState → Extent → List Event → Type 0) (p : Profile) (trace : Bool) (first now : S) (w x : WorldState) (n : ℕ) (old new told tells : Option (List ℕ)) : Type 0 where
-  pub events : List Event
-  pub came : Came p true trace events w n x old new
-  pub come : (extent : Extent) (rest : List Event) → brings now p x extent rest → brings first p w extent (events ++ rest)
-  pub printed : Appends told tells (printed_in x)
-
-unfoldable pub sat_none : {S : Type 0} (brings : S → Profile → WorldState → Extent → List Event → Type 0) (p : Profile) (trace : Bool) (s : S) (w : WorldState) (old told : Option (List ℕ)) → w.devices.printer.output ≡ [] →
-    Sat brings p trace s s w w 0 old old told told
-sat_none brings p trace s w old told empty = record {
-  events = [];
-  came = came_none p true trace w old;
-  come = λ extent rest comes. comes;
-  printed = rw empty (Appends-nil told);
 }
 
 pub came_next : (p : Profile) (trace : Bool) (es : List Event) (e : Event) (w x y : WorldState) (n : ℕ) (what : Seen) (old mid new : Option (List ℕ)) →
@@ -223,136 +190,16 @@ printed_next p x y e told mid tells happens before after =
 pub one_more : (es : List Event) (e : Event) (rest : List Event) → (es ++ e ∷ []) ++ rest ≡ es ++ (e ∷ rest)
 one_more es e rest = append_assoc es (e ∷ []) rest
 
-unfoldable pub sat_more : {S : Type 0} (brings : S → Profile → WorldState → Extent → List Event → Type 0) (p : Profile) (trace : Bool) (first now after : S) (e : Event) (w x y : WorldState) (n : ℕ) (what : Seen) (old mid new told tmid tells : Option (List ℕ)) →
-    Sat brings p trace first now w x n old mid told tmid → IsNext brings now after x e → Played p trace x e what y mid new tmid tells → goes_on true what ≡ true →
-    Sat brings p trace first after w y (n + counted what) old new told tells
-sat_more brings p trace first now after e w x y n what old mid new told tmid tells sat next played goes = record {
-  events = sat.events ++ e ∷ [];
-  came = came_next p trace sat.events e w x y n what old mid new sat.came (sym played.sees) goes played.happens played.wrote;
-  come = λ extent rest comes.
-      let on : goes_on true (seen_of p x e) ≡ true = rw (← played.sees) goes in
-      rw (one_more sat.events e rest) (sat.come extent (e ∷ rest) (next.on p y extent rest on played.happens comes));
-  printed = printed_next p x y e told tmid tells played.happens sat.printed played.printed;
-}
-
--- nothing is due any more
-unfoldable pub sat_all : {S : Type 0} (brings : S → Profile → WorldState → Extent → List Event → Type 0) (p : Profile) (trace : Bool) (first now : S) (w x : WorldState) (outcome : RunOutcome) (old new told tells : Option (List ℕ)) →
-    Sat brings p trace first now w x outcome.steps old new told tells → ((extent : Extent) → brings now p x extent []) → outcome.end ≡ end_of x → Operated (brings first p w) p trace w outcome x old new told tells
-sat_all brings p trace first now w x outcome old new told tells sat over ends = record {
-  events = sat.events;
-  come = λ extent. let all : brings first p w extent (sat.events ++ []) = sat.come extent [] (over extent) in rw (append-nil sat.events) at all;
-  ran = came_all p true trace sat.events w x outcome old new sat.came ends;
-  printed = sat.printed;
-}
-
--- the run ends with the event that is due
-pub last_comes : {S : Type 0} (brings : S → Profile → WorldState → Extent → List Event → Type 0) (p : Profile) (s t : S) (x : WorldState) (e : Event) (what : Seen) (extent : Extent) → IsNext brings s t x e → what ≡ seen_of p x e → goes_on true what ≡ false → brings s p x extent (e ∷ [])
-last_comes brings p s t x e what extent next sees ends = next.last p extent (rw (← sees) ends)
-
-unfoldable pub sat_to_halt : {S : Type 0} (brings : S → Profile → WorldState → Extent → List Event → Type 0) (p : Profile) (trace : Bool) (first now after : S) (e : Event) (w x y : WorldState) (n : ℕ) (outcome : RunOutcome) (old mid new told tmid tells : Option (List ℕ)) →
-    Sat brings p trace first now w x n old mid told tmid → IsNext brings now after x e → Played p trace x e seen.Halted y mid new tmid tells → outcome.steps ≡ n + 1 → outcome.end ≡ end_of y →
-    Operated (brings first p w) p trace w outcome y old new told tells
-sat_to_halt brings p trace first now after e w x y n outcome old mid new told tmid tells sat next played steps ends = record {
-  events = sat.events ++ e ∷ [];
-  come = λ extent. sat.come extent (e ∷ []) (last_comes brings p now after x e seen.Halted extent next played.sees refl);
-  ran = record {
-    lines = sat.came.lines ++ trace_of p x e y;
-    follows = rw (steps, ends) (sat.came.leads (e ∷ []) (trace_of p x e y) 1 (end_of y) y (Stopped e [] x y refl (sym played.sees) played.happens));
-    wrote = joined trace old mid new sat.came.lines (trace_of p x e y) sat.came.wrote played.wrote;
-  };
-  printed = printed_next p x y e told tmid tells played.happens sat.printed played.printed;
-}
-
-unfoldable pub sat_to_stuck : {S : Type 0} (brings : S → Profile → WorldState → Extent → List Event → Type 0) (p : Profile) (trace : Bool) (first now after : S) (e : Event) (w x y : WorldState) (n word : ℕ) (outcome : RunOutcome) (old mid new told tmid tells : Option (List ℕ)) →
-    Sat brings p trace first now w x n old mid told tmid → IsNext brings now after x e → Played p trace x e (seen.Unsupported word) y mid new tmid tells → outcome.steps ≡ n → outcome.end ≡ Unsupported y.state.pc →
-    Operated (brings first p w) p trace w outcome y old new told tells
-sat_to_stuck brings p trace first now after e w x y n word outcome old mid new told tmid tells sat next played steps ends =
-    let none : Appends mid new (traced trace []) = rw (no_line p e x y word (sym played.sees)) at played.wrote in
-    let follows : Follows p true (sat.events ++ e ∷ []) w (sat.came.lines ++ []) (n + 0) (Unsupported y.state.pc) y = sat.came.leads (e ∷ []) [] 0 (Unsupported y.state.pc) y (Stuck e [] x y word (sym played.sees) played.happens) in
-    record {
-      events = sat.events ++ e ∷ [];
-      come = λ extent. sat.come extent (e ∷ []) (last_comes brings p now after x e (seen.Unsupported word) extent next played.sees refl);
-      ran = record {
-        lines = sat.came.lines ++ [];
-        follows = rw (steps, ends) (rw (add-zero n) at follows);
-        wrote = joined trace old mid new sat.came.lines [] sat.came.wrote none;
-      };
-      printed = printed_next p x y e told tmid tells played.happens sat.printed played.printed;
-    }
-
--- the run broke off where nothing happened since: before an event that puts out a byte, or where a frame or a key was read
-broke_here : {S : Type 0} (brings : S → Profile → WorldState → Extent → List Event → Type 0) (p : Profile) (trace : Bool) (first now : S) (w x : WorldState) (n : ℕ) (reported typed unread : Bool) (old new told tells : Option (List ℕ)) →
-    Sat brings p trace first now w x n old new told tells → (reported || typed) ≡ false → brings now p x (extent_unread unread) [] → BrokeOff (brings first p w) p trace w x reported typed unread old new told tells
-unfolding whole_front
-broke_here brings p trace first now w x n reported typed unread old new told tells sat unfailed cut = record {
-  events = sat.events;
-  come = let all : brings first p w (extent_unread unread) (sat.events ++ []) = sat.come (extent_unread unread) [] cut in rw unfailed (rw (append-nil sat.events) at all);
-  lines = sat.came.lines;
-  steps = n;
-  end = end_of x;
-  follows = let done : Follows p true (sat.events ++ []) w (sat.came.lines ++ []) (n + 0) (end_of x) x = sat.came.leads [] [] 0 (end_of x) x (Ended x) in
-      rw (append-nil sat.events, append-nil sat.came.lines, add-zero n) at done;
-  wrote = whole_front old new (traced trace sat.came.lines) sat.came.wrote;
-  printed = whole_front told tells (printed_in x) sat.printed;
-  wrote_whole = λ no. sat.came.wrote;
-  printed_whole = λ no. sat.printed;
-  wrote_front = λ yes. absurd (true≢false (sym yes ∙ or_left reported typed unfailed));
-  printed_front = λ yes. absurd (true≢false (sym yes ∙ or_right reported typed unfailed));
-  printed_nearly = one_over (length (printed_in x));
-}
-
-broke_before : {S : Type 0} (brings : S → Profile → WorldState → Extent → List Event → Type 0) (p : Profile) (trace : Bool) (first now after : S) (e : Event) (w x y : WorldState) (n : ℕ) (reported typed unread : Bool) (old mid new told tmid tells : Option (List ℕ)) →
-    Sat brings p trace first now w x n old mid told tmid → IsNext brings now after x e → Unplayed x e y reported typed mid new tmid tells → unread ≡ false → BrokeOff (brings first p w) p trace w y reported typed unread old new told tells
-broke_before brings p trace first now after e w x y n reported typed unread old mid new told tmid tells sat next un readable = rw (un.same, un.unwritten, un.unprinted)
-    (broke_here brings p trace first now w x n reported typed unread old mid told tmid sat un.unfailed (rw readable (next.output p un.wanted)))
-
--- a read of a frame or a key failed
-pub sat_to_unread : {S : Type 0} (brings : S → Profile → WorldState → Extent → List Event → Type 0) (p : Profile) (trace : Bool) (first now : S) (w x : WorldState) (n : ℕ) (reported typed unread : Bool) (old new told tells : Option (List ℕ)) →
-    Sat brings p trace first now w x n old new told tells → reported ≡ false → typed ≡ false → unread ≡ true → brings now p x UpToRead [] → BrokeOff (brings first p w) p trace w x reported typed unread old new told tells
-sat_to_unread brings p trace first now w x n reported typed unread old new told tells sat unreported untyped failed cut =
-    broke_here brings p trace first now w x n reported typed unread old new told tells sat (rw (unreported, untyped) refl) (rw failed cut)
-
 -- the events up to the one that is due
 cut_after : {S : Type 0} (brings : S → Profile → WorldState → Extent → List Event → Type 0) (p : Profile) (now after : S) (x y : WorldState) (e : Event) (on : Bool) → IsNext brings now after x e → ((s : S) (q : Profile) (v : WorldState) → brings s q v UpToAny []) →
     goes_on true (seen_of p x e) ≡ on → Happens p x e y → brings now p x UpToAny (e ∷ [])
 cut_after brings p now after x y e true next anywhere goes happens = next.on p y UpToAny [] goes happens (anywhere after p y)
 cut_after brings p now after x y e false next anywhere goes happens = next.last p UpToAny goes
 
-front_joined : (trace : Bool) (a b c : Option (List ℕ)) (first second : List ℕ) → Appends a b (traced trace first) → AppendsSome b c (traced trace second) → AppendsSome a c (traced trace (first ++ second))
-front_joined true a b c first second whole front = some_after a b c first second whole front
-front_joined false a b c first second whole front = some_after a b c [] [] whole front
-
-front_cut : (trace : Bool) (a b c : Option (List ℕ)) (first second : List ℕ) → Appends a b (traced trace first) → AppendsFront b c (traced trace second) → AppendsFront a c (traced trace (first ++ second))
-front_cut true a b c first second whole front = front_after a b c first second whole front
-front_cut false a b c first second whole front = front_after a b c [] [] whole front
-
-broke_after : {S : Type 0} (brings : S → Profile → WorldState → Extent → List Event → Type 0) (p : Profile) (trace : Bool) (first now after : S) (e : Event) (w x y : WorldState) (n : ℕ) (reported typed unread : Bool) (old mid new told tmid tells : Option (List ℕ)) →
-    Sat brings p trace first now w x n old mid told tmid → IsNext brings now after x e → ((s : S) (q : Profile) (v : WorldState) → brings s q v UpToAny []) → Faltered p trace x e y reported typed mid new tmid tells → BrokeOff (brings first p w) p trace w y reported typed unread old new told tells
-unfolding some_same some_after
-broke_after brings p trace first now after e w x y n reported typed unread old mid new told tmid tells sat next anywhere faltered =
-    let one = one_by p true e x y (seen_of p x e) refl faltered.happens in
-    let more = printed_more p x y e faltered.happens in
-    record {
-      events = sat.events ++ e ∷ [];
-      come = rw (faltered.failed) (sat.come UpToAny (e ∷ []) (cut_after brings p now after x y e (goes_on true (seen_of p x e)) next anywhere refl faltered.happens));
-      lines = sat.came.lines ++ trace_of p x e y;
-      steps = n + one.steps;
-      end = one.end;
-      follows = sat.came.leads (e ∷ []) (trace_of p x e y) one.steps one.end y one.follows;
-      wrote = front_joined trace old mid new sat.came.lines (trace_of p x e y) sat.came.wrote faltered.wrote;
-      printed = some_same told tells (printed_in y) (printed_in x ++ printed_from x y) more (some_after told tmid tells (printed_in x) (printed_from x y) sat.printed faltered.printed);
-      wrote_whole = λ no. joined trace old mid new sat.came.lines (trace_of p x e y) sat.came.wrote (faltered.wrote_whole no);
-      printed_whole = λ no. printed_next p x y e told tmid tells faltered.happens sat.printed (faltered.printed_whole no);
-      wrote_front = λ yes. front_cut trace old mid new sat.came.lines (trace_of p x e y) sat.came.wrote (faltered.wrote_front yes);
-      printed_front = λ yes. rw more (front_after told tmid tells (printed_in x) (printed_from x y) sat.printed (faltered.printed_front yes));
-      printed_nearly = nearly_all p x y e faltered.printed.count faltered.happens;
-    }
-
-pub sat_to_fault : {S : Type 0} (brings : S → Profile → WorldState → Extent → List Event → Type 0) (p : Profile) (trace : Bool) (first now after : S) (e : Event) (w x y : WorldState) (n : ℕ) (reported typed unread : Bool) (old mid new told tmid tells : Option (List ℕ)) →
-    Sat brings p trace first now w x n old mid told tmid → IsNext brings now after x e → ((s : S) (q : Profile) (v : WorldState) → brings s q v UpToAny []) → unread ≡ false → PlayedFront p trace x e y reported typed mid new tmid tells →
-    BrokeOff (brings first p w) p trace w y reported typed unread old new told tells
-sat_to_fault brings p trace first now after e w x y n reported typed unread old mid new told tmid tells sat next anywhere readable (inl un) = broke_before brings p trace first now after e w x y n reported typed unread old mid new told tmid tells sat next un readable
-sat_to_fault brings p trace first now after e w x y n reported typed unread old mid new told tmid tells sat next anywhere readable (inr faltered) = broke_after brings p trace first now after e w x y n reported typed unread old mid new told tmid tells sat next anywhere faltered
+pub unless_joined : (reported trace : Bool) (a b c : Option (List ℕ)) (first second : List ℕ) → Appends a b (traced trace first) → AppendsUnless reported b c (traced trace second) → AppendsUnless reported a c (traced trace (first ++ second))
+unless_joined true true a b c first second whole front = front_after a b c first second whole front
+unless_joined true false a b c first second whole front = front_after a b c [] [] whole front
+unless_joined false trace a b c first second whole rest = joined trace a b c first second whole rest
 
 -- what is seen of an event that changes a device, where it is enabled
 abbrev device_seen : Bool → Seen
@@ -387,21 +234,6 @@ device_came p trace es w x y n e enabled old new came happens is =
     let next : Came p true trace (es ++ e ∷ []) w (n + counted (device_seen enabled)) y old new = came_next p trace es e w x y n (device_seen enabled) old new new came is (device_goes enabled) happens none in
     rw (device_counts enabled, add-zero n) at next
 
--- after an instruction the printer gets done, and the punch
-unfoldable pub sat_completed : {S : Type 0} (brings : S → Profile → WorldState → Extent → List Event → Type 0) (p : Profile) (trace : Bool) (first now after : S) (w x : WorldState) (n : ℕ) (old new told tells : Option (List ℕ)) →
-    Sat brings p trace first now w x n old new told tells →
-    ((q : Profile) (extent : Extent) (es : List Event) → brings after q (completed x) extent es → brings now q x extent (PrinterDone ∷ PunchDone ∷ es)) →
-    Sat brings p trace first after w (completed x) n old new told tells
-sat_completed brings p trace first now after w x n old new told tells sat both =
-    let mid = printer_done x in
-    let half : Came p true trace (sat.events ++ PrinterDone ∷ []) w n mid old new = device_came p trace sat.events w x mid n PrinterDone x.devices.printer.busy old new sat.came refl refl in
-    record {
-      events = (sat.events ++ PrinterDone ∷ []) ++ PunchDone ∷ [];
-      came = device_came p trace (sat.events ++ PrinterDone ∷ []) w mid (completed x) n PunchDone mid.devices.punch.busy old new half refl refl;
-      come = λ extent rest comes. rw (one_more (sat.events ++ PrinterDone ∷ []) PunchDone rest, one_more sat.events PrinterDone (PunchDone ∷ rest)) (sat.come extent (PrinterDone ∷ PunchDone ∷ rest) (both p extent rest comes));
-      printed = rw (output_stays x.devices.printer.busy x.devices.printer) sat.printed;
-    }
-
 not_ran : (enabled : Bool) → seen.Ran ≡ device_seen enabled → ⊥
 not_ran true is = cc
 not_ran false is = cc
@@ -433,92 +265,65 @@ halted_is_step p w PunchDone is = absurd (not_halted w.devices.punch.busy is)
 halted_is_step p w (Switches word) is = absurd (not_halted true is)
 halted_is_step p w Continue is = absurd (not_halted (is_some w.halted_at) is)
 
--- fewer events are left after an event than before it
-abbrev Fewer : Plan → ℕ → Event → Type 0
-Fewer plan before e = events_left (left_after e plan) (Some e) < plan.rounds * 5 + before
+-- an event that is due leaves fewer events, and an instruction takes a round
+pub record Less (rounds : ℕ) (last : Option Event) (e : Event) : Type 0 where
+  pub fewer : rounds_left e rounds * 5 + rank (Some e) < rounds * 5 + rank last
+  pub counted : steps_in e + rounds_left e rounds ≤ rounds
 
-none_is : {e : Event} → None ≡ Some e → ⊥
+pub none_is : {e : Event} → None ≡ Some e → ⊥
 none_is is = cc
 
 event_is : (e f : Event) → Some e ≡ Some f → e ≡ f
 event_is e f is = ap (λ (o : Option Event). unwrap_or o Step) is
 
-step_fewer : (plan : Plan) (before n : ℕ) → plan.rounds ≡ suc n → Fewer plan before Step
-step_fewer plan before n is = rw is (omega arith)
+step_less : (n : ℕ) (last : Option Event) → Less (suc n) last Step
+step_less n last = record { fewer = omega arith; counted = omega arith }
 
-round_fewer : (plan : Plan) (before n : ℕ) (e : Event) → plan.rounds ≡ n → round_due n ≡ Some e → Fewer plan before e
-round_fewer plan before zero e is due = absurd (none_is due)
-round_fewer plan before (suc n) e is due = subst (Fewer plan before) (event_is Step e due) (step_fewer plan before n is)
+pub other_less : (rounds : ℕ) (last : Option Event) (e f : Event) → Some f ≡ Some e → rounds_left f rounds ≡ rounds → steps_in f ≡ 0 → rank (Some f) < rank last → Less rounds last e
+other_less rounds last e f is same none less = subst (Less rounds last) (event_is f e is) (record { fewer = rw same (omega (arith, less)); counted = rw (same, none) (omega arith) })
 
-key_struck : (plan : Plan) (before key : ℕ) → 0 < before → Fewer plan before (Key key)
-key_struck plan before key some = omega (arith, some)
+pub round_less : (rounds : ℕ) (last : Option Event) (e : Event) → round_due rounds ≡ Some e → Less rounds last e
+round_less zero last e due = absurd (none_is due)
+round_less (suc n) last e due = subst (Less (suc n) last) (event_is Step e due) (step_less n last)
 
-key_fewer : (plan : Plan) (before : ℕ) (keys : List ℕ) (flag : Bool) (e : Event) → 0 < before → key_due keys plan.rounds flag ≡ Some e → Fewer plan before e
-key_fewer plan before [] flag e some due = round_fewer plan before plan.rounds e refl due
-key_fewer plan before (key ∷ keys) true e some due = round_fewer plan before plan.rounds e refl due
-key_fewer plan before (key ∷ keys) false e some due = subst (Fewer plan before) (event_is (Key key) e due) (key_struck plan before key some)
+pub first_less : (plan : Plan) (switches : Option ℕ) (e : Event) → first_due plan switches ≡ Some e → Less plan.rounds None e
+first_less plan None e due = round_less plan.rounds None e due
+first_less plan (Some word) e due = other_less plan.rounds None e (Switches word) due refl refl (omega arith)
 
-frame_read : (plan : Plan) (frame : ℕ) → Fewer plan 2 (ReaderDone frame)
-frame_read plan frame = omega arith
+key_less : (plan : Plan) (last : Option Event) (keys : List ℕ) (flag : Bool) (e : Event) → 0 < rank last → key_due keys plan.rounds flag ≡ Some e → Less plan.rounds last e
+key_less plan last [] flag e some due = round_less plan.rounds last e due
+key_less plan last (key ∷ keys) true e some due = round_less plan.rounds last e due
+key_less plan last (key ∷ keys) false e some due = other_less plan.rounds last e (Key key) due refl refl some
 
-frame_fewer : (plan : Plan) (w : WorldState) (frames : List ℕ) (waits : Bool) (e : Event) → w.devices.reader.fetching ≡ waits → frame_due plan w frames ≡ Some e → Fewer plan 2 e
-frame_fewer plan w [] waits e is due = key_fewer plan 2 plan.keys w.devices.keyboard.flag e (omega arith) due
-frame_fewer plan w (frame ∷ frames) true e is due = subst (Fewer plan 2) (event_is (ReaderDone frame) e (rw is at due)) (frame_read plan frame)
-frame_fewer plan w (frame ∷ frames) false e is due = key_fewer plan 2 plan.keys w.devices.keyboard.flag e (omega arith) (rw is at due)
+frame_less : (plan : Plan) (w : WorldState) (frames : List ℕ) (waits : Bool) (e : Event) → w.devices.reader.fetching ≡ waits → frame_due plan w frames ≡ Some e → Less plan.rounds (Some PunchDone) e
+frame_less plan w [] waits e is due = key_less plan (Some PunchDone) plan.keys w.devices.keyboard.flag e (omega arith) due
+frame_less plan w (frame ∷ frames) true e is due = other_less plan.rounds (Some PunchDone) e (ReaderDone frame) (rw is at due) refl refl (omega arith)
+frame_less plan w (frame ∷ frames) false e is due = key_less plan (Some PunchDone) plan.keys w.devices.keyboard.flag e (omega arith) (rw is at due)
 
-first_fewer : (plan : Plan) (switches : Option ℕ) (e : Event) → first_due plan switches ≡ Some e → Fewer plan 1 e
-first_fewer plan None e due = round_fewer plan 1 plan.rounds e refl due
-first_fewer plan (Some word) e due = subst (Fewer plan 1) (event_is (Switches word) e due) (omega arith)
+due_less : (plan : Plan) (w : WorldState) (last : Option Event) (e : Event) → due plan w last ≡ Some e → Less plan.rounds last e
+due_less plan w None e is = first_less plan plan.switches e is
+due_less plan w (Some Step) e is = other_less plan.rounds (Some Step) e PrinterDone is refl refl (omega arith)
+due_less plan w (Some PrinterDone) e is = other_less plan.rounds (Some PrinterDone) e PunchDone is refl refl (omega arith)
+due_less plan w (Some PunchDone) e is = frame_less plan w plan.frames w.devices.reader.fetching e refl is
+due_less plan w (Some (ReaderDone frame)) e is = key_less plan (Some (ReaderDone frame)) plan.keys w.devices.keyboard.flag e (omega arith) is
+due_less plan w (Some (Key key)) e is = round_less plan.rounds (Some (Key key)) e is
+due_less plan w (Some (Switches word)) e is = round_less plan.rounds (Some (Switches word)) e is
+due_less plan w (Some Continue) e is = round_less plan.rounds (Some Continue) e is
 
-due_fewer : (plan : Plan) (w : WorldState) (last : Option Event) (e : Event) → due plan w last ≡ Some e → Fewer plan (rank last) e
-due_fewer plan w None e is = first_fewer plan plan.switches e is
-due_fewer plan w (Some Step) e is = subst (Fewer plan 4) (event_is PrinterDone e is) (omega arith)
-due_fewer plan w (Some PrinterDone) e is = subst (Fewer plan 3) (event_is PunchDone e is) (omega arith)
-due_fewer plan w (Some PunchDone) e is = frame_fewer plan w plan.frames w.devices.reader.fetching e refl is
-due_fewer plan w (Some (ReaderDone frame)) e is = key_fewer plan 1 plan.keys w.devices.keyboard.flag e (omega arith) is
-due_fewer plan w (Some (Key key)) e is = round_fewer plan 0 plan.rounds e refl is
-due_fewer plan w (Some (Switches word)) e is = round_fewer plan 0 plan.rounds e refl is
-due_fewer plan w (Some Continue) e is = round_fewer plan 0 plan.rounds e refl is
+rounds_after : (e : Event) (plan : Plan) → (left_after e plan).rounds ≡ rounds_left e plan.rounds
+rounds_after Step plan = refl
+rounds_after (Key key) plan = refl
+rounds_after PrinterDone plan = refl
+rounds_after (ReaderDone frame) plan = refl
+rounds_after PunchDone plan = refl
+rounds_after (Switches word) plan = refl
+rounds_after Continue plan = refl
 
 pub fewer : (plan after : Plan) (w : WorldState) (last new_last : Option Event) (e : Event) → due plan w last ≡ Some e → after ≡ left_after e plan → new_last ≡ Some e → events_left after new_last < events_left plan last
-fewer plan after w last new_last e is left next = rw (left, next) (due_fewer plan w last e is)
-
--- an instruction that is due takes one of the rounds
-step_counts : (rounds : ℕ) (e : Event) (after : Plan) (plan : Plan) → plan.rounds ≡ rounds → round_due rounds ≡ Some e → after ≡ left_after e plan → steps_in e + after.rounds ≤ plan.rounds
-step_counts zero e after plan is due left = absurd (none_is due)
-step_counts (suc n) e after plan is due left =
-    let step : Step ≡ e = event_is Step e due in
-    rw (left, ← step, is) (omega arith)
-
--- any other event takes none
-other_counts : (e f : Event) (after plan : Plan) → Some f ≡ Some e → after ≡ left_after e plan → steps_in f ≡ 0 → (left_after f plan).rounds ≡ plan.rounds → steps_in e + after.rounds ≤ plan.rounds
-other_counts e f after plan is left none same =
-    let here : f ≡ e = event_is f e is in
-    rw (left, ← here, none, same) (omega arith)
-
-key_counts : (keys : List ℕ) (flag : Bool) (e : Event) (after plan : Plan) → key_due keys plan.rounds flag ≡ Some e → after ≡ left_after e plan → steps_in e + after.rounds ≤ plan.rounds
-key_counts [] flag e after plan due left = step_counts plan.rounds e after plan refl due left
-key_counts (key ∷ keys) true e after plan due left = step_counts plan.rounds e after plan refl due left
-key_counts (key ∷ keys) false e after plan due left = other_counts e (Key key) after plan due left refl refl
-
-frame_counts : (w : WorldState) (frames : List ℕ) (waits : Bool) (e : Event) (after plan : Plan) → w.devices.reader.fetching ≡ waits → frame_due plan w frames ≡ Some e → after ≡ left_after e plan → steps_in e + after.rounds ≤ plan.rounds
-frame_counts w [] waits e after plan is due left = key_counts plan.keys w.devices.keyboard.flag e after plan due left
-frame_counts w (frame ∷ frames) true e after plan is due left = other_counts e (ReaderDone frame) after plan (rw is at due) left refl refl
-frame_counts w (frame ∷ frames) false e after plan is due left = key_counts plan.keys w.devices.keyboard.flag e after plan (rw is at due) left
-
-first_counts : (switches : Option ℕ) (e : Event) (after plan : Plan) → first_due plan switches ≡ Some e → after ≡ left_after e plan → steps_in e + after.rounds ≤ plan.rounds
-first_counts None e after plan due left = step_counts plan.rounds e after plan refl due left
-first_counts (Some word) e after plan due left = other_counts e (Switches word) after plan due left refl refl
+fewer plan after w last new_last e is left next = rw (left, next, rounds_after e plan) (due_less plan w last e is).fewer
 
 pub due_counts : (plan after : Plan) (w : WorldState) (last : Option Event) (e : Event) → due plan w last ≡ Some e → after ≡ left_after e plan → steps_in e + after.rounds ≤ plan.rounds
-due_counts plan after w None e is left = first_counts plan.switches e after plan is left
-due_counts plan after w (Some Step) e is left = other_counts e PrinterDone after plan is left refl refl
-due_counts plan after w (Some PrinterDone) e is left = other_counts e PunchDone after plan is left refl refl
-due_counts plan after w (Some PunchDone) e is left = frame_counts w plan.frames w.devices.reader.fetching e after plan refl is left
-due_counts plan after w (Some (ReaderDone frame)) e is left = key_counts plan.keys w.devices.keyboard.flag e after plan is left
-due_counts plan after w (Some (Key key)) e is left = step_counts plan.rounds e after plan refl is left
-due_counts plan after w (Some (Switches word)) e is left = step_counts plan.rounds e after plan refl is left
-due_counts plan after w (Some Continue) e is left = step_counts plan.rounds e after plan refl is left
+due_counts plan after w last e is left = rw (left, rounds_after e plan) (due_less plan w last e is).counted
 
 -- what is due with an operator comes next
 pub operator_next : (old new : Operator) (w : WorldState) (e : Event) → due (plan_of old) w old.last ≡ Some e → plan_of new ≡ left_after e (plan_of old) → new.last ≡ Some e →
@@ -635,12 +440,8 @@ fronts_by P Q failed old new by fronts = record {
   to_report = fronts.to_report;
   to_teletype = fronts.to_teletype;
   to_punch = fronts.to_punch;
-  report_whole = fronts.report_whole;
   teletype_whole = fronts.teletype_whole;
-  punch_whole = fronts.punch_whole;
-  report_front = fronts.report_front;
   teletype_front = fronts.teletype_front;
-  punch_front = fronts.punch_front;
   typed_nearly = fronts.typed_nearly;
   typed_before_summary = fronts.typed_before_summary;
   punched_before_summary = fronts.punched_before_summary;
@@ -659,8 +460,8 @@ writes_by P Q old new by writes = record {
 }
 
 -- an operator's place that is its first
-pub operator_comes : (plan : Plan) (o : Operator) (extent : Extent) (p : Profile) (w : WorldState) (es : List Event) → plan_of o ≡ plan → o.last ≡ None → Comes operating p extent (place_of o) w es → comes_by plan p w extent es
-operator_comes plan o extent p w es is first comes = rw (is, first) at comes
+pub first_place_is : (plan : Plan) (o : Operator) → plan_of o ≡ plan → o.last ≡ None → place_of o ≡ first_place plan
+first_place_is plan o is first = rw (is, first) refl
 
 -- a line of the trace failed, or memory was refused
 pub play_front : (p : Profile) (trace : Bool) (w : WorldState) (e : Event) (x : WorldState) (old new told : Option (List ℕ)) (marked typed : Bool) →
@@ -669,16 +470,14 @@ pub play_front : (p : Profile) (trace : Bool) (w : WorldState) (e : Event) (x : 
 play_front p trace w e x old new told true typed happens asked front same wanted unwritten untyped = inr (record {
   happens = happens refl;
   failed = refl;
-  wrote = some_of old new (traced trace (trace_of p w e x)) (rw (asked refl) (front refl));
+  wrote = rw (asked refl) (front refl);
   printed = no_front told (printed_from w x);
-  wrote_whole = λ no. absurd (true≢false no);
   printed_whole = λ no. absurd (true≢false no);
-  wrote_front = λ yes. rw (asked refl) (front refl);
   printed_front = λ yes. absurd (true≢false (sym yes ∙ untyped));
 })
 play_front p trace w e x old new told false typed happens asked front same wanted unwritten untyped = inl (record { same = same refl; unfailed = untyped; wanted = wanted refl; unwritten = unwritten refl; unprinted = refl })
 
-or_true : (b : Bool) → b || true ≡ true
+pub or_true : (b : Bool) → b || true ≡ true
 or_true true = refl
 or_true false = refl
 
@@ -688,11 +487,9 @@ pub type_front : (p : Profile) (trace : Bool) (w : WorldState) (e : Event) (x : 
 type_front p trace w e x marked typed old new told tells happens wrote front unmarked failed = inr (record {
   happens = happens;
   failed = rw failed (or_true marked);
-  wrote = whole_front old new (traced trace (trace_of p w e x)) wrote;
+  wrote = rw unmarked wrote;
   printed = some_of told tells (printed_from w x) front;
-  wrote_whole = λ no. wrote;
   printed_whole = λ no. absurd (true≢false (sym failed ∙ or_right marked typed no));
-  wrote_front = λ yes. absurd (true≢false (sym yes ∙ unmarked));
   printed_front = λ yes. front;
 })
 

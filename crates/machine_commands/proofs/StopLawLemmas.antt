@@ -1,5 +1,5 @@
 -- A run that is stopped is the run without stops up to there.
-use Rattle.std.proofs.Common.{ℕ, zero, suc, ◌≡◌, ◌+◌, ◌==◌, Bool, true, false, ◌&&◌, ◌||◌, List, [], ◌∷◌, ◌++◌, length, take, drop, Option, None, refl, sym, ap, ◌∙◌, subst, append_assoc, zero-add, arith}
+use Rattle.std.proofs.Common.{ℕ, suc, ◌≡◌, ◌+◌, ◌==◌, Bool, true, false, ◌&&◌, ◌||◌, List, [], ◌∷◌, ◌++◌, length, take, drop, Option, None, refl, sym, ap, ◌∙◌, subst, append_assoc, zero-add, arith}
 use Rattle.std.specs.Prelude.{is_none}
 use Rattle.instruct.specs.declared.Profile.{Profile}
 use Rattle.command_parts.specs.declared.options.RunOptions.{RunOptions}
@@ -28,9 +28,9 @@ use Rattle.machine_commands.specs.Schedule.{Extent}
 use Rattle.machine_commands.specs.Session.{IsHeld, comes_by}
 use Rattle.machine_commands.specs.StoppedSession.{IsHeldToStop, StoppedSo}
 use Rattle.machine_commands.specs.Teletype.{run_of, types_by}
-use Rattle.machine_commands.specs.Stops.{Ends, Continues, Here, Later, NeverStops, Over, StopsAfter, is_asked_for, is_at, loads_there, reads_one, stores_there, stops_before, visits_with, writes_one}
-use Rattle.machine_commands.specs.Trace.{trace_of}
-use Rattle.std.proofs.lemmas.Bool.{true≢false, false≢true}
+use Rattle.machine_commands.specs.Stops.{Ends, Continues, Here, Later, NeverStops, StopsAfter, is_asked_for, is_at, loads_there, reads_one, stores_there, stops_before, visits_with, writes_one}
+use Rattle.machine_commands.specs.Trace.{trace_of, traced}
+use Rattle.std.proofs.lemmas.Bool.{true≢false}
 
 -- a run that goes on is neither stuck nor over
 not_stuck : (h : Bool) (what : Seen) (word : ℕ) → what ≡ seen.Unsupported word → goes_on h what ≡ true → ⊥
@@ -166,9 +166,10 @@ not_stopped stops p true es w none stop = absurd (none_after stops p true 0 (es 
 not_stopped stops p false es w none stop = refl
 
 held_without_stops : (comes : Profile → WorldState → Extent → List Event → Type 0) (options : RunOptions) (stops : Stops) (form : SummaryForm) (extent : Extent) (image : List (Option ℕ)) (text printed punched : List ℕ) (status : Status) →
-    AreNone stops → IsHeldToStop comes options stops form extent false image text printed punched status → IsHeld comes options form extent image text printed punched status
+    AreNone stops → IsHeldToStop comes options stops None form extent false image text printed punched status → IsHeld comes options form extent image text printed punched status
 held_without_stops comes options stops form extent image text printed punched status none held =
     let un = not_stopped stops options.profile held.stopped held.events (fresh image options.start) none held.stop in
+    let front : held.front ≡ traced options.trace held.lines = held.front_is in
     record {
       events = held.events;
       come = rw un at held.come;
@@ -177,7 +178,7 @@ held_without_stops comes options stops form extent image text printed punched st
       end = held.last;
       final = held.final;
       follows = held.follows;
-      text_is = rw un at held.text_is;
+      text_is = rw (un, front) at held.text_is;
       printed_is = held.printed_is;
       punched_is = held.punched_is;
       status_is = rw un at held.status_is;

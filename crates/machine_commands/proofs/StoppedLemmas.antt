@@ -1,8 +1,7 @@
 -- A run by a schedule that may be stopped, event by event.
-use Rattle.std.proofs.Common.{ℕ, zero, suc, ◌≡◌, ◌+◌, ◌≤◌, Bool, true, false, ◌||◌, List, [], ◌∷◌, ◌++◌, length, refl, sym, ◌∙◌, ap, append_assoc, append-nil, add-zero, zero-add, length-append, le_refl, arith, Some, None, Option, Result, Ok, Err, IfOk, OnErr, true≢false}
-use Rattle.std.specs.Prelude.{IfSome, is_none}
+use Rattle.std.proofs.Common.{ℕ, zero, suc, ◌≡◌, ◌+◌, ◌≤◌, Bool, true, false, ◌||◌, List, [], ◌∷◌, ◌++◌, length, refl, sym, ◌∙◌, ap, append_assoc, append-nil, add-zero, zero-add, length-append, arith, Some, None, Option, Result, Ok, Err, IfOk, OnErr, inl, inr, true≢false}
 use Rattle.std.specs.Io.KnownBytes.{Appends}
-use Rattle.std.proofs.KnownBytes.{Appends-trans}
+use Rattle.std.proofs.KnownBytes.{Appends-nil, Appends-trans}
 use Rattle.streams.specs.Bytes.{AppendsFront}
 use Rattle.instruct.specs.declared.Profile.{Profile}
 use Rattle.peripherals.specs.declared.Event.{Event}
@@ -11,7 +10,7 @@ use Rattle.peripherals.specs.declared.Seen.{Seen}
 use Rattle.peripherals.specs.declared.Seen.TheVariants as seen
 use Rattle.peripherals.specs.Devices.{WorldState}
 use Rattle.peripherals.specs.Events.{Happens, completed}
-use Rattle.peripherals.specs.EventOutcomes.{puts_out, seen_of}
+use Rattle.peripherals.specs.EventOutcomes.{seen_of}
 use Rattle.wordset.specs.Lanes.{words}
 use Rattle.command_parts.specs.declared.options.RunOptions.{RunOptions}
 use Rattle.command_parts.specs.declared.options.Stops.{Stops}
@@ -22,28 +21,18 @@ use Rattle.command_parts.specs.Faults.{fails_to_write}
 use Rattle.machine_commands.specs.declared.follow.End.{End}
 use Rattle.machine_commands.specs.declared.follow.End.TheVariants as end
 use Rattle.machine_commands.specs.declared.follow.RunOutcome.{RunOutcome}
-use Rattle.machine_commands.specs.Follows.{Follows, Ended, counted, end_of, goes_on}
-use Rattle.machine_commands.specs.Last.{told}
+use Rattle.machine_commands.specs.Follows.{Follows, Stopped, Stuck, counted, end_of, goes_on}
 use Rattle.machine_commands.specs.Running.{fresh, status_of}
 use Rattle.machine_commands.specs.Schedule.{Extent, UpToAny, UpToOutput, UpToRead, ToStep, Whole}
-use Rattle.machine_commands.specs.Session.{AppendsSome, BrokeOff, FrontsOf, WritesAll, extent_after, failures, printed_in, summary_where, taken}
-use Rattle.machine_commands.specs.SessionParts.{IsNext, Played, PlayedFront, is_step, steps_in}
-use Rattle.machine_commands.specs.StoppedParts.{IsPartToStop, OperatedToStop, Passes, unstopped}
-use Rattle.machine_commands.specs.StoppedSession.{IsHeldToStop, StoppedSo, extent_to_stop, leaving, to_stop}
+use Rattle.machine_commands.specs.Session.{AppendsUnless, BrokeOff, FrontsOf, WritesAll, extent_after, extent_unread, failures, printed_in, summary_where, taken}
+use Rattle.machine_commands.specs.SessionParts.{Faltered, IsNext, Played, PlayedFront, is_step, printed_from, steps_in}
+use Rattle.machine_commands.specs.StoppedParts.{OperatedToStop, Passes, unstopped}
+use Rattle.machine_commands.specs.StoppedSession.{IsFront, IsHeldToStop, IsPartToStop, StoppedSo, extent_to_stop, form_behind, leaving, to_stop}
 use Rattle.machine_commands.specs.Stops.{Ends, Continues, Here, Later, NeverStops, Over, StopsAfter, stops_before, visits_with}
-use Rattle.machine_commands.specs.Trace.{traced}
-use Rattle.machine_commands.proofs.FollowLemmas.{front_after}
-use Rattle.machine_commands.proofs.SessionLemmas.{Operated, Sat, device_goes, front_of_more, fronts_by, or_left, or_right, printer_done, sat_all, sat_completed, sat_more, sat_none, sat_to_fault, sat_to_halt, sat_to_stuck, sat_to_unread, some_of, whole_front}
-
--- an event that stops a run is a step
-pub stops_at_step : (stops : Stops) (p : Profile) (visits : ℕ) (w : WorldState) (e : Event) → stops_before stops p visits w e ≡ true → e ≡ Step
-stops_at_step stops p visits w Step on = refl
-stops_at_step stops p visits w (Key byte) on = absurd (true≢false (sym on))
-stops_at_step stops p visits w PrinterDone on = absurd (true≢false (sym on))
-stops_at_step stops p visits w (ReaderDone byte) on = absurd (true≢false (sym on))
-stops_at_step stops p visits w PunchDone on = absurd (true≢false (sym on))
-stops_at_step stops p visits w (Switches word) on = absurd (true≢false (sym on))
-stops_at_step stops p visits w Continue on = absurd (true≢false (sym on))
+use Rattle.machine_commands.specs.Trace.{trace_of, traced}
+use Rattle.machine_commands.proofs.FollowLemmas.{Came, came_here, came_none, front_after, joined, no_line, one_by}
+use Rattle.machine_commands.proofs.SessionLemmas.{came_next, device_came, device_goes, fronts_by, nearly_all, one_more, one_over, or_left, or_right, output_stays, printed_more, printed_next, printer_done, some_after, some_same, unless_joined, whole_front}
+use Rattle.machine_commands.proofs.StoppingLemmas.{step_of}
 
 -- any other event does not
 pub passes_other : (stops : Stops) (p : Profile) (visits : ℕ) (w : WorldState) (e : Event) → is_step e ≡ false → Passes stops p visits w e (Some visits)
@@ -106,28 +95,36 @@ never_with : (stops : Stops) (p : Profile) (es : List Event) (w : WorldState) (v
     Unmet stops p es w visits x → stops_before stops p visits x e ≡ false → goes_on true (seen_of p x e) ≡ false → StoppedSo stops p false (es ++ e ∷ []) w
 never_with stops p es w visits e x unmet off over = unmet.never (e ∷ []) (Ends visits e [] x off over)
 
--- The run came so far, and no event stopped it.
+-- The run came so far: these events came, none of them stopped it, and whatever comes further comes after them.
 pub record Unstopped {S : Type 0} (brings : S → Profile → WorldState → Extent → List Event → Type 0) (stops : Stops) (p : Profile) (trace : Bool) (first now : S) (w x : WorldState) (n visits : ℕ) (old new told_old told_new : Option (List ℕ)) : Type 0 where
-  pub sat : Sat brings p trace first now w x n old new told_old told_new
-  pub unmet : Unmet stops p sat.events w visits x
+  pub events : List Event
+  pub came : Came p true trace events w n x old new
+  pub come : (extent : Extent) (rest : List Event) → brings now p x extent rest → brings first p w extent (events ++ rest)
+  pub printed : Appends told_old told_new (printed_in x)
+  pub unmet : Unmet stops p events w visits x
 
 pub un_none : {S : Type 0} (brings : S → Profile → WorldState → Extent → List Event → Type 0) (stops : Stops) (p : Profile) (trace : Bool) (s : S) (w : WorldState) (old told_old : Option (List ℕ)) → w.devices.printer.output ≡ [] →
     Unstopped brings stops p trace s s w w 0 0 old old told_old told_old
-unfolding sat_none
 un_none brings stops p trace s w old told_old empty = record {
-  sat = sat_none brings p trace s w old told_old empty;
+  events = [];
+  came = came_none p true trace w old;
+  come = λ extent rest comes. comes;
+  printed = rw empty (Appends-nil told_old);
   unmet = unmet_none stops p w;
 }
 
 pub un_more : {S : Type 0} (brings : S → Profile → WorldState → Extent → List Event → Type 0) (stops : Stops) (p : Profile) (trace : Bool) (first now after : S) (e : Event) (w x y : WorldState) (n visits : ℕ) (what : Seen) (old mid new told_old told_mid told_new : Option (List ℕ)) →
     Unstopped brings stops p trace first now w x n visits old mid told_old told_mid → IsNext brings now after x e → Played p trace x e what y mid new told_mid told_new → goes_on true what ≡ true → stops_before stops p visits x e ≡ false →
     Unstopped brings stops p trace first after w y (n + counted what) (visits_with stops visits x e) old new told_old told_new
-unfolding sat_more
-un_more brings stops p trace first now after e w x y n visits what old mid new told_old told_mid told_new un next played goes off = record {
-  sat = sat_more brings p trace first now after e w x y n what old mid new told_old told_mid told_new un.sat next played goes;
-  unmet = let on : goes_on true (seen_of p x e) ≡ true = rw (← played.sees) goes in
-      unmet_more stops p un.sat.events w visits e x y un.unmet off on played.happens;
-}
+un_more brings stops p trace first now after e w x y n visits what old mid new told_old told_mid told_new un next played goes off =
+    let on : goes_on true (seen_of p x e) ≡ true = rw (← played.sees) goes in
+    record {
+      events = un.events ++ e ∷ [];
+      came = came_next p trace un.events e w x y n what old mid new un.came (sym played.sees) goes played.happens played.wrote;
+      come = λ extent rest comes. rw (one_more un.events e rest) (un.come extent (e ∷ rest) (next.on p y extent rest on played.happens comes));
+      printed = printed_next p x y e told_old told_mid told_new played.happens un.printed played.printed;
+      unmet = unmet_more stops p un.events w visits e x y un.unmet off on played.happens;
+    }
 
 -- an event that carries out no instruction
 pub un_still : {S : Type 0} (brings : S → Profile → WorldState → Extent → List Event → Type 0) (stops : Stops) (p : Profile) (trace : Bool) (first now after : S) (e : Event) (w x y : WorldState) (n visits : ℕ) (what : Seen) (old mid new told_old told_mid told_new : Option (List ℕ)) →
@@ -142,143 +139,163 @@ pub un_completed : {S : Type 0} (brings : S → Profile → WorldState → Exten
     Unstopped brings stops p trace first now w x n visits old new told_old told_new →
     ((q : Profile) (extent : Extent) (es : List Event) → brings after q (completed x) extent es → brings now q x extent (PrinterDone ∷ PunchDone ∷ es)) →
     Unstopped brings stops p trace first after w (completed x) n visits old new told_old told_new
-unfolding sat_completed
-un_completed brings stops p trace first now after w x n visits old new told_old told_new un both = record {
-  sat = sat_completed brings p trace first now after w x n old new told_old told_new un.sat both;
-  unmet =
-      let mid = printer_done x in
-      let half : Unmet stops p (un.sat.events ++ PrinterDone ∷ []) w visits mid = unmet_more stops p un.sat.events w visits PrinterDone x mid un.unmet refl (device_goes x.devices.printer.busy) refl in
-      unmet_more stops p (un.sat.events ++ PrinterDone ∷ []) w visits PunchDone mid (completed x) half refl (device_goes mid.devices.punch.busy) refl;
-}
+un_completed brings stops p trace first now after w x n visits old new told_old told_new un both =
+    let mid = printer_done x in
+    let es = un.events ++ PrinterDone ∷ [] in
+    let half : Came p true trace es w n mid old new = device_came p trace un.events w x mid n PrinterDone x.devices.printer.busy old new un.came refl refl in
+    let passed : Unmet stops p es w visits mid = unmet_more stops p un.events w visits PrinterDone x mid un.unmet refl (device_goes x.devices.printer.busy) refl in
+    record {
+      events = es ++ PunchDone ∷ [];
+      came = device_came p trace es w mid (completed x) n PunchDone mid.devices.punch.busy old new half refl refl;
+      come = λ extent rest comes. rw (one_more es PunchDone rest, one_more un.events PrinterDone (PunchDone ∷ rest)) (un.come extent (PrinterDone ∷ PunchDone ∷ rest) (both p extent rest comes));
+      printed = rw (output_stays x.devices.printer.busy x.devices.printer) un.printed;
+      unmet = unmet_more stops p es w visits PunchDone mid (completed x) passed refl (device_goes mid.devices.punch.busy) refl;
+    }
 
 -- the step that is due stops the run
 pub un_to_stop : {S : Type 0} (brings : S → Profile → WorldState → Extent → List Event → Type 0) (stops : Stops) (p : Profile) (trace : Bool) (first now after : S) (e : Event) (w x : WorldState) (n visits : ℕ) (outcome : RunOutcome) (old new told_old told_new : Option (List ℕ)) →
     Unstopped brings stops p trace first now w x n visits old new told_old told_new → (e ≡ Step → (q : Profile) → brings now q x ToStep (Step ∷ [])) → stops_before stops p visits x e ≡ true → outcome.steps ≡ n → outcome.end ≡ end.Stopped x.state.pc →
     OperatedToStop (brings first p w) false stops p trace w outcome x old new told_old told_new
 un_to_stop brings stops p trace first now after e w x n visits outcome old new told_old told_new un due on steps ends =
-    let sat = un.sat in
-    let step : e ≡ Step = stops_at_step stops p visits x e on in
+    let step : e ≡ Step = step_of stops p visits x e on in
     let begins : brings now p x ToStep (Step ∷ []) = due step p in
     let on_step : stops_before stops p visits x Step ≡ true = rw step at on in
-    let done : Follows p true (sat.events ++ []) w (sat.came.lines ++ []) (n + 0) (end_of x) x = sat.came.leads [] [] 0 (end_of x) x (Ended x) in
     record {
-      events = sat.events;
+      events = un.events;
       stopped = true;
-      come = λ extent. sat.come ToStep (Step ∷ []) begins;
-      stop = stopped_so stops p sat.events w visits x un.unmet on_step;
-      lines = sat.came.lines;
+      come = λ extent. un.come ToStep (Step ∷ []) begins;
+      stop = stopped_so stops p un.events w visits x un.unmet on_step;
+      lines = un.came.lines;
       last = end_of x;
-      follows = rw steps (rw (append-nil sat.events, append-nil sat.came.lines, add-zero n) at done);
+      follows = rw steps (came_here p true trace un.events w x n old new un.came);
       ends = ends;
-      wrote = sat.came.wrote;
-      printed = sat.printed;
+      wrote = un.came.wrote;
+      printed = un.printed;
     }
 
--- a run that came to its end, and that no event stopped
-of_operated : (comes : Extent → List Event → Type 0) (stops : Stops) (p : Profile) (trace : Bool) (w : WorldState) (outcome : RunOutcome) (x : WorldState) (old new told_old told_new : Option (List ℕ)) →
-    (done : Operated comes p trace w outcome x old new told_old told_new) → StoppedSo stops p false done.events w → OperatedToStop comes false stops p trace w outcome x old new told_old told_new
-of_operated comes stops p trace w outcome x old new told_old told_new done never = record {
-  events = done.events;
-  stopped = false;
-  come = done.come;
-  stop = never;
-  lines = done.ran.lines;
-  last = outcome.end;
-  follows = done.ran.follows;
-  ends = refl;
-  wrote = done.ran.wrote;
-  printed = done.printed;
-}
-
+-- nothing is due any more
 pub un_all : {S : Type 0} (brings : S → Profile → WorldState → Extent → List Event → Type 0) (stops : Stops) (p : Profile) (trace : Bool) (first now : S) (w x : WorldState) (visits : ℕ) (outcome : RunOutcome) (old new told_old told_new : Option (List ℕ)) →
     Unstopped brings stops p trace first now w x outcome.steps visits old new told_old told_new → ((extent : Extent) → brings now p x extent []) → outcome.end ≡ end_of x →
     OperatedToStop (brings first p w) false stops p trace w outcome x old new told_old told_new
-unfolding sat_all
-un_all brings stops p trace first now w x visits outcome old new told_old told_new un over ends =
-    of_operated (brings first p w) stops p trace w outcome x old new told_old told_new (sat_all brings p trace first now w x outcome old new told_old told_new un.sat over ends)
-    (never_so stops p un.sat.events w visits x un.unmet)
+un_all brings stops p trace first now w x visits outcome old new told_old told_new un over ends = record {
+  events = un.events;
+  stopped = false;
+  come = λ extent. let all : brings first p w extent (un.events ++ []) = un.come extent [] (over extent) in rw (append-nil un.events) at all;
+  stop = never_so stops p un.events w visits x un.unmet;
+  lines = un.came.lines;
+  last = end_of x;
+  follows = came_here p true trace un.events w x outcome.steps old new un.came;
+  ends = ends;
+  wrote = un.came.wrote;
+  printed = un.printed;
+}
 
 pub un_to_halt : {S : Type 0} (brings : S → Profile → WorldState → Extent → List Event → Type 0) (stops : Stops) (p : Profile) (trace : Bool) (first now after : S) (e : Event) (w x y : WorldState) (n visits : ℕ) (outcome : RunOutcome) (old mid new told_old told_mid told_new : Option (List ℕ)) →
     Unstopped brings stops p trace first now w x n visits old mid told_old told_mid → IsNext brings now after x e → Played p trace x e seen.Halted y mid new told_mid told_new → stops_before stops p visits x e ≡ false → outcome.steps ≡ n + 1 → outcome.end ≡ end_of y →
     OperatedToStop (brings first p w) false stops p trace w outcome y old new told_old told_new
-unfolding sat_to_halt
 un_to_halt brings stops p trace first now after e w x y n visits outcome old mid new told_old told_mid told_new un next played off steps ends =
     let over : goes_on true (seen_of p x e) ≡ false = rw (← played.sees) refl in
-    of_operated (brings first p w) stops p trace w outcome y old new told_old told_new (sat_to_halt brings p trace first now after e w x y n outcome old mid new told_old told_mid told_new un.sat next played steps ends)
-    (never_with stops p un.sat.events w visits e x un.unmet off over)
+    record {
+      events = un.events ++ e ∷ [];
+      stopped = false;
+      come = λ extent. un.come extent (e ∷ []) (next.last p extent over);
+      stop = never_with stops p un.events w visits e x un.unmet off over;
+      lines = un.came.lines ++ trace_of p x e y;
+      last = end_of y;
+      follows = rw steps (un.came.leads (e ∷ []) (trace_of p x e y) 1 (end_of y) y (Stopped e [] x y refl (sym played.sees) played.happens));
+      ends = ends;
+      wrote = joined trace old mid new un.came.lines (trace_of p x e y) un.came.wrote played.wrote;
+      printed = printed_next p x y e told_old told_mid told_new played.happens un.printed played.printed;
+    }
 
 pub un_to_stuck : {S : Type 0} (brings : S → Profile → WorldState → Extent → List Event → Type 0) (stops : Stops) (p : Profile) (trace : Bool) (first now after : S) (e : Event) (w x y : WorldState) (n visits word : ℕ) (outcome : RunOutcome) (old mid new told_old told_mid told_new : Option (List ℕ)) →
     Unstopped brings stops p trace first now w x n visits old mid told_old told_mid → IsNext brings now after x e → Played p trace x e (seen.Unsupported word) y mid new told_mid told_new → stops_before stops p visits x e ≡ false → outcome.steps ≡ n → outcome.end ≡ end.Unsupported y.state.pc →
     OperatedToStop (brings first p w) false stops p trace w outcome y old new told_old told_new
-unfolding sat_to_stuck
 un_to_stuck brings stops p trace first now after e w x y n visits word outcome old mid new told_old told_mid told_new un next played off steps ends =
     let over : goes_on true (seen_of p x e) ≡ false = rw (← played.sees) refl in
-    of_operated (brings first p w) stops p trace w outcome y old new told_old told_new (sat_to_stuck brings p trace first now after e w x y n word outcome old mid new told_old told_mid told_new un.sat next played steps ends)
-    (never_with stops p un.sat.events w visits e x un.unmet off over)
+    let none : Appends mid new (traced trace []) = rw (no_line p e x y word (sym played.sees)) at played.wrote in
+    let follows : Follows p true (un.events ++ e ∷ []) w (un.came.lines ++ []) (n + 0) (end.Unsupported y.state.pc) y = un.came.leads (e ∷ []) [] 0 (end.Unsupported y.state.pc) y (Stuck e [] x y word (sym played.sees) played.happens) in
+    record {
+      events = un.events ++ e ∷ [];
+      stopped = false;
+      come = λ extent. un.come extent (e ∷ []) (next.last p extent over);
+      stop = never_with stops p un.events w visits e x un.unmet off over;
+      lines = un.came.lines ++ [];
+      last = end.Unsupported y.state.pc;
+      follows = rw steps (rw (add-zero n) at follows);
+      ends = ends;
+      wrote = joined trace old mid new un.came.lines [] un.came.wrote none;
+      printed = printed_next p x y e told_old told_mid told_new played.happens un.printed played.printed;
+    }
 
--- What comes and is not stopped on a machine of profile p, where so many steps came to the address before.
-abbrev pub UnstoppedFrom : {S : Type 0} → (S → Profile → WorldState → Extent → List Event → Type 0) → Stops → Profile → (S × ℕ) → Profile → WorldState → Extent → List Event → Type 0
-UnstoppedFrom brings stops p t q w extent es = brings t.0 q w extent es × (q ≡ p → NeverStops stops p true t.1 es w)
-
-never_on : (stops : Stops) (p q : Profile) (visits : ℕ) (e : Event) (es : List Event) (x m : WorldState) → stops_before stops p visits x e ≡ false → q ≡ p → goes_on true (seen_of q x e) ≡ true → Happens q x e m →
-    NeverStops stops p true (visits_with stops visits x e) es m → NeverStops stops p true visits (e ∷ es) x
-never_on stops p q visits e es x m off same goes happens never = Continues visits e es x m off (rw same at goes) (rw same at happens) never
-
-never_last : (stops : Stops) (p q : Profile) (visits : ℕ) (e : Event) (x : WorldState) → stops_before stops p visits x e ≡ false → q ≡ p → goes_on true (seen_of q x e) ≡ false → NeverStops stops p true visits (e ∷ []) x
-never_last stops p q visits e x off same over = Ends visits e [] x off (rw same at over)
-
-next_unstopped : {S : Type 0} (brings : S → Profile → WorldState → Extent → List Event → Type 0) (stops : Stops) (p : Profile) (now after : S) (x : WorldState) (e : Event) (visits : ℕ) → IsNext brings now after x e → stops_before stops p visits x e ≡ false →
-    IsNext (UnstoppedFrom brings stops p) (now, visits) (after, visits_with stops visits x e) x e
-next_unstopped brings stops p now after x e visits next off = record {
-  on = λ q m extent es goes happens comes. (next.on q m extent es goes happens comes.0, λ same. never_on stops p q visits e es x m off same goes happens (comes.1 same));
-  last = λ q extent over. (next.last q extent over, λ same. never_last stops p q visits e x off same over);
-  output = λ q puts. (next.output q puts, λ same. Over visits x);
-}
-
-sat_unstopped : {S : Type 0} (brings : S → Profile → WorldState → Extent → List Event → Type 0) (stops : Stops) (p : Profile) (trace : Bool) (first now : S) (w x : WorldState) (n visits : ℕ) (old new told_old told_new : Option (List ℕ)) →
-    Unstopped brings stops p trace first now w x n visits old new told_old told_new → Sat (UnstoppedFrom brings stops p) p trace (first, 0) (now, visits) w x n old new told_old told_new
-sat_unstopped brings stops p trace first now w x n visits old new told_old told_new un = record {
-  events = un.sat.events;
-  came = un.sat.came;
-  come = λ extent rest comes. (un.sat.come extent rest comes.0, λ same. un.unmet.never rest (comes.1 same));
-  printed = un.sat.printed;
-}
-
--- what comes of that from the beginning is what comes and is not stopped
-broke_by : (P Q : Extent → List Event → Type 0) (p : Profile) (trace : Bool) (w x : WorldState) (reported typed unread : Bool) (old new told_old told_new : Option (List ℕ)) →
-    ((extent : Extent) (es : List Event) → P extent es → Q extent es) → BrokeOff P p trace w x reported typed unread old new told_old told_new → BrokeOff Q p trace w x reported typed unread old new told_old told_new
-broke_by P Q p trace w x reported typed unread old new told_old told_new by broke = record {
-  events = broke.events;
-  come = by (extent_after (reported || typed) unread) broke.events broke.come;
-  lines = broke.lines;
-  steps = broke.steps;
-  end = broke.end;
-  follows = broke.follows;
-  wrote = broke.wrote;
-  printed = broke.printed;
-  wrote_whole = broke.wrote_whole;
-  printed_whole = broke.printed_whole;
-  wrote_front = broke.wrote_front;
-  printed_front = broke.printed_front;
-  printed_nearly = broke.printed_nearly;
-}
+-- the run broke off where nothing happened since: before an event that puts out a byte, or where a frame or a key was read
+broke_here : {S : Type 0} (brings : S → Profile → WorldState → Extent → List Event → Type 0) (stops : Stops) (p : Profile) (trace : Bool) (first now : S) (w x : WorldState) (n visits : ℕ) (reported typed unread : Bool) (old new told_old told_new : Option (List ℕ)) →
+    Unstopped brings stops p trace first now w x n visits old new told_old told_new → (reported || typed) ≡ false → brings now p x (extent_unread unread) [] →
+    BrokeOff (unstopped stops (brings first) p w) p trace w x reported typed unread old new told_old told_new
+unfolding whole_front
+broke_here brings stops p trace first now w x n visits reported typed unread old new told_old told_new un unfailed cut =
+    let all : brings first p w (extent_unread unread) (un.events ++ []) = un.come (extent_unread unread) [] cut in
+    record {
+      events = un.events;
+      come = (rw unfailed (rw (append-nil un.events) at all), never_so stops p un.events w visits x un.unmet);
+      lines = un.came.lines;
+      steps = n;
+      end = end_of x;
+      follows = came_here p true trace un.events w x n old new un.came;
+      wrote = rw (or_left reported typed unfailed) un.came.wrote;
+      printed = whole_front told_old told_new (printed_in x) un.printed;
+      printed_whole = λ no. un.printed;
+      printed_front = λ yes. absurd (true≢false (sym yes ∙ or_right reported typed unfailed));
+      printed_nearly = one_over (length (printed_in x));
+    }
 
 -- a read of a frame or a key failed
 pub un_to_unread : {S : Type 0} (brings : S → Profile → WorldState → Extent → List Event → Type 0) (stops : Stops) (p : Profile) (trace : Bool) (first now : S) (w x : WorldState) (n visits : ℕ) (reported typed unread : Bool) (old new told_old told_new : Option (List ℕ)) →
     Unstopped brings stops p trace first now w x n visits old new told_old told_new → reported ≡ false → typed ≡ false → unread ≡ true → brings now p x UpToRead [] →
     BrokeOff (unstopped stops (brings first) p w) p trace w x reported typed unread old new told_old told_new
 un_to_unread brings stops p trace first now w x n visits reported typed unread old new told_old told_new un unreported untyped failed cut =
-    broke_by (UnstoppedFrom brings stops p (first, 0) p w) (unstopped stops (brings first) p w) p trace w x reported typed unread old new told_old told_new (λ extent es comes. (comes.0, comes.1 refl))
-    (sat_to_unread (UnstoppedFrom brings stops p) p trace (first, 0) (now, visits) w x n reported typed unread old new told_old told_new (sat_unstopped brings stops p trace first now w x n visits old new told_old told_new un) unreported untyped failed (cut, λ same. Over visits x))
+    broke_here brings stops p trace first now w x n visits reported typed unread old new told_old told_new un (rw (unreported, untyped) refl) (rw failed cut)
+
+-- the events up to the one that is due
+cut_after : {S : Type 0} (brings : S → Profile → WorldState → Extent → List Event → Type 0) (stops : Stops) (p : Profile) (first now after : S) (es : List Event) (w x y : WorldState) (visits : ℕ) (e : Event) (on : Bool) →
+    ((rest : List Event) → brings now p x UpToAny rest → brings first p w UpToAny (es ++ rest)) → Unmet stops p es w visits x → IsNext brings now after x e → ((s : S) (q : Profile) (v : WorldState) → brings s q v UpToAny []) →
+    stops_before stops p visits x e ≡ false → goes_on true (seen_of p x e) ≡ on → Happens p x e y → unstopped stops (brings first) p w UpToAny (es ++ e ∷ [])
+cut_after brings stops p first now after es w x y visits e true come unmet next anywhere off goes happens =
+    (come (e ∷ []) (next.on p y UpToAny [] goes happens (anywhere after p y)), unmet.never (e ∷ []) (Continues visits e [] x y off goes happens (Over (visits_with stops visits x e) y)))
+cut_after brings stops p first now after es w x y visits e false come unmet next anywhere off goes happens =
+    (come (e ∷ []) (next.last p UpToAny goes), never_with stops p es w visits e x unmet off goes)
+
+-- the event happened, and a write of what it wrote or printed failed
+broke_after : {S : Type 0} (brings : S → Profile → WorldState → Extent → List Event → Type 0) (stops : Stops) (p : Profile) (trace : Bool) (first now after : S) (e : Event) (w x y : WorldState) (n visits : ℕ) (reported typed unread : Bool) (old mid new told_old told_mid told_new : Option (List ℕ)) →
+    Unstopped brings stops p trace first now w x n visits old mid told_old told_mid → IsNext brings now after x e → ((s : S) (q : Profile) (v : WorldState) → brings s q v UpToAny []) → stops_before stops p visits x e ≡ false →
+    Faltered p trace x e y reported typed mid new told_mid told_new → BrokeOff (unstopped stops (brings first) p w) p trace w y reported typed unread old new told_old told_new
+unfolding some_same some_after
+broke_after brings stops p trace first now after e w x y n visits reported typed unread old mid new told_old told_mid told_new un next anywhere off faltered =
+    let one = one_by p true e x y (seen_of p x e) refl faltered.happens in
+    let more = printed_more p x y e faltered.happens in
+    let line = trace_of p x e y in
+    record {
+      events = un.events ++ e ∷ [];
+      come = rw (faltered.failed) (cut_after brings stops p first now after un.events w x y visits e (goes_on true (seen_of p x e)) (un.come UpToAny) un.unmet next anywhere off refl faltered.happens);
+      lines = un.came.lines ++ line;
+      steps = n + one.steps;
+      end = one.end;
+      follows = un.came.leads (e ∷ []) line one.steps one.end y one.follows;
+      wrote = unless_joined reported trace old mid new un.came.lines line un.came.wrote faltered.wrote;
+      printed = some_same told_old told_new (printed_in y) (printed_in x ++ printed_from x y) more (some_after told_old told_mid told_new (printed_in x) (printed_from x y) un.printed faltered.printed);
+      printed_whole = λ no. printed_next p x y e told_old told_mid told_new faltered.happens un.printed (faltered.printed_whole no);
+      printed_front = λ yes. rw more (front_after told_old told_mid told_new (printed_in x) (printed_from x y) un.printed (faltered.printed_front yes));
+      printed_nearly = nearly_all p x y e faltered.printed.count faltered.happens;
+    }
 
 -- an event could not be played
 pub un_to_fault : {S : Type 0} (brings : S → Profile → WorldState → Extent → List Event → Type 0) (stops : Stops) (p : Profile) (trace : Bool) (first now after : S) (e : Event) (w x y : WorldState) (n visits : ℕ) (reported typed unread : Bool) (old mid new told_old told_mid told_new : Option (List ℕ)) →
     Unstopped brings stops p trace first now w x n visits old mid told_old told_mid → IsNext brings now after x e → ((s : S) (q : Profile) (v : WorldState) → brings s q v UpToAny []) → stops_before stops p visits x e ≡ false → unread ≡ false →
     PlayedFront p trace x e y reported typed mid new told_mid told_new → BrokeOff (unstopped stops (brings first) p w) p trace w y reported typed unread old new told_old told_new
-un_to_fault brings stops p trace first now after e w x y n visits reported typed unread old mid new told_old told_mid told_new un next anywhere off readable front =
-    broke_by (UnstoppedFrom brings stops p (first, 0) p w) (unstopped stops (brings first) p w) p trace w y reported typed unread old new told_old told_new (λ extent es comes. (comes.0, comes.1 refl))
-    (sat_to_fault (UnstoppedFrom brings stops p) p trace (first, 0) (now, visits) (after, visits_with stops visits x e) e w x y n reported typed unread old mid new told_old told_mid told_new
-    (sat_unstopped brings stops p trace first now w x n visits old mid told_old told_mid un) (next_unstopped brings stops p now after x e visits next off) (λ s q v. (anywhere s.0 q v, λ same. Over s.1 v)) readable front)
+un_to_fault brings stops p trace first now after e w x y n visits reported typed unread old mid new told_old told_mid told_new un next anywhere off readable (inl kept) = rw (kept.same, kept.unwritten, kept.unprinted)
+    (broke_here brings stops p trace first now w x n visits reported typed unread old mid told_old told_mid un kept.unfailed (rw readable (next.output p kept.wanted)))
+un_to_fault brings stops p trace first now after e w x y n visits reported typed unread old mid new told_old told_mid told_new un next anywhere off readable (inr faltered) =
+    broke_after brings stops p trace first now after e w x y n visits reported typed unread old mid new told_old told_mid told_new un next anywhere off faltered
 
 -- how a run is said to have ended that a key interrupted, or did not
 pub left_so : (comes : Extent → List Event → Type 0) (left : Bool) (stops : Stops) (p : Profile) (trace : Bool) (w : WorldState) (ran outcome : RunOutcome) (x : WorldState) (old new told_old told_new : Option (List ℕ)) →
@@ -296,11 +313,11 @@ left_so comes left stops p trace w ran outcome x old new told_old told_new done 
   printed = done.printed;
 }
 
--- What a run leaves that came to its end or was stopped.
-pub held_to_stop : (comes : Profile → WorldState → Extent → List Event → Type 0) (options : RunOptions) (stops : Stops) (form : SummaryForm) (extent : Extent) (left : Bool) (image : List (Option ℕ)) (p : Profile) (w x : WorldState) (outcome : RunOutcome) (status : Status) (old mid told_old told_new : Option (List ℕ)) →
-    p ≡ options.profile → w ≡ fresh image options.start → (done : OperatedToStop (comes p w) left stops p options.trace w outcome x old mid told_old told_new) → status ≡ status_of outcome.end →
-    IsHeldToStop comes options stops form extent left image (traced options.trace done.lines ++ summary_where (words options.show) form extent outcome.end x outcome.steps) (printed_in x) x.devices.punch.output status
-held_to_stop comes options stops form extent left image p w x outcome status old mid told_old told_new profile begins done is = record {
+-- What a run leaves that came to its end or was stopped, behind this front.
+held_to_stop : (comes : Profile → WorldState → Extent → List Event → Type 0) (options : RunOptions) (stops : Stops) (shown : Option ℕ) (form : SummaryForm) (extent : Extent) (left trace : Bool) (image : List (Option ℕ)) (p : Profile) (w x : WorldState) (outcome : RunOutcome) (status : Status) (front : List ℕ) (old mid told_old told_new : Option (List ℕ)) →
+    p ≡ options.profile → w ≡ fresh image options.start → (done : OperatedToStop (comes p w) left stops p trace w outcome x old mid told_old told_new) → IsFront shown (traced options.trace done.lines) front → status ≡ status_of outcome.end →
+    IsHeldToStop comes options stops shown form extent left image (front ++ summary_where (words options.show) (form_behind shown form) extent outcome.end x outcome.steps) (printed_in x) x.devices.punch.output status
+held_to_stop comes options stops shown form extent left trace image p w x outcome status front old mid told_old told_new profile begins done front_is is = record {
   events = done.events;
   stopped = done.stopped;
   come = let come : comes p w (extent_to_stop done.stopped extent) (to_stop done.stopped done.events) = done.come extent in rw (profile, begins) at come;
@@ -310,28 +327,29 @@ held_to_stop comes options stops form extent left image p w x outcome status old
   last = done.last;
   final = x;
   follows = let follows : Follows p true done.events w done.lines outcome.steps done.last x = done.follows in rw (profile, begins) at follows;
-  text_is = ap (λ (t : End). traced options.trace done.lines ++ summary_where (words options.show) form extent t x outcome.steps) done.ends;
+  front = front;
+  front_is = front_is;
+  text_is = ap (λ (t : End). front ++ summary_where (words options.show) (form_behind shown form) extent t x outcome.steps) done.ends;
   printed_is = refl;
   punched_is = refl;
   status_is = is ∙ ap status_of done.ends;
 }
 
-pub attended_to_stop : (comes : Profile → WorldState → Extent → List Event → Type 0) (options : RunOptions) (stops : Stops) (form : SummaryForm) (left : Bool) (image : List (Option ℕ)) (p : Profile) (w x : WorldState) (outcome : RunOutcome) (status : Status) (old mid new told_old told_new held holds : Option (List ℕ)) →
-    p ≡ options.profile → w ≡ fresh image options.start → OperatedToStop (comes p w) left stops p options.trace w outcome x old mid told_old told_new → Appends held holds x.devices.punch.output →
-    Appends mid new (summary_where (words options.show) form Whole outcome.end x outcome.steps) → status ≡ status_of outcome.end →
-    WritesAll (λ text printed punched. IsHeldToStop comes options stops form Whole left image text printed punched status) (taken old told_old held) (taken new told_new holds)
-attended_to_stop comes options stops form left image p w x outcome status old mid new told_old told_new held holds profile begins done punched wrote is = record {
-  text = traced options.trace done.lines ++ summary_where (words options.show) form Whole outcome.end x outcome.steps;
-  printed = printed_in x;
-  punched = x.devices.punch.output;
-  is = held_to_stop comes options stops form Whole left image p w x outcome status old mid told_old told_new profile begins done is;
-  to_report = Appends-trans old mid new (traced options.trace done.lines) (summary_where (words options.show) form Whole outcome.end x outcome.steps) done.wrote wrote;
-  to_teletype = done.printed;
-  to_punch = punched;
-}
-
-one_over : (n : ℕ) → n ≤ n + 1
-one_over n = omega arith
+pub attended_to_stop : (comes : Profile → WorldState → Extent → List Event → Type 0) (options : RunOptions) (stops : Stops) (shown : Option ℕ) (form : SummaryForm) (left trace : Bool) (image : List (Option ℕ)) (p : Profile) (w x : WorldState) (outcome : RunOutcome) (status : Status) (front : List ℕ) (old mid new kept_old kept_new told_old told_new held holds : Option (List ℕ)) →
+    p ≡ options.profile → w ≡ fresh image options.start → (done : OperatedToStop (comes p w) left stops p trace w outcome x kept_old kept_new told_old told_new) → IsFront shown (traced options.trace done.lines) front → Appends held holds x.devices.punch.output →
+    Appends old mid front → Appends mid new (summary_where (words options.show) (form_behind shown form) Whole outcome.end x outcome.steps) → status ≡ status_of outcome.end →
+    WritesAll (λ text printed punched. IsHeldToStop comes options stops shown form Whole left image text printed punched status) (taken old told_old held) (taken new told_new holds)
+attended_to_stop comes options stops shown form left trace image p w x outcome status front old mid new kept_old kept_new told_old told_new held holds profile begins done front_is punched before wrote is =
+    let summary = summary_where (words options.show) (form_behind shown form) Whole outcome.end x outcome.steps in
+    record {
+      text = front ++ summary;
+      printed = printed_in x;
+      punched = x.devices.punch.output;
+      is = held_to_stop comes options stops shown form Whole left trace image p w x outcome status front kept_old kept_new told_old told_new profile begins done front_is is;
+      to_report = Appends-trans old mid new front summary before wrote;
+      to_teletype = done.printed;
+      to_punch = punched;
+    }
 
 -- the summary failed
 pub summary_failed : (comes : Profile → WorldState → Extent → List Event → Type 0) (options : RunOptions) (stops : Stops) (form : SummaryForm) (left : Bool) (image : List (Option ℕ)) (p : Profile) (w x : WorldState) (outcome : RunOutcome) (reported typed unread unpunched : Bool) (old mid new told_old told_new held holds : Option (List ℕ)) →
@@ -344,16 +362,12 @@ summary_failed comes options stops form left image p w x outcome reported typed 
   text = traced options.trace done.lines ++ summary_where (words options.show) form Whole outcome.end x outcome.steps;
   printed = printed_in x;
   punched = x.devices.punch.output;
-  is = record { summed = λ all. failed; to_there = λ no. absurd (true≢false (sym failed ∙ or_left reported typed no)); as_left = left; if_left = λ yes. yes; status = status_of outcome.end; is = held_to_stop comes options stops form Whole left image p w x outcome (status_of outcome.end) old mid told_old told_new profile begins done refl };
-  to_report = some_of old new (traced options.trace done.lines ++ summary_where (words options.show) form Whole outcome.end x outcome.steps) (front_after old mid new (traced options.trace done.lines) (summary_where (words options.show) form Whole outcome.end x outcome.steps) done.wrote front);
+  is = record { summed = λ all. failed; to_there = λ no. absurd (true≢false (sym failed ∙ or_left reported typed no)); as_left = left; if_left = λ yes. yes; status = status_of outcome.end; is = held_to_stop comes options stops None form Whole left options.trace image p w x outcome (status_of outcome.end) (traced options.trace done.lines) old mid told_old told_new profile begins done refl refl };
+  to_report = rw failed (front_after old mid new (traced options.trace done.lines) (summary_where (words options.show) form Whole outcome.end x outcome.steps) done.wrote front);
   to_teletype = whole_front told_old told_new (printed_in x) done.printed;
-  to_punch = whole_front held holds x.devices.punch.output punched;
-  report_whole = λ no. absurd (true≢false (sym failed ∙ no));
+  to_punch = rw is_punched punched;
   teletype_whole = λ no. done.printed;
-  punch_whole = λ no. punched;
-  report_front = λ yes. front_after old mid new (traced options.trace done.lines) (summary_where (words options.show) form Whole outcome.end x outcome.steps) done.wrote front;
   teletype_front = λ yes. absurd (true≢false (sym yes ∙ untyped));
-  punch_front = λ yes. absurd (true≢false (sym yes ∙ is_punched));
   typed_nearly = one_over (length (printed_in x));
   typed_before_summary = λ all. done.printed;
   punched_before_summary = λ all. punched;
@@ -371,11 +385,10 @@ unsummed named form false false last x steps = refl
 
 -- the run came to its end or was stopped, and the summary is not written
 done_front : (comes : Profile → WorldState → Extent → List Event → Type 0) (options : RunOptions) (stops : Stops) (form : SummaryForm) (left : Bool) (image : List (Option ℕ)) (p : Profile) (w x : WorldState) (outcome : RunOutcome) (reported typed unread unpunched : Bool) (old new told_old told_new held holds : Option (List ℕ)) →
-    p ≡ options.profile → w ≡ fresh image options.start → OperatedToStop (comes p w) left stops p options.trace w outcome x old new told_old told_new → (reported || typed) ≡ false → AppendsSome held holds x.devices.punch.output →
-    (unpunched ≡ false → Appends held holds x.devices.punch.output) → (unpunched ≡ true → AppendsFront held holds x.devices.punch.output) →
+    p ≡ options.profile → w ≡ fresh image options.start → OperatedToStop (comes p w) left stops p options.trace w outcome x old new told_old told_new → (reported || typed) ≡ false → AppendsUnless unpunched held holds x.devices.punch.output →
     FrontsOf (IsPartToStop comes options stops form left reported typed unread image) (failures reported typed unpunched) (taken old told_old held) (taken new told_new holds)
 unfolding whole_front
-done_front comes options stops form left image p w x outcome reported typed unread unpunched old new told_old told_new held holds profile begins done unfailed punched whole cut =
+done_front comes options stops form left image p w x outcome reported typed unread unpunched old new told_old told_new held holds profile begins done unfailed punched =
     let extent = extent_after (reported || typed) unread in
     let lines = traced options.trace done.lines in
     let none : summary_where (words options.show) form extent outcome.end x outcome.steps ≡ [] = unsummed (words options.show) form (reported || typed) unread outcome.end x outcome.steps in
@@ -391,17 +404,13 @@ done_front comes options stops form left image p w x outcome reported typed unre
         as_left = left;
         if_left = λ yes. yes;
         status = status_of outcome.end;
-        is = rw none at (held_to_stop comes options stops form extent left image p w x outcome (status_of outcome.end) old new told_old told_new profile begins done refl);
+        is = rw none at (held_to_stop comes options stops None form extent left options.trace image p w x outcome (status_of outcome.end) lines old new told_old told_new profile begins done refl refl);
       };
-      to_report = whole_front old new (lines ++ []) wrote;
+      to_report = rw (or_left reported typed unfailed) wrote;
       to_teletype = whole_front told_old told_new (printed_in x) done.printed;
       to_punch = punched;
-      report_whole = λ no. wrote;
       teletype_whole = λ no. done.printed;
-      punch_whole = whole;
-      report_front = λ yes. absurd (true≢false (sym yes ∙ or_left reported typed unfailed));
       teletype_front = λ yes. absurd (true≢false (sym yes ∙ or_right reported typed unfailed));
-      punch_front = cut;
       typed_nearly = one_over (length (printed_in x));
       typed_before_summary = λ all. absurd (not_all (reported || typed) unread all);
       punched_before_summary = λ all. absurd (not_all (reported || typed) unread all);
@@ -412,15 +421,13 @@ pub summary_unmade : (comes : Profile → WorldState → Extent → List Event �
     p ≡ options.profile → w ≡ fresh image options.start → OperatedToStop (comes p w) left stops p options.trace w outcome x old new told_old told_new → Appends held holds x.devices.punch.output → (reported || typed) ≡ false → unpunched ≡ false →
     FrontsOf (IsPartToStop comes options stops form left reported typed unread image) (failures reported typed unpunched) (taken old told_old held) (taken new told_new holds)
 summary_unmade comes options stops form left image p w x outcome reported typed unread unpunched old new told_old told_new held holds profile begins done punched unfailed is_punched =
-    done_front comes options stops form left image p w x outcome reported typed unread unpunched old new told_old told_new held holds profile begins done unfailed
-    (whole_front held holds x.devices.punch.output punched) (λ no. punched) (λ yes. absurd (true≢false (sym yes ∙ is_punched)))
+    done_front comes options stops form left image p w x outcome reported typed unread unpunched old new told_old told_new held holds profile begins done unfailed (rw is_punched punched)
 
 -- the run broke off
 pub broke_unstopped : (comes : Profile → WorldState → Extent → List Event → Type 0) (options : RunOptions) (stops : Stops) (form : SummaryForm) (left : Bool) (image : List (Option ℕ)) (p : Profile) (w x : WorldState) (reported typed unread unpunched : Bool) (old new told_old told_new held holds : Option (List ℕ)) →
-    p ≡ options.profile → w ≡ fresh image options.start → BrokeOff (unstopped stops comes p w) p options.trace w x reported typed unread old new told_old told_new → AppendsSome held holds x.devices.punch.output →
-    (unpunched ≡ false → Appends held holds x.devices.punch.output) → (unpunched ≡ true → AppendsFront held holds x.devices.punch.output) →
+    p ≡ options.profile → w ≡ fresh image options.start → BrokeOff (unstopped stops comes p w) p options.trace w x reported typed unread old new told_old told_new → AppendsUnless unpunched held holds x.devices.punch.output →
     FrontsOf (IsPartToStop comes options stops form left reported typed unread image) (failures reported typed unpunched) (taken old told_old held) (taken new told_new holds)
-broke_unstopped comes options stops form left image p w x reported typed unread unpunched old new told_old told_new held holds profile begins broke punched whole cut =
+broke_unstopped comes options stops form left image p w x reported typed unread unpunched old new told_old told_new held holds profile begins broke punched =
     let lines = traced options.trace broke.lines in
     record {
       extent = extent_after (reported || typed) unread;
@@ -443,21 +450,19 @@ broke_unstopped comes options stops form left image p w x reported typed unread 
           last = broke.end;
           final = x;
           follows = let follows : Follows p true broke.events w broke.lines broke.steps broke.end x = broke.follows in rw (profile, begins) at follows;
+          front = lines;
+          front_is = refl;
           text_is = ap (λ (l : List ℕ). lines ++ l) (sym (unsummed (words options.show) form (reported || typed) unread broke.end x broke.steps));
           printed_is = refl;
           punched_is = refl;
           status_is = refl;
         };
       };
-      to_report = front_of_more old new lines [] broke.wrote;
+      to_report = rw (append-nil lines) broke.wrote;
       to_teletype = broke.printed;
       to_punch = punched;
-      report_whole = λ no. rw (append-nil lines) (broke.wrote_whole no);
       teletype_whole = broke.printed_whole;
-      punch_whole = whole;
-      report_front = λ yes. rw (append-nil lines) (broke.wrote_front yes);
       teletype_front = broke.printed_front;
-      punch_front = cut;
       typed_nearly = broke.printed_nearly;
       typed_before_summary = λ all. absurd (not_all (reported || typed) unread all);
       punched_before_summary = λ all. absurd (not_all (reported || typed) unread all);
@@ -483,8 +488,6 @@ pub punch_failed : (comes : Profile → WorldState → Extent → List Event →
 punch_failed comes options stops form left image p w x (Ok outcome) reported typed unread unpunched old new told_old told_new held holds profile begins done broke marks punched failed =
     fronts_by _ _ (failures reported typed unpunched) (taken old told_old held) (taken new told_new holds)
     (λ extent text printed punched part. part_left comes options stops form left image reported typed unread extent text printed punched part)
-    (done_front comes options stops form false image p w x outcome reported typed unread unpunched old new told_old told_new held holds profile begins done marks
-    (some_of held holds x.devices.punch.output punched) (λ no. absurd (true≢false (sym failed ∙ no))) (λ yes. punched))
+    (done_front comes options stops form false image p w x outcome reported typed unread unpunched old new told_old told_new held holds profile begins done marks (rw failed punched))
 punch_failed comes options stops form left image p w x (Err fault) reported typed unread unpunched old new told_old told_new held holds profile begins done broke marks punched failed =
-    broke_unstopped comes options stops form left image p w x reported typed unread unpunched old new told_old told_new held holds profile begins broke
-    (some_of held holds x.devices.punch.output punched) (λ no. absurd (true≢false (sym failed ∙ no))) (λ yes. punched)
+    broke_unstopped comes options stops form left image p w x reported typed unread unpunched old new told_old told_new held holds profile begins broke (rw failed punched)

@@ -1,5 +1,5 @@
 -- Frames and keys that are read while a session goes on.
-use Rattle.std.proofs.Common.{ℕ, zero, suc, ◌≡◌, ◌+◌, ◌*◌, ◌==◌, ◌<◌, ◌≤◌, Bool, true, false, ◌||◌, List, [], ◌∷◌, drop, take, map, refl, sym, ◌∙◌, ap, arith, Some, None, Option, Ok, Err, Result, subst, unwrap_or, true≢false}
+use Rattle.std.proofs.Common.{ℕ, zero, suc, ◌≡◌, ◌==◌, ◌<◌, ◌≤◌, Bool, true, false, ◌||◌, List, [], ◌∷◌, drop, take, map, refl, sym, ◌∙◌, ap, arith, Some, None, Option, Ok, Err, Result, subst, true≢false}
 use Rattle.std.specs.Prelude.{◌&&◌, not, IfOk, IsTrue, OnErr, OnOk, length, slice_index}
 use Rattle.std.specs.Io.KnownBytes.{Consumes, IsAtEnd}
 use Rattle.instruct.specs.declared.Profile.{Profile}
@@ -15,15 +15,11 @@ use Rattle.command_parts.specs.declared.options.TeletypeOptions.{TeletypeOptions
 use Rattle.machine_commands.specs.Follows.{goes_on}
 use Rattle.machine_commands.specs.Cuts.{some_left}
 use Rattle.machine_commands.specs.Schedule.{Comes, Over, Cut, Final, Then, Extent, UpToOutput, UpToRead, ToStep, Due}
-use Rattle.machine_commands.specs.SessionParts.{rank, steps_in}
+use Rattle.machine_commands.specs.SessionParts.{rank}
 use Rattle.machine_commands.specs.Teletype.{AreAll}
 use Rattle.machine_commands.specs.Typing.{answer_due, asked_after, asks, is_read, read_due, typed_as, typed_due, typing}
 use Rattle.machine_commands.specs.TypingParts.{Answered, Brought, IsLeft, Source, Types, bytes_left, frames_left, rounds_left, typed_plan}
-use Rattle.machine_commands.proofs.SessionLemmas.{device_goes, printer_done}
-
-pub or_true : (b : Bool) → b || true ≡ true
-or_true true = refl
-or_true false = refl
+use Rattle.machine_commands.proofs.SessionLemmas.{Less, device_goes, first_less, none_is, or_true, other_less, printer_done, round_less}
 
 -- a list of one
 pub one_item : (l : List ℕ) → length l ≡ 1 → l ≡ slice_index l 0 ∷ []
@@ -278,9 +274,12 @@ pub types_on : (options : TeletypeOptions) (w m : WorldState) (asked : Bool) (ro
 types_on options w m asked rounds last reader keys reader_after keys_after e p extent es brought goes happens later =
     types_then options w m asked rounds last reader keys e p extent es later.frames later.bytes (brought later.frames later.bytes later.frames_are later.bytes_are) goes happens later.come
 
-pub types_last : (options : TeletypeOptions) (w : WorldState) (asked : Bool) (rounds : ℕ) (last : Option Event) (reader keys reader_after keys_after : Source) (e : Event) (p : Profile) (extent : Extent) →
-    IsBrought options w asked rounds last reader keys (Some e) reader_after keys_after → goes_on true (seen_of p w e) ≡ false → Types options asked rounds last reader keys p w extent (e ∷ [])
-types_last options w asked rounds last reader keys reader_after keys_after e p extent brought ends =
+-- what comes by whatever frames and bytes were before what is due
+types_from : (options : TeletypeOptions) (w : WorldState) (asked : Bool) (rounds : ℕ) (last : Option Event) (reader keys reader_after keys_after : Source) (due : Option Event) (p : Profile) (extent : Extent) (es : List Event) →
+    IsBrought options w asked rounds last reader keys due reader_after keys_after →
+    ((frames bytes : List ℕ) → typed_due (typed_plan options rounds frames bytes) w asked last ≡ due → Comes typing p extent (record { plan = typed_plan options rounds frames bytes; last = last; asked = asked }) w es) →
+    Types options asked rounds last reader keys p w extent es
+types_from options w asked rounds last reader keys reader_after keys_after due p extent es brought come =
     let frames = some_left reader_after.told reader_after.ended in
     let bytes = some_left keys_after.told keys_after.ended in
     let b = brought frames.0 bytes.0 frames.1 bytes.1 in
@@ -289,52 +288,34 @@ types_last options w asked rounds last reader keys reader_after keys_after e p e
       bytes = b.bytes;
       frames_are = b.frames_are;
       bytes_are = b.bytes_are;
-      come = Final (record { plan = typed_plan options rounds b.frames b.bytes; last = last; asked = asked }) w e b.is_due ends;
+      come = come b.frames b.bytes b.is_due;
     }
+
+pub types_last : (options : TeletypeOptions) (w : WorldState) (asked : Bool) (rounds : ℕ) (last : Option Event) (reader keys reader_after keys_after : Source) (e : Event) (p : Profile) (extent : Extent) →
+    IsBrought options w asked rounds last reader keys (Some e) reader_after keys_after → goes_on true (seen_of p w e) ≡ false → Types options asked rounds last reader keys p w extent (e ∷ [])
+types_last options w asked rounds last reader keys reader_after keys_after e p extent brought ends =
+    types_from options w asked rounds last reader keys reader_after keys_after (Some e) p extent (e ∷ []) brought
+    (λ frames bytes is. Final (record { plan = typed_plan options rounds frames bytes; last = last; asked = asked }) w e is ends)
 
 pub types_output : (options : TeletypeOptions) (w : WorldState) (asked : Bool) (rounds : ℕ) (last : Option Event) (reader keys reader_after keys_after : Source) (e : Event) (p : Profile) →
     IsBrought options w asked rounds last reader keys (Some e) reader_after keys_after → puts_out w e ≡ true → Types options asked rounds last reader keys p w UpToOutput []
 types_output options w asked rounds last reader keys reader_after keys_after e p brought puts =
-    let frames = some_left reader_after.told reader_after.ended in
-    let bytes = some_left keys_after.told keys_after.ended in
-    let b = brought frames.0 bytes.0 frames.1 bytes.1 in
-    record {
-      frames = b.frames;
-      bytes = b.bytes;
-      frames_are = b.frames_are;
-      bytes_are = b.bytes_are;
-      come = Cut (record { plan = typed_plan options rounds b.frames b.bytes; last = last; asked = asked }) w (record { event = e; is_due = b.is_due; puts = puts });
-    }
+    types_from options w asked rounds last reader keys reader_after keys_after (Some e) p UpToOutput [] brought
+    (λ frames bytes is. Cut (record { plan = typed_plan options rounds frames bytes; last = last; asked = asked }) w (record { event = e; is_due = is; puts = puts }))
 
 -- the event that is due is a step
 pub types_step : (options : TeletypeOptions) (w : WorldState) (asked : Bool) (rounds : ℕ) (last : Option Event) (reader keys reader_after keys_after : Source) (e : Event) (p : Profile) →
     IsBrought options w asked rounds last reader keys (Some e) reader_after keys_after → e ≡ Step → Types options asked rounds last reader keys p w ToStep (Step ∷ [])
 types_step options w asked rounds last reader keys reader_after keys_after e p brought steps =
-    let frames = some_left reader_after.told reader_after.ended in
-    let bytes = some_left keys_after.told keys_after.ended in
-    let b = brought frames.0 bytes.0 frames.1 bytes.1 in
-    record {
-      frames = b.frames;
-      bytes = b.bytes;
-      frames_are = b.frames_are;
-      bytes_are = b.bytes_are;
-      come = Due (record { plan = typed_plan options rounds b.frames b.bytes; last = last; asked = asked }) w (rw steps at b.is_due) tt;
-    }
+    types_from options w asked rounds last reader keys reader_after keys_after (Some e) p ToStep (Step ∷ []) brought
+    (λ frames bytes is. Due (record { plan = typed_plan options rounds frames bytes; last = last; asked = asked }) w (rw steps at is) tt)
 
 -- nothing is due
 pub types_over : (options : TeletypeOptions) (w : WorldState) (asked : Bool) (rounds : ℕ) (last : Option Event) (reader keys reader_after keys_after : Source) (p : Profile) (extent : Extent) →
     IsBrought options w asked rounds last reader keys None reader_after keys_after → Types options asked rounds last reader keys p w extent []
 types_over options w asked rounds last reader keys reader_after keys_after p extent brought =
-    let frames = some_left reader_after.told reader_after.ended in
-    let bytes = some_left keys_after.told keys_after.ended in
-    let b = brought frames.0 bytes.0 frames.1 bytes.1 in
-    record {
-      frames = b.frames;
-      bytes = b.bytes;
-      frames_are = b.frames_are;
-      bytes_are = b.bytes_are;
-      come = Over (record { plan = typed_plan options rounds b.frames b.bytes; last = last; asked = asked }) w b.is_due;
-    }
+    types_from options w asked rounds last reader keys reader_after keys_after None p extent [] brought
+    (λ frames bytes is. Over (record { plan = typed_plan options rounds frames bytes; last = last; asked = asked }) w is)
 
 -- a read failed
 pub types_read : (options : TeletypeOptions) (w : WorldState) (asked : Bool) (rounds : ℕ) (last : Option Event) (reader keys : Source) (p : Profile) →
@@ -375,28 +356,6 @@ happens_anyway p w x e (Err f) happens only none = let yes : puts_out w e ≡ tr
 pub both_done : (p q : Profile) (w m x : WorldState) → Happens p w PrinterDone m → Happens q m PunchDone x → x ≡ completed w
 both_done p q w m x printer punch = let first : m ≡ printer_done w = printer in let second : x ≡ with_devices m (record m.devices { punch = done m.devices.punch }) = punch in rw first at second
 
--- how many events may come at most
-none_is : {e : Event} → None ≡ Some e → ⊥
-none_is is = cc
-
-event_is : (e f : Event) → Some e ≡ Some f → e ≡ f
-event_is e f is = ap (λ (o : Option Event). unwrap_or o Step) is
-
--- an event leaves fewer, and an instruction takes a round
-pub record Less (rounds : ℕ) (last : Option Event) (e : Event) : Type 0 where
-  pub fewer : rounds_left e rounds * 5 + rank (Some e) < rounds * 5 + rank last
-  pub counted : steps_in e + rounds_left e rounds ≤ rounds
-
-step_less : (n : ℕ) (last : Option Event) → Less (suc n) last Step
-step_less n last = record { fewer = omega arith; counted = omega arith }
-
-other_less : (rounds : ℕ) (last : Option Event) (e f : Event) → Some f ≡ Some e → rounds_left f rounds ≡ rounds → steps_in f ≡ 0 → rank (Some f) < rank last → Less rounds last e
-other_less rounds last e f is same none less = subst (Less rounds last) (event_is f e is) (record { fewer = rw same (omega (arith, less)); counted = rw (same, none) (omega arith) })
-
-round_less : (rounds : ℕ) (last : Option Event) (e : Event) → round_due rounds ≡ Some e → Less rounds last e
-round_less zero last e due = absurd (none_is due)
-round_less (suc n) last e due = subst (Less (suc n) last) (event_is Step e due) (step_less n last)
-
 answer_less : (asked : Bool) (keys : List ℕ) (rounds : ℕ) (last : Option Event) (e : Event) → 0 < rank last → answer_due asked keys rounds ≡ Some e → Less rounds last e
 answer_less false keys rounds last e some due = round_less rounds last e due
 answer_less true [] rounds last e some due = absurd (none_is due)
@@ -406,10 +365,6 @@ read_less : (plan : Plan) (w : WorldState) (asked : Bool) (frames : List ℕ) (w
 read_less plan w asked [] waits e is due = answer_less asked plan.keys plan.rounds (Some PunchDone) e (omega arith) due
 read_less plan w asked (frame ∷ frames) true e is due = other_less plan.rounds (Some PunchDone) e (ReaderDone frame) (rw is at due) refl refl (omega arith)
 read_less plan w asked (frame ∷ frames) false e is due = answer_less asked plan.keys plan.rounds (Some PunchDone) e (omega arith) (rw is at due)
-
-first_less : (plan : Plan) (switches : Option ℕ) (e : Event) → first_due plan switches ≡ Some e → Less plan.rounds None e
-first_less plan None e due = round_less plan.rounds None e due
-first_less plan (Some word) e due = other_less plan.rounds None e (Switches word) due refl refl (omega arith)
 
 typed_less : (plan : Plan) (w : WorldState) (asked : Bool) (last : Option Event) (e : Event) → typed_due plan w asked last ≡ Some e → Less plan.rounds last e
 typed_less plan w asked None e is = first_less plan plan.switches e is

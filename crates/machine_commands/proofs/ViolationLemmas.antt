@@ -31,7 +31,7 @@ use Rattle.policy.proofs.CodeLemmas.{loaded_keeps}
 use Rattle.policy.proofs.TellLemmas.{broken_tells}
 use Rattle.policy.proofs.WatchLemmas.{Taken, none_taken, stopped, taken_more}
 use Rattle.machine_commands.specs.declared.violations.flow.ExecutedInstruction.{ExecutedInstruction}
-use Rattle.machine_commands.specs.ViolationText.{IsToldAfter, LeadsBy, addresses_text, before_address, begun_text, executed_by, executed_running, is_some_told, last_call, next_of, numbers_below, owner, return_addresses, routines, violation_text}
+use Rattle.machine_commands.specs.ViolationText.{IsToldAfter, LeadsBy, before_address, begun_text, executed_by, executed_running, is_some_told, last_call, next_of, numbers_below, owner, return_addresses, routines, violation_text}
 use Rattle.machine_commands.specs.Running.{fresh}
 
 -- two pieces, one after the other
@@ -225,15 +225,6 @@ adds_all d k n old now told past adds =
     let at : addresses_below d k n ≡ return_addresses d k = ap (addresses_below d k) all in
     (adds.text ∙ ap (λ l. old ++ begun_text k.entry l) at, adds.some ∙ ap is_some_told at)
 
--- the end of the line of addresses
-pub some_ended : (e : ℕ) (old mid new addresses : List ℕ) → is_some_told addresses ≡ true → mid ≡ old ++ begun_text e addresses → new ≡ mid ++ codes "\n" → new ≡ old ++ addresses_text e addresses
-some_ended e old mid new [] told first second = absurd (true≢false (sym told))
-some_ended e old mid new (a ∷ more) told first second = joined old mid new (begun_text e (a ∷ more)) (codes "\n") first second
-
-pub none_ended : (e : ℕ) (old mid new addresses : List ℕ) → is_some_told addresses ≡ false → mid ≡ old ++ begun_text e addresses → new ≡ mid ++ addresses_text e [] → new ≡ old ++ addresses_text e addresses
-none_ended e old mid new [] told first second = second ∙ ap (λ t. t ++ addresses_text e []) (first ∙ append-nil old)
-none_ended e old mid new (a ∷ more) told first second = absurd (true≢false told)
-
 -- ---- the state before the step that violates a rule
 
 -- one event more
@@ -277,12 +268,6 @@ one_replayed d dd events w count n e x y ks ls last low is replayed goes =
           (subst (λ (es : List Event). LeadsBy d es w [] None y (calls_by d x e ks) (executed_by x e last)) (sym more)
           (leads_more d (take n events) w [] None x ks last e y replayed.leads goes.happens));
     }
-
--- no event is left
-pub all_replayed : (d : Declaration) (events : List Event) (w : WorldState) (count n : ℕ) (x : WorldState) (ks : Calls) (last : Option ExecutedInstruction) → count ≤ n → Replayed d events w count n x ks last →
-    LeadsBy d (take count events) w [] None x ks last
-all_replayed d events w count n x ks last past replayed =
-    let at : n ≡ count = omega (arith, past, replayed.inside) in subst (λ (k : ℕ). LeadsBy d (take k events) w [] None x ks last) at replayed.leads
 
 -- an event before the one that violates a rule is there
 pub is_there : (image : Image) (d : Declaration) (events : List Event) (w : WorldState) (count n : ℕ) (r : Rule) → n < count → slice_get events n ≡ None → BreaksAt image d events w count r → ⊥

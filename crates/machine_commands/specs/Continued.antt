@@ -77,17 +77,18 @@ pub record SaysHowFar (most : ℕ) (image : List (Option ℕ)) (d : Declaration)
   pub leads : LeadsTo d events (fresh image d.start) final
   pub line_is : line ≡ went_text (presses events) most final
 
--- The line of a run that goes on at declared pauses: of a clean run how far it went, of another the rule that is
--- violated.
-abbrev pub IsLine : ℕ → List (Option ℕ) → Declaration → List Event → Watched → List ℕ → Type 0
-IsLine most image d events Clean line = SaysHowFar most image d events line
-IsLine most image d events (Broken n r) line = line ≡ watched_text (Broken n r)
+-- The line of a watched run: what is seen of it; or, of a run that goes on at declared pauses at most so many times and in which every step
+-- is legal, how far it went.
+abbrev pub IsLine : Option ℕ → List (Option ℕ) → Declaration → List Event → Watched → List ℕ → Type 0
+IsLine None image d events watched line = line ≡ watched_text watched
+IsLine (Some most) image d events Clean line = SaysHowFar most image d events line
+IsLine (Some most) image d events (Broken n r) line = line ≡ watched_text (Broken n r)
 
--- What is told of such a run: its line, after it, only if it is to be explained, some lines more, of which nothing is said
+-- What is told of a watched run: its line, after it, only if it is to be explained, some lines more, of which nothing is said
 -- here, and then the cells that are named.
-pub record IsToldHowFar (most : ℕ) (image : List (Option ℕ)) (d : Declaration) (events : List Event) (watched : Watched) (explained : Bool) (named : ℕ → Bool) (told : List ℕ) : Type 0 where
+pub record IsToldOfRun (continues : Option ℕ) (image : List (Option ℕ)) (d : Declaration) (events : List Event) (watched : Watched) (explained : Bool) (named : ℕ → Bool) (told : List ℕ) : Type 0 where
   pub line : List ℕ
-  pub is_line : IsLine most image d events watched line
+  pub is_line : IsLine continues image d events watched line
   pub why : List ℕ
   pub plain : explained ≡ false → why ≡ []
   pub shown : List ℕ
@@ -95,8 +96,8 @@ pub record IsToldHowFar (most : ℕ) (image : List (Option ℕ)) (d : Declaratio
   pub told_is : told ≡ (line ++ why) ++ shown
 
 -- This is told of what is seen of the run of these events, with the cells that are named, and the status is that of what is seen.
-pub record IsContinuedWatch (most : ℕ) (explained : Bool) (named : ℕ → Bool) (image : List (Option ℕ)) (d : Declaration) (events : List Event) (status : Status) (told : List ℕ) : Type 0 where
+pub record IsWatch (continues : Option ℕ) (explained : Bool) (named : ℕ → Bool) (image : List (Option ℕ)) (d : Declaration) (events : List Event) (status : Status) (told : List ℕ) : Type 0 where
   pub watched : Watched
   pub sees : IsSeen image d events watched
-  pub is : IsToldHowFar most image d events watched explained named told
+  pub is : IsToldOfRun continues image d events watched explained named told
   pub status_is : status ≡ watched_status watched

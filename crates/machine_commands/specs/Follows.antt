@@ -66,14 +66,6 @@ pub record IsTraceOfSome (profile : Profile) (ends_at_halt : Bool) (events : Lis
   pub final : WorldState
   pub follows : Follows profile ends_at_halt (take count events) w lines steps end final
 
--- The world after the first so many of these events.
-pub record IsReached (profile : Profile) (ends_at_halt : Bool) (events : List Event) (w x : WorldState) : Type 0 where
-  pub count : ℕ
-  pub lines : List ℕ
-  pub steps : ℕ
-  pub end : End
-  pub follows : Follows profile ends_at_halt (take count events) w lines steps end x
-
 -- The trace of the run of all these events, or of those before one that prints or punches.
 pub record IsTraceUpToOutput (profile : Profile) (ends_at_halt : Bool) (events : List Event) (w : WorldState) (lines : List ℕ) : Type 0 where
   pub count : ℕ

@@ -1,18 +1,13 @@
--- The run of a tape of which the last instructions are shown.
-use Rattle.std.specs.Prelude.{ℕ, ◌≡◌, ◌+◌, ◌-◌, ◌==◌, Bool, true, false, if◌then◌else◌, ◌⊎◌, ◌++◌, List, [], ◌∷◌, Option, take}
+-- The last lines of a trace, and the part of a run up to where it is stopped.
+use Rattle.std.specs.Prelude.{ℕ, ◌≡◌, ◌-◌, ◌==◌, Bool, true, false, if◌then◌else◌, ◌⊎◌, List, [], ◌∷◌, take}
 use Rattle.std.proofs.Common.{zero, suc}
-use Rattle.wordset.specs.Lanes.{words}
 use Rattle.peripherals.specs.declared.Event.{Event}
 use Rattle.peripherals.specs.Devices.{WorldState}
 use Rattle.command_parts.specs.declared.options.RunOptions.{RunOptions}
 use Rattle.command_parts.specs.declared.options.Stops.{Stops}
-use Rattle.command_parts.specs.declared.status.Status.{Status}
 use Rattle.machine_commands.specs.declared.follow.End.{End}
 use Rattle.machine_commands.specs.declared.follow.End.TheVariants as end
-use Rattle.machine_commands.specs.Follows.{Follows}
-use Rattle.machine_commands.specs.Running.{fresh, status_of}
 use Rattle.machine_commands.specs.Stops.{NeverStops, StopsAfter}
-use Rattle.machine_commands.specs.Summary.{closing}
 
 -- How many lines a text has, each of which ends with a line feed.
 abbrev pub lines_in : List ℕ → ℕ
@@ -39,22 +34,3 @@ IsCut stops options ends_at_halt events cut w stopped =
 abbrev pub told : Bool → End → WorldState → End
 told true last x = end.Stopped x.state.pc
 told false last x = last
-
--- From an image these events, up to where their run is stopped if it is, lead to a world. The text is the last lines of their trace, so
--- many or all, the summary, and the cells to be shown, each with its word in that world.
-pub record IsLastOfRun (options : RunOptions) (stops : Stops) (most : ℕ) (ends_at_halt : Bool) (events : List Event) (image : List (Option ℕ)) (text : List ℕ) (status : Status) : Type 0 where
-  pub cut : List Event
-  pub stopped : Bool
-  pub is_cut : IsCut stops options ends_at_halt events cut (fresh image options.start) stopped
-  pub lines : List ℕ
-  pub steps : ℕ
-  pub last : End
-  pub final : WorldState
-  pub follows : Follows options.profile ends_at_halt cut (fresh image options.start) lines steps last final
-  pub text_is : text ≡ last_lines most lines ++ closing (words options.show) (told stopped last final) final steps
-  pub status_is : status ≡ status_of (told stopped last final)
-
--- The same, whichever status that has.
-abbrev pub IsLastText : RunOptions → Stops → ℕ → Bool → List Event → List (Option ℕ) → List ℕ → Type 0
-IsLastText options stops most ends_at_halt events image text =
-    (status : Status) × IsLastOfRun options stops most ends_at_halt events image text status

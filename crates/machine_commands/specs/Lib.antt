@@ -2,11 +2,11 @@ pub mod Trace
 pub mod Follows
 pub mod Summary
 pub mod Course
-pub mod Running
 pub mod Stops
+pub mod Last
+pub mod Running
 pub mod Stopping
 pub mod StopLaws
-pub mod Last
 pub mod WatchText
 pub mod RefuteText
 pub mod Session
@@ -24,5 +24,4 @@ pub mod StoppedParts
 pub mod DeclaredRun
 pub mod StoppedWatch
 pub mod LongTrace
-pub mod LastSession
 pub mod ViolationText

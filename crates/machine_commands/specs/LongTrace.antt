@@ -1,5 +1,5 @@
 -- The run of a tape behind its long trace, of whose lines nothing is said here.
-use Rattle.std.specs.Prelude.{ℕ, ◌≡◌, ◌++◌, Bool, false, List, Option}
+use Rattle.std.specs.Prelude.{ℕ, ◌≡◌, ◌++◌, Bool, false, List, Option, None}
 use Rattle.std.specs.Io.KnownBytes.{Appends}
 use Rattle.peripherals.specs.declared.Event.{Event}
 use Rattle.command_parts.specs.declared.options.RunOptions.{RunOptions}
@@ -20,5 +20,5 @@ quiet options = record options { trace = false }
 pub record IsRunBehind (options : RunOptions) (stops : Stops) (ends_at_halt : Bool) (events : List Event) (image : List (Option ℕ)) (text : List ℕ) (status : Status) : Type 0 where
   pub lines : List ℕ
   pub rest : List ℕ
-  pub run : IsRunWithStops (quiet options) stops ends_at_halt events image rest status
+  pub run : IsRunWithStops (quiet options) stops None ends_at_halt events image rest status
   pub text_is : text ≡ lines ++ rest

@@ -36,6 +36,11 @@ pub record AppendsSome (old new : Option (List ℕ)) (piece : List ℕ) : Type 0
   pub within : count ≤ length piece
   pub out : Appends old new (take count piece)
 
+-- All of a piece was appended; or, where the write of it failed, a front of it that is not all.
+abbrev pub AppendsUnless : Bool → Option (List ℕ) → Option (List ℕ) → List ℕ → Type 0
+AppendsUnless false old new piece = Appends old new piece
+AppendsUnless true old new piece = AppendsFront old new piece
+
 -- Where no write failed a run breaks off where a frame or a key is read, if that read failed, and else, where memory was
 -- refused, before an event that prints or punches.
 abbrev pub extent_unread : Bool → Extent
@@ -56,11 +61,9 @@ pub record BrokeOff (comes : Extent → List Event → Type 0) (profile : Profil
   pub steps : ℕ
   pub end : End
   pub follows : Follows profile true events w lines steps end x
-  pub wrote : AppendsSome old new (traced trace lines)
+  pub wrote : AppendsUnless reported old new (traced trace lines)
   pub printed : AppendsSome told tells (printed_in x)
-  pub wrote_whole : reported ≡ false → Appends old new (traced trace lines)
   pub printed_whole : (reported || typed) ≡ false → Appends told tells (printed_in x)
-  pub wrote_front : reported ≡ true → AppendsFront old new (traced trace lines)
   pub printed_front : typed ≡ true → AppendsFront told tells (printed_in x)
   pub printed_nearly : length (printed_in x) ≤ printed.count + 1
 
@@ -161,15 +164,11 @@ pub record FrontsOf (P : Extent → List ℕ → List ℕ → List ℕ → Type 
   pub printed : List ℕ
   pub punched : List ℕ
   pub is : P extent text printed punched
-  pub to_report : AppendsSome old.report new.report text
+  pub to_report : AppendsUnless failed.report old.report new.report text
   pub to_teletype : AppendsSome old.teletype new.teletype printed
-  pub to_punch : AppendsSome old.punch new.punch punched
-  pub report_whole : failed.report ≡ false → Appends old.report new.report text
+  pub to_punch : AppendsUnless failed.punch old.punch new.punch punched
   pub teletype_whole : (failed.report || failed.teletype) ≡ false → Appends old.teletype new.teletype printed
-  pub punch_whole : failed.punch ≡ false → Appends old.punch new.punch punched
-  pub report_front : failed.report ≡ true → AppendsFront old.report new.report text
   pub teletype_front : failed.teletype ≡ true → AppendsFront old.teletype new.teletype printed
-  pub punch_front : failed.punch ≡ true → AppendsFront old.punch new.punch punched
   pub typed_nearly : length printed ≤ to_teletype.count + 1
   pub typed_before_summary : extent ≡ Whole → Appends old.teletype new.teletype printed
   pub punched_before_summary : extent ≡ Whole → Appends old.punch new.punch punched

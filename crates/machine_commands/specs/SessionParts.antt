@@ -13,7 +13,7 @@ use Rattle.peripherals.specs.declared.operator.Operator.{Operator}
 use Rattle.peripherals.specs.EventOutcomes.{puts_out, seen_of}
 use Rattle.machine_commands.specs.Follows.{goes_on}
 use Rattle.machine_commands.specs.Schedule.{Extent, Place, UpToOutput}
-use Rattle.machine_commands.specs.Session.{AppendsSome, character}
+use Rattle.machine_commands.specs.Session.{AppendsSome, AppendsUnless, character}
 use Rattle.machine_commands.specs.Trace.{trace_of, traced}
 
 -- The event is a step of the machine.
@@ -44,11 +44,9 @@ pub record Unplayed (w : WorldState) (e : Event) (x : WorldState) (reported type
 pub record Faltered (profile : Profile) (trace : Bool) (w : WorldState) (e : Event) (x : WorldState) (reported typed : Bool) (old new told tells : Option (List ℕ)) : Type 0 where
   pub happens : Happens profile w e x
   pub failed : (reported || typed) ≡ true
-  pub wrote : AppendsSome old new (traced trace (trace_of profile w e x))
+  pub wrote : AppendsUnless reported old new (traced trace (trace_of profile w e x))
   pub printed : AppendsSome told tells (printed_from w x)
-  pub wrote_whole : reported ≡ false → Appends old new (traced trace (trace_of profile w e x))
   pub printed_whole : (reported || typed) ≡ false → Appends told tells (printed_from w x)
-  pub wrote_front : reported ≡ true → AppendsFront old new (traced trace (trace_of profile w e x))
   pub printed_front : typed ≡ true → AppendsFront told tells (printed_from w x)
 
 abbrev pub PlayedFront : Profile → Bool → WorldState → Event → WorldState → Bool → Bool → Option (List ℕ) → Option (List ℕ) → Option (List ℕ) → Option (List ℕ) → Type 0

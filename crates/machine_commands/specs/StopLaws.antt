@@ -60,7 +60,7 @@ abbrev pub SessionsWithoutStops : Type 0
 SessionsWithoutStops =
     (options : RunOptions) (stops : Stops) (form : SummaryForm) (extent : Extent) (plan : Plan) (image : List (Option ℕ))
     (text printed punched : List ℕ) (status : Status) →
-    AreNone stops → IsHeldToStop (comes_by plan) options stops form extent false image text printed punched status →
+    AreNone stops → IsHeldToStop (comes_by plan) options stops None form extent false image text printed punched status →
     IsSessionOf options form extent plan image text printed punched status
 
 -- The same of a session at the teletype that no key interrupts.
@@ -68,5 +68,5 @@ abbrev pub TypedWithoutStops : Type 0
 TypedWithoutStops =
     (options : TeletypeOptions) (stops : Stops) (form : SummaryForm) (extent : Extent) (frames bytes : List ℕ) (image : List (Option ℕ))
     (text printed punched : List ℕ) (status : Status) →
-    AreNone stops → IsHeldToStop (types_by options frames bytes) (run_of options) stops form extent false image text printed punched status →
+    AreNone stops → IsHeldToStop (types_by options frames bytes) (run_of options) stops None form extent false image text printed punched status →
     IsHeld (types_by options frames bytes) (run_of options) form extent image text printed punched status

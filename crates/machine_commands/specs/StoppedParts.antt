@@ -1,20 +1,17 @@
 -- What a run by a schedule leaves that may be stopped. Private contracts alone cite this.
-use Rattle.std.specs.Prelude.{ℕ, ◌≡◌, Bool, true, false, ◌||◌, List, Option, Some, None}
+use Rattle.std.specs.Prelude.{ℕ, ◌≡◌, Bool, true, false, List, Option, Some, None}
 use Rattle.std.specs.Io.KnownBytes.{Appends}
 use Rattle.instruct.specs.declared.Profile.{Profile}
 use Rattle.peripherals.specs.declared.Event.{Event}
 use Rattle.peripherals.specs.Devices.{WorldState}
-use Rattle.command_parts.specs.declared.options.RunOptions.{RunOptions}
 use Rattle.command_parts.specs.declared.options.Stops.{Stops}
-use Rattle.command_parts.specs.declared.options.SummaryForm.{SummaryForm}
-use Rattle.command_parts.specs.declared.status.Status.{Status}
 use Rattle.machine_commands.specs.declared.follow.End.{End}
 use Rattle.machine_commands.specs.declared.follow.RunOutcome.{RunOutcome}
 use Rattle.machine_commands.specs.Follows.{Follows}
 use Rattle.machine_commands.specs.Last.{told}
-use Rattle.machine_commands.specs.Schedule.{Extent, Whole}
-use Rattle.machine_commands.specs.Session.{extent_unread, printed_in}
-use Rattle.machine_commands.specs.StoppedSession.{IsHeldToStop, StoppedSo, extent_to_stop, leaving, to_stop}
+use Rattle.machine_commands.specs.Schedule.{Extent}
+use Rattle.machine_commands.specs.Session.{printed_in}
+use Rattle.machine_commands.specs.StoppedSession.{StoppedSo, extent_to_stop, leaving, to_stop}
 use Rattle.machine_commands.specs.Stops.{NeverStops, stops_before, visits_with}
 use Rattle.machine_commands.specs.Trace.{traced}
 
@@ -40,13 +37,3 @@ pub record OperatedToStop (comes : Extent → List Event → Type 0) (left : Boo
 -- These events come, and none of them stops the run.
 abbrev pub unstopped : Stops → (Profile → WorldState → Extent → List Event → Type 0) → Profile → WorldState → Extent → List Event → Type 0
 unstopped stops comes profile w extent events = comes profile w extent events × NeverStops stops profile true 0 events w
-
--- What the events that come up to where the run is stopped, or the first of them, leave; all of them with the summary, where the report
--- failed. It may be told as interrupted only if the key was struck.
-pub record IsPartToStop (comes : Profile → WorldState → Extent → List Event → Type 0) (options : RunOptions) (stops : Stops) (form : SummaryForm) (left reported typed unread : Bool) (image : List (Option ℕ)) (extent : Extent) (text printed punched : List ℕ) : Type 0 where
-  pub summed : extent ≡ Whole → reported ≡ true
-  pub to_there : (reported || typed) ≡ false → extent ≡ extent_unread unread
-  pub as_left : Bool
-  pub if_left : as_left ≡ true → left ≡ true
-  pub status : Status
-  pub is : IsHeldToStop comes options stops form extent as_left image text printed punched status

@@ -1,5 +1,5 @@
 -- A run with an operator, or a session at the teletype, that may be stopped, and what it writes, prints and punches.
-use Rattle.std.specs.Prelude.{ℕ, ◌≡◌, Bool, true, false, ◌||◌, ◌⊎◌, ◌++◌, List, [], ◌∷◌, Option, length}
+use Rattle.std.specs.Prelude.{ℕ, ◌≡◌, Bool, true, false, ◌||◌, ◌⊎◌, ◌++◌, List, [], ◌∷◌, Option, Some, None, length}
 use Rattle.wordset.specs.Lanes.{words}
 use Rattle.instruct.specs.declared.Profile.{Profile}
 use Rattle.peripherals.specs.declared.Event.{Event}
@@ -17,7 +17,7 @@ use Rattle.machine_commands.specs.declared.follow.End.TheVariants as end
 use Rattle.machine_commands.specs.Follows.{Follows}
 use Rattle.machine_commands.specs.Last.{told}
 use Rattle.machine_commands.specs.Running.{fresh, status_of}
-use Rattle.machine_commands.specs.Schedule.{Extent, UpToOutput, ToStep, Whole}
+use Rattle.machine_commands.specs.Schedule.{Extent, ToStep, Whole}
 use Rattle.machine_commands.specs.Session.{Failures, FrontsOf, Taken, comes_by, extent_unread, plan_for, printed_in, summary_where}
 use Rattle.machine_commands.specs.Stops.{NeverStops, StopsAfter}
 use Rattle.machine_commands.specs.Teletype.{AreAll, run_of, types_by}
@@ -44,10 +44,21 @@ abbrev pub leaving : Bool → End → WorldState → End
 leaving true last x = end.Interrupted x.state.pc
 leaving false last x = last
 
+-- What is written before the summary: the trace, if one is requested; or, where so many or all of the last instructions are requested, lines
+-- of which nothing is said here.
+abbrev pub IsFront : Option ℕ → List ℕ → List ℕ → Type 0
+IsFront None trace front = front ≡ trace
+IsFront (Some most) trace front = Unit {0}
+
+-- The form of the summary behind that: lines of last instructions leave no line open.
+abbrev pub form_behind : Option ℕ → SummaryForm → SummaryForm
+form_behind None form = form
+form_behind (Some most) form = record form { apart = false }
+
 -- From an image the events that come, up to the step before which the run is stopped if it is, and which is due then, lead to an end. The
--- text is the trace, if one is requested, the summary, and the cells to be shown, each with its word in the world in which the run ended;
--- and these are the characters printed and the bytes punched. If the run is not told whole, this is what its first events leave.
-pub record IsHeldToStop (comes : Profile → WorldState → Extent → List Event → Type 0) (options : RunOptions) (stops : Stops) (form : SummaryForm) (extent : Extent) (left : Bool) (image : List (Option ℕ)) (text printed punched : List ℕ) (status : Status) : Type 0 where
+-- text is the trace or the last lines, as requested, the summary, and the cells to be shown, each with its word in the world in which the run
+-- ended; and these are the characters printed and the bytes punched. If the run is not told whole, this is what its first events leave.
+pub record IsHeldToStop (comes : Profile → WorldState → Extent → List Event → Type 0) (options : RunOptions) (stops : Stops) (shown : Option ℕ) (form : SummaryForm) (extent : Extent) (left : Bool) (image : List (Option ℕ)) (text printed punched : List ℕ) (status : Status) : Type 0 where
   pub events : List Event
   pub stopped : Bool
   pub come : comes options.profile (fresh image options.start) (extent_to_stop stopped extent) (to_stop stopped events)
@@ -57,62 +68,67 @@ pub record IsHeldToStop (comes : Profile → WorldState → Extent → List Even
   pub last : End
   pub final : WorldState
   pub follows : Follows options.profile true events (fresh image options.start) lines steps last final
-  pub text_is : text ≡ traced options.trace lines ++ summary_where (words options.show) form extent (leaving left (told stopped last final) final) final steps
+  pub front : List ℕ
+  pub front_is : IsFront shown (traced options.trace lines) front
+  pub text_is : text ≡ front ++ summary_where (words options.show) (form_behind shown form) extent (leaving left (told stopped last final) final) final steps
   pub printed_is : printed ≡ printed_in final
   pub punched_is : punched ≡ final.devices.punch.output
   pub status_is : status ≡ status_of (leaving left (told stopped last final) final)
 
--- The tape is good, and these are what a run of it brings that may be stopped, with the frames of a reader and the bytes of keys, as
--- many of each as there are rounds: no more can come.
-pub record IsSessionToStop (options : SessionOptions) (stops : Stops) (form : SummaryForm) (extent : Extent) (tape reader keys : Option (List ℕ)) (status : Status) (text printed punched : List ℕ) : Type 0 where
+-- What such a run that has a fault may be about to write, to print and to punch, without last lines. The summary, which a whole run alone
+-- has, is written last. If neither the report nor the teletype failed, the run came to where a frame or a key was read, if that read failed,
+-- or else to its end or to an event that prints or punches. It may be told as interrupted only if the key was struck.
+pub record IsPartToStop (comes : Profile → WorldState → Extent → List Event → Type 0) (options : RunOptions) (stops : Stops) (form : SummaryForm) (left reported typed unread : Bool) (image : List (Option ℕ)) (extent : Extent) (text printed punched : List ℕ) : Type 0 where
+  pub summed : extent ≡ Whole → reported ≡ true
+  pub to_there : (reported || typed) ≡ false → extent ≡ extent_unread unread
+  pub as_left : Bool
+  pub if_left : as_left ≡ true → left ≡ true
+  pub status : Status
+  pub is : IsHeldToStop comes options stops None form extent as_left image text printed punched status
+
+-- The tape is good, and P is true of its image and of what comes in a run with an operator, with the frames of a reader and the bytes of keys,
+-- as many of each as there are rounds: no more can come.
+pub record OfSession (options : SessionOptions) (tape reader keys : Option (List ℕ)) (P : (Profile → WorldState → Extent → List Event → Type 0) → List (Option ℕ) → Type 0) : Type 0 where
   pub image : List (Option ℕ)
   pub has_image : HasImage tape image
   pub frames : List ℕ
   pub frames_are : AreFirst options.run.rounds reader frames
   pub bytes : List ℕ
   pub bytes_are : AreFirst options.run.rounds keys bytes
-  pub session : IsHeldToStop (comes_by (plan_for options frames bytes)) options.run stops form extent false image text printed punched status
+  pub is : P (comes_by (plan_for options frames bytes)) image
 
--- What a run with an operator that has a fault may be about to write, to print and to punch. The summary, which a whole run alone has,
--- is written last. If neither the report nor the teletype failed, the run came to its end or to an event that prints or punches.
-pub record IsPartOfSessionToStop (options : SessionOptions) (stops : Stops) (form : SummaryForm) (reported typed : Bool) (tape reader keys : Option (List ℕ)) (extent : Extent) (text printed punched : List ℕ) : Type 0 where
-  pub summed : extent ≡ Whole → reported ≡ true
-  pub to_output : (reported || typed) ≡ false → extent ≡ UpToOutput
-  pub status : Status
-  pub is : IsSessionToStop options stops form extent tape reader keys status text printed punched
+-- The tape is good, and these are what a run of it with an operator brings that may be stopped. An operator never leaves.
+abbrev pub IsSessionToStop : SessionOptions → Stops → Option ℕ → SummaryForm → Option (List ℕ) → Option (List ℕ) → Option (List ℕ) → Status → List ℕ → List ℕ → List ℕ → Type 0
+IsSessionToStop options stops shown form tape reader keys status text printed punched =
+    OfSession options tape reader keys (λ comes image. IsHeldToStop comes options.run stops shown form Whole false image text printed punched status)
 
--- Fronts went out of what a run with an operator may be about to write, where these of its sinks failed.
+-- Fronts went out of what a run with an operator may be about to write, where these of its sinks failed. No frame or key is read in it.
 abbrev pub StoppedSessionFronts : SessionOptions → Stops → SummaryForm → Failures → Option (List ℕ) → Option (List ℕ) → Option (List ℕ) → Taken → Taken → Type 0
 StoppedSessionFronts options stops form failed tape reader keys old new =
-    FrontsOf (IsPartOfSessionToStop options stops form failed.report failed.teletype tape reader keys) failed old new
+    FrontsOf (λ extent text printed punched. OfSession options tape reader keys
+    (λ comes image. IsPartToStop comes options.run stops form false failed.report failed.teletype false image extent text printed punched)) failed old new
 
 -- Nothing was written at all, or such fronts were.
 abbrev pub NothingOrStoppedFronts : SessionOptions → Stops → SummaryForm → Failures → Option (List ℕ) → Option (List ℕ) → Option (List ℕ) → Taken → Taken → Type 0
 NothingOrStoppedFronts options stops form failed tape reader keys old new = (new ≡ old) ⊎ StoppedSessionFronts options stops form failed tape reader keys old new
 
--- The tape is good, and this is what a session with it brings that may be stopped, by the frames of a reader and the bytes of keys, where
--- the key that interrupts it was struck or not.
-pub record IsTypedToStop (options : TeletypeOptions) (stops : Stops) (form : SummaryForm) (extent : Extent) (left : Bool) (tape reader keys : Option (List ℕ)) (status : Status) (text printed punched : List ℕ) : Type 0 where
+-- The tape is good, and P is true of its image and of what comes in a session at the teletype, by the frames of a reader and the bytes of keys.
+pub record OfTyped (options : TeletypeOptions) (tape reader keys : Option (List ℕ)) (P : (Profile → WorldState → Extent → List Event → Type 0) → List (Option ℕ) → Type 0) : Type 0 where
   pub image : List (Option ℕ)
   pub has_image : HasImage tape image
   pub frames : List ℕ
   pub frames_are : AreAll reader frames
   pub bytes : List ℕ
   pub bytes_are : AreAll keys bytes
-  pub session : IsHeldToStop (types_by options frames bytes) (run_of options) stops form extent left image text printed punched status
+  pub is : P (types_by options frames bytes) image
 
--- What a session that has a fault may be about to write, to print and to punch. The summary, which a whole session alone has, is written
--- last. If neither the report nor the teletype failed, the session came to where a frame or a key was read, if that read failed, or else
--- to its end or to an event that prints or punches. It may be told as interrupted only if the key was struck.
-pub record IsPartOfTypedToStop (options : TeletypeOptions) (stops : Stops) (form : SummaryForm) (left reported typed unread : Bool) (tape reader keys : Option (List ℕ)) (extent : Extent) (text printed punched : List ℕ) : Type 0 where
-  pub summed : extent ≡ Whole → reported ≡ true
-  pub to_there : (reported || typed) ≡ false → extent ≡ extent_unread unread
-  pub as_left : Bool
-  pub if_left : as_left ≡ true → left ≡ true
-  pub status : Status
-  pub is : IsTypedToStop options stops form extent as_left tape reader keys status text printed punched
+-- The tape is good, and this is what a session with it brings that may be stopped, where the key that interrupts it was struck or not.
+abbrev pub IsTypedToStop : TeletypeOptions → Stops → Option ℕ → SummaryForm → Bool → Option (List ℕ) → Option (List ℕ) → Option (List ℕ) → Status → List ℕ → List ℕ → List ℕ → Type 0
+IsTypedToStop options stops shown form left tape reader keys status text printed punched =
+    OfTyped options tape reader keys (λ comes image. IsHeldToStop comes (run_of options) stops shown form Whole left image text printed punched status)
 
 -- Fronts went out of what a session may be about to write, where these of its sinks failed, and a read of a frame or a key or none.
 abbrev pub StoppedTypedFronts : TeletypeOptions → Stops → SummaryForm → Bool → Failures → Bool → Option (List ℕ) → Option (List ℕ) → Option (List ℕ) → Taken → Taken → Type 0
 StoppedTypedFronts options stops form left failed unread tape reader keys old new =
-    FrontsOf (IsPartOfTypedToStop options stops form left failed.report failed.teletype unread tape reader keys) failed old new
+    FrontsOf (λ extent text printed punched. OfTyped options tape reader keys
+    (λ comes image. IsPartToStop comes (run_of options) stops form left failed.report failed.teletype unread image extent text printed punched)) failed old new

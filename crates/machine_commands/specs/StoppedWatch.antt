@@ -1,19 +1,13 @@
 -- What `watch` writes of a run that may be stopped.
-use Rattle.std.specs.Prelude.{ℕ, ◌≡◌, ◌++◌, Bool, List, Option, Some, None}
+use Rattle.std.specs.Prelude.{ℕ, ◌≡◌, ◌++◌, Bool, List, Option}
 use Rattle.peripherals.specs.declared.Event.{Event}
 use Rattle.peripherals.specs.Operator.{Plan}
 use Rattle.declaration.specs.Declaration.{Declaration}
 use Rattle.command_parts.specs.declared.options.Stops.{Stops}
 use Rattle.command_parts.specs.declared.status.Status.{Status}
-use Rattle.machine_commands.specs.Continued.{IsContinuedWatch, came_by}
+use Rattle.machine_commands.specs.Continued.{IsWatch, came_by}
 use Rattle.machine_commands.specs.DeclaredRun.{IsDeclaredCut, IsLinesBefore}
 use Rattle.machine_commands.specs.Running.{fresh}
-use Rattle.machine_commands.specs.WatchText.{IsWatchOf}
-
--- What is told of the run of these events: without a number what is seen of it, and with a number how far it went.
-abbrev pub IsWatch : Option ℕ → Bool → (ℕ → Bool) → List (Option ℕ) → Declaration → List Event → Status → List ℕ → Type 0
-IsWatch None explained named image d events status told = IsWatchOf explained named image d events status told
-IsWatch (Some n) explained named image d events status told = IsContinuedWatch n explained named image d events status told
 
 -- This is told of the declared run of these events up to where it is stopped, if it is: the lines of its last instructions, if so many are
 -- requested, the line that says where it was stopped, and what `watch` tells of the events up to there.

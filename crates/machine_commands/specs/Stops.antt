@@ -2,7 +2,7 @@
 use Rattle.std.specs.Prelude.{ℕ, ◌≡◌, ◌+◌, ◌==◌, Bool, true, false, ◌&&◌, ◌||◌, if◌then◌else◌, is_none, Option, Some, None, List, [], ◌∷◌}
 use Rattle.std.proofs.Common.{zero, suc}
 use Rattle.instruct.specs.declared.Operation.{Operation}
-use Rattle.instruct.specs.declared.Operation.TheVariants.{And, Tad, Isz, Dca, Jms, Jmp}
+use Rattle.instruct.specs.declared.Operation.TheVariants.{And, Tad, Isz, Dca, Jms}
 use Rattle.instruct.specs.declared.Profile.{Profile}
 use Rattle.wordset.specs.Lanes.{words}
 use Rattle.wordset.specs.Words.{Words}

@@ -44,13 +44,6 @@ abbrev pub output_line : List ℕ → List ℕ → List ℕ
 output_line name [] = []
 output_line name (b ∷ bs) = name ++ bytes_text (b ∷ bs) ++ codes "\n"
 
--- The whole summary of a run that ended so in this world, with so many instructions carried out: the first line, and a
--- line each of what was printed and of what was punched, where there is any.
-abbrev pub summary : End → WorldState → ℕ → List ℕ
-summary end w steps =
-    state_line end w steps ++ output_line (codes "PRINTED") w.devices.printer.output ++
-    output_line (codes "PUNCHED") w.devices.punch.output
-
 -- The line of a cell, if it is named: its address and its word. A cell that is not has no line.
 abbrev pub cell_line : Bool → ℕ → ℕ → List ℕ
 cell_line true at word = octal_text at ++ codes " " ++ octal_text word ++ codes "\n"
@@ -64,10 +57,6 @@ cells_below named memory (suc at) = cells_below named memory at ++ cell_line (na
 -- The lines of all cells that are named, rising: each with its word in a world.
 abbrev pub cells_text : (ℕ → Bool) → WorldState → List ℕ
 cells_text named w = cells_below named w.state.memory 4096
-
--- What stands at the end of a run that ended so in this world: the summary, and after it the named cells with their words.
-abbrev pub closing : (ℕ → Bool) → End → WorldState → ℕ → List ℕ
-closing named end w steps = summary end w steps ++ cells_text named w
 
 -- The word for so many frames.
 abbrev pub frames_word : ℕ → List ℕ
@@ -88,7 +77,8 @@ abbrev pub printed_line : Bool → List ℕ → List ℕ
 printed_line true bytes = []
 printed_line false bytes = output_line (codes "PRINTED") bytes
 
--- The summary of a run with an operator, of which some was seen or is in a file.
+-- The summary of a run that ended so in this world, with so many instructions carried out: the first line, and a line each of what was
+-- printed, unless that was seen, and of what was punched, where there is any.
 abbrev pub summary_as : SummaryForm → End → WorldState → ℕ → List ℕ
 summary_as form end w steps =
     state_line end w steps ++ printed_line form.seen w.devices.printer.output ++ punched_line form.saved_in w.devices.punch.output
@@ -96,3 +86,11 @@ summary_as form end w steps =
 -- That summary, and after it the named cells with their words.
 abbrev pub closing_as : SummaryForm → (ℕ → Bool) → End → WorldState → ℕ → List ℕ
 closing_as form named end w steps = summary_as form end w steps ++ cells_text named w
+
+-- The form of a summary that shows all.
+abbrev pub whole_form : SummaryForm
+whole_form = record { apart = false; seen = false; saved_in = None }
+
+-- What stands at the end of a run that ended so in this world: the summary, and after it the named cells with their words.
+abbrev pub closing : (ℕ → Bool) → End → WorldState → ℕ → List ℕ
+closing named end w steps = closing_as whole_form named end w steps

@@ -11,7 +11,6 @@ use Rattle.policy.specs.declared.watcher.Watched.TheVariants.{Clean, Broken}
 use Rattle.policy.specs.Watching.{IsClean, BreaksAt, LeadsTo, number_of}
 use Rattle.command_parts.specs.declared.status.Status.{Status}
 use Rattle.command_parts.specs.declared.status.Status.TheVariants.{Done, Refused}
-use Rattle.command_parts.specs.Answers.{OfRun}
 use Rattle.machine_commands.specs.Running.{fresh}
 use Rattle.machine_commands.specs.Summary.{cells_text}
 
@@ -60,22 +59,3 @@ pub record IsTold (watched : Watched) (explained : Bool) (told : List ℕ) : Typ
   pub why : List ℕ
   pub plain : explained ≡ false → why ≡ []
   pub told_is : told ≡ watched_text watched ++ why
-
--- What is told of a watched run, and after it the cells that are named.
-pub record IsToldWithCells (image : List (Option ℕ)) (d : Declaration) (events : List Event) (watched : Watched) (explained : Bool) (named : ℕ → Bool) (told : List ℕ) : Type 0 where
-  pub seen : List ℕ
-  pub is : IsTold watched explained seen
-  pub shown : List ℕ
-  pub shows : IsShown named image d events watched shown
-  pub told_is : told ≡ seen ++ shown
-
--- This is told of what is seen of the run of these events, with the cells that are named, and the status is that of what is seen.
-pub record IsWatchOf (explained : Bool) (named : ℕ → Bool) (image : List (Option ℕ)) (declaration : Declaration) (events : List Event) (status : Status) (told : List ℕ) : Type 0 where
-  pub watched : Watched
-  pub sees : IsSeen image declaration events watched
-  pub is : IsToldWithCells image declaration events watched explained named told
-  pub status_is : status ≡ watched_status watched
-
--- The frames are a tape, the texts a declaration and a list of events; this is told of what is seen of them.
-abbrev pub IsWatchedSo : Option (List ℕ) → Option (List ℕ) → Option (List ℕ) → Bool → (ℕ → Bool) → List ℕ → Status → Type 0
-IsWatchedSo frames text list explained named told status = OfRun frames text list (IsWatchOf explained named) status told

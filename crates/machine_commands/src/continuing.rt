@@ -1,6 +1,6 @@
 //! A run that goes on at declared pauses, and how far it went.
 
-ghost use Rattle.std.specs.Prelude.{◌≡◌, ◌≤◌, None, IfOk, true, false};
+ghost use Rattle.std.specs.Prelude.{◌≡◌, ◌≤◌, None, Some, IfOk, true, false};
 ghost use Rattle.peripherals.specs.Operator.{plan_of};
 ghost use Rattle.peripherals.specs.World.{view, profile_of};
 ghost use Rattle.declaration.specs.DeclarationInCode.{meaning};
@@ -137,7 +137,7 @@ pub(crate) fn how_far_line<A: Allocator + Copy, D: Allocator>(
     watched: Watched,
     continues: u32,
 ) -> Result<Vec<u8, A>, NoMemory>
-    ensures { IfOk result (λ text. IsLine continues image.now (meaning declaration.now) events.now watched
+    ensures { IfOk result (λ text. IsLine (Some continues) image.now (meaning declaration.now) events.now watched
         text.items) }
 {
     match watched {

@@ -1,7 +1,6 @@
 //! A declared run, in which a CONTINUE counts at a pause alone: its trace, and where it is stopped.
 
-ghost use Rattle.std.specs.Prelude.{◌≡◌, ◌++◌, ◌+◌, ◌<◌, ◌≤◌, false, true, not, take, length, Some, is_some, IfOk, IfErr, OnOk, OnErr};
-ghost use Rattle.std.specs.Io.KnownBytes.{Appends};
+ghost use Rattle.std.specs.Prelude.{◌≡◌, ◌++◌, ◌+◌, ◌<◌, ◌≤◌, false, true, Some, is_some, IfOk, OnOk};
 ghost use Rattle.peripherals.specs.EventOutcomes.{seen_of};
 ghost use Rattle.peripherals.specs.World.{view, profile_of};
 ghost use Rattle.declaration.specs.DeclarationInCode.{meaning};
@@ -27,7 +26,10 @@ use std::alloc::{AllocError, Allocator};
 use streams::ByteSink;
 
 /// Whether the machine is halted, and not at a declared pause.
-fn waits<A: Allocator, D: Allocator>(world: &World<A>, declaration: &Declaration<D>) -> bool
+pub(crate) fn waits<A: Allocator, D: Allocator>(
+    world: &World<A>,
+    declaration: &Declaration<D>,
+) -> bool
     ensures { result ≡ waits (meaning declaration.now) (view world.now).halted_at }
 {
     match world.halted_at() {
@@ -37,7 +39,7 @@ fn waits<A: Allocator, D: Allocator>(world: &World<A>, declaration: &Declaration
 }
 
 /// Whether an event is the CONTINUE of the operator.
-fn is_continue(event: &Event) -> bool
+pub(crate) fn is_continue(event: &Event) -> bool
     ensures { result ≡ is_continue event.now }
 {
     matches!(event, Event::Continue)

@@ -7,10 +7,9 @@ ghost use Rattle.peripherals.specs.Events.{Happens};
 ghost use Rattle.peripherals.specs.EventOutcomes.{puts_out, seen_of};
 ghost use Rattle.peripherals.specs.World.{view, profile_of};
 ghost use Rattle.command_parts.specs.Faults.{IsRunFault, fails_to_write};
-ghost use Rattle.machine_commands.specs.Follows.{IsReached, IsTraceOfSome, end_of};
+ghost use Rattle.machine_commands.specs.Follows.{end_of};
 ghost use Rattle.machine_commands.specs.Course.{Ran, RanIntoLine, RanToOutput, ends_at_halt, event_of_round, events_in};
 ghost use Rattle.machine_commands.specs.Trace.{trace_of, traced};
-ghost use Rattle.command_parts.specs.Writes.{FrontOf};
 
 use crate::trace::put_trace;
 use command_parts::status::Fault;
@@ -165,14 +164,7 @@ pub fn follow<A: Allocator, W: ByteSink>(
     ensures faults { IfErr result IsRunFault }
     ensures marks { W.mark out.new ≡ fails_to_write result }
     ensures asked { W.mark out.new ≡ true → trace ≡ true }
-    ensures front { W.mark out.new ≡ true → FrontOf
-        (IsTraceOfSome (profile_of world.old) (ends_at_halt course.now) (events_in course.now)
-        (view world.old))
-        (W.taken out.old) (W.taken out.new) }
     ensures silent { trace ≡ false → out.new ≡ out.old }
-    // After a fault the world is the one after some first events.
-    ensures reached { OnErr result (IsReached (profile_of world.old) (ends_at_halt course.now)
-        (events_in course.now) (view world.old) (view world.new)) }
     // If memory was refused, that was before an event that prints or punches: those before it led to
     // the world, and their whole lines went out.
     ensures refused { OnErr result (W.mark out.new ≡ false → RanToOutput

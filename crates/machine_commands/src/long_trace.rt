@@ -7,8 +7,7 @@ ghost use Rattle.machine_commands.specs.Course.{ends_at_halt, events_in};
 ghost use Rattle.machine_commands.specs.LongTrace.{IsRunBehind, Appended};
 
 use crate::follow::Course;
-use crate::last::cut_of;
-use crate::stopping::run_with_stops;
+use crate::stopping::{cut_of, run_with_stops};
 use crate::stops::goes_on;
 use bin_tape::Image;
 use command_parts::options::{RunOptions, Stops};
@@ -280,5 +279,5 @@ pub fn run_with_long_trace<A: Allocator + Copy, N: Statements, W: ByteSink>(
         trace: false,
         ..*options
     };
-    run_with_stops(alloc, image, &quiet, stops, course, out)
+    run_with_stops(alloc, image, &quiet, stops, None, course, out)
 }

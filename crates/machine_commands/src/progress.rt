@@ -1,5 +1,6 @@
 //! The lines that say how far a watched run came. They are tested and not proved.
 
+use crate::declared_run::{is_continue, waits};
 use bin_tape::Image;
 use command_parts::message::{Message, MessageWriter, push_text_and_address};
 use declaration::Declaration;
@@ -130,18 +131,6 @@ fn push_progress<L: MessageWriter, B: Allocator>(
     push_standing(text, world)
 }
 
-/// Whether an event counts in a declared run: a CONTINUE does at a pause alone.
-fn counts<A: Allocator, D: Allocator>(
-    world: &World<A>,
-    declaration: &Declaration<D>,
-    event: &Event,
-) -> bool {
-    match (event, world.halted_at()) {
-        (Event::Continue, Some(at)) => declaration.is_pause(at),
-        _ => true,
-    }
-}
-
 /// How far the declared run of some events came.
 pub(crate) fn progress_lines<A: Allocator + Copy, D: Allocator>(
     alloc: A,
@@ -164,7 +153,7 @@ pub(crate) fn progress_lines<A: Allocator + Copy, D: Allocator>(
         keys: 0,
     };
     for event in events {
-        if counts(&world, declaration, event) {
+        if !(is_continue(event) && waits(&world, declaration)) {
             let seen = world.apply(*event)?;
             came.count(event, &seen);
         }

@@ -1,16 +1,17 @@
 //! The commands that read a tape: its run and its words.
 
-ghost use Rattle.std.specs.Prelude.{◌≡◌, ◌||◌, ◌⊎◌, true, false, Err, IfOk, IfErr, OnOk, OnErr};
+ghost use Rattle.std.specs.Prelude.{◌≡◌, ◌||◌, ◌⊎◌, true, false, None, Err, IfOk, IfErr, OnOk, OnErr};
 ghost use Rattle.command_parts.specs.Dumping.{IsDump};
 ghost use Rattle.command_parts.specs.Faults.{is_fault_of_tape, fails_to_read, fails_to_write, IsEventRunFault, IsRunFault, IsTapeFault};
 ghost use Rattle.machine_commands.specs.Course.{ends_at_halt, events_in};
 ghost use Rattle.command_parts.specs.Inputs.{HasCome, TakesAtMost, TakesTape, input};
-ghost use Rattle.machine_commands.specs.Running.{IsEventRun, IsPartOf, IsPartOfEventRun, IsPartOfRoundRun, IsRoundRun, IsRunOf, IsTraceToOutput, IsTraceOfEvents, IsTraceOfRounds, status_of};
+ghost use Rattle.machine_commands.specs.Running.{IsEventRun, IsPartOf, IsPartOfEventRun, IsPartOfRoundRun, IsRoundRun, IsRunTold, IsTraceToOutput, IsTraceOfEvents, IsTraceOfRounds, status_of};
 ghost use Rattle.command_parts.specs.Writes.{FrontOf, Writes, WritesNothingOr};
 ghost use Rattle.command_parts.specs.declared.status.Fault.TheVariants.{NoMemory};
 ghost use Rattle.command_parts.specs.declared.status.Status.TheVariants.{Done};
 
 use crate::follow::{Course, End, follow};
+use crate::stopping::told;
 use crate::summary::summary_of;
 use bin_tape::Image;
 use command_parts::inputs::{events_from, tape_from};
@@ -32,23 +33,24 @@ pub(crate) fn status_of(end: End) -> Status
     }
 }
 
-/// Lets an image's machine go through a course, and writes the trace, if it is requested, the summary,
-/// and the cells that are to be shown.
+/// Lets an image's machine go through a course, which may be the part before a step that stops the run, and writes the
+/// trace, if it is requested, the summary, and the cells that are to be shown.
 pub(crate) fn run_course<A: Allocator + Copy, W: ByteSink>(
     alloc: A,
     image: &Image,
     options: RunOptions,
     course: &Course<'_>,
+    stopped: bool,
     out: &mut W,
 ) -> Result<Status, Fault>
     requires { W.mark out.old ≡ false }
     ensures run { IfOk result (λ status. Writes
-        (λ text. IsRunOf options (ends_at_halt course.now) (events_in course.now) image.now
+        (λ text. IsRunTold options None stopped (ends_at_halt course.now) (events_in course.now) image.now
         text status)
         (W.taken out.old) (W.taken out.new)) }
     ensures faults { IfErr result IsRunFault }
     ensures front { W.mark out.new ≡ true → FrontOf
-        (IsPartOf options (ends_at_halt course.now) (events_in course.now) image.now)
+        (IsPartOf options stopped (ends_at_halt course.now) (events_in course.now) image.now)
         (W.taken out.old) (W.taken out.new) }
     ensures nothing { OnErr result (W.mark out.new ≡ false → options.trace ≡ false →
         W.taken out.new ≡ W.taken out.old) }
@@ -58,7 +60,8 @@ pub(crate) fn run_course<A: Allocator + Copy, W: ByteSink>(
     ensures marks { W.mark out.new ≡ fails_to_write result }
 {
     let mut world = World::load(alloc, image, options.start, &Start::zero(), options.profile);
-    let outcome = follow(&mut world, out, options.trace, course)?;
+    let ran = follow(&mut world, out, options.trace, course)?;
+    let outcome = told(stopped, &ran, &world);
     let text = summary_of(alloc, &outcome, &world, &options.show)?;
     put(out, &text)?;
     Ok(status_of(outcome.end))
@@ -109,7 +112,8 @@ pub fn run<A: Allocator + Copy, R: ByteSource, W: ByteSink>(
     ensures takes_tape { TakesTape (R.remaining tape.old) (R.remaining tape.new) }
 {
     let image = tape_from(tape)?;
-    run_course(alloc, &image, options, &Course::Rounds(options.rounds), out)
+    let course = Course::Rounds(options.rounds);
+    run_course(alloc, &image, options, &course, false, out)
 }
 
 /// Runs a tape by the events of a text in place of rounds, and writes as [`run`] does. The run ends
@@ -159,7 +163,7 @@ pub fn run_events<A: Allocator + Copy, R: ByteSource, E: ByteSource, W: ByteSink
 {
     let image = tape_from(tape)?;
     let list = events_from(alloc, text)?;
-    run_course(alloc, &image, options, &Course::Listed(&list), out)
+    run_course(alloc, &image, options, &Course::Listed(&list), false, out)
 }
 
 /// Writes a line for each word of a tape, in rising order of the addresses: the address, the word

@@ -11,8 +11,7 @@ ghost use Rattle.peripherals.specs.World.{view, profile_of};
 ghost use Rattle.command_parts.specs.declared.status.Fault.TheVariants.{Device};
 ghost use Rattle.command_parts.specs.declared.status.DeviceFault.TheVariants.{Read};
 ghost use Rattle.machine_commands.specs.Follows.{goes_on};
-ghost use Rattle.machine_commands.specs.Schedule.{Extent, ToStep, UpToAny, UpToRead, Whole};
-ghost use Rattle.machine_commands.specs.Session.{comes_by};
+ghost use Rattle.machine_commands.specs.Schedule.{Extent, ToStep, UpToAny, UpToRead};
 ghost use Rattle.machine_commands.specs.SessionParts.{IsNext, steps_in};
 
 use command_parts::status::Fault;
@@ -116,26 +115,4 @@ pub(crate) fn ends(seen: &Seen) -> bool
     ensures { result ≡ not (goes_on true seen.now) }
 {
     matches!(seen, Seen::Halted | Seen::Unsupported(_))
-}
-
-/// The events that come with an operator, each where it is due. They end early at a halt and at an
-/// unsupported word.
-pub(crate) fn events_of<A: Allocator, B: Allocator>(
-    alloc: A,
-    world: &mut World<B>,
-    operator: &mut Operator<'_>,
-) -> Result<Vec<Event, A>, NoMemory>
-    requires first { operator.old.last ≡ None }
-    ensures come { IfOk result (λ events.
-        comes_by (plan_of operator.old) (profile_of world.old) (view world.old) Whole events.items) }
-{
-    let mut events = Vec::new(alloc);
-    while let Some(event) = operator.next(world) {
-        let seen = world.apply(event)?;
-        keep(&mut events, &event)?;
-        if ends(&seen) {
-            return Ok(events);
-        }
-    }
-    Ok(events)
 }

@@ -7,12 +7,11 @@ ghost use Rattle.peripherals.specs.World.{view, profile_of};
 ghost use Rattle.command_parts.specs.declared.status.Fault.TheVariants.{NoMemory};
 ghost use Rattle.command_parts.specs.Faults.{is_fault_of_tape, fails_to_read, fails_to_write, IsRunFault, IsSessionFault};
 ghost use Rattle.command_parts.specs.Inputs.{AreFirst, HasCome, TakesAtMost, TakesTape, input};
-ghost use Rattle.machine_commands.specs.LastSession.{IsHeldTold, IsSessionTold};
 ghost use Rattle.machine_commands.specs.Schedule.{Whole};
 ghost use Rattle.machine_commands.specs.Session.{BrokeOff, FrontsOf, IsHeldFault, WritesAll, character, failures, taken};
 ghost use Rattle.machine_commands.specs.SessionParts.{Played, PlayedFront, is_step, steps_in};
-ghost use Rattle.machine_commands.specs.StoppedSession.{leaving, IsHeldToStop, NothingOrStoppedFronts, StoppedSessionFronts};
-ghost use Rattle.machine_commands.specs.StoppedParts.{IsPartToStop, OperatedToStop, Passes, unstopped};
+ghost use Rattle.machine_commands.specs.StoppedSession.{leaving, IsHeldToStop, IsPartToStop, IsSessionToStop, NothingOrStoppedFronts, StoppedSessionFronts};
+ghost use Rattle.machine_commands.specs.StoppedParts.{OperatedToStop, Passes, unstopped};
 
 use crate::follow::{End, RunOutcome, advance, end_of};
 use crate::interrupted::OperatorPresence;
@@ -253,8 +252,8 @@ fn run_reported<
     requires few { S.steps_to_come schedule.old < 18446744073709551616 }
     ensures run { IfOk result (λ status.
         WritesAll (λ text printed punched.
-        IsHeldToStop (S.brings schedule.old) options stops.now form.entry Whole (S.left schedule.new) image.now text printed
-        punched status)
+        IsHeldToStop (S.brings schedule.old) options stops.now None form.entry Whole (S.left schedule.new) image.now
+        text printed punched status)
         (taken (W.taken out.old.report) (T.taken out.old.teletype) (P.taken out.old.punch))
         (taken (W.taken out.new.report) (T.taken out.new.teletype) (P.taken out.new.punch))) }
     ensures front { OnErr result (FrontsOf
@@ -310,7 +309,7 @@ pub(crate) fn run_scheduled<
     requires few { S.steps_to_come schedule.old < 18446744073709551616 }
     ensures run { IfOk result (λ status.
         WritesAll (λ text printed punched.
-        IsHeldTold last (S.brings schedule.old) options stops.now form.entry (S.left schedule.new) image.now
+        IsHeldToStop (S.brings schedule.old) options stops.now last form.entry Whole (S.left schedule.new) image.now
         text printed punched status)
         (taken (W.taken out.old.report) (T.taken out.old.teletype) (P.taken out.old.punch))
         (taken (W.taken out.new.report) (T.taken out.new.teletype) (P.taken out.new.punch))) }
@@ -379,7 +378,7 @@ pub fn run_session<
     // What is written, typed and punched is that of the run of the events that come, up to the first step that stops
     // it, behind the lines of the last instructions where these are requested.
     ensures run { IfOk result (λ status.
-        WritesAll (IsSessionTold last options stops.now form.entry (R.remaining tape.old)
+        WritesAll (IsSessionToStop options stops.now last form.entry (R.remaining tape.old)
         (F.remaining reader.old) (K.remaining keys.old) status)
         (taken (W.taken out.old.report) (T.taken out.old.teletype) (P.taken out.old.punch))
         (taken (W.taken out.new.report) (T.taken out.new.teletype) (P.taken out.new.punch))) }

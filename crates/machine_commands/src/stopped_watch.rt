@@ -7,22 +7,22 @@ ghost use Rattle.peripherals.specs.Operator.{plan_of};
 ghost use Rattle.peripherals.specs.World.{profile_of, view};
 ghost use Rattle.command_parts.specs.Answers.{IsMemoryFault};
 ghost use Rattle.command_parts.specs.Messages.{plain};
-ghost use Rattle.machine_commands.specs.Continued.{came_by};
-ghost use Rattle.machine_commands.specs.Running.{fresh};
+ghost use Rattle.machine_commands.specs.Continued.{IsLine, IsToldOfRun, IsWatch, came_by};
 ghost use Rattle.machine_commands.specs.Session.{plan_for};
-ghost use Rattle.machine_commands.specs.StoppedWatch.{IsPlanToStop, IsWatch, IsWatchToStop};
+ghost use Rattle.machine_commands.specs.StoppedWatch.{IsPlanToStop, IsWatchToStop};
 
-use crate::continuing::continued_events_of;
+use crate::continuing::{continued_events_of, how_far_line};
 use crate::declared_run::{declared_cut, lines_before};
-use crate::messages::{RunMessage, watch_continued, watch_offered};
+use crate::messages::{RunMessage, watched_line, watched_status, why_of};
 use crate::progress::{AvailableInput, offered_by};
-use crate::schedule::events_of;
+use crate::shown_cells::shown_of;
 use bin_tape::Image;
 use command_parts::message::{Message, MessageWriter};
 use command_parts::options::{SessionOptions, Stops};
 use command_parts::status::Fault;
 use declaration::Declaration;
 use peripherals::{Event, NoMemory, Operator, Start, World};
+use policy::Watched;
 use std::alloc::Allocator;
 use wordset::WordSet;
 
@@ -39,8 +39,59 @@ pub struct WatchOptions<'s> {
     pub show: &'s WordSet,
 }
 
-/// What is told of the run of some events, by what there was to come. With a number of times that the operator may
-/// press CONTINUE it is told how far it went.
+/// The line of a watched run: what was seen; or, with a number of times that the operator may press CONTINUE, how far the
+/// run went, or the rule that is violated.
+fn line_of<A: Allocator + Copy, D: Allocator>(
+    alloc: A,
+    image: &Image,
+    declaration: &Declaration<D>,
+    events: &[Event],
+    watched: Watched,
+    continues: Option<u32>,
+) -> Result<Vec<u8, A>, NoMemory>
+    ensures { IfOk result (λ text. IsLine continues image.now (meaning declaration.now) events.now watched
+        text.items) }
+{
+    match continues {
+        None => Ok(watched_line(alloc, watched)?),
+        Some(times) => how_far_line(alloc, image, declaration, events, watched, times),
+    }
+}
+
+/// What is told of a watched run: its line, after it, if it is to be explained, how far the run came or what the step is
+/// about to do that violates a rule, and the cells that are to be shown.
+fn watched_lines<A: Allocator + Copy, D: Allocator>(
+    alloc: A,
+    image: &Image,
+    declaration: &Declaration<D>,
+    events: &[Event],
+    offered: AvailableInput,
+    watched: Watched,
+    continues: Option<u32>,
+    telling: &WatchOptions<'_>,
+) -> Result<Message<A>, NoMemory>
+    ensures { IfOk result (λ text. IsToldOfRun continues image.now (meaning declaration.now) events.now
+        watched telling.now.explained (words telling.now.show.now) (plain text)) }
+{
+    let (explained, show) = (telling.explained, telling.show);
+    let line = line_of(alloc, image, declaration, events, watched, continues)?;
+    let mut text = Message::of(alloc, line);
+    let why = why_of(
+        alloc,
+        image,
+        declaration,
+        events,
+        offered,
+        watched,
+        explained,
+    )?;
+    text.push_message(&why)?;
+    let shown = shown_of(alloc, image, declaration, events, watched, show)?;
+    text.push_text(&shown)?;
+    Ok(text)
+}
+
+/// What is told of the run of some events, by what there was to come.
 fn watch_of<A: Allocator + Copy, D: Allocator>(
     alloc: A,
     image: &Image,
@@ -55,20 +106,19 @@ fn watch_of<A: Allocator + Copy, D: Allocator>(
         (plain run.told)) }
     ensures faults { IfErr result IsMemoryFault }
 {
-    let (explained, show) = (telling.explained, telling.show);
-    match continues {
-        None => watch_offered(alloc, image, declaration, events, offered, explained, show),
-        Some(times) => watch_continued(
-            alloc,
-            image,
-            declaration,
-            events,
-            offered,
-            times,
-            explained,
-            show,
-        ),
-    }
+    let watched = policy::watch(alloc, image, declaration, &Start::zero(), events)?;
+    let told = watched_lines(
+        alloc,
+        image,
+        declaration,
+        events,
+        offered,
+        watched,
+        continues,
+        telling,
+    )?;
+    let status = watched_status(watched);
+    Ok(RunMessage { told, status })
 }
 
 /// What is told, with a text before it.
@@ -153,7 +203,7 @@ fn events_that_come<A: Allocator + Copy, B: Allocator, D: Allocator>(
         (meaning declaration.now) (view world.old) events.items) }
 {
     match continues {
-        None => events_of(alloc, world, operator),
+        None => continued_events_of(alloc, world, operator, declaration, 0),
         Some(times) => continued_events_of(alloc, world, operator, declaration, times),
     }
 }

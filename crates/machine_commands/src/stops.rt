@@ -3,7 +3,6 @@
 ghost use Rattle.std.specs.Prelude.{◌≡◌, ◌≤◌, ◌<◌, ◌+◌, ◌||◌, IfOk};
 ghost use Rattle.processor.specs.declared.fetch.DecodedInstruction.TheVariants.{Refers};
 ghost use Rattle.wordset.specs.Lanes.{words};
-ghost use Rattle.processor.specs.Fetch.{fetched};
 ghost use Rattle.processor.specs.Steps.{state_of};
 ghost use Rattle.peripherals.specs.World.{view, profile_of};
 ghost use Rattle.machine_commands.specs.Course.{ends_at_halt, events_in};

@@ -8,7 +8,7 @@ ghost use Rattle.peripherals.specs.World.{view};
 ghost use Rattle.command_parts.specs.LinkText.{link_text};
 ghost use Rattle.machine_commands.specs.Schedule.{Whole};
 ghost use Rattle.machine_commands.specs.Session.{character, leaves_open, parting, summary_where};
-ghost use Rattle.machine_commands.specs.Summary.{end_text, registers_text, state_line, byte_text, bytes_text, output_line, summary, cell_line, cells_below, cells_text, closing, closing_as, frames_word, printed_line, punched_line, saved_line, summary_as};
+ghost use Rattle.machine_commands.specs.Summary.{end_text, registers_text, state_line, byte_text, bytes_text, output_line, cell_line, cells_below, cells_text, closing, closing_as, frames_word, printed_line, punched_line, saved_line, summary_as};
 
 use crate::follow::{End, RunOutcome};
 use command_parts::options::SummaryForm;
@@ -116,20 +116,6 @@ fn push_output<A: Allocator>(
     text.extend_from_slice(b"\n")
 }
 
-/// Adds the summary of a run.
-fn push_summary<A: Allocator, B: Allocator>(
-    text: &mut Vec<u8, A>,
-    outcome: &RunOutcome,
-    world: &World<B>,
-) -> Result<(), AllocError>
-    ensures { OnOk result (text.new.items ≡ text.old.items
-        ++ summary outcome.now.end (view world.now) outcome.now.steps) }
-{
-    push_state(text, outcome, world)?;
-    push_output(text, b"PRINTED", world.printed())?;
-    push_output(text, b"PUNCHED", world.punched())
-}
-
 /// Adds the line of a cell, if it is to be shown.
 fn push_cell<A: Allocator>(
     text: &mut Vec<u8, A>,
@@ -182,35 +168,6 @@ pub(crate) fn push_shown<A: Allocator, B: Allocator>(
         ++ cells_text (words show.now) (view world.now)) }
 {
     push_cells(text, show, memory_of(world))
-}
-
-/// Adds the summary of a run, and after it the cells that are to be shown.
-pub(crate) fn push_closing<A: Allocator, B: Allocator>(
-    text: &mut Vec<u8, A>,
-    outcome: &RunOutcome,
-    world: &World<B>,
-    show: &WordSet,
-) -> Result<(), AllocError>
-    ensures { OnOk result (text.new.items ≡ text.old.items
-        ++ closing (words show.now) outcome.now.end (view world.now) outcome.now.steps) }
-{
-    push_summary(text, outcome, world)?;
-    push_shown(text, show, world)
-}
-
-/// The summary of a run, and after it the cells that are to be shown.
-pub fn summary_of<A: Allocator, B: Allocator>(
-    alloc: A,
-    outcome: &RunOutcome,
-    world: &World<B>,
-    show: &WordSet,
-) -> Result<Vec<u8, A>, AllocError>
-    ensures { IfOk result (λ text. text.items
-        ≡ closing (words show.now) outcome.now.end (view world.now) outcome.now.steps) }
-{
-    let mut text = Vec::new(alloc);
-    push_closing(&mut text, outcome, world, show)?;
-    Ok(text)
 }
 
 /// Whether bytes that were printed leave a line open: the last one is not a line feed.
@@ -300,8 +257,8 @@ fn push_printed<A: Allocator>(
     }
 }
 
-/// Adds the summary of a run with an operator.
-fn push_summary_as<A: Allocator, B: Allocator>(
+/// Adds the summary of a run in a form.
+fn push_summary<A: Allocator, B: Allocator>(
     text: &mut Vec<u8, A>,
     form: &SummaryForm<'_>,
     outcome: &RunOutcome,
@@ -315,8 +272,8 @@ fn push_summary_as<A: Allocator, B: Allocator>(
     push_punched(text, form.saved_in, world.punched())
 }
 
-/// Adds the summary of a run with an operator, and after it the cells that are to be shown.
-fn push_closing_as<A: Allocator, B: Allocator>(
+/// Adds the summary of a run in a form, and after it the cells that are to be shown.
+pub(crate) fn push_closing<A: Allocator, B: Allocator>(
     text: &mut Vec<u8, A>,
     form: &SummaryForm<'_>,
     outcome: &RunOutcome,
@@ -326,7 +283,7 @@ fn push_closing_as<A: Allocator, B: Allocator>(
     ensures { OnOk result (text.new.items ≡ text.old.items ++ closing_as form.now
         (words show.now) outcome.now.end (view world.now) outcome.now.steps) }
 {
-    push_summary_as(text, form, outcome, world)?;
+    push_summary(text, form, outcome, world)?;
     push_shown(text, show, world)
 }
 
@@ -344,6 +301,19 @@ pub(crate) fn closing_of<A: Allocator, B: Allocator>(
 {
     let mut text = Vec::new(alloc);
     text.extend_from_slice(parting(form.apart, world.printed()))?;
-    push_closing_as(&mut text, form, outcome, world, show)?;
+    push_closing(&mut text, form, outcome, world, show)?;
     Ok(text)
+}
+
+/// The summary of a run, and after it the cells that are to be shown.
+pub fn summary_of<A: Allocator, B: Allocator>(
+    alloc: A,
+    outcome: &RunOutcome,
+    world: &World<B>,
+    show: &WordSet,
+) -> Result<Vec<u8, A>, AllocError>
+    ensures { IfOk result (λ text. text.items
+        ≡ closing (words show.now) outcome.now.end (view world.now) outcome.now.steps) }
+{
+    closing_of(alloc, outcome, world, &SummaryForm::WHOLE, show)
 }

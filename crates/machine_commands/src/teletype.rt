@@ -3,9 +3,8 @@
 ghost use Rattle.std.specs.Prelude.{◌≡◌, ◌||◌, ◌⊎◌, false, true, None, IfOk, IfErr};
 ghost use Rattle.command_parts.specs.Faults.{is_fault_of_tape, fails_to_read, fails_to_write};
 ghost use Rattle.command_parts.specs.Inputs.{TakesTape, input};
-ghost use Rattle.machine_commands.specs.LastSession.{IsTypedTold};
 ghost use Rattle.machine_commands.specs.Session.{WritesAll, failures, taken};
-ghost use Rattle.machine_commands.specs.StoppedSession.{StoppedTypedFronts};
+ghost use Rattle.machine_commands.specs.StoppedSession.{IsTypedToStop, StoppedTypedFronts};
 ghost use Rattle.machine_commands.specs.Teletype.{IsTypedFault, run_of};
 
 use crate::interrupted::OperatorPresence;
@@ -70,7 +69,7 @@ pub fn teletype<
     // What is written, typed and punched is that of the run of the events that come, up to the first step that stops
     // it, behind the lines of the last instructions where these are requested.
     ensures run { IfOk result (λ status.
-        WritesAll (IsTypedTold last typist.old.options stops.now form.entry (K.left typist.new.keys) (R.remaining tape.old)
+        WritesAll (IsTypedToStop typist.old.options stops.now last form.entry (K.left typist.new.keys) (R.remaining tape.old)
         (F.remaining typist.old.reader) (K.remaining typist.old.keys) status)
         (taken (W.taken out.old.report) (T.taken out.old.teletype) (P.taken out.old.punch))
         (taken (W.taken out.new.report) (T.taken out.new.teletype) (P.taken out.new.punch))) }

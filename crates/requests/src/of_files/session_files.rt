@@ -6,7 +6,7 @@ use crate::files::open_input;
 use crate::replacing::ResultFile;
 use crate::standard_error::{NullSink, open_input_if, report_to, tell_to};
 use command_line::{Interrupt, Session, StopOptions, TeletypeSession};
-use command_parts::options::{Stops, SummaryForm};
+use command_parts::options::SummaryForm;
 use command_parts::status::{DeviceFault, Fault, Status};
 use command_parts::visible::visible_text;
 use either::Either;
@@ -17,8 +17,8 @@ use machine_commands::teletype::{Typist, teletype};
 use std::alloc::{AllocError, Global};
 use std::io::{self, Printer};
 use std::rt::Files;
-use streams::ByteSource;
 use streams::standard::{StdReader, StdWriter};
+use streams::{ByteSink, ByteSource};
 
 /// Where the punched bytes go: to a file, or nowhere.
 type Punch<'r, R> = Either<ResultFile<'r, R>, NullSink>;
@@ -94,11 +94,14 @@ fn form_with<'n>(form: SummaryForm<'_>, name: &'n Option<String>) -> SummaryForm
     }
 }
 
-/// Where a session is stopped, which is nowhere unless that is requested, and how many last instructions are shown.
-fn stops_of<'s>(stopping: &'s Option<StopOptions>, none: &'s Stops) -> (&'s Stops, Option<u32>) {
+/// Where a run is stopped and how many of its last instructions are shown: nowhere and none, unless it is requested.
+pub(crate) fn stops_of(stopping: &Option<StopOptions>) -> StopOptions {
     match stopping {
-        None => (none, None),
-        Some(stopping) => (&stopping.stops, stopping.last),
+        None => StopOptions {
+            stops: no_stops(),
+            last: None,
+        },
+        Some(stopping) => *stopping,
     }
 }
 
@@ -130,16 +133,15 @@ pub(crate) fn hold_session_on<R: Files + Input + Print + Eprint, S: ByteSource>(
     };
     let options = session.options;
     let out = &mut outputs;
-    let none = no_stops();
-    let (stops, last) = stops_of(&session.stopping, &none);
+    let stopping = stops_of(&session.stopping);
     let answer = run_session(
         alloc,
         frames,
         &mut reader,
         &mut keys,
         options,
-        stops,
-        last,
+        &stopping.stops,
+        stopping.last,
         form,
         out,
     );
@@ -222,8 +224,8 @@ pub(crate) fn hold_teletype_session_on<R: Files + Input + Print + Eprint, S: Byt
         punch: StdWriter::new(&mut punch),
     };
     let out = &mut outputs;
-    let none = no_stops();
-    let (stops, last) = stops_of(&session.stopping, &none);
+    let stopping = stops_of(&session.stopping);
+    let (stops, last) = (&stopping.stops, stopping.last);
     let answer = match key {
         None => {
             let mut typist = Typist::new(reader, keys, session.options);

@@ -3,21 +3,20 @@
 ghost use Rattle.std.specs.Prelude.{◌≡◌, false};
 
 use crate::files::{finish, open_input, open_output};
+use crate::of_files::session_files::stops_of;
 use crate::standard_error::open_input_if;
 use bin_tape::Image;
 use command_line::{DumpRequest, RunRequest, SourceRequest};
 use command_parts::inputs::{events_from, tape_from};
-use command_parts::options::Stops;
 use command_parts::status::{Fault, Status};
 use command_parts::text::push_place;
 use instruct::Profile;
 use machine_commands::follow::Course;
-use machine_commands::last::run_with_last;
 use machine_commands::long_trace::{
     MnemonicStatements, Statements, push_full_name, run_with_long_trace,
 };
 use machine_commands::running::{dump, run, run_events};
-use machine_commands::stopping::{no_stops, run_with_stops};
+use machine_commands::stopping::run_with_stops;
 use source_commands::sourcing::{declared_source, source};
 use std::alloc::{AllocError, Global};
 use std::io;
@@ -76,22 +75,6 @@ pub fn dump_from<R: Files + Input + Print>(
     dump(alloc, &mut frames, request.profile, &mut out)
 }
 
-/// The stops of a run.
-fn stops_of(request: &RunRequest<'_>) -> Stops {
-    match &request.stopping {
-        None => no_stops(),
-        Some(stopping) => stopping.stops,
-    }
-}
-
-/// How many of the last instructions of a run are shown, if that is requested.
-fn last_of(request: &RunRequest<'_>) -> Option<u32> {
-    match &request.stopping {
-        None => None,
-        Some(stopping) => stopping.last,
-    }
-}
-
 /// Runs the tape of these frames, in rounds or with the events of a file, until it is stopped, and shows its last
 /// instructions, or each of them in a long trace, as requested. The file of events is opened before the tape is read,
 /// and read after it.
@@ -116,17 +99,21 @@ fn run_to_stop<R: Files + Input + Print, S: ByteSource, N: Statements>(
         None => Course::Rounds(options.rounds),
         Some(events) => Course::Listed(events),
     };
-    let stops = stops_of(request);
+    let stopping = stops_of(&request.stopping);
+    let stops = &stopping.stops;
     let mut out = StdWriter::new(io::writer(rt));
     if request.long {
-        return run_with_long_trace(
-            alloc, &image, options, &stops, &course, statements, &mut out,
-        );
+        return run_with_long_trace(alloc, &image, options, stops, &course, statements, &mut out);
     }
-    match last_of(request) {
-        None => run_with_stops(alloc, &image, options, &stops, &course, &mut out),
-        Some(most) => run_with_last(alloc, &image, options, &stops, most, &course, &mut out),
-    }
+    run_with_stops(
+        alloc,
+        &image,
+        options,
+        stops,
+        stopping.last,
+        &course,
+        &mut out,
+    )
 }
 
 /// Runs the tape of these frames, in rounds or with the events of a file, and with stops if they are requested. A long

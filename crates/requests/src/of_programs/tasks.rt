@@ -2,6 +2,7 @@
 
 use crate::files::{finish, open_input, open_output};
 use crate::named_files::NamedFiles;
+use crate::of_files::session_files::stops_of;
 use crate::of_machine::places::{ResolvedPlaces, resolve_places};
 use crate::of_programs::open::OpenProgram;
 use crate::of_programs::searches::{run_declare, run_guess, run_refute};
@@ -22,7 +23,6 @@ use diagnostics::verdicts::messages::check_message;
 use machine_commands::stopped_watch::{
     WatchOptions, watch_message_to_stop, watch_session_message_to_stop,
 };
-use machine_commands::stopping::no_stops;
 use reports::reporting::{ReportForm, report_of};
 use search_commands::checking::verdict_of;
 use std::alloc::Global;
@@ -94,17 +94,6 @@ fn run_report<R: Files + Input + Print, I: Read + Drop>(
     let page = report_of(alloc, &certified, form, files.names(), notes);
     let status = deliver(page, &mut StdWriter::new(&mut file))?;
     finish(&mut file, status)
-}
-
-/// What stops a watched run: nothing, unless it is requested.
-fn stops_of(stopping: &Option<StopOptions>) -> StopOptions {
-    match stopping {
-        None => StopOptions {
-            stops: no_stops(),
-            last: None,
-        },
-        Some(stopping) => *stopping,
-    }
 }
 
 /// The options for watching a run.

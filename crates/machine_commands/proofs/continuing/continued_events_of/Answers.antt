@@ -1,13 +1,12 @@
 use Rattle.std.proofs.Common.{rules, ◌≡◌, ◌∙◌, Some, None, true, false, sym}
 use Rattle.peripherals.specs.Events.{Happens}
 use Rattle.peripherals.specs.Operator.{due, plan_of}
-use Rattle.peripherals.specs.World.{view, profile_of}
+use Rattle.peripherals.specs.World.{view}
 use Rattle.declaration.specs.DeclarationInCode.{meaning}
 use Rattle.machine_commands.specs.ContinuedParts.{HasPressed, HasStayed}
 use Rattle.machine_commands.specs.Follows.{goes_on}
 use Rattle.machine_commands.proofs.SessionLemmas.{fewer}
-use Rattle.machine_commands.proofs.WatchedSessionLemmas.{not_back}
-use Rattle.machine_commands.proofs.ContinuedLemmas.{on_none, on_more, on_last, on_pressed, on_all}
+use Rattle.machine_commands.proofs.ContinuedLemmas.{not_back, on_none, on_more, on_last, on_pressed, on_all}
 use Rattle.machine_commands.proofs.continuing.continued_events_of.Goals as goal
 
 pub loop-event-init : goal.loop-event-init

@@ -1,9 +1,8 @@
-use Rattle.std.proofs.Common.{rules, ◌≡◌, ◌∙◌, true, false, sym}
-use Rattle.peripherals.specs.Events.{Happens}
-use Rattle.peripherals.specs.World.{view, profile_of}
+use Rattle.std.proofs.Common.{◌∙◌, true, sym}
+use Rattle.peripherals.specs.World.{view}
 use Rattle.declaration.specs.DeclarationInCode.{meaning}
 use Rattle.machine_commands.specs.DeclaredRun.{is_continue}
-use Rattle.machine_commands.proofs.DeclaredLemmas.{few_steps, happens_declared, waits_declared, waits_line, waits_steps}
+use Rattle.machine_commands.proofs.DeclaredLemmas.{waits_declared, waits_line, waits_steps}
 use Rattle.machine_commands.proofs.declared_run.go.Goals as goal
 
 pub returns-then-waits-clause-happens : goal.returns-then-waits-clause-happens

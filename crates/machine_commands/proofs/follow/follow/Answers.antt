@@ -10,20 +10,9 @@ use Rattle.peripherals.specs.World.{view, profile_of}
 use Rattle.machine_commands.specs.Course.{ends_at_halt, events_in}
 use Rattle.machine_commands.specs.Follows.{counted, goes_on}
 use Rattle.machine_commands.specs.Trace.{trace_of, traced}
-use Rattle.machine_commands.proofs.FollowLemmas.{Came, came_all, came_more, came_into_line, came_to_fault, came_to_refusal, came_to_world, of_fault, came_to_halt, came_to_stuck}
+use Rattle.machine_commands.proofs.FollowLemmas.{Came, came_all, came_more, came_into_line, came_to_refusal, of_fault, came_to_halt, came_to_stuck}
 use Rattle.machine_commands.proofs.follow.follow.Goals.{in-Ran, in-Halted-2, in-NotEnabled, in-Changed}
 use Rattle.machine_commands.proofs.follow.follow.Goals as goal
-
-pub returns-in_err-advance-clause-front : goal.returns-in_err-advance-clause-front
-returns-in_err-advance-clause-front g c = λ marked.
-    let inv = c.loop-index.invariant in
-    let p = profile_of c.args.world.now in
-    let es = events_in c.args.course.now in
-    let within : c.loop-index.index < length es = search rules in
-    let happens : Happens p (view c.loop-index.world) c.event.result (view c.advance.new.world) = rw inv.profile at (c.advance.ensures.broke marked) in
-    let front : AppendsFront (g.W.ByteSink.taken c.loop-index.out) (g.W.ByteSink.taken c.advance.new.out) (trace_of p (view c.loop-index.world) c.event.result (view c.advance.new.world)) = rw inv.profile at (c.advance.ensures.front marked) in
-    came_to_fault p (ends_at_halt c.args.course.now) c.args.trace es c.loop-index.index c.event.result (view c.args.world.now) (view c.loop-index.world) (view c.advance.new.world) c.loop-index.steps _ _ _
-    inv.came within c.event.ensures (c.advance.ensures.asked marked) happens front
 
 pub returns-in_err-advance-clause-broke : goal.returns-in_err-advance-clause-broke
 returns-in_err-advance-clause-broke g c = λ marked.
@@ -42,16 +31,6 @@ returns-in_err-advance-clause-refused g c = of_fault c.from_residual.result (λ 
     let within : c.loop-index.index < length (events_in c.args.course.now) = search rules in
     came_to_refusal (profile_of c.args.world.now) (ends_at_halt c.args.course.now) c.args.trace (events_in c.args.course.now) c.loop-index.index c.event.result (view c.args.world.now) (view c.loop-index.world) (view c.advance.new.world) c.loop-index.steps _ _ _
     inv.came within c.event.ensures (c.in_err-advance.ensures.wants unmarked) (c.in_err-advance.ensures.unchanged unmarked) (c.in_err-advance.ensures.kept unmarked))
-
-pub returns-in_err-advance-clause-reached : goal.returns-in_err-advance-clause-reached
-returns-in_err-advance-clause-reached g c = of_fault c.from_residual.result (
-    let inv = c.loop-index.invariant in
-    let p = profile_of c.args.world.now in
-    let es = events_in c.args.course.now in
-    let within : c.loop-index.index < length es = search rules in
-    let happens : g.W.ByteSink.mark c.advance.new.out ≡ true → Happens p (view c.loop-index.world) c.event.result (view c.advance.new.world) = λ marked. rw inv.profile at (c.advance.ensures.broke marked) in
-    came_to_world p (ends_at_halt c.args.course.now) c.args.trace es c.loop-index.index c.event.result (view c.args.world.now) (view c.loop-index.world) (view c.advance.new.world) c.loop-index.steps _ _
-    (g.W.ByteSink.mark c.advance.new.out) inv.came within c.event.ensures happens c.in_err-advance.ensures.unchanged)
 
 pub returns-in-Halted-clause-ran : goal.returns-in-Halted-clause-ran
 returns-in-Halted-clause-ran g c =

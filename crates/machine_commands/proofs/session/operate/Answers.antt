@@ -6,9 +6,9 @@ use Rattle.peripherals.specs.World.{view, profile_of}
 use Rattle.machine_commands.specs.Schedule.{Extent, ToStep, UpToRead}
 use Rattle.machine_commands.specs.SessionParts.{IsNext, Played, PlayedFront, steps_in}
 use Rattle.machine_commands.specs.StoppedParts.{Passes}
-use Rattle.machine_commands.specs.Stops.{stops_before, visits_with}
+use Rattle.machine_commands.specs.Stops.{stops_before}
 use Rattle.machine_commands.proofs.SessionLemmas.{halted_is_step, or_left, or_right, ran_counts, ran_is_step}
-use Rattle.machine_commands.proofs.StoppedLemmas.{Unstopped, un_all, un_completed, un_more, un_none, un_still, un_to_fault, un_to_halt, un_to_stop, un_to_stuck, un_to_unread}
+use Rattle.machine_commands.proofs.StoppedLemmas.{un_all, un_completed, un_more, un_none, un_still, un_to_fault, un_to_halt, un_to_stop, un_to_stuck, un_to_unread}
 use Rattle.machine_commands.proofs.session.operate.Goals as goal
 
 pub loop-event-init : goal.loop-event-init

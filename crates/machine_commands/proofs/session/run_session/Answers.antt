@@ -3,10 +3,9 @@ use Rattle.std.proofs.lemmas.Result.{on_err_weaker}
 use Rattle.peripherals.specs.Operator.{Plan, plan_of}
 use Rattle.machine_commands.specs.Session.{plan_for}
 use Rattle.machine_commands.proofs.HeldLemmas.{held_no_tape, none_failed, not_read, session_faults}
-use Rattle.machine_commands.proofs.LastSessionLemmas.{session_told}
 use Rattle.machine_commands.proofs.RunLemmas.{tape_wants_none}
 use Rattle.machine_commands.proofs.SessionLemmas.{bytes_came, came_whole, of_failure, of_refusal}
-use Rattle.machine_commands.proofs.StoppedSessionLemmas.{stopped_session_fronts, stopped_session_or}
+use Rattle.machine_commands.proofs.StoppedSessionLemmas.{stopped_session_fronts, stopped_session_ok, stopped_session_or}
 use Rattle.machine_commands.proofs.session.run_session.Goals as goal
 
 pub run_scheduled-requires-clause-few : goal.run_scheduled-requires-clause-few
@@ -15,7 +14,7 @@ run_scheduled-requires-clause-few g c = rw (ap (λ (q : Plan). q.rounds) c.new-o
 pub returns-clause-run : goal.returns-clause-run
 returns-clause-run g c =
     let is : plan_of c.new-operator.result ≡ plan_for c.args.options c.in_ok-frames.frames.items c.in_ok-struck.struck.items = search rules in
-    session_told c.args.last c.args.options c.args.stops.now c.args.form _ _ _ c.in_ok-image.image c.in_ok-frames.frames.items c.in_ok-struck.struck.items c.new-operator.result c.run_scheduled.result _ _ c.in_ok-image.ensures.tape c.in_ok-frames.ensures.bytes c.in_ok-struck.ensures.bytes is c.new-operator.ensures.first c.run_scheduled.ensures.run
+    stopped_session_ok c.args.options c.args.stops.now c.args.last c.args.form _ _ _ c.in_ok-image.image c.in_ok-frames.frames.items c.in_ok-struck.struck.items c.new-operator.result c.run_scheduled.result _ _ c.in_ok-image.ensures.tape c.in_ok-frames.ensures.bytes c.in_ok-struck.ensures.bytes is c.new-operator.ensures.first c.run_scheduled.ensures.run
 
 pub returns-clause-faults : goal.returns-clause-faults
 returns-clause-faults g c = session_faults _ _ _ _ c.in_ok-image.image c.run_scheduled.result c.in_ok-image.ensures.tape c.run_scheduled.ensures.reads c.run_scheduled.ensures.faults

@@ -1,4 +1,3 @@
-use Rattle.std.proofs.Common.{rules}
 use Rattle.command_parts.specs.Messages.{plain}
 use Rattle.machine_commands.proofs.stopped_watch.told_to_stop.Goals as goal
 

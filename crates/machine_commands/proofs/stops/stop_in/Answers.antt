@@ -4,8 +4,8 @@ use Rattle.peripherals.specs.EventOutcomes.{seen_of}
 use Rattle.peripherals.specs.World.{view, profile_of}
 use Rattle.machine_commands.specs.Course.{ends_at_halt, events_in}
 use Rattle.machine_commands.specs.Follows.{goes_on}
-use Rattle.machine_commands.specs.Stops.{stops_before, visits_with}
-use Rattle.machine_commands.proofs.StopLemmas.{Passed, ended_here, never_stopped, passed_more, passed_none, stopped_here}
+use Rattle.machine_commands.specs.Stops.{stops_before}
+use Rattle.machine_commands.proofs.StopLemmas.{ended_here, never_stopped, passed_more, passed_none, stopped_here}
 use Rattle.machine_commands.proofs.stops.stop_in.Goals as goal
 
 pub loop-index-init : goal.loop-index-init

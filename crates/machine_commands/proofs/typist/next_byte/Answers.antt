@@ -1,5 +1,6 @@
 use Rattle.std.proofs.Common.{◌≡◌, ◌<◌, ◌∙◌, ◌||◌, true, length, arith}
-use Rattle.machine_commands.proofs.TypistLemmas.{byte_came, end_came, one_item, or_true}
+use Rattle.machine_commands.proofs.SessionLemmas.{or_true}
+use Rattle.machine_commands.proofs.TypistLemmas.{byte_came, end_came, one_item}
 use Rattle.machine_commands.proofs.typist.next_byte.Goals as goal
 
 pub returns-then-count-eq0-clause-none : goal.returns-then-count-eq0-clause-none

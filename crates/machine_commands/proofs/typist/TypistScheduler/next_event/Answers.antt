@@ -3,8 +3,8 @@ use Rattle.instruct.specs.declared.Profile.{Profile}
 use Rattle.peripherals.specs.World.{view}
 use Rattle.machine_commands.specs.Schedule.{UpToRead}
 use Rattle.machine_commands.specs.TypingParts.{Types, source}
-use Rattle.machine_commands.proofs.SessionLemmas.{or_left, or_right}
-use Rattle.machine_commands.proofs.TypistLemmas.{IsBrought, Less, brought_less, types_last, types_on, types_output, types_over, types_read, types_step}
+use Rattle.machine_commands.proofs.SessionLemmas.{Less, or_left, or_right}
+use Rattle.machine_commands.proofs.TypistLemmas.{IsBrought, brought_less, types_last, types_on, types_output, types_over, types_read, types_step}
 use Rattle.machine_commands.proofs.typist.TypistScheduler.next_event.Goals as goal
 
 pub due-requires : goal.due-requires

@@ -1,5 +1,5 @@
 use Rattle.std.proofs.Common.{refl, sym}
-use Rattle.policy.proofs.CallLemmas.{last_call, no_last_call}
+use Rattle.policy.proofs.CallLemmas.{last_call}
 use Rattle.machine_commands.proofs.violations.lines.last_call.Goals as goal
 
 pub returns-in-Some : goal.returns-in-Some

@@ -4,7 +4,7 @@ use Rattle.declaration.specs.DeclarationInCode.{meaning}
 use Rattle.machine_commands.specs.Running.{fresh}
 use Rattle.machine_commands.specs.WatchText.{IsSeen}
 use Rattle.machine_commands.proofs.WatchLemmas.{is_seen}
-use Rattle.machine_commands.proofs.messages.watch_offered.Goals as goal
+use Rattle.machine_commands.proofs.stopped_watch.watch_of.Goals as goal
 
 pub returns-clause-told : goal.returns-clause-told
 returns-clause-told g c =

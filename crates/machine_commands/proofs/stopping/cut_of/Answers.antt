@@ -3,7 +3,7 @@ use Rattle.machine_commands.specs.Course.{ends_at_halt, events_in}
 use Rattle.machine_commands.specs.Running.{fresh}
 use Rattle.machine_commands.specs.Stops.{StopsAfter}
 use Rattle.machine_commands.proofs.StoppingLemmas.{stop_step, stop_within}
-use Rattle.machine_commands.proofs.last.cut_of.Goals as goal
+use Rattle.machine_commands.proofs.stopping.cut_of.Goals as goal
 
 pub first-requires-clause-within : goal.first-requires-clause-within
 first-requires-clause-within g c =

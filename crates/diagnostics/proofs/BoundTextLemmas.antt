@@ -11,7 +11,7 @@ use Rattle.instruct.specs.declared.Operation.{Operation}
 use Rattle.bin_tape.specs.Image.{word_at}
 use Rattle.declaration.specs.Declaration.{Declaration}
 use Rattle.diagnostics.specs.BoundText.{AddsCell, AddsRanges, AddsSet, AreEnough, AreInOneBody, IsNextTest, IsPointer, IsTestOf, LosesBound, MayReferTo, NamesNoTest, NamesTest, SaysEnough, SaysLost, SaysPointer, SaysSufficient, SaysTest, all_ranges, behind, ends_computation, first_range, further_range, is_test, later_test, next_test, no_range, place_text, range_text, referred_to, some_ranges}
-use Rattle.diagnostics.proofs.ReasonLemmas.{joined, joined_three, joined_to_three}
+use Rattle.diagnostics.proofs.PieceLemmas.{joined, joined_three}
 
 -- Of no words all are enough.
 pub none_enough : (d : Declaration) (at word : ℕ) (set : Words) → set ≡ nothing → AreEnough d at word set
@@ -73,14 +73,12 @@ test_found image d at cell adding word (Some test) is adds body follows =
     record { adding = adding; word = word; is = is; adds = adds; body = body; follows = follows }
 
 -- The line on where the bound of a pointer was lost.
-pub bound_lost : (image : List (Option ℕ)) (d : Declaration) (cell from : ℕ) (old a b c e new why : List ℕ) → a ≡ old ++ (codes "the bound of " ++ octal_text cell)
-    → b ≡ a ++ place_text d image (codes " was lost at ") from → c ≡ b ++ codes ": " → e ≡ c ++ why → new ≡ e ++ codes "\n" → LosesBound image d cell old new
-bound_lost image d cell from old a b c e new why first second third fourth fifth = record {
+pub bound_lost : (image : List (Option ℕ)) (d : Declaration) (cell from : ℕ) (old mid more new why : List ℕ) → mid ≡ old ++ (codes "the bound of " ++ octal_text cell)
+    → more ≡ mid ++ place_text d image (codes " was lost at ") from → new ≡ more ++ why → LosesBound image d cell old new
+bound_lost image d cell from old mid more new why first second third = record {
   from = from;
-  rest = codes ": " ++ (why ++ codes "\n");
-  is =
-      joined_three old a b new (codes "the bound of " ++ octal_text cell) (place_text d image (codes " was lost at ") from) (codes ": " ++ (why ++ codes "\n")) first second
-      (joined_to_three b c e new (codes ": ") why (codes "\n") third fourth fifth);
+  rest = why;
+  is = joined_three old mid more new (codes "the bound of " ++ octal_text cell) (place_text d image (codes " was lost at ") from) why first second third;
 }
 
 -- The line on a skip that could show which words the pointer holds.
@@ -113,15 +111,15 @@ enough_said image d at cell word known found set old begun told ended new is eno
 }
 
 -- The lines on a pointer.
-pub pointer_said : (image : List (Option ℕ)) (d : Declaration) (at cell : ℕ) (known : Words) (old named begun told ended enough new : List ℕ) → IsPointer image d at cell
-    → named ≡ old ++ (codes "the pointer " ++ octal_text cell) → begun ≡ named ++ codes " may hold " → AddsSet known begun told → ended ≡ told ++ codes " there\n"
+pub pointer_said : (image : List (Option ℕ)) (d : Declaration) (at cell : ℕ) (known : Words) (old begun told ended enough new : List ℕ) → IsPointer image d at cell
+    → begun ≡ old ++ (codes "the pointer " ++ octal_text cell ++ codes " may hold ") → AddsSet known begun told → ended ≡ told ++ codes " there\n"
     → SaysSufficient image d at cell known ended enough → SaysLost image d cell enough new → SaysPointer image d at old new
-pointer_said image d at cell known old named begun told ended enough new pointer first second adds third sufficient lost = record {
+pointer_said image d at cell known old begun told ended enough new pointer first adds third sufficient lost = record {
   cell = cell;
   pointer = pointer;
   known = known;
   told = told;
-  set_is = subst (λ (t : List ℕ). AddsSet known t told) (joined old named begun (codes "the pointer " ++ octal_text cell) (codes " may hold ") first second) adds;
+  set_is = subst (λ (t : List ℕ). AddsSet known t told) first adds;
   enough = enough;
   enough_is = subst (λ (t : List ℕ). SaysSufficient image d at cell known t enough) third sufficient;
   lost_is = lost;

@@ -95,50 +95,6 @@ fn push_count<A: Allocator>(
     text.extend_from_slice(name)
 }
 
-/// Adds how many cells are in bodies.
-fn push_bodies<A: Allocator, D: Allocator>(
-    text: &mut Vec<u8, A>,
-    declaration: &Declaration<D>,
-) -> Result<(), AllocError>
-    ensures { OnOk result (text.new.items ≡ text.old.items
-        ++ counted (in_bodies (meaning declaration.now)) (codes " body cells, ")) }
-{
-    push_count(text, &cells_of_bodies(declaration), b" body cells, ")
-}
-
-/// Adds how many cells are variables.
-fn push_variables<A: Allocator, D: Allocator>(
-    text: &mut Vec<u8, A>,
-    declaration: &Declaration<D>,
-) -> Result<(), AllocError>
-    ensures { OnOk result (text.new.items ≡ text.old.items
-        ++ counted (meaning declaration.now).variable (codes " variable cells, ")) }
-{
-    push_count(text, declaration.variables(), b" variable cells, ")
-}
-
-/// Adds how many entries there are.
-fn push_entries<A: Allocator, D: Allocator>(
-    text: &mut Vec<u8, A>,
-    declaration: &Declaration<D>,
-) -> Result<(), AllocError>
-    ensures { OnOk result (text.new.items ≡ text.old.items
-        ++ counted (meaning declaration.now).entry (codes " entries, ")) }
-{
-    push_count(text, &entries_of(declaration), b" entries, ")
-}
-
-/// Adds how many declared halts there are.
-fn push_halts<A: Allocator, D: Allocator>(
-    text: &mut Vec<u8, A>,
-    declaration: &Declaration<D>,
-) -> Result<(), AllocError>
-    ensures { OnOk result (text.new.items ≡ text.old.items
-        ++ counted (is_halt (meaning declaration.now)) (codes " halts")) }
-{
-    push_count(text, &halts_of(declaration), b" halts")
-}
-
 /// Adds how many cells are in bodies, how many are variables, how many entries there are and how many
 /// declared halts.
 fn push_counts<A: Allocator, D: Allocator>(
@@ -150,10 +106,10 @@ fn push_counts<A: Allocator, D: Allocator>(
         ++ counted d.variable (codes " variable cells, ")
         ++ counted d.entry (codes " entries, ") ++ counted (is_halt d) (codes " halts")) }
 {
-    push_bodies(text, declaration)?;
-    push_variables(text, declaration)?;
-    push_entries(text, declaration)?;
-    push_halts(text, declaration)
+    push_count(text, &cells_of_bodies(declaration), b" body cells, ")?;
+    push_count(text, declaration.variables(), b" variable cells, ")?;
+    push_count(text, &entries_of(declaration), b" entries, ")?;
+    push_count(text, &halts_of(declaration), b" halts")
 }
 
 /// Adds how many cells may be read, where they are listed.
@@ -171,19 +127,6 @@ fn push_reads<A: Allocator, D: Allocator>(
     push_count(text, cells, b" read cells")
 }
 
-/// Adds a number of assertions.
-fn push_number_of_assertions<A: Allocator>(
-    text: &mut Vec<u8, A>,
-    count: usize,
-) -> Result<(), AllocError>
-    ensures { OnOk result (text.new.items ≡
-        text.old.items ++ (decimal count ++ codes " assertions")) }
-{
-    let mut digits = Buffer::new();
-    text.extend_from_slice(digits.format(count).as_bytes())?;
-    text.extend_from_slice(b" assertions")
-}
-
 /// Adds a number of assertions after a comma, if it is not 0.
 fn push_assertion_count<A: Allocator>(text: &mut Vec<u8, A>, count: usize) -> Result<(), AllocError>
     ensures { OnOk result (text.new.items ≡ text.old.items ++ assertions_text count) }
@@ -191,8 +134,10 @@ fn push_assertion_count<A: Allocator>(text: &mut Vec<u8, A>, count: usize) -> Re
     if count == 0 {
         return Ok(());
     }
+    let mut digits = Buffer::new();
     text.extend_from_slice(b", ")?;
-    push_number_of_assertions(text, count)
+    text.extend_from_slice(digits.format(count).as_bytes())?;
+    text.extend_from_slice(b" assertions")
 }
 
 /// Adds how many lines declare what is to hold, if some do.

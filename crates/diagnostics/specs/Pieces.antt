@@ -14,9 +14,9 @@ abbrev pub piece_text : Piece → List ℕ
 piece_text (piece.Text bytes) = bytes.now
 piece_text (piece.Address at) = octal_text at
 piece_text (piece.Advised at) = octal_text at
-piece_text (piece.Word word) = octal_text word
-piece_text (piece.Link link) = link_text link
-piece_text (piece.Number n) = decimal n
+piece_text (piece.Octal word) = octal_text word
+piece_text (piece.Digit link) = link_text link
+piece_text (piece.Decimal n) = decimal n
 piece_text (piece.Offset o) = offset_text o
 
 -- A text, and behind it pieces, one after another.

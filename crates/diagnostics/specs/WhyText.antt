@@ -1,6 +1,6 @@
 -- What `check --why` writes after the verdict: the word that violates the condition, what the condition requires, and why it
 -- fails. Of the rules of equations, by which certificates of versions 1 and 2 are judged, some of it reads otherwise.
-use Rattle.std.specs.Prelude.{ℕ, ◌≡◌, ◌+◌, ◌/◌, ◌%◌, ◌==◌, nat_lt, ◌&&◌, if◌then◌else◌, Bool, ◌++◌, codes, decimal, true, List, [], ◌∷◌, flat_map, length, min, false, Option, Some, None, is_some, IfSome, Result, Ok, Err}
+use Rattle.std.specs.Prelude.{ℕ, ◌≡◌, ◌+◌, ◌==◌, nat_lt, ◌&&◌, if◌then◌else◌, Bool, ◌++◌, codes, decimal, true, List, [], ◌∷◌, flat_map, length, min, false, Option, Some, None, is_some, IfSome, Result, Ok, Err}
 use Rattle.word12.specs.Words.{octal_text}
 use Rattle.wordset.specs.Words.{minus}
 use Rattle.instruct.specs.declared.Profile.{Profile}

@@ -4,7 +4,6 @@
 
 ghost use Rattle.std.specs.Prelude.{◌≡◌, ◌++◌, OnOk, IfSome};
 ghost use Rattle.wordset.specs.Lanes.{words};
-ghost use Rattle.bin_tape.specs.Image.{word_at};
 ghost use Rattle.declaration.specs.DeclarationInCode.{meaning};
 ghost use Rattle.diagnostics.specs.BoundText.{IsPointer, LosesBound, SaysBound, SaysLost, SaysSufficient, SaysTest, place_text, relation_line};
 
@@ -19,7 +18,8 @@ use crate::bounds::losses::{PrecisionLoss, loss_at, may_go_on, refers_to_memory}
 use crate::bounds::relations::{Relation, lost_relation};
 use crate::bounds::sets::push_set;
 use crate::bounds::sufficient::{sufficient_words, test_of_pointer};
-use crate::pieces::{Piece, push_around, push_pieces};
+use crate::pieces::Piece::{Address, Octal, Text};
+use crate::pieces::{push_around, push_pieces};
 use bin_tape::Image;
 use certificate::Certificate;
 use command_parts::message::{MessageWriter, push_text_and_address};
@@ -261,10 +261,7 @@ fn push_place<L: MessageWriter, D: Allocator, C: Allocator>(
     ensures { OnOk result (L.text text.new ≡
         L.text text.old ++ place_text (meaning case.now.declaration.now) case.now.image.now before.now at) }
 {
-    push_pieces(
-        text,
-        &[Piece::Text(before), Piece::Address(at), Piece::Text(b" ")],
-    )?;
+    push_pieces(text, &[Text(before), Address(at), Text(b" ")])?;
     match case.image.get(at) {
         Some(word) => text.push_text(name(word, case.declaration.profile()).as_str().as_bytes()),
         None => Ok(()),
@@ -285,12 +282,12 @@ fn push_relation<L: MessageWriter, D: Allocator, C: Allocator>(
     push_pieces(
         text,
         &[
-            Piece::Text(b"the word in "),
-            Piece::Address(pointer),
-            Piece::Text(b" is the word in "),
-            Piece::Address(relation.cell),
-            Piece::Text(b" plus "),
-            Piece::Word(relation.more),
+            Text(b"the word in "),
+            Address(pointer),
+            Text(b" is the word in "),
+            Address(relation.cell),
+            Text(b" plus "),
+            Octal(relation.more),
         ],
     )?;
     push_place(text, case, b"; this is known up to ", at)?;
@@ -309,12 +306,5 @@ fn push_loss<L: MessageWriter, D: Allocator, C: Allocator>(
 {
     push_text_and_address(text, b"the bound of ", pointer)?;
     push_place(text, case, b" was lost at ", lost.from)?;
-    push_pieces(
-        text,
-        &[
-            Piece::Text(b": "),
-            Piece::Text(lost.loss.told()),
-            Piece::Text(b"\n"),
-        ],
-    )
+    push_pieces(text, &[Text(b": "), Text(lost.loss.told()), Text(b"\n")])
 }

@@ -17,12 +17,12 @@ pub(crate) enum Piece<'a> {
     Address(Word),
     /// An address within a line of a declaration that is advised.
     Advised(Word),
-    /// A word that is not an address.
-    Word(Word),
+    /// A word that is not an address, in four octal digits.
+    Octal(Word),
     /// A link, as a digit.
-    Link(Link),
+    Digit(Link),
     /// A number in decimal digits.
-    Number(usize),
+    Decimal(usize),
     /// An offset in octal digits.
     Offset(usize),
 }
@@ -53,9 +53,9 @@ fn push_piece<L: MessageWriter>(text: &mut L, piece: &Piece<'_>) -> Result<(), A
         Piece::Text(bytes) => text.push_text(bytes),
         Piece::Address(at) => text.push_address(*at),
         Piece::Advised(at) => text.push_advised_address(*at),
-        Piece::Word(word) => text.push_text(&word.to_octal()),
-        Piece::Link(link) => text.push_text(if link.is_set() { b"1" } else { b"0" }),
-        Piece::Number(number) => push_number(text, *number),
+        Piece::Octal(word) => text.push_text(&word.to_octal()),
+        Piece::Digit(link) => text.push_text(if link.is_set() { b"1" } else { b"0" }),
+        Piece::Decimal(number) => push_number(text, *number),
         Piece::Offset(offset) => push_offset(text, *offset),
     }
 }

@@ -11,7 +11,8 @@ ghost use Rattle.declaration.specs.DeclarationInCode.{meaning, routine_of};
 ghost use Rattle.diagnostics.specs.OmissionText.{IsHalt, IsOmitted, IsViolation, Means, SaysOmissions, SaysRemedy, Stores, act_text, lack_text, omission_line, remedy_line, remedy_text, stuck_line};
 ghost use Rattle.diagnostics.specs.Pieces.{around};
 
-use crate::pieces::{Piece, push_pieces};
+use crate::pieces::Piece::{Advised, Text};
+use crate::pieces::push_pieces;
 use bin_tape::Image;
 use command_parts::message::{MessageWriter, push_text_and_address};
 use declaration::{Declaration, Owner};
@@ -324,14 +325,7 @@ fn push_advice<L: MessageWriter>(
     ensures { OnOk result
         (L.text text.new ≡ L.text text.old ++ around before.now place after.now) }
 {
-    push_pieces(
-        text,
-        &[
-            Piece::Text(before),
-            Piece::Advised(place),
-            Piece::Text(after),
-        ],
-    )
+    push_pieces(text, &[Text(before), Advised(place), Text(after)])
 }
 
 /// Adds what the instruction at an address does.
@@ -428,33 +422,31 @@ fn push_remedy<L: MessageWriter>(
         Omission::Halts => push_pieces(
             text,
             &[
-                Piece::Text(b"add `stop "),
-                Piece::Advised(at),
-                Piece::Text(b"`, or `pause "),
-                Piece::Advised(at),
-                Piece::Text(b"` if the operator may continue"),
+                Text(b"add `stop "),
+                Advised(at),
+                Text(b"`, or `pause "),
+                Advised(at),
+                Text(b"` if the operator may continue"),
             ],
         ),
         Omission::GoesOn(_) => push_pieces(
             text,
             &[
-                Piece::Text(
-                    b"if this is intended, add that address to the body, or declare `stop ",
-                ),
-                Piece::Advised(at),
-                Piece::Text(b"` in place of `pause "),
-                Piece::Advised(at),
-                Piece::Text(b"`"),
+                Text(b"if this is intended, add that address to the body, or declare `stop "),
+                Advised(at),
+                Text(b"` in place of `pause "),
+                Advised(at),
+                Text(b"`"),
             ],
         ),
         Omission::GoesAcross(_) => push_pieces(
             text,
             &[
-                Piece::Text(b"declare `stop "),
-                Piece::Advised(at),
-                Piece::Text(b"` in place of `pause "),
-                Piece::Advised(at),
-                Piece::Text(b"`"),
+                Text(b"declare `stop "),
+                Advised(at),
+                Text(b"` in place of `pause "),
+                Advised(at),
+                Text(b"`"),
             ],
         ),
     }

@@ -3,7 +3,7 @@
 ghost use Rattle.std.specs.Prelude.{◌≡◌, ◌++◌, codes, OnOk};
 ghost use Rattle.diagnostics.specs.CheckText.{condition_text};
 ghost use Rattle.diagnostics.specs.Pieces.{around};
-ghost use Rattle.diagnostics.specs.WhyText.{asked_by, reason_line, reason_text, which_text, why_text, word_shown};
+ghost use Rattle.diagnostics.specs.WhyText.{asked_by, reason_line, reason_text, why_text, word_shown};
 
 mod asked;
 mod landing;
@@ -11,7 +11,8 @@ mod marks;
 mod sums;
 mod violation;
 
-use crate::pieces::{Piece, push_around, push_pieces};
+use crate::pieces::Piece::{Decimal, Offset, Text};
+use crate::pieces::{push_around, push_pieces};
 use crate::verdicts::reason_context::ReasonContext;
 use crate::verdicts::reason_text::asked::asked_of;
 use crate::verdicts::reason_text::landing::push_start;
@@ -59,8 +60,8 @@ fn push_reason<L: MessageWriter>(
         Reason::OffsetInMain(_, offset) => push_pieces(
             text,
             &[
-                Piece::Text(b"the fact is in main's body but has the offset "),
-                Piece::Offset(*offset),
+                Text(b"the fact is in main's body but has the offset "),
+                Offset(*offset),
             ],
         ),
         Reason::SitesInMain(_) => text.push_text(b"the fact is in main's body but has sites"),
@@ -73,7 +74,7 @@ fn push_reason<L: MessageWriter>(
         ),
         Reason::TooManyWords(_, count) => push_pieces(
             text,
-            &[Piece::Number(*count), Piece::Text(b" words are possible")],
+            &[Decimal(*count), Text(b" words are possible")],
         ),
         Reason::ByWord(_, _, breach) => push_violation(text, rules, breach),
         Reason::ExitDeniesAssertion(offset, index, subject, word) => {

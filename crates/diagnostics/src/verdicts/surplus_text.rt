@@ -4,6 +4,7 @@ ghost use Rattle.std.specs.Prelude.{◌<◌, IfOk};
 ghost use Rattle.command_parts.specs.Messages.{plain};
 ghost use Rattle.diagnostics.specs.WhyText.{IsOnlyAfterYes};
 
+use crate::pieces::Piece::{Address, Octal, Offset, Text};
 use crate::pieces::{Piece, push_pieces};
 use bin_tape::Image;
 use certificate::Certificate;
@@ -111,9 +112,9 @@ impl SetKind {
     /// One of the words, as a piece of a text.
     fn piece(self, word: Word) -> Piece<'static> {
         match self {
-            SetKind::Addresses => Piece::Address(word),
-            SetKind::Words => Piece::Word(word),
-            SetKind::Offsets => Piece::Offset(word.index()),
+            SetKind::Addresses => Address(word),
+            SetKind::Words => Octal(word),
+            SetKind::Offsets => Offset(word.index()),
         }
     }
 }
@@ -125,9 +126,9 @@ fn push_ranges<L: MessageWriter>(
     set: &WordSet,
 ) -> Result<(), AllocError> {
     for (first, last) in set.ranges() {
-        push_pieces(text, &[Piece::Text(b" "), kind.piece(first)])?;
+        push_pieces(text, &[Text(b" "), kind.piece(first)])?;
         if last != first {
-            push_pieces(text, &[Piece::Text(b"-"), kind.piece(last)])?;
+            push_pieces(text, &[Text(b"-"), kind.piece(last)])?;
         }
     }
     Ok(())
@@ -142,7 +143,7 @@ pub fn push_cells<L: MessageWriter>(
     if cells.is_empty() {
         return Ok(());
     }
-    push_pieces(text, &[Piece::Text(name), Piece::Text(b":")])?;
+    push_pieces(text, &[Text(name), Text(b":")])?;
     push_ranges(text, SetKind::Addresses, cells)?;
     text.push_text(b"\n")
 }
@@ -159,11 +160,7 @@ pub fn push_routine_offsets<L: MessageWriter>(
     }
     push_pieces(
         text,
-        &[
-            Piece::Text(name),
-            Piece::Address(entry),
-            Piece::Text(b" never returns:"),
-        ],
+        &[Text(name), Address(entry), Text(b" never returns:")],
     )?;
     push_ranges(text, SetKind::Offsets, offsets)?;
     text.push_text(b"\n")
@@ -287,10 +284,10 @@ fn push_returns<L: MessageWriter, D: Allocator, C: Allocator>(
         push_pieces(
             text,
             &[
-                Piece::Text(b"The routine "),
-                Piece::Address(entry),
-                Piece::Text(b" returns with offset "),
-                Piece::Offset(offset),
+                Text(b"The routine "),
+                Address(entry),
+                Text(b" returns with offset "),
+                Offset(offset),
             ],
         )?;
         push_accumulator(text, &accumulator)?;

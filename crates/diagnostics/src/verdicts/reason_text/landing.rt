@@ -1,10 +1,11 @@
 //! Why a run does not land, and what is possible where it does not.
 
-ghost use Rattle.std.specs.Prelude.{◌≡◌, ◌++◌, codes, OnOk};
+ghost use Rattle.std.specs.Prelude.{◌≡◌, ◌++◌, OnOk};
 ghost use Rattle.domain.specs.LocationsInCode.{location_of};
 ghost use Rattle.diagnostics.specs.WhyText.{exit_text, gap_text, is_equation, landing_text, name_may_hold, possible_text, start_text, told_gap};
 
-use crate::pieces::{Piece, push_pieces};
+use crate::pieces::Piece::{Address, Digit, Octal, Offset, Text};
+use crate::pieces::push_pieces;
 use crate::verdicts::reason_text::sums::{push_sum_may_be, push_told};
 use command_parts::message::{MessageWriter, push_text_and_address, push_text_and_word};
 use domain::Location;
@@ -19,10 +20,7 @@ fn push_gap<L: MessageWriter>(text: &mut L, gap: &Counterexample) -> Result<(), 
     match gap {
         Counterexample::Accumulator(word) => push_text_and_word(text, b"AC may be ", *word),
         Counterexample::Mq(word) => push_text_and_word(text, b"MQ may be ", *word),
-        Counterexample::Link(link) => push_pieces(
-            text,
-            &[Piece::Text(b"the link may be "), Piece::Link(*link)],
-        ),
+        Counterexample::Link(link) => push_pieces(text, &[Text(b"the link may be "), Digit(*link)]),
         Counterexample::Site(site) => push_text_and_address(
             text,
             b"the routine may have been called from ",
@@ -31,8 +29,8 @@ fn push_gap<L: MessageWriter>(text: &mut L, gap: &Counterexample) -> Result<(), 
         Counterexample::Offset(offset) => push_pieces(
             text,
             &[
-                Piece::Text(b"the return word may be the return address plus "),
-                Piece::Offset(*offset),
+                Text(b"the return word may be the return address plus "),
+                Offset(*offset),
             ],
         ),
         Counterexample::Cell(cell, word) => push_may_hold(text, &Location::Cell(*cell), *word),
@@ -41,14 +39,14 @@ fn push_gap<L: MessageWriter>(text: &mut L, gap: &Counterexample) -> Result<(), 
         Counterexample::Chain(cell, word, ac, link) => push_pieces(
             text,
             &[
-                Piece::Text(b"while the cell "),
-                Piece::Address(*cell),
-                Piece::Text(b" holds "),
-                Piece::Word(*word),
-                Piece::Text(b", AC may be "),
-                Piece::Word(*ac),
-                Piece::Text(b" with the link "),
-                Piece::Link(*link),
+                Text(b"while the cell "),
+                Address(*cell),
+                Text(b" holds "),
+                Octal(*word),
+                Text(b", AC may be "),
+                Octal(*ac),
+                Text(b" with the link "),
+                Digit(*link),
             ],
         ),
     }
@@ -71,19 +69,12 @@ fn push_excluded<L: MessageWriter>(
     ensures { OnOk result (L.text text.new ≡ L.text text.old ++ told_gap one.now gap.now) }
 {
     if is_equation(gap) {
-        push_pieces(text, &[Piece::Text(one), Piece::Text(b" requires ")])?;
+        push_pieces(text, &[Text(one), Text(b" requires ")])?;
         push_gap(text, gap)?;
         return text.push_text(b", and this may be false");
     }
     push_gap(text, gap)?;
-    push_pieces(
-        text,
-        &[
-            Piece::Text(b", which "),
-            Piece::Text(one),
-            Piece::Text(b" excludes"),
-        ],
-    )
+    push_pieces(text, &[Text(b", which "), Text(one), Text(b" excludes")])
 }
 
 /// Adds a word that a name may hold.
@@ -100,10 +91,10 @@ fn push_may_hold<L: MessageWriter>(
         Location::Cell(cell) => push_pieces(
             text,
             &[
-                Piece::Text(b"the cell "),
-                Piece::Address(*cell),
-                Piece::Text(b" may hold "),
-                Piece::Word(word),
+                Text(b"the cell "),
+                Address(*cell),
+                Text(b" may hold "),
+                Octal(word),
             ],
         ),
     }
@@ -123,41 +114,23 @@ fn push_possible<L: MessageWriter>(
         LandingFailure::NoFact | LandingFailure::OtherBody => text.push_text(b""),
         LandingFailure::Excluded(gap) => push_excluded(text, gap, one),
         LandingFailure::ExcludedUnder(link, gap) => {
-            push_pieces(
-                text,
-                &[
-                    Piece::Text(b"if the link is "),
-                    Piece::Link(*link),
-                    Piece::Text(b", "),
-                ],
-            )?;
+            push_pieces(text, &[Text(b"if the link is "), Digit(*link), Text(b", ")])?;
             push_excluded(text, gap, one)
         }
         LandingFailure::NotTaken(link, name, word) => {
-            push_pieces(
-                text,
-                &[
-                    Piece::Text(b"if the link is "),
-                    Piece::Link(*link),
-                    Piece::Text(b", "),
-                ],
-            )?;
+            push_pieces(text, &[Text(b"if the link is "), Digit(*link), Text(b", ")])?;
             push_may_hold(text, name, *word)?;
             push_pieces(
                 text,
-                &[
-                    Piece::Text(b", which none of "),
-                    Piece::Text(all),
-                    Piece::Text(b" allows"),
-                ],
+                &[Text(b", which none of "), Text(all), Text(b" allows")],
             )
         }
         LandingFailure::NotEntailed => push_pieces(
             text,
             &[
-                Piece::Text(b"none of "),
-                Piece::Text(all),
-                Piece::Text(b" allows all that is possible"),
+                Text(b"none of "),
+                Text(all),
+                Text(b" allows all that is possible"),
             ],
         ),
     }

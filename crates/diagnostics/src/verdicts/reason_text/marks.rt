@@ -3,7 +3,8 @@
 ghost use Rattle.std.specs.Prelude.{◌≡◌, ◌++◌, OnOk};
 ghost use Rattle.diagnostics.specs.WhyText.{mark_text, marks_text, told_mark, which_text};
 
-use crate::pieces::{Piece, push_pieces};
+use crate::pieces::Piece::{Address, Decimal, Octal, Text};
+use crate::pieces::push_pieces;
 use crate::verdicts::reason_context::{Distinction, ReasonContext};
 use command_parts::message::{MessageWriter, push_text_and_address, push_text_and_word};
 use std::alloc::AllocError;
@@ -23,12 +24,7 @@ fn push_mark<L: MessageWriter>(text: &mut L, mark: &Distinction) -> Result<(), A
         Distinction::Accumulator(word) => push_text_and_word(text, b", AC = ", *word),
         Distinction::Cell(cell, word) => push_pieces(
             text,
-            &[
-                Piece::Text(b", ["),
-                Piece::Address(*cell),
-                Piece::Text(b"] = "),
-                Piece::Word(*word),
-            ],
+            &[Text(b", ["), Address(*cell), Text(b"] = "), Octal(*word)],
         ),
     }
 }
@@ -74,11 +70,11 @@ pub fn push_which<L: MessageWriter>(
     push_pieces(
         text,
         &[
-            Piece::Text(b"fact "),
-            Piece::Number(index.saturating_add(1)),
-            Piece::Text(b" of "),
-            Piece::Number(telling.count),
-            Piece::Text(b" at this address"),
+            Text(b"fact "),
+            Decimal(index.saturating_add(1)),
+            Text(b" of "),
+            Decimal(telling.count),
+            Text(b" at this address"),
         ],
     )?;
     push_marks(text, telling)?;

@@ -5,7 +5,8 @@ ghost use Rattle.domain.specs.LocationsInCode.{location_of};
 ghost use Rattle.domain.specs.InCode.{sum_of, summand_of, term_of};
 ghost use Rattle.diagnostics.specs.WhyText.{added_text, coefficient_text, difference_may_be, equation_text, further_text, is_minus, more_text, name_text, sum_is, sum_may_be, sum_text, summand_text, term_text, word_told};
 
-use crate::pieces::{Piece, push_around, push_pieces};
+use crate::pieces::Piece::{Octal, Text};
+use crate::pieces::{push_around, push_pieces};
 use command_parts::message::{MessageWriter, push_text_and_word};
 use domain::{Location, Sum, Summand, Term, negated};
 use std::alloc::AllocError;
@@ -68,14 +69,7 @@ fn push_coefficient<L: MessageWriter>(
     if coefficient.index() == 4095 {
         return text.push_text(if first { b"-" } else { b" - " });
     }
-    push_pieces(
-        text,
-        &[
-            Piece::Text(plus(first)),
-            Piece::Word(coefficient),
-            Piece::Text(b" * "),
-        ],
-    )
+    push_pieces(text, &[Text(plus(first)), Octal(coefficient), Text(b" * ")])
 }
 
 /// Adds a term with what comes before it.
@@ -135,19 +129,15 @@ fn push_more<L: MessageWriter>(text: &mut L, word: Word) -> Result<(), AllocErro
     if word.index() < 2048 {
         return push_pieces(
             text,
-            &[
-                Piece::Text(b" may be "),
-                Piece::Word(word),
-                Piece::Text(b" more than "),
-            ],
+            &[Text(b" may be "), Octal(word), Text(b" more than ")],
         );
     }
     push_pieces(
         text,
         &[
-            Piece::Text(b" may be "),
-            Piece::Word(negated(word)),
-            Piece::Text(b" less than "),
+            Text(b" may be "),
+            Octal(negated(word)),
+            Text(b" less than "),
         ],
     )
 }

@@ -4,7 +4,8 @@ ghost use Rattle.std.specs.Prelude.{◌≡◌, ◌++◌, codes, OnOk};
 ghost use Rattle.diagnostics.specs.Pieces.{around};
 ghost use Rattle.diagnostics.specs.WhyText.{breach_text, call_text, counting_text, denied_text, exit_line, return_text, subject_text, subject_word, too_high_text, undeclared_text};
 
-use crate::pieces::{Piece, push_around, push_pieces};
+use crate::pieces::Piece::{Address, Advised, Decimal, Octal, Offset, Text};
+use crate::pieces::{push_around, push_pieces};
 use crate::verdicts::reason_text::landing::{push_exit, push_landing};
 use command_parts::message::{MessageWriter, push_text_and_address};
 use declaration::Subject;
@@ -35,13 +36,13 @@ pub fn push_exit_line<L: MessageWriter>(
         L.text text.old ++ exit_line rules.now offset between.now index) }
 {
     match rules {
-        Rules::OfEquations => push_pieces(text, &[Piece::Offset(offset)]),
+        Rules::OfEquations => push_pieces(text, &[Offset(offset)]),
         Rules::OfSums => push_pieces(
             text,
             &[
-                Piece::Offset(offset),
-                Piece::Text(between),
-                Piece::Number(index.saturating_add(1)),
+                Offset(offset),
+                Text(between),
+                Decimal(index.saturating_add(1)),
             ],
         ),
     }
@@ -61,10 +62,10 @@ fn push_call<L: MessageWriter>(
         CallViolation::NotLower(rank, own) => push_pieces(
             text,
             &[
-                Piece::Text(b", whose rank "),
-                Piece::Number(*rank),
-                Piece::Text(b" is not below the caller's rank "),
-                Piece::Number(*own),
+                Text(b", whose rank "),
+                Decimal(*rank),
+                Text(b" is not below the caller's rank "),
+                Decimal(*own),
             ],
         ),
         CallViolation::Writes(cell) => push_around(
@@ -108,11 +109,11 @@ fn push_undeclared<L: MessageWriter>(
     push_pieces(
         text,
         &[
-            Piece::Text(b", which is not declared: add `skips "),
-            Piece::Advised(entry),
-            Piece::Text(b" "),
-            Piece::Offset(offset),
-            Piece::Text(b"`"),
+            Text(b", which is not declared: add `skips "),
+            Advised(entry),
+            Text(b" "),
+            Offset(offset),
+            Text(b"`"),
         ],
     )
 }
@@ -130,17 +131,11 @@ fn push_return<L: MessageWriter>(
             b", which is not the entry of its own routine",
         ),
         ReturnViolation::NotDeclared(offset) => {
-            push_pieces(
-                text,
-                &[Piece::Text(b" with offset "), Piece::Offset(*offset)],
-            )?;
+            push_pieces(text, &[Text(b" with offset "), Offset(*offset)])?;
             push_undeclared(text, entry, *offset)
         }
         ReturnViolation::NotAllowed(offset, landing) => {
-            push_pieces(
-                text,
-                &[Piece::Text(b" with offset "), Piece::Offset(*offset)],
-            )?;
+            push_pieces(text, &[Text(b" with offset "), Offset(*offset)])?;
             push_exit(text, landing)
         }
     }
@@ -195,11 +190,7 @@ pub fn push_denied<L: MessageWriter>(
     push_subject_word(text, subject, word)?;
     push_pieces(
         text,
-        &[
-            Piece::Text(b", which a `"),
-            Piece::Text(line),
-            Piece::Text(b"` line excludes"),
-        ],
+        &[Text(b", which a `"), Text(line), Text(b"` line excludes")],
     )
 }
 
@@ -233,23 +224,23 @@ pub fn push_violation<L: MessageWriter>(
         Violation::StoresInOwn(entry) => push_pieces(
             text,
             &[
-                Piece::Text(b"it may write "),
-                Piece::Address(*entry),
-                Piece::Text(b", the routine's own entry: add `moves "),
-                Piece::Advised(*entry),
-                Piece::Text(b"`"),
+                Text(b"it may write "),
+                Address(*entry),
+                Text(b", the routine's own entry: add `moves "),
+                Advised(*entry),
+                Text(b"`"),
             ],
         ),
         Violation::MovesTooFar(entry, word, site) => push_pieces(
             text,
             &[
-                Piece::Text(b"it may store the word "),
-                Piece::Word(*word),
-                Piece::Text(b" in "),
-                Piece::Address(*entry),
-                Piece::Text(b", but the word there must be the return address of the call at "),
-                Piece::Address(*site),
-                Piece::Text(b" plus 0 to 77"),
+                Text(b"it may store the word "),
+                Octal(*word),
+                Text(b" in "),
+                Address(*entry),
+                Text(b", but the word there must be the return address of the call at "),
+                Address(*site),
+                Text(b" plus 0 to 77"),
             ],
         ),
         Violation::WritesUnlisted(cell) => {
@@ -272,11 +263,11 @@ pub fn push_violation<L: MessageWriter>(
         Violation::JumpsToMain(at) => push_pieces(
             text,
             &[
-                Piece::Text(b"the run may continue at "),
-                Piece::Address(*at),
-                Piece::Text(b", which is in main's body: add `abandon "),
-                Piece::Advised(*at),
-                Piece::Text(b"`"),
+                Text(b"the run may continue at "),
+                Address(*at),
+                Text(b", which is in main's body: add `abandon "),
+                Advised(*at),
+                Text(b"`"),
             ],
         ),
         Violation::ReadsUnlisted(cell) => push_around(

@@ -100,7 +100,8 @@ struct LoopState {
 
 /// A walk through a loop, from its head and back to it.
 #[derive(Drop)]
-struct LoopTraversal<A: Allocator> {
+struct LoopTraversal<'x, A: Allocator, D: Allocator, C: Allocator> {
+    case: &'x Case<'x, D, Certificate<C>>,
     relation: Relation,
     head: Word,
     stands: Vec<LoopState, A>,
@@ -110,7 +111,7 @@ struct LoopTraversal<A: Allocator> {
     lost_at: Option<Word>,
 }
 
-impl<A: Allocator> LoopTraversal<A> {
+impl<A: Allocator, D: Allocator, C: Allocator> LoopTraversal<'_, A, D, C> {
     /// Goes on at an address.
     fn continue_at(&mut self, next: LoopState) -> Result<(), AllocError> {
         if next.at == self.head {
@@ -148,12 +149,8 @@ impl<A: Allocator> LoopTraversal<A> {
     }
 
     /// Goes on from a place to wherever the word there leads, by each fact of a draft there.
-    fn step<D: Allocator, C: Allocator>(
-        &mut self,
-        case: &Case<'_, D, Certificate<C>>,
-        from: &LoopState,
-        rooms: &mut LoopWorkspace,
-    ) -> Result<(), AllocError> {
+    fn step(&mut self, from: &LoopState, rooms: &mut LoopWorkspace) -> Result<(), AllocError> {
+        let case = self.case;
         let Some(word) = case.image.get(from.at) else {
             return Ok(());
         };
@@ -163,30 +160,28 @@ impl<A: Allocator> LoopTraversal<A> {
         });
         for index in 0..case.claims.count_facts(from.at, 0) {
             if put_outcomes(case, from.at, word, index, &known, rooms) {
-                self.follow_each(case, from, word, &rooms.outcomes)?;
+                self.follow_each(from, word, &rooms.outcomes)?;
             }
         }
         Ok(())
     }
 
     /// Goes on with each outcome of a word.
-    fn follow_each<D: Allocator, C: Allocator>(
+    fn follow_each(
         &mut self,
-        case: &Case<'_, D, Certificate<C>>,
         from: &LoopState,
         word: Word,
         outcomes: &Outcomes,
     ) -> Result<(), AllocError> {
         for outcome in each_of(outcomes) {
-            self.follow(case, from, word, outcome)?;
+            self.follow(from, word, outcome)?;
         }
         Ok(())
     }
 
     /// Goes on with one outcome of a word.
-    fn follow<D: Allocator, C: Allocator>(
+    fn follow(
         &mut self,
-        case: &Case<'_, D, Certificate<C>>,
         from: &LoopState,
         word: Word,
         outcome: &FactOutcome,
@@ -199,10 +194,10 @@ impl<A: Allocator> LoopTraversal<A> {
             }
             OutcomeKind::Goes => {
                 let (pointer, cell) = (self.relation.pointer, self.relation.cell);
-                let distance = distance_in(case.image, &outcome.fact, pointer, cell);
+                let distance = distance_in(self.case.image, &outcome.fact, pointer, cell);
                 self.spread(from, distance, &targets)
             }
-            OutcomeKind::Calls => self.call(case.declaration, case.claims, from, &targets),
+            OutcomeKind::Calls => self.call(from, &targets),
             OutcomeKind::Returns | OutcomeKind::Nothing => Ok(()),
         }
     }
@@ -222,21 +217,15 @@ impl<A: Allocator> LoopTraversal<A> {
     }
 
     /// Goes on behind a call of each of these entries, which loses the distance if the routine may write one of the two cells.
-    fn call<D: Allocator, C: Allocator>(
-        &mut self,
-        declaration: &Declaration<D>,
-        draft: &Certificate<C>,
-        from: &LoopState,
-        entries: &WordSet,
-    ) -> Result<(), AllocError> {
+    fn call(&mut self, from: &LoopState, entries: &WordSet) -> Result<(), AllocError> {
         for entry in entries.iter() {
-            let Some(routine) = draft.routine(entry) else {
+            let Some(routine) = self.case.claims.routine(entry) else {
                 continue;
             };
             let is_written = routine.writes.contains(self.relation.pointer)
                 || routine.writes.contains(self.relation.cell);
             let distance = if is_written { None } else { from.distance };
-            let places = successors_of_call(declaration, entry, from.at);
+            let places = successors_of_call(self.case.declaration, entry, from.at);
             self.spread(from, distance, &places)?;
         }
         Ok(())
@@ -311,6 +300,7 @@ fn lost_in_loop<A: Allocator + Copy, D: Allocator, C: Allocator>(
     rooms: &mut LoopWorkspace,
 ) -> Result<Option<Word>, AllocError> {
     let mut walk = LoopTraversal {
+        case,
         relation: *relation,
         head,
         stands: Vec::new(alloc),
@@ -323,12 +313,12 @@ fn lost_in_loop<A: Allocator + Copy, D: Allocator, C: Allocator>(
         lost_at: None,
         restored: false,
     };
-    walk.step(case, &first, rooms)?;
+    walk.step(&first, rooms)?;
     for index in 0..MOST_STANDS {
         let Some(next) = walk.stands.get(index).copied() else {
             break;
         };
-        walk.step(case, &next, rooms)?;
+        walk.step(&next, rooms)?;
     }
     Ok(if walk.is_kept { walk.lost_at } else { None })
 }

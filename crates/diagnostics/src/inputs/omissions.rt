@@ -345,10 +345,13 @@ fn push_act<L: MessageWriter>(text: &mut L, at: Word, omission: &Omission) -> Re
         Omission::Steps(cell) => push_text_and_address(text, b"it increments the pointer ", *cell),
         Omission::Calls(place) | Omission::CallsIntoBody(place) | Omission::CallsAutoIndex(place) =>
             push_text_and_address(text, b"it calls ", *place),
-        Omission::Jumps(place) | Omission::JumpsAcross(place) | Omission::JumpsToMain(place) => {
-            push_text_and_address(text, b"it jumps to ", *place)
+        Omission::Jumps(place) => push_text_and_address(text, b"it jumps to ", *place),
+        Omission::JumpsAcross(place) => push_text_and_address(text, b"it jumps to ", *place),
+        Omission::JumpsToMain(place) => push_text_and_address(text, b"it jumps to ", *place),
+        Omission::GoesOn(next) => {
+            push_text_and_address(text, b"the operator may continue at ", *next)
         }
-        Omission::GoesOn(next) | Omission::GoesAcross(next) => {
+        Omission::GoesAcross(next) => {
             push_text_and_address(text, b"the operator may continue at ", *next)
         }
     }
@@ -494,7 +497,17 @@ fn push_stuck<L: MessageWriter>(
             text.push_text(b"if this is intended, ")?;
             push_remedy_line(text, at, omission)
         }
-        _ => push_remedy_line(text, at, omission),
+        Omission::Unsupported
+        | Omission::Stores(_)
+        | Omission::StoresInEntry(_)
+        | Omission::Steps(_)
+        | Omission::Calls(_)
+        | Omission::CallsIntoBody(_)
+        | Omission::CallsAutoIndex(_)
+        | Omission::Jumps(_)
+        | Omission::JumpsAcross(_)
+        | Omission::GoesOn(_)
+        | Omission::GoesAcross(_) => push_remedy_line(text, at, omission),
     }
 }
 

@@ -1,11 +1,12 @@
 //! A verdict and why it is, over whatever takes a text for people.
 
-ghost use Rattle.std.specs.Prelude.{◌≡◌, ◌++◌, IfOk, OnOk};
-ghost use Rattle.certificate_lines.specs.CertificateInCode.{meaning as text_of};
+ghost use Rattle.std.specs.Prelude.{ℕ, ◌≡◌, ◌++◌, length, IfOk, OnOk};
+ghost use Rattle.certificate_lines.specs.CertificateInCode.{claims, meaning as text_of};
 ghost use Rattle.declaration.specs.DeclarationInCode.{meaning};
 ghost use Rattle.diagnostics.specs.CheckText.{checked_case, verdict_text};
 ghost use Rattle.certificate_lines.specs.Written.{fact_text_at};
-ghost use Rattle.diagnostics.specs.WhyText.{AddsExplanation, IsReason, fact_shown, place_shown, why_text};
+ghost use Rattle.diagnostics.specs.ReasonContexts.{IsTellingOf};
+ghost use Rattle.diagnostics.specs.WhyText.{AddsExplanation, IsReason, fact_shown, place_shown, shown_text, why_text};
 
 use crate::verdicts::reason_context::{ReasonContext, place_of, reason_context_of};
 use crate::verdicts::reason_text::push_why;
@@ -85,6 +86,24 @@ fn place_shown(place: &Option<usize>, count: usize) -> Option<usize>
     if count == 1 { Some(0) } else { None }
 }
 
+/// Adds the lines of the fact at this place of those at an address, if one is shown.
+fn push_shown<L: MessageWriter, A: Allocator, C: Allocator>(
+    alloc: A,
+    text: &mut L,
+    certificate: &Certificate<C>,
+    at: Word,
+    place: &Option<usize>,
+) -> Result<(), AllocError>
+    ensures { OnOk result (L.text text.new
+        ≡ L.text text.old ++ shown_text (text_of certificate.now) at place.now) }
+{
+    let Some(index) = place else {
+        return Ok(());
+    };
+    let lines = fact_lines(alloc, certificate, at, *index)?;
+    text.push_text(&lines)
+}
+
 /// Adds the lines of the fact by which a verdict is no, as the certificate has them, or of the only one at the address of a refusal.
 fn push_fact<L: MessageWriter, A: Allocator, C: Allocator>(
     alloc: A,
@@ -100,11 +119,8 @@ fn push_fact<L: MessageWriter, A: Allocator, C: Allocator>(
         return Ok(());
     };
     let count = certificate.count_facts(refusal.address, 0);
-    let Some(index) = place_shown(&place_of(reason), count) else {
-        return Ok(());
-    };
-    let lines = fact_lines(alloc, certificate, refusal.address, index)?;
-    text.push_text(&lines)
+    let place = place_shown(&place_of(reason), count);
+    push_shown(alloc, text, certificate, refusal.address, &place)
 }
 
 /// Adds the line of a verdict, why it is, and the lines of the fact by which it is no.

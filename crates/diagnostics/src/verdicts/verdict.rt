@@ -1,6 +1,6 @@
 //! The line of a verdict.
 
-ghost use Rattle.std.specs.Prelude.{◌≡◌, ◌+◌, ◌++◌, codes, length, OnOk, IfOk};
+ghost use Rattle.std.specs.Prelude.{◌≡◌, ◌+◌, ◌++◌, codes, decimal, length, OnOk, IfOk};
 ghost use Rattle.wordset.specs.Words.{SameWords};
 ghost use Rattle.wordset.specs.Lanes.{words};
 ghost use Rattle.declaration.specs.DeclarationInCode.{meaning};
@@ -126,6 +126,19 @@ fn push_reads<A: Allocator, D: Allocator>(
     push_count(text, cells, b" read cells")
 }
 
+/// Adds a number of assertions.
+fn push_number_of_assertions<A: Allocator>(
+    text: &mut Vec<u8, A>,
+    count: usize,
+) -> Result<(), AllocError>
+    ensures { OnOk result (text.new.items ≡
+        text.old.items ++ (decimal count ++ codes " assertions")) }
+{
+    let mut digits = Buffer::new();
+    text.extend_from_slice(digits.format(count).as_bytes())?;
+    text.extend_from_slice(b" assertions")
+}
+
 /// Adds a number of assertions after a comma, if it is not 0.
 fn push_assertion_count<A: Allocator>(text: &mut Vec<u8, A>, count: usize) -> Result<(), AllocError>
     ensures { OnOk result (text.new.items ≡ text.old.items ++ assertions_text count) }
@@ -133,10 +146,8 @@ fn push_assertion_count<A: Allocator>(text: &mut Vec<u8, A>, count: usize) -> Re
     if count == 0 {
         return Ok(());
     }
-    let mut digits = Buffer::new();
     text.extend_from_slice(b", ")?;
-    text.extend_from_slice(digits.format(count).as_bytes())?;
-    text.extend_from_slice(b" assertions")
+    push_number_of_assertions(text, count)
 }
 
 /// Adds how many lines declare what is to hold, if some do.

@@ -57,16 +57,16 @@ fn sums_asked(condition: Condition) -> &'static [u8]
             b"the callee's routine line lists the address of the JMS as a site, and this address is at most 7776",
         Condition::V10 => b"the facts at the callee's first instruction allow every possible state",
         Condition::V11 => b"the facts at each return address allow every possible state",
-        Condition::V3
-        | Condition::V5
-        | Condition::V6
-        | Condition::V7
-        | Condition::V8
-        | Condition::V12
-        | Condition::V13
-        | Condition::V14
-        | Condition::V15
-        | Condition::V16 => asked(condition),
+        Condition::V3 => asked(Condition::V3),
+        Condition::V5 => asked(Condition::V5),
+        Condition::V6 => asked(Condition::V6),
+        Condition::V7 => asked(Condition::V7),
+        Condition::V8 => asked(Condition::V8),
+        Condition::V12 => asked(Condition::V12),
+        Condition::V13 => asked(Condition::V13),
+        Condition::V14 => asked(Condition::V14),
+        Condition::V15 => asked(Condition::V15),
+        Condition::V16 => asked(Condition::V16),
     }
 }
 

@@ -49,7 +49,8 @@ fn push_marks<L: MessageWriter>(text: &mut L, telling: &ReasonContext) -> Result
     push_if_marked(text, &telling.site)?;
     push_if_marked(text, &telling.link)?;
     push_if_marked(text, &telling.accumulator)?;
-    push_if_marked(text, &telling.cell)
+    push_if_marked(text, &telling.cell)?;
+    Ok(())
 }
 
 /// Adds which fact it is, where several stand at the address.

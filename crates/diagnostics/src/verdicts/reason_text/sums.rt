@@ -43,7 +43,8 @@ fn push_term<L: MessageWriter>(text: &mut L, term: &Term) -> Result<(), AllocErr
         Term::Holding(name) => push_name(text, name),
         Term::Behind { cell, more } => {
             push_around(text, b"the word at [", *cell, b"]")?;
-            push_added(text, *more)
+            push_added(text, *more)?;
+            Ok(())
         }
     }
 }
@@ -82,7 +83,8 @@ fn push_summand<L: MessageWriter>(
         L.text text.old ++ summand_text first (summand_of summand.now)) }
 {
     push_coefficient(text, first, summand.coefficient)?;
-    push_term(text, &summand.term)
+    push_term(text, &summand.term)?;
+    Ok(())
 }
 
 /// Adds the terms of a sum after the first one.
@@ -104,7 +106,8 @@ fn push_sum<L: MessageWriter>(text: &mut L, sum: &Sum) -> Result<(), AllocError>
         None => text.push_text(b"0000"),
         Some((first, others)) => {
             push_summand(text, true, first)?;
-            push_further(text, others)
+            push_further(text, others)?;
+            Ok(())
         }
     }
 }
@@ -154,7 +157,8 @@ fn push_difference<L: MessageWriter>(
 {
     push_term(text, first)?;
     push_more(text, word)?;
-    push_term(text, second)
+    push_term(text, second)?;
+    Ok(())
 }
 
 /// Adds that a sum may be a word.

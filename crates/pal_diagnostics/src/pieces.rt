@@ -69,11 +69,14 @@ fn add<A: Allocator>(tokens: &mut Vec<Token, A>, next: Token) -> Result<(), Allo
         }
         return Ok(());
     };
-    if let Some(one) = join(last, next) {
-        return tokens.push(one);
+    match join(last, next) {
+        Some(one) => tokens.push(one)?,
+        None => {
+            tokens.push(last)?;
+            tokens.push(next)?;
+        }
     }
-    tokens.push(last)?;
-    tokens.push(next)
+    Ok(())
 }
 
 /// The tokens of the statement from `start` up to, but not including, `end`.

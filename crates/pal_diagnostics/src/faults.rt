@@ -1,13 +1,11 @@
 //! Finds all faults of a source that can be found, one after another.
 
-use crate::assignments::{about_assignment, about_room, about_tags};
 use crate::copies::{copies_of, first_fault, replace};
-use crate::findings::{Finding, about_text, has_order_mark};
+use crate::examination::{Examination, Source};
+use crate::findings::{Finding, has_order_mark};
 use crate::lines::{bytes_between, count_characters, line_at, push_marked};
-use crate::meanings::{Meanings, NOWHERE, meanings_before};
-use crate::references::{about_reference, put_undefined};
+use crate::meanings::{NOWHERE, meanings_before};
 use crate::statement::{Act, FaultyStatement, faulty_of};
-use crate::symbols::{Source, source_of};
 use instruct::Profile;
 use pal_acts::{FaultCode, SourcePlace, permanent_table};
 use pal_asm::PalFault;
@@ -20,81 +18,6 @@ const MOST_FAULTS: usize = 20;
 /// The maximum number of statements that are left out.
 const MOST_STATEMENTS: usize = 60;
 
-/// The finding about PAUSE in the last part.
-fn about_pause<A: Allocator + Copy>(
-    alloc: A,
-    faulty: &FaultyStatement<A>,
-) -> Result<Option<Finding<A>>, AllocError> {
-    let [token, ..] = faulty.body() else {
-        return Ok(None);
-    };
-    Ok(Some(Finding {
-        start: token.start,
-        end: token.end,
-        wrong: String::from_str(alloc, "PAUSE says that another part follows, but none does")?,
-        advice: String::from_str(
-            alloc,
-            "write $ in its place or remove it, or name the part that follows as another SOURCE",
-        )?,
-    }))
-}
-
-/// The finding about a fault that has at most one.
-fn finding_of<A: Allocator + Copy>(
-    alloc: A,
-    source: &Source<'_>,
-    before: &Meanings<'_, A>,
-    known: &Meanings<'_, A>,
-    faulty: &FaultyStatement<A>,
-) -> Result<Option<Finding<A>>, AllocError> {
-    match faulty.code {
-        FaultCode::IllegalCharacter | FaultCode::NumberTooLarge => {
-            let bytes = source.bytes(faulty.part);
-            about_text(alloc, bytes, &faulty.tokens, before.is_decimal)
-        }
-        FaultCode::DuplicateTag => about_tags(alloc, source, before, faulty),
-        FaultCode::Redefined => about_assignment(alloc, source, before, faulty),
-        FaultCode::IllegalReference => about_reference(alloc, source, before, known, faulty),
-        FaultCode::TableFull => about_room(alloc, source, before, faulty),
-        FaultCode::PauseInLastPart => about_pause(alloc, faulty),
-        FaultCode::Undefined | FaultCode::TooLong => Ok(None),
-    }
-}
-
-/// Adds the findings about a fault, given what is known before its statement and what is known after the whole source.
-fn put_findings<A: Allocator + Copy>(
-    alloc: A,
-    source: &Source<'_>,
-    before: &Meanings<'_, A>,
-    known: &Meanings<'_, A>,
-    faulty: &FaultyStatement<A>,
-    findings: &mut Vec<Finding<A>, A>,
-) -> Result<(), AllocError> {
-    if faulty.code == FaultCode::Undefined {
-        return put_undefined(alloc, source, before, known, faulty, findings);
-    }
-    match finding_of(alloc, source, before, known, faulty)? {
-        Some(finding) => {
-            findings.push(finding)?;
-            Ok(())
-        }
-        None => Ok(()),
-    }
-}
-
-/// The findings about a fault, given what is known before its statement and what is known after the whole source.
-fn findings_by<A: Allocator + Copy>(
-    alloc: A,
-    source: &Source<'_>,
-    before: &Meanings<'_, A>,
-    known: &Meanings<'_, A>,
-    faulty: &FaultyStatement<A>,
-) -> Result<Vec<Finding<A>, A>, AllocError> {
-    let mut findings = Vec::new(alloc);
-    put_findings(alloc, source, before, known, faulty, &mut findings)?;
-    Ok(findings)
-}
-
 /// The findings about a fault.
 fn findings_of<A: Allocator + Copy>(
     alloc: A,
@@ -105,7 +28,14 @@ fn findings_of<A: Allocator + Copy>(
     let permanent = permanent_table(alloc, source.profile)?;
     let before = meanings_before(alloc, &permanent, copies, faulty.place)?;
     let known = meanings_before(alloc, &permanent, copies, NOWHERE)?;
-    findings_by(alloc, source, &before, &known, faulty)
+    let examination = Examination {
+        alloc,
+        source,
+        before: &before,
+        known: &known,
+        faulty,
+    };
+    examination.findings()
 }
 
 /// Adds a finding about a fault, with its place, the marked line and the advice.
@@ -204,54 +134,6 @@ fn is_told<A: Allocator>(
     }
 }
 
-/// Adds the findings about a fault.
-fn push_findings<A: Allocator + Copy>(
-    alloc: A,
-    text: &mut String<A>,
-    source: &Source<'_>,
-    faulty: &FaultyStatement<A>,
-    findings: &[Finding<A>],
-) -> Result<(), AllocError> {
-    for finding in findings {
-        push_finding(alloc, text, source, faulty, finding)?;
-    }
-    Ok(())
-}
-
-/// Adds the findings about a fault, and returns the place of the first byte that is marked.
-fn push_fault<A: Allocator + Copy>(
-    alloc: A,
-    text: &mut String<A>,
-    source: &Source<'_>,
-    copies: &[Vec<u8, A>],
-    faulty: &FaultyStatement<A>,
-    course: &mut FaultProgress<A>,
-) -> Result<usize, AllocError> {
-    let is_again = course.places.contains(&faulty.place);
-    let findings = findings_of(alloc, source, copies, faulty)?;
-    if is_told(course, faulty, is_again) {
-        push_findings(alloc, text, source, faulty, &findings)?;
-        course.told = course.told.saturating_add(findings.len());
-    }
-    match findings.first() {
-        Some(finding) => Ok(finding.start),
-        None => Ok(faulty.start),
-    }
-}
-
-/// Notes that a fault was left out of this part.
-fn note<A: Allocator>(
-    course: &mut FaultProgress<A>,
-    bytes: &[u8],
-    faulty: &FaultyStatement<A>,
-) -> Result<(), AllocError> {
-    if faulty.loses_location(bytes) {
-        course.is_astray = true;
-    }
-    course.places.push(faulty.place)?;
-    Ok(())
-}
-
 /// Adds the findings about the first fault of the copies, and leaves that fault out of them.
 fn push_next<A: Allocator + Copy>(
     alloc: A,
@@ -262,20 +144,27 @@ fn push_next<A: Allocator + Copy>(
     course: &mut FaultProgress<A>,
 ) -> Result<(), AllocError> {
     let part = fault.part.saturating_sub(1);
-    let faulty = match copies.get(part) {
-        Some(copy) => faulty_of(alloc, copy, fault)?,
-        None => return Ok(()),
+    let Some(copy) = copies.get(part) else {
+        return Ok(());
     };
+    let faulty = faulty_of(alloc, copy, fault)?;
     let is_again = course.places.contains(&faulty.place);
-    let marked = push_fault(alloc, text, source, copies, &faulty, course)?;
-    match copies.get_mut(part) {
-        Some(copy) => {
-            note(course, copy, &faulty)?;
-            leave_out(copy, &faulty, marked, is_again);
-            Ok(())
+    let findings = findings_of(alloc, source, copies, &faulty)?;
+    if is_told(course, &faulty, is_again) {
+        for finding in &findings {
+            push_finding(alloc, text, source, &faulty, finding)?;
         }
-        None => Ok(()),
+        course.told = course.told.saturating_add(findings.len());
     }
+    let marked = findings
+        .first()
+        .map_or(faulty.start, |finding| finding.start);
+    if let Some(copy) = copies.get_mut(part) {
+        course.is_astray = course.is_astray || faulty.loses_location(copy);
+        course.places.push(faulty.place)?;
+        leave_out(copy, &faulty, marked, is_again);
+    }
+    Ok(())
 }
 
 /// Adds everything that can be said about the faults of a source that is not too long, beginning with the first fault.
@@ -292,7 +181,11 @@ pub fn push_faults<A: Allocator + Copy>(
     parts: &[&[u8]],
     profile: Profile,
 ) -> Result<(), AllocError> {
-    let source = source_of(names, parts, profile);
+    let source = Source {
+        names,
+        parts,
+        profile,
+    };
     let mut copies = copies_of(alloc, parts)?;
     let mut course = FaultProgress {
         told: 0,

@@ -1,11 +1,12 @@
 //! What is wrong with a statement, and what to change.
 
+use crate::examination::Examination;
 use crate::forms::{FaultText, UNFINISHED, about, end_of_small, misplaced};
 use crate::lines::{bytes_between, push_characters};
 use crate::meanings::number_of;
-use crate::pieces::{tokens_from, told_kind};
+use crate::pieces::{bytes_of, tokens_from, told_kind};
 use pal_acts::FaultCode;
-use pal_text::{Name, Token, TokenKind};
+use pal_text::{Token, TokenKind};
 use std::alloc::{AllocError, Allocator};
 
 /// A finding about a fault: which bytes of its part are marked, what is wrong, and what to change.
@@ -17,12 +18,27 @@ pub(crate) struct Finding<A: Allocator> {
     pub(crate) advice: String<A>,
 }
 
+impl<A: Allocator + Copy> Finding<A> {
+    /// The finding about these bytes that consists of these texts.
+    pub(crate) fn new(
+        alloc: A,
+        start: usize,
+        end: usize,
+        wrong: &str,
+        advice: &str,
+    ) -> Result<Finding<A>, AllocError> {
+        Ok(Finding {
+            start,
+            end,
+            wrong: String::from_str(alloc, wrong)?,
+            advice: String::from_str(alloc, advice)?,
+        })
+    }
+}
+
 /// The code of the character at this place, or of a space if there is none.
 fn code_at(bytes: &[u8], at: usize) -> u8 {
-    match bytes.get(at) {
-        Some(byte) => *byte % 0o200,
-        None => b' ',
-    }
+    bytes.get(at).copied().unwrap_or(b' ') % 0o200
 }
 
 /// Adds bytes as they are named in a sentence.
@@ -40,155 +56,115 @@ fn push_named<A: Allocator>(
     }
 }
 
-/// The finding that these texts give about these bytes.
-fn finding_by<A: Allocator + Copy>(
-    alloc: A,
-    bytes: &[u8],
-    start: usize,
-    end: usize,
-    words: FaultText,
-) -> Result<Finding<A>, AllocError> {
-    let mut wrong = String::new(alloc);
-    push_named(&mut wrong, bytes, start, end)?;
-    wrong.push(' ')?;
-    wrong.push_str(words.wrong)?;
-    let advice = String::from_str(alloc, words.advice)?;
-    Ok(Finding {
-        start,
-        end,
-        wrong,
-        advice,
-    })
-}
-
 /// Whether a part begins with a byte order mark, which some editors put before a text. In a copy of a part, the second
 /// of its three bytes may have become the end of a line.
 pub(crate) fn has_order_mark(bytes: &[u8]) -> bool {
     matches!(bytes, [0o357, 0o273 | b'\r', 0o277, ..])
 }
 
-/// The finding about a byte order mark at the beginning of a part.
-fn about_order_mark<A: Allocator + Copy>(alloc: A) -> Result<Finding<A>, AllocError> {
-    Ok(Finding {
-        start: 0,
-        end: 3,
-        wrong: String::from_str(
-            alloc,
-            "there is a byte order mark at the beginning of the source",
-        )?,
-        advice: String::from_str(
-            alloc,
-            "save the file as ASCII, or as UTF-8 without a byte order mark",
-        )?,
-    })
-}
+impl<A: Allocator + Copy> Examination<'_, A> {
+    /// The finding that these texts give about these bytes.
+    fn finding_by(
+        &self,
+        start: usize,
+        end: usize,
+        words: FaultText,
+    ) -> Result<Finding<A>, AllocError> {
+        let mut found = Finding::new(self.alloc, start, end, "", words.advice)?;
+        push_named(&mut found.wrong, self.bytes(), start, end)?;
+        found.wrong.push(' ')?;
+        found.wrong.push_str(words.wrong)?;
+        Ok(found)
+    }
 
-/// The finding about a statement that has no valid form: about the token at this place among its tokens or, if there is
-/// none, about the last token, which needs another after it.
-fn about_form<A: Allocator + Copy>(
-    alloc: A,
-    bytes: &[u8],
-    tokens: &[Token],
-    at: usize,
-) -> Result<Option<Finding<A>>, AllocError> {
-    if let Some(token) = tokens.get(at) {
-        if token.start == 0 && has_order_mark(bytes) {
-            return Ok(Some(about_order_mark(alloc)?));
+    /// The finding about a statement that has no valid form: about the token at this place among its tokens or, if there
+    /// is none, about the last token, which needs another after it.
+    fn about_form(&self, at: usize) -> Result<Option<Finding<A>>, AllocError> {
+        let (bytes, tokens) = (self.bytes(), &self.faulty.tokens);
+        if let Some(token) = tokens.get(at) {
+            if token.start == 0 && has_order_mark(bytes) {
+                return Ok(Some(Finding::new(
+                    self.alloc,
+                    0,
+                    3,
+                    "there is a byte order mark at the beginning of the source",
+                    "save the file as ASCII, or as UTF-8 without a byte order mark",
+                )?));
+            }
+            let words = about(told_kind(bytes, *token), code_at(bytes, token.start));
+            let end = end_of_small(bytes, tokens_from(tokens, at), token.end);
+            return Ok(Some(self.finding_by(token.start, end, words)?));
         }
-        let words = about(told_kind(bytes, *token), code_at(bytes, token.start));
-        let end = end_of_small(bytes, tokens_from(tokens, at), token.end);
-        return Ok(Some(finding_by(alloc, bytes, token.start, end, words)?));
-    }
-    match tokens.last() {
-        Some(last) => Ok(Some(finding_by(alloc, bytes, last.start, last.end, UNFINISHED)?)),
-        None => Ok(None),
-    }
-}
-
-/// The finding about digits that are not octal.
-fn about_digits<A: Allocator + Copy>(
-    alloc: A,
-    bytes: &[u8],
-    token: Token,
-) -> Result<Finding<A>, AllocError> {
-    let digits = bytes_between(bytes, token.start, token.end);
-    let mut wrong = String::new(alloc);
-    push_characters(&mut wrong, digits)?;
-    wrong.push_str(" is not octal")?;
-    let mut advice = String::from_str(
-        alloc,
-        "numbers are octal until a DECIMAL statement: write ",
-    )?;
-    match number_of(true, digits) {
-        Ok(word) => {
-            let value = word.value();
-            write!(advice, "{value:o}")?;
+        match tokens.last() {
+            Some(last) => Ok(Some(self.finding_by(last.start, last.end, UNFINISHED)?)),
+            None => Ok(None),
         }
-        Err(_) => advice.push_str("digits up to 7")?,
     }
-    advice.push_str(", or put a DECIMAL statement before the number")?;
-    Ok(Finding {
-        start: token.start,
-        end: token.end,
-        wrong,
-        advice,
-    })
-}
 
-/// The finding about a number that is too large.
-fn about_large<A: Allocator + Copy>(
-    alloc: A,
-    bytes: &[u8],
-    token: Token,
-    is_decimal: bool,
-) -> Result<Finding<A>, AllocError> {
-    let mut wrong = String::new(alloc);
-    push_characters(&mut wrong, bytes_between(bytes, token.start, token.end))?;
-    wrong.push_str(if is_decimal {
-        " is above 4095"
-    } else {
-        " is above 7777"
-    })?;
-    let advice = String::from_str(alloc, "a word has twelve bits: write a number that fits")?;
-    Ok(Finding {
-        start: token.start,
-        end: token.end,
-        wrong,
-        advice,
-    })
-}
+    /// The finding about digits that are not octal.
+    fn about_digits(&self, token: Token) -> Result<Finding<A>, AllocError> {
+        let mut found = self.finding(
+            token,
+            " is not octal",
+            "numbers are octal until a DECIMAL statement: write ",
+        )?;
+        match number_of(true, bytes_of(self.bytes(), token)) {
+            Ok(word) => {
+                let value = word.value();
+                write!(found.advice, "{value:o}")?;
+            }
+            Err(_) => found.advice.push_str("digits up to 7")?,
+        }
+        found
+            .advice
+            .push_str(", or put a DECIMAL statement before the number")?;
+        Ok(found)
+    }
 
-/// The finding about the first of these tokens that looks like a number but is not a valid one.
-fn about_number<A: Allocator + Copy>(
-    alloc: A,
-    bytes: &[u8],
-    tokens: &[Token],
-    is_decimal: bool,
-) -> Result<Option<Finding<A>>, AllocError> {
-    for token in tokens {
-        if token.kind == TokenKind::Number {
-            let digits = bytes_between(bytes, token.start, token.end);
-            match number_of(is_decimal, digits) {
-                Ok(_) => {}
-                Err(FaultCode::NumberTooLarge) => {
-                    return Ok(Some(about_large(alloc, bytes, *token, is_decimal)?));
+    /// The finding about the first token of the statement that looks like a number but is not a valid one.
+    fn about_number(&self) -> Result<Option<Finding<A>>, AllocError> {
+        let is_decimal = self.before.is_decimal;
+        for token in &self.faulty.tokens {
+            if token.kind == TokenKind::Number {
+                match number_of(is_decimal, bytes_of(self.bytes(), *token)) {
+                    Ok(_) => {}
+                    Err(FaultCode::NumberTooLarge) => {
+                        return Ok(Some(self.finding(
+                            *token,
+                            if is_decimal {
+                                " is above 4095"
+                            } else {
+                                " is above 7777"
+                            },
+                            "a word has twelve bits: write a number that fits",
+                        )?));
+                    }
+                    Err(_) => return Ok(Some(self.about_digits(*token)?)),
                 }
-                Err(_) => return Ok(Some(about_digits(alloc, bytes, *token)?)),
             }
         }
+        Ok(None)
     }
-    Ok(None)
-}
 
-/// The finding about a statement with the fault IC or NB.
-pub(crate) fn about_text<A: Allocator + Copy>(
-    alloc: A,
-    bytes: &[u8],
-    tokens: &[Token],
-    is_decimal: bool,
-) -> Result<Option<Finding<A>>, AllocError> {
-    match misplaced(bytes, tokens) {
-        Some(at) => about_form(alloc, bytes, tokens, at),
-        None => about_number(alloc, bytes, tokens, is_decimal),
+    /// The finding about a statement with the fault IC or NB.
+    pub(crate) fn about_text(&self) -> Result<Option<Finding<A>>, AllocError> {
+        match misplaced(self.bytes(), &self.faulty.tokens) {
+            Some(at) => self.about_form(at),
+            None => self.about_number(),
+        }
+    }
+
+    /// The finding about PAUSE in the last part.
+    pub(crate) fn about_pause(&self) -> Result<Option<Finding<A>>, AllocError> {
+        let [token, ..] = self.faulty.body() else {
+            return Ok(None);
+        };
+        Ok(Some(Finding::new(
+            self.alloc,
+            token.start,
+            token.end,
+            "PAUSE says that another part follows, but none does",
+            "write $ in its place or remove it, or name the part that follows as another SOURCE",
+        )?))
     }
 }

@@ -4,6 +4,7 @@
 
 mod assignments;
 mod copies;
+mod examination;
 mod faults;
 mod findings;
 mod forms;

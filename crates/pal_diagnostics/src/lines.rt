@@ -16,10 +16,7 @@ pub(crate) struct NumberedLine {
 
 /// The bytes from `start` up to, but not including, `end`, or none if there are not that many.
 pub(crate) fn bytes_between(bytes: &[u8], start: usize, end: usize) -> &[u8] {
-    match bytes.get(start..end) {
-        Some(found) => found,
-        None => &[],
-    }
+    bytes.get(start..end).unwrap_or(b"")
 }
 
 /// The line of a part that the byte at this place is on.
@@ -55,26 +52,18 @@ pub(crate) fn count_characters(bytes: &[u8]) -> usize {
     count
 }
 
-/// Adds the character that a byte stands for, if it stands for one, or a question mark if that character cannot be
-/// shown.
-fn push_character<A: Allocator>(text: &mut String<A>, byte: u8) -> Result<(), AllocError> {
-    let code = byte % 0o200;
-    if code == b'\t' || (b' ' <= code && code <= b'~') {
-        text.push(char::from(code))
-    } else if is_character_code(code) {
-        text.push('?')
-    } else {
-        Ok(())
-    }
-}
-
-/// Adds the characters that these bytes stand for.
+/// Adds the characters that these bytes stand for, or a question mark for one that cannot be shown.
 pub(crate) fn push_characters<A: Allocator>(
     text: &mut String<A>,
     bytes: &[u8],
 ) -> Result<(), AllocError> {
     for byte in bytes {
-        push_character(text, *byte)?;
+        let code = *byte % 0o200;
+        if code == b'\t' || (b' ' <= code && code <= b'~') {
+            text.push(char::from(code))?;
+        } else if is_character_code(code) {
+            text.push('?')?;
+        }
     }
     Ok(())
 }

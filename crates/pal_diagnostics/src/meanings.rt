@@ -1,22 +1,19 @@
 //! The values of symbols, and where they got them.
 
-use crate::lines::bytes_between;
-use crate::pieces::{name_of, tokens_from};
+use crate::pieces::{bytes_of, name_of, tokens_from};
 use indexmap::IndexMap;
 use pal_acts::{
     ExpressionTerm, FaultCode, Name, Sign, SignedTerm, SourcePlace, SymbolTable, Symbols,
 };
-use pal_text::{Ending, Form, Statement, TextFault, Token, TokenKind, statements};
+use pal_text::{Ending, Form, TextFault, Token, TokenKind, statements};
 use std::alloc::{AllocError, Allocator};
 use word12::Word;
 
-/// Where a symbol occurs: the number of its part, counted from 0, the place of its first byte, and the place after its
-/// last byte.
+/// Where a symbol occurs: the number of its part, counted from 0, and its token.
 #[derive(Clone, Copy)]
 pub(crate) struct Occurrence {
     pub(crate) part: usize,
-    pub(crate) start: usize,
-    pub(crate) end: usize,
+    pub(crate) token: Token,
 }
 
 /// What is known before a statement: the symbols with their values, where each of the source's own symbols got its
@@ -63,13 +60,10 @@ pub(crate) fn number_of(is_decimal: bool, digits: &[u8]) -> Result<Word, FaultCo
 /// The term of a token.
 fn term_of(is_decimal: bool, bytes: &[u8], token: Token) -> ExpressionTerm {
     match token.kind {
-        TokenKind::Number => {
-            let digits = bytes_between(bytes, token.start, token.end);
-            match number_of(is_decimal, digits) {
-                Ok(word) => ExpressionTerm::Number(word),
-                Err(_) => ExpressionTerm::Number(Word::ZERO),
-            }
-        }
+        TokenKind::Number => ExpressionTerm::Number(number_of(
+            is_decimal,
+            bytes_of(bytes, token),
+        ).unwrap_or(Word::ZERO)),
         TokenKind::Here => ExpressionTerm::Here,
         _ => ExpressionTerm::Symbol(name_of(bytes, token)),
     }
@@ -130,13 +124,14 @@ impl<'p, A: Allocator + Copy> Meanings<'p, A> {
         Ok(self.symbols.value(self.here, &terms))
     }
 
-    /// Gives a symbol a value, if it has none.
+    /// Gives the symbol of a token a value, if it has none.
     fn define(
         &mut self,
-        name: Name,
-        value: Word,
+        bytes: &[u8],
         occurrence: Occurrence,
+        value: Word,
     ) -> Result<(), AllocError> {
+        let name = name_of(bytes, occurrence.token);
         if self.symbols.get(&name).is_none() {
             self.symbols.own.insert(name, value)?;
             self.occurrences.push(occurrence)?;
@@ -144,28 +139,13 @@ impl<'p, A: Allocator + Copy> Meanings<'p, A> {
         Ok(())
     }
 
-    /// Gives the symbol of a token a value, if it has none.
-    fn define_token(
-        &mut self,
-        part: usize,
-        bytes: &[u8],
-        token: Token,
-        value: Word,
-    ) -> Result<(), AllocError> {
-        let occurrence = Occurrence {
-            part,
-            start: token.start,
-            end: token.end,
-        };
-        self.define(name_of(bytes, token), value, occurrence)
-    }
-
     /// Applies the tags of a statement: they define their symbols.
     fn take_tags(&mut self, part: usize, bytes: &[u8], tags: &[Token]) -> Result<(), AllocError> {
         let here = self.here;
         for token in tags {
             if token.kind == TokenKind::Symbol {
-                self.define_token(part, bytes, *token, here)?;
+                let token = *token;
+                self.define(bytes, Occurrence { part, token }, here)?;
             }
         }
         Ok(())
@@ -186,9 +166,10 @@ impl<'p, A: Allocator + Copy> Meanings<'p, A> {
                     self.here = origin;
                 }
             }
-            (Form::Assign, [name, _, operand @ ..]) => {
+            (Form::Assign, [token, _, operand @ ..]) => {
                 if let Some(value) = self.value(alloc, bytes, operand)? {
-                    self.define_token(part, bytes, *name, value)?;
+                    let token = *token;
+                    self.define(bytes, Occurrence { part, token }, value)?;
                 }
             }
             (Form::Word, _) => self.here = self.here.increment(),
@@ -197,21 +178,6 @@ impl<'p, A: Allocator + Copy> Meanings<'p, A> {
             _ => {}
         }
         Ok(())
-    }
-
-    /// Applies a statement with these tokens.
-    fn take<B: Allocator>(
-        &mut self,
-        alloc: B,
-        part: usize,
-        bytes: &[u8],
-        tokens: &[Token],
-        statement: Statement,
-    ) -> Result<(), AllocError> {
-        let count = statement.tags.saturating_mul(2).min(tokens.len());
-        let (tags, body) = tokens.split_at(count);
-        self.take_tags(part, bytes, tags)?;
-        self.take_body(alloc, part, bytes, body, statement.form)
     }
 
     /// Applies the statements of a part, up to the one at this place, and returns whether the next part is to be read.
@@ -234,7 +200,10 @@ impl<'p, A: Allocator + Copy> Meanings<'p, A> {
             let tokens = tokens_from(&read.tokens, statement.first);
             let count = statement.last.saturating_sub(statement.first);
             let own = tokens.get(..count).unwrap_or(tokens);
-            self.take(alloc, part, bytes, own, *statement)?;
+            let tags = statement.tags.saturating_mul(2).min(own.len());
+            let (tags, body) = own.split_at(tags);
+            self.take_tags(part, bytes, tags)?;
+            self.take_body(alloc, part, bytes, body, statement.form)?;
         }
         Ok(read.ending != Ending::Dollar)
     }

@@ -63,29 +63,20 @@ fn join(last: Token, next: Token) -> Option<Token> {
 
 /// Adds a character to the tokens before it, joining it to the last one if the two are one token.
 fn add<A: Allocator>(tokens: &mut Vec<Token, A>, next: Token) -> Result<(), AllocError> {
-    match tokens.pop() {
-        None => {
-            if next.kind != TokenKind::Space {
-                tokens.push(next)?;
-            }
+    let Some(last) = tokens.pop() else {
+        if next.kind != TokenKind::Space {
+            tokens.push(next)?;
         }
-        Some(last) => match join(last, next) {
-            Some(one) => tokens.push(one)?,
-            None => {
-                tokens.push(last)?;
-                tokens.push(next)?;
-            }
-        },
+        return Ok(());
+    };
+    match join(last, next) {
+        Some(one) => tokens.push(one)?,
+        None => {
+            tokens.push(last)?;
+            tokens.push(next)?;
+        }
     }
     Ok(())
-}
-
-/// Removes a space from the end of the tokens.
-fn drop_space<A: Allocator>(tokens: &mut Vec<Token, A>) {
-    let count = tokens.len();
-    if count > 0 && tokens[count - 1].kind == TokenKind::Space {
-        tokens.truncate(count - 1);
-    }
 }
 
 /// The tokens of the statement from `start` up to, but not including, `end`.
@@ -109,7 +100,9 @@ pub(crate) fn tokens_in<A: Allocator>(
             add(&mut tokens, next)?;
         }
     }
-    drop_space(&mut tokens);
+    if matches!(tokens.last(), Some(last) if last.kind == TokenKind::Space) {
+        tokens.pop();
+    }
     Ok(tokens)
 }
 
@@ -121,17 +114,19 @@ pub(crate) fn told_kind(bytes: &[u8], token: Token) -> TokenKind {
     }
 }
 
+/// The bytes of a token.
+pub(crate) fn bytes_of(bytes: &[u8], token: Token) -> &[u8] {
+    bytes_between(bytes, token.start, token.end)
+}
+
 /// The name of the symbol that a token is.
 pub(crate) fn name_of(bytes: &[u8], token: Token) -> Name {
-    Name::new(bytes_between(bytes, token.start, token.end))
+    Name::new(bytes_of(bytes, token))
 }
 
 /// The tokens from this index on.
 pub(crate) fn tokens_from(tokens: &[Token], at: usize) -> &[Token] {
-    match tokens.get(at..) {
-        Some(rest) => rest,
-        None => &[],
-    }
+    tokens.get(at..).unwrap_or(&[])
 }
 
 /// How many tokens the tags at the beginning of a statement have; each tag is a symbol and a comma.

@@ -1,69 +1,14 @@
 //! What is wrong when a value is needed, or an address is out of reach.
 
+use crate::examination::Examination;
 use crate::findings::Finding;
 use crate::lines::{bytes_between, push_characters};
-use crate::meanings::{Meanings, terms_of};
-use crate::pieces::{name_of, tokens_from};
-use crate::statement::{Act, FaultyStatement};
-use crate::symbols::{Source, push_defined, push_undefined_advice};
+use crate::meanings::terms_of;
+use crate::pieces::{bytes_of, name_of, tokens_from};
+use crate::statement::Act;
 use pal_text::{Token, TokenKind};
 use std::alloc::{AllocError, Allocator};
 use word12::Word;
-
-/// The finding about a symbol that has no value when one is needed; `known` has the values of the whole source.
-fn about_undefined<A: Allocator + Copy>(
-    alloc: A,
-    source: &Source<'_>,
-    known: &Meanings<'_, A>,
-    part: usize,
-    token: Token,
-) -> Result<Finding<A>, AllocError> {
-    let bytes = source.bytes(part);
-    let name = name_of(bytes, token);
-    let mut wrong = String::new(alloc);
-    let mut advice = String::new(alloc);
-    push_characters(&mut wrong, bytes_between(bytes, token.start, token.end))?;
-    if known.occurrence(&name).is_some() {
-        wrong.push_str(" has no value yet")?;
-        push_defined(alloc, &mut advice, source, known, &name, part)?;
-        advice.push_str(" must come before an origin or an assignment that uses it")?;
-    } else {
-        wrong.push_str(" has no value")?;
-        push_undefined_advice(alloc, &mut advice, source, known, &name, part)?;
-    }
-    Ok(Finding {
-        start: token.start,
-        end: token.end,
-        wrong,
-        advice,
-    })
-}
-
-/// Adds the findings about the symbols of a statement that have no value when one is needed.
-pub(crate) fn put_undefined<A: Allocator + Copy>(
-    alloc: A,
-    source: &Source<'_>,
-    before: &Meanings<'_, A>,
-    known: &Meanings<'_, A>,
-    faulty: &FaultyStatement<A>,
-    findings: &mut Vec<Finding<A>, A>,
-) -> Result<(), AllocError> {
-    let is_word = faulty.act() == Act::Other;
-    for token in faulty.operand() {
-        if token.kind == TokenKind::Symbol {
-            let name = name_of(source.bytes(faulty.part), *token);
-            let value = if is_word {
-                known.symbols.get(&name)
-            } else {
-                before.symbols.get(&name)
-            };
-            if value.is_none() {
-                findings.push(about_undefined(alloc, source, known, faulty.part, *token)?)?;
-            }
-        }
-    }
-    Ok(())
-}
 
 /// What follows an operation: the address, and whether I and Z come before it.
 #[derive(Clone, Copy)]
@@ -147,88 +92,80 @@ fn push_address<A: Allocator>(
     push_page(text, value)
 }
 
-/// What is wrong with an address that a word at this location cannot reach.
-fn wrong_of<A: Allocator>(
-    alloc: A,
-    is_on_page_zero: bool,
-    here: Word,
-    bytes: &[u8],
-    address: &[Token],
-    value: Word,
-) -> Result<String<A>, AllocError> {
-    let mut wrong = String::new(alloc);
-    push_address(&mut wrong, bytes, address, value)?;
-    if is_on_page_zero {
-        wrong.push_str(", but Z requires page zero")?;
-    } else {
-        write!(wrong, ", but this word is at {here}, on ")?;
-        push_page(&mut wrong, here)?;
-    }
-    Ok(wrong)
-}
-
-/// Adds what to change in a reference, with this operation, that cannot reach its address.
-fn push_advice<A: Allocator>(
-    text: &mut String<A>,
-    reference: &Reference<'_>,
-    is_same_page: bool,
-    operation: &[u8],
-) -> Result<(), AllocError> {
+/// What to change in a reference that cannot reach its address, but for the operation at the end, if it is to be added.
+fn advice_of(reference: &Reference<'_>, is_same_page: bool) -> (&'static str, bool) {
     if reference.is_on_page_zero && is_same_page {
-        return text.push_str("remove Z: the address is on the page of this word");
-    }
-    if reference.is_indirect {
-        return text.push_str(
+        ("remove Z: the address is on the page of this word", false)
+    } else if reference.is_indirect {
+        (
             "a statement with I uses a word on this page or on page zero: write a word there that holds the address",
-        );
+            false,
+        )
+    } else {
+        (
+            "on this page, write a word that holds that address, give it a tag, and refer to the tag with I, as in ",
+            true,
+        )
     }
-    text.push_str(
-        "on this page, write a word that holds that address, give it a tag, and refer to the tag with I, as in ",
-    )?;
-    push_characters(text, operation)?;
-    text.push_str(" I TAG")
 }
 
-/// The finding about a reference that cannot reach its address; `known` has the values of the whole source.
-pub(crate) fn about_reference<A: Allocator + Copy>(
-    alloc: A,
-    source: &Source<'_>,
-    before: &Meanings<'_, A>,
-    known: &Meanings<'_, A>,
-    faulty: &FaultyStatement<A>,
-) -> Result<Option<Finding<A>>, AllocError> {
-    let bytes = source.bytes(faulty.part);
-    let reference = reference_of(bytes, tokens_from(faulty.body(), 1));
-    let address = without_space(reference.address);
-    let here = before.here;
-    let terms = terms_of(alloc, before.is_decimal, bytes, address)?;
-    let Some(value) = known.symbols.value(here, &terms) else {
-        return Ok(None);
-    };
-    let (start, end) = span_of(address);
-    let wrong = wrong_of(
-        alloc,
-        reference.is_on_page_zero,
-        here,
-        bytes,
-        address,
-        value,
-    )?;
-    let mut advice = String::new(alloc);
-    let operation = match faulty.body() {
-        [first, ..] => bytes_between(bytes, first.start, first.end),
-        [] => &[],
-    };
-    push_advice(
-        &mut advice,
-        &reference,
-        value.page() == here.page(),
-        operation,
-    )?;
-    Ok(Some(Finding {
-        start,
-        end,
-        wrong,
-        advice,
-    }))
+impl<A: Allocator + Copy> Examination<'_, A> {
+    /// The finding about a symbol that has no value when one is needed.
+    fn about_undefined(&self, token: Token) -> Result<Finding<A>, AllocError> {
+        let name = name_of(self.bytes(), token);
+        let mut found = self.finding(token, " has no value", "")?;
+        if let Some(occurrence) = self.known.occurrence(&name) {
+            found.wrong.push_str(" yet")?;
+            self.push_defined(&mut found.advice, occurrence)?;
+            found.advice.push_str(", must come before an origin or an assignment that uses it")?;
+        } else {
+            self.push_undefined_advice(&mut found.advice, &name)?;
+        }
+        Ok(found)
+    }
+
+    /// Adds the findings about the symbols of the statement that have no value when one is needed.
+    pub(crate) fn put_undefined(
+        &self,
+        findings: &mut Vec<Finding<A>, A>,
+    ) -> Result<(), AllocError> {
+        let is_word = self.faulty.act() == Act::Other;
+        let meanings = if is_word { self.known } else { self.before };
+        for token in self.faulty.operand() {
+            let name = name_of(self.bytes(), *token);
+            if token.kind == TokenKind::Symbol && meanings.symbols.get(&name).is_none() {
+                findings.push(self.about_undefined(*token)?)?;
+            }
+        }
+        Ok(())
+    }
+
+    /// The finding about a reference that cannot reach its address.
+    pub(crate) fn about_reference(&self) -> Result<Option<Finding<A>>, AllocError> {
+        let bytes = self.bytes();
+        let reference = reference_of(bytes, tokens_from(self.faulty.body(), 1));
+        let address = without_space(reference.address);
+        let here = self.before.here;
+        let terms = terms_of(self.alloc, self.before.is_decimal, bytes, address)?;
+        let Some(value) = self.known.symbols.value(here, &terms) else {
+            return Ok(None);
+        };
+        let (start, end) = span_of(address);
+        let (advice, is_open) = advice_of(&reference, value.page() == here.page());
+        let mut found = Finding::new(self.alloc, start, end, "", advice)?;
+        push_address(&mut found.wrong, bytes, address, value)?;
+        if reference.is_on_page_zero {
+            found.wrong.push_str(", but Z requires page zero")?;
+        } else {
+            write!(found.wrong, ", but this word is at {here}, on ")?;
+            push_page(&mut found.wrong, here)?;
+        }
+        if is_open {
+            if let [operation, ..] = self.faulty.body() {
+                push_characters(&mut found.advice, bytes_of(bytes, *operation))?;
+            }
+            found.advice.push_str(" I TAG")?;
+        }
+        Ok(Some(found))
+    }
 }

@@ -36,11 +36,9 @@ pub(crate) enum Act {
 impl<A: Allocator> FaultyStatement<A> {
     /// The tags, each a symbol and a comma.
     pub(crate) fn tags(&self) -> &[Token] {
-        let count = count_tag_tokens(&self.tokens);
-        match self.tokens.get(..count) {
-            Some(tags) => tags,
-            None => &[],
-        }
+        self.tokens
+            .get(..count_tag_tokens(&self.tokens))
+            .unwrap_or(&[])
     }
 
     /// What comes after the tags.
@@ -78,25 +76,19 @@ impl<A: Allocator> FaultyStatement<A> {
     }
 }
 
-/// The line with this number, counted from 1.
-fn line_of<A: Allocator>(alloc: A, bytes: &[u8], number: usize) -> Result<Line, AllocError> {
-    let lines = lines_of(alloc, bytes)?;
-    match lines.get(number.saturating_sub(1)) {
-        Some(line) => Ok(*line),
-        None => Ok(Line {
-            start: bytes.len(),
-            end: bytes.len(),
-        }),
-    }
-}
-
 /// The statement that has this fault, in a copy of its part.
 pub(crate) fn faulty_of<A: Allocator + Copy>(
     alloc: A,
     bytes: &[u8],
     fault: PalFault,
 ) -> Result<FaultyStatement<A>, AllocError> {
-    let line = line_of(alloc, bytes, fault.line)?;
+    let lines = lines_of(alloc, bytes)?;
+    let after = Line {
+        start: bytes.len(),
+        end: bytes.len(),
+    };
+    let index = fault.line.saturating_sub(1);
+    let line = lines.get(index).copied().unwrap_or(after);
     let end = statement_end(bytes, line);
     Ok(FaultyStatement {
         code: fault.code,

@@ -1,112 +1,17 @@
 //! Messages about symbols.
 
-use crate::lines::{bytes_between, line_at, push_characters};
-use crate::meanings::{Meanings, Occurrence};
+use crate::examination::Examination;
+use crate::lines::{line_at, push_characters};
+use crate::meanings::Occurrence;
+use crate::pieces::bytes_of;
 use instruct::Profile;
 use pal_acts::{Name, SymbolTable, permanent_table};
 use std::alloc::{AllocError, Allocator};
 use strsim::osa_distance;
 
-/// A source whose faults are reported: the names of the files of its parts, their bytes, and the machine whose
-/// permanent symbols it uses.
-#[derive(Clone, Copy)]
-pub(crate) struct Source<'s> {
-    pub(crate) names: &'s [&'s str],
-    pub(crate) parts: &'s [&'s [u8]],
-    pub(crate) profile: Profile,
-}
-
-/// The source with these parts, for this machine.
-pub(crate) fn source_of<'s>(
-    names: &'s [&'s str],
-    parts: &'s [&'s [u8]],
-    profile: Profile,
-) -> Source<'s> {
-    Source {
-        names,
-        parts,
-        profile,
-    }
-}
-
-impl<'s> Source<'s> {
-    /// The name of the file of a part; parts are counted from 0.
-    pub(crate) fn name(&self, part: usize) -> &'s str {
-        match self.names.get(part) {
-            Some(name) => name,
-            None => "",
-        }
-    }
-
-    /// The bytes of a part; parts are counted from 0.
-    pub(crate) fn bytes(&self, part: usize) -> &'s [u8] {
-        match self.parts.get(part) {
-            Some(bytes) => bytes,
-            None => &[],
-        }
-    }
-}
-
-/// The bytes of a symbol as it is written.
-pub(crate) fn written<'s>(source: &Source<'s>, occurrence: Occurrence) -> &'s [u8] {
-    bytes_between(
-        source.bytes(occurrence.part),
-        occurrence.start,
-        occurrence.end,
-    )
-}
-
-/// Adds a symbol as it is written.
-pub(crate) fn push_written<A: Allocator>(
-    text: &mut String<A>,
-    source: &Source<'_>,
-    occurrence: Occurrence,
-) -> Result<(), AllocError> {
-    push_characters(text, written(source, occurrence))
-}
-
 /// The significant characters of a name.
 pub(crate) fn letters_of(name: &Name) -> &str {
-    match str::from_utf8(name.letters.trim_ascii_end()) {
-        Ok(letters) => letters,
-        Err(_) => "",
-    }
-}
-
-/// Adds the line that a symbol is on, and the name of its file if that is not the file of this part.
-pub(crate) fn push_line_of<A: Allocator + Copy>(
-    alloc: A,
-    text: &mut String<A>,
-    source: &Source<'_>,
-    occurrence: Occurrence,
-    part: usize,
-) -> Result<(), AllocError> {
-    let found = line_at(alloc, source.bytes(occurrence.part), occurrence.start)?;
-    let number = found.number;
-    write!(text, "line {number}")?;
-    if occurrence.part != part {
-        let name = source.name(occurrence.part);
-        write!(text, " of {name}")?;
-    }
-    Ok(())
-}
-
-/// Adds a symbol of the source's own, as it is written and where it is defined.
-pub(crate) fn push_defined<A: Allocator + Copy>(
-    alloc: A,
-    text: &mut String<A>,
-    source: &Source<'_>,
-    known: &Meanings<'_, A>,
-    name: &Name,
-    part: usize,
-) -> Result<(), AllocError> {
-    let Some(occurrence) = known.occurrence(name) else {
-        return Ok(());
-    };
-    push_written(text, source, occurrence)?;
-    text.push_str(", defined on ")?;
-    push_line_of(alloc, text, source, occurrence, part)?;
-    text.push(',')
+    str::from_utf8(name.letters.trim_ascii_end()).unwrap_or("")
 }
 
 /// What to do about a word that only other assemblers have.
@@ -162,54 +67,75 @@ fn nearest<A: Allocator + Copy>(
     Ok(found)
 }
 
-/// Adds the question whether another symbol is meant, if one is near to this one: one of the source's own or, if none
-/// of those is near, a permanent symbol.
-fn push_nearest<A: Allocator + Copy>(
-    alloc: A,
-    text: &mut String<A>,
-    source: &Source<'_>,
-    known: &Meanings<'_, A>,
-    wanted: &str,
-    part: usize,
-) -> Result<(), AllocError> {
-    if let Some(own) = nearest(alloc, &known.symbols.own, wanted)? {
-        if let Some(occurrence) = known.occurrence(&own) {
-            text.push_str("did you mean ")?;
-            push_written(text, source, occurrence)?;
-            text.push_str(", defined on ")?;
-            push_line_of(alloc, text, source, occurrence, part)?;
-            text.push_str("? Otherwise ")?;
+impl<A: Allocator + Copy> Examination<'_, A> {
+    /// The bytes of a symbol as it is written.
+    pub(crate) fn written(&self, occurrence: Occurrence) -> &[u8] {
+        bytes_of(self.source.bytes(occurrence.part), occurrence.token)
+    }
+
+    /// Adds the line that a symbol is on, and the name of its file if that is another one.
+    pub(crate) fn push_line_of(
+        &self,
+        text: &mut String<A>,
+        occurrence: Occurrence,
+    ) -> Result<(), AllocError> {
+        let bytes = self.source.bytes(occurrence.part);
+        let number = line_at(self.alloc, bytes, occurrence.token.start)?.number;
+        write!(text, "line {number}")?;
+        if occurrence.part != self.faulty.part {
+            let name = self.source.name(occurrence.part);
+            write!(text, " of {name}")?;
         }
-    } else if let Some(permanent) = nearest(alloc, known.symbols.permanent, wanted)? {
-        let letters = letters_of(&permanent);
-        write!(text, "did you mean {letters}? Otherwise ")?;
+        Ok(())
     }
-    Ok(())
-}
 
-/// Whether the PDP-8/E has a permanent symbol of this name.
-fn is_of_the_8e<A: Allocator + Copy>(alloc: A, name: &Name) -> Result<bool, AllocError> {
-    Ok(permanent_table(alloc, Profile::Pdp8E)?.get(name).is_some())
-}
+    /// Adds a symbol of the source's own, as it is written and where it is defined.
+    pub(crate) fn push_defined(
+        &self,
+        text: &mut String<A>,
+        occurrence: Occurrence,
+    ) -> Result<(), AllocError> {
+        push_characters(text, self.written(occurrence))?;
+        text.push_str(", defined on ")?;
+        self.push_line_of(text, occurrence)
+    }
 
-/// Adds what to do about a symbol that has no value anywhere in the source.
-pub(crate) fn push_undefined_advice<A: Allocator + Copy>(
-    alloc: A,
-    text: &mut String<A>,
-    source: &Source<'_>,
-    known: &Meanings<'_, A>,
-    name: &Name,
-    part: usize,
-) -> Result<(), AllocError> {
-    if let Some(words) = about_other_word(name) {
-        return text.push_str(words);
+    /// Adds the question whether another symbol is meant, if one is near to this one: one of the source's own or, if none
+    /// of those is near, a permanent symbol.
+    fn push_nearest(&self, text: &mut String<A>, wanted: &str) -> Result<(), AllocError> {
+        let symbols = &self.known.symbols;
+        if let Some(own) = nearest(self.alloc, &symbols.own, wanted)? {
+            if let Some(occurrence) = self.known.occurrence(&own) {
+                text.push_str("did you mean ")?;
+                self.push_defined(text, occurrence)?;
+                text.push_str("? Otherwise ")?;
+            }
+        } else if let Some(permanent) = nearest(self.alloc, symbols.permanent, wanted)? {
+            let letters = letters_of(&permanent);
+            write!(text, "did you mean {letters}? Otherwise ")?;
+        }
+        Ok(())
     }
-    if is_of_the_8e(alloc, name)? {
-        return text.push_str(
-            "it is a symbol of the PDP-8/E: use --profile 8e, or the line profile 8e in a declaration",
-        );
+
+    /// Adds what to do about a symbol that has no value anywhere in the source.
+    pub(crate) fn push_undefined_advice(
+        &self,
+        text: &mut String<A>,
+        name: &Name,
+    ) -> Result<(), AllocError> {
+        if let Some(words) = about_other_word(name) {
+            return text.push_str(words);
+        }
+        if permanent_table(self.alloc, Profile::Pdp8E)?
+            .get(name)
+            .is_some()
+        {
+            return text.push_str(
+                "it is a symbol of the PDP-8/E: use --profile 8e, or the line profile 8e in a declaration",
+            );
+        }
+        let letters = letters_of(name);
+        self.push_nearest(text, letters)?;
+        write!(text, "give {letters} a value, with a tag or an assignment")
     }
-    let letters = letters_of(name);
-    push_nearest(alloc, text, source, known, letters, part)?;
-    write!(text, "give {letters} a value, with a tag or an assignment")
 }

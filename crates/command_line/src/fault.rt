@@ -246,9 +246,3 @@ impl From<AllocError> for CommandLineFault {
         CommandLineFault::Memory
     }
 }
-
-impl From<OctalFault> for CommandLineFault {
-    fn from(fault: OctalFault) -> CommandLineFault {
-        CommandLineFault::Start(fault)
-    }
-}

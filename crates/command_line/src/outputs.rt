@@ -63,8 +63,7 @@ fn is_one_of(name: &str, others: &[&str]) -> bool
 
 /// Whether the file that an output goes to is one of these; standard output is none.
 pub fn is_taken(name: &str, others: &[&str]) -> bool
-    ensures { result ≡ (not (bytes_eq name.now (codes "-")) &&
-        list_any (λ other. is_same_file other.now name.now) others.now) }
+    ensures { result ≡ is_taken name.now others.now }
 {
     if name == "-" {
         return false;
@@ -82,13 +81,6 @@ pub fn is_source_name(name: &str) -> bool {
     SOURCE_ENDINGS.iter().any(|ending| name.ends_with(*ending))
 }
 
-/// Whether the result goes to the value of `-o`.
-pub fn has_output(found: &ArgMatches<'_>) -> bool
-    ensures { result ≡ has_value found.now (codes "output") }
-{
-    has_value(found, "output")
-}
-
 /// Where the report of a search that is stuck goes, if it is requested: it is neither an input nor the
 /// result.
 pub fn report_of<'a>(
@@ -98,8 +90,8 @@ pub fn report_of<'a>(
 ) -> Result<Option<&'a str>, CommandLineFault>
     ensures named { IfOk result (λ name. option_map (λ it. it.now) name ≡
         value found.now (codes "report")) }
-    ensures free { IfOk result (λ name. ForSome name (λ it. (not (bytes_eq it.now (codes "-")) &&
-        list_any (λ other. is_same_file other.now it.now) others.now) ≡ false)) }
+    ensures free { IfOk result (λ name.
+        ForSome name (λ it. is_taken it.now others.now ≡ false)) }
 {
     let Some(name) = found.get_str("report") else {
         return Ok(None);
@@ -120,8 +112,8 @@ pub fn punch_of<'a>(
 ) -> Result<Option<&'a str>, CommandLineFault>
     ensures named { IfOk result (λ name. option_map (λ it. it.now) name ≡
         value found.now (codes "punch")) }
-    ensures free { IfOk result (λ name. ForSome name (λ it. (not (bytes_eq it.now (codes "-")) &&
-        list_any (λ other. is_same_file other.now it.now) inputs.now) ≡ false)) }
+    ensures free { IfOk result (λ name.
+        ForSome name (λ it. is_taken it.now inputs.now ≡ false)) }
 {
     let Some(name) = found.get_str("punch") else {
         return Ok(None);
@@ -139,13 +131,12 @@ pub fn punch_of<'a>(
 }
 
 /// Ensures that the result goes to none of these inputs.
-pub fn no_input<'a>(
+pub(crate) fn no_input<'a>(
     destination: Destination<'a>,
     inputs: &[&str],
 ) -> Result<Destination<'a>, CommandLineFault>
     ensures kept { IfOk result (λ out. out ≡ destination.entry) }
-    ensures free { IfOk result (λ out. (not (bytes_eq (file_of out) (codes "-")) &&
-        list_any (λ other. is_same_file other.now (file_of out)) inputs.now) ≡ false) }
+    ensures free { IfOk result (λ out. is_taken (file_of out) inputs.now ≡ false) }
 {
     if is_taken(destination.name(), inputs) {
         return Err(CommandLineFault::Misuse(Misuse::OutputIsInput));
@@ -153,42 +144,43 @@ pub fn no_input<'a>(
     Ok(destination)
 }
 
-/// Ensures that the result goes to none of these inputs, nor to a file that is named like a source.
-pub fn no_source<'a>(
+/// Ensures that the result goes to none of these inputs, nor to a file that is named like a source, which is this
+/// misuse.
+pub(crate) fn no_source<'a>(
     destination: Destination<'a>,
     inputs: &[&str],
+    misuse: Misuse,
 ) -> Result<Destination<'a>, CommandLineFault>
     ensures kept { IfOk result (λ out. out ≡ destination.entry) }
-    ensures free { IfOk result (λ out. (not (bytes_eq (file_of out) (codes "-")) &&
-        list_any (λ other. is_same_file other.now (file_of out)) inputs.now) ≡ false) }
+    ensures free { IfOk result (λ out. is_taken (file_of out) inputs.now ≡ false) }
 {
     let destination = no_input(destination, inputs)?;
     if is_source_name(destination.name()) {
-        return Err(CommandLineFault::Misuse(Misuse::ResultIsSource));
+        return Err(CommandLineFault::Misuse(misuse));
     }
     Ok(destination)
 }
 
-/// Where the result goes: the value of `-o`, otherwise the operand OUT, which is emptied first.
-pub fn emptied_destination<'a>(found: &ArgMatches<'a>) -> Destination<'a>
+/// Where the result goes: the value of `-o`, otherwise this operand, which is emptied first.
+pub(crate) fn emptied_destination<'a>(found: &ArgMatches<'a>, name: &str) -> Destination<'a>
     ensures { IsEmptiedGiven (value found.now (codes "output"))
-        (operand found.now (codes "OUT")) result }
+        (operand found.now name.now) result }
 {
     match found.get_str("output") {
-        Some(name) => Destination::MadeLast(name),
-        None => Destination::EmptiedFirst(operand_of(found, "OUT")),
+        Some(file) => Destination::MadeLast(file),
+        None => Destination::EmptiedFirst(operand_of(found, name)),
     }
 }
 
-/// Where the result goes: the value of `-o`, otherwise the operand OUT, which stays as it was if there is nothing to
+/// Where the result goes: the value of `-o`, otherwise this operand, which stays as it was if there is nothing to
 /// write.
-pub fn kept_destination<'a>(found: &ArgMatches<'a>) -> Destination<'a>
+pub(crate) fn kept_destination<'a>(found: &ArgMatches<'a>, name: &str) -> Destination<'a>
     ensures { IsKeptGiven (value found.now (codes "output"))
-        (operand found.now (codes "OUT")) result }
+        (operand found.now name.now) result }
 {
     match found.get_str("output") {
-        Some(name) => Destination::MadeLast(name),
-        None => Destination::CheckedFirst(operand_of(found, "OUT")),
+        Some(file) => Destination::MadeLast(file),
+        None => Destination::CheckedFirst(operand_of(found, name)),
     }
 }
 

@@ -10,7 +10,7 @@ ghost use Rattle.streams.specs.TextLeft.{words_left};
 ghost use Rattle.wordset.specs.Lanes.{words};
 
 use crate::fault::{CommandLineFault, Misuse};
-use crate::operands::copied;
+use crate::values::values_of;
 use clap::ArgMatches;
 use command_parts::options::Stops;
 use std::alloc::{AllocError, Global};
@@ -24,11 +24,11 @@ const MOST_VISITS: u32 = 1_000_000;
 /// The greatest number of last instructions that may be requested.
 const MOST_LAST: u32 = 1_000_000;
 
-/// The first place of a dash.
-fn place_of_dash(word: &[u8]) -> Option<usize>
-    ensures { result ≡ position (λ c. c == 45) word.now }
+/// The first place of a mark in a word.
+fn place_of(mark: u8, word: &[u8]) -> Option<usize>
+    ensures { result ≡ position (λ c. c == mark) word.now }
 {
-    word.iter().position(|byte| *byte == b'-')
+    word.iter().position(|byte| *byte == mark)
 }
 
 /// The cells from one address to another, which is not below it.
@@ -49,7 +49,7 @@ fn span(low: &[u8], high: &[u8]) -> Option<WordSet>
 fn range(word: &[u8]) -> Option<WordSet>
     ensures { option_map words result ≡ cells_of_word word.now }
 {
-    match place_of_dash(word) {
+    match place_of(b'-', word) {
         None => Some(WordSet::one(octal_word(word)?)),
         Some(at) => span(&word[..at], &word[at + 1..]),
     }
@@ -149,21 +149,6 @@ pub struct PlaceOptions<'a> {
     last: Option<u32>,
 }
 
-/// The values of an option that may be given several times.
-pub(crate) fn values_of<'a>(
-    alloc: Global,
-    found: &ArgMatches<'a>,
-    option: &str,
-) -> Result<Vec<&'a str>, AllocError>
-    ensures { IfOk result (λ texts. map (λ text. text.now) texts.items ≡
-        values found.now option.now) }
-{
-    match found.get_strs(option) {
-        Some(texts) => copied(alloc, texts),
-        None => Ok(Vec::new(alloc)),
-    }
-}
-
 /// The cells and the places that options of a run name.
 pub(crate) fn places_of<'a>(
     alloc: Global,
@@ -228,7 +213,10 @@ impl PlaceOptions<'_> {
                 place: None,
                 times: 1,
             }),
-            Some(text) => named_stop_place(reader, text),
+            Some(text) => match visits_of(reader, text.as_bytes()) {
+                Some(stop) => Ok(stop),
+                None => Err(Misuse::Until),
+            },
         }
     }
 
@@ -262,13 +250,6 @@ impl PlaceOptions<'_> {
     }
 }
 
-/// An address, and how many steps come to it.
-#[derive(Clone, Copy)]
-struct VisitCount {
-    place: Word,
-    times: u32,
-}
-
 /// The address at which a run is stopped, if it is stopped at one, and how many steps come to it.
 #[derive(Clone, Copy)]
 struct StopPlace {
@@ -276,39 +257,18 @@ struct StopPlace {
     times: u32,
 }
 
-/// The first place of a comma.
-fn place_of_comma(word: &[u8]) -> Option<usize>
-    ensures { result ≡ position (λ c. c == 44) word.now }
-{
-    word.iter().position(|byte| *byte == b',')
-}
-
 /// The address and the number of a `PLACE` or a `PLACE,N`.
-fn visits_of<C: AddressReader>(reader: &C, text: &[u8]) -> Option<VisitCount>
-    ensures { IfSome result (λ visits.
-        IsVisitNamed (C.names_place reader.now) text.now visits.place visits.times) }
+fn visits_of<C: AddressReader>(reader: &C, text: &[u8]) -> Option<StopPlace>
+    ensures { IfSome result (λ stop. IsUntilNamed (C.names_place reader.now) (Some text.now)
+        stop.place stop.times) }
 {
-    let Some(at) = place_of_comma(text) else {
-        let place = reader.place(text)?;
-        return Some(VisitCount { place, times: 1 });
+    let Some(at) = place_of(b',', text) else {
+        let place = Some(reader.place(text)?);
+        return Some(StopPlace { place, times: 1 });
     };
-    let place = reader.place(&text[..at])?;
+    let place = Some(reader.place(&text[..at])?);
     let times = decimal_between(1, MOST_VISITS, &text[at + 1..])?;
-    Some(VisitCount { place, times })
-}
-
-/// The place at which a run is stopped that is to be stopped at one.
-fn named_stop_place<C: AddressReader>(reader: &C, text: &str) -> Result<StopPlace, Misuse>
-    ensures { IfOk result (λ stop.
-        IsUntilNamed (C.names_place reader.now) (Some text.now) stop.place stop.times) }
-{
-    match visits_of(reader, text.as_bytes()) {
-        Some(visits) => Ok(StopPlace {
-            place: Some(visits.place),
-            times: visits.times,
-        }),
-        None => Err(Misuse::Until),
-    }
+    Some(StopPlace { place, times })
 }
 
 /// How a run is followed that may be stopped.

@@ -2,25 +2,24 @@
 //! its source. It is proved that the files of a program are those that were given.
 
 ghost use Rattle.std.specs.Prelude.{◌≡◌, IfOk, Some, codes, false, is_some, option_map, unwrap_or};
-ghost use Rattle.command_line.specs.Outputs.{IsCertificateResultGiven, IsKeptGiven, IsResultGiven};
-ghost use Rattle.command_line.specs.Options.{IsVersionNamed, operand, value, version_named};
-ghost use Rattle.command_line.specs.Requests.{IsDeclareGiven, IsFollowedOn, IsGuessGiven, IsOperated, IsWatchedRunGiven, IsProgramRequestGiven, IsRefuteGiven, IsReportGiven, IsTaskGiven, IsVerifyGiven, is_tape, last_of, part_names, watched_declaration, watched_tape};
+ghost use Rattle.command_line.specs.Options.{IsVersionNamed, value, version_named};
+ghost use Rattle.command_line.specs.Requests.{IsDeclareGiven, IsFollowedOn, IsGuessGiven, IsOperated, IsWatchedRunGiven, IsProgramRequestGiven, IsRefuteGiven, IsReportGiven, IsResultGiven, IsTaskGiven, IsVerifyGiven, is_tape, last_of, part_names, watched_declaration, watched_tape};
 ghost use Rattle.command_line.specs.Sources.{IsPlaceGiven};
 
 use crate::fault::{CommandLineFault, Misuse};
 use crate::names::FileNames;
-use crate::operands::{Operands, inputs_of, operands_of, start_once};
-use crate::operator::{WatchedSession, is_watched_with_operator, watched_session_of};
+use crate::operands::{Operands, input_names, operands_of};
+use crate::operator::{WatchedSession, is_watched_with_operator, session_options};
 use crate::outputs::{
-    Destination, SaveOptions, is_source_name, is_taken, kept_destination, no_input, no_source,
+    Destination, SaveOptions, emptied_destination, is_taken, kept_destination, no_source,
     report_of, save_of,
 };
 use crate::place_options::{PlaceOptions, StopOptions, places_of, shown_on, stopping_on};
 use crate::program_command::ProgramCommand;
 use crate::sources::source_names;
 use crate::values::{
-    declare_options, is_given, is_start_named, operand_of, read_standard_input_once,
-    refinements_of, refute_options, verify_options,
+    continues_of, copied, declare_options, has_value, is_given, is_start_named, read_once,
+    refinements_of, refute_options, standard_input_at_most, start_once, verify_options,
 };
 use certificate_lines::Version;
 use clap::ArgMatches;
@@ -237,26 +236,23 @@ impl<'a> Task<'a> {
     }
 }
 
-/// Where a result goes: the operand OUT, which stays as it was if there is nothing to write; without one the value of
-/// `-o`.
-fn result_of<'a>(found: &ArgMatches<'a>, out: Option<&'a str>) -> Destination<'a>
-    ensures { IsResultGiven found.now (option_map (λ name. name.now) out.entry) result }
+/// Where the result of a command goes. It is none of these inputs, and is not named like a source.
+fn result_of<'a>(
+    called: ProgramCommand,
+    found: &ArgMatches<'a>,
+    inputs: &[&'a str],
+) -> Result<Destination<'a>, CommandLineFault>
+    ensures { IfOk result (IsResultGiven called found.now) }
 {
-    match out {
-        Some(name) => Destination::CheckedFirst(name),
-        None => Destination::MadeLast(operand_of(found, "output")),
-    }
-}
-
-/// Where a certificate goes: the operand OUT, which is emptied first; without one the value of `-o`.
-fn certificate_of<'a>(found: &ArgMatches<'a>, out: Option<&'a str>) -> Destination<'a>
-    ensures { IsCertificateResultGiven found.now
-        (option_map (λ name. name.now) out.entry) result }
-{
-    match out {
-        Some(name) => Destination::EmptiedFirst(name),
-        None => Destination::MadeLast(operand_of(found, "output")),
-    }
+    let operand = match found.get_strs("source") {
+        Some(_) => "DECLARATION",
+        None => "OUT",
+    };
+    let out = match called {
+        ProgramCommand::Guess => emptied_destination(found, operand),
+        _ => kept_destination(found, operand),
+    };
+    no_source(out, inputs, Misuse::ResultIsSource)
 }
 
 /// The tape of a run that is watched with an operator. Of a source, its name is empty.
@@ -280,23 +276,8 @@ fn watched_declaration<'a>(operands: &Operands<'a>) -> &'a str
     }
 }
 
-/// The watched run with an operator that is requested.
-fn session_on<'a>(
-    found: &ArgMatches<'a>,
-    operands: &Operands<'a>,
-    followed: WatchedRunOptions,
-) -> Result<WatchedSession<'a>, CommandLineFault>
-    ensures { IfOk result (IsWatchedRunGiven found.now operands.now followed) }
-{
-    let tape = watched_tape(&operands.program);
-    let declaration = watched_declaration(operands);
-    let WatchedRunOptions { show, stopping } = followed;
-    let session = watched_session_of(tape, declaration, show, stopping, found)?;
-    Ok(session)
-}
-
-/// The same, of which each input is another file.
-fn session_of_operands<'a>(
+/// The watched run with an operator that is requested. Each of its inputs is another file.
+fn watched_session_of<'a>(
     alloc: Global,
     found: &ArgMatches<'a>,
     operands: &Operands<'a>,
@@ -304,21 +285,39 @@ fn session_of_operands<'a>(
 ) -> Result<WatchedSession<'a>, CommandLineFault>
     ensures { IfOk result (IsWatchedRunGiven found.now operands.now followed) }
 {
-    let session = session_on(found, operands, followed)?;
-    let inputs = inputs_of(alloc, operands, &[session.reader, session.keys])?;
-    read_standard_input_once(&inputs)?;
-    Ok(session)
+    if has_value(found, "EVENTS") {
+        return Err(CommandLineFault::Misuse(Misuse::ListAndOperator));
+    }
+    let is_tape = operands.program.tape().is_some();
+    if is_tape {
+        read_once(alloc, found, input_names(ProgramCommand::Watch, false))?;
+    } else {
+        read_once(alloc, found, &["reader", "keys"])?;
+    }
+    let options = session_options(found, followed.show)?;
+    let continues = continues_of(found)?;
+    read_once(alloc, found, input_names(ProgramCommand::Watch, !is_tape))?;
+    Ok(WatchedSession {
+        tape: watched_tape(&operands.program),
+        declaration: watched_declaration(operands),
+        reader: found.get_str("reader"),
+        keys: found.get_str("keys"),
+        options,
+        continues,
+        stopping: followed.stopping,
+        explained: is_given(found, "why"),
+    })
 }
 
 /// The version of a certificate that is named.
-fn version_named(name: &str) -> Result<Version, CommandLineFault>
-    ensures { IfOk result (λ version. version_named name.now ≡ Some version) }
+fn version_named(name: &str) -> Option<Version>
+    ensures { result ≡ version_named name.now }
 {
     match name {
-        "1" => Ok(Version::One),
-        "2" => Ok(Version::Two),
-        "3" => Ok(Version::Three),
-        _ => Err(CommandLineFault::Misuse(Misuse::GuessedVersion)),
+        "1" => Some(Version::One),
+        "2" => Some(Version::Two),
+        "3" => Some(Version::Three),
+        _ => None,
     }
 }
 
@@ -329,8 +328,8 @@ fn guessed_version(found: &ArgMatches<'_>) -> Result<Option<Version>, CommandLin
     match found.get_str("certificate") {
         None => Ok(None),
         Some(name) => match version_named(name) {
-            Ok(version) => Ok(Some(version)),
-            Err(refused) => Err(refused),
+            Some(version) => Ok(Some(version)),
+            None => Err(CommandLineFault::Misuse(Misuse::GuessedVersion)),
         },
     }
 }
@@ -342,10 +341,10 @@ fn guess_task<'a>(
     operands: &Operands<'a>,
     inputs: &[&'a str],
 ) -> Result<Task<'a>, CommandLineFault>
-    ensures { IfOk result (IsGuessGiven found.now (last_of operands.now)) }
+    ensures { IfOk result (IsGuessGiven found.now) }
 {
     let is_tape = operands.program.tape().is_some();
-    let out = no_source(certificate_of(found, operands.last), inputs)?;
+    let out = result_of(ProgramCommand::Guess, found, inputs)?;
     let named = if is_tape {
         inputs
     } else {
@@ -380,14 +379,10 @@ fn verify_task<'a>(
 }
 
 /// To search for a run that violates the declaration.
-fn refute_task<'a>(
-    found: &ArgMatches<'a>,
-    operands: &Operands<'a>,
-    inputs: &[&'a str],
-) -> Result<Task<'a>, CommandLineFault>
-    ensures { IfOk result (IsRefuteGiven found.now (last_of operands.now)) }
+fn refute_task<'a>(found: &ArgMatches<'a>, inputs: &[&'a str]) -> Result<Task<'a>, CommandLineFault>
+    ensures { IfOk result (IsRefuteGiven found.now) }
 {
-    let out = no_source(result_of(found, operands.last), inputs)?;
+    let out = result_of(ProgramCommand::Refute, found, inputs)?;
     let options = refute_options(found)?;
     Ok(Task::Refute { out, options })
 }
@@ -395,12 +390,11 @@ fn refute_task<'a>(
 /// To propose a declaration, or to complete one.
 fn declare_task<'a>(
     found: &ArgMatches<'a>,
-    operands: &Operands<'a>,
     inputs: &[&'a str],
 ) -> Result<Task<'a>, CommandLineFault>
-    ensures { IfOk result (IsDeclareGiven found.now (last_of operands.now)) }
+    ensures { IfOk result (IsDeclareGiven found.now) }
 {
-    let out = no_source(result_of(found, operands.last), inputs)?;
+    let out = result_of(ProgramCommand::Declare, found, inputs)?;
     let options = declare_options(found)?;
     let refinements = refinements_of(found);
     Ok(Task::Declare {
@@ -418,8 +412,7 @@ fn report_task<'a>(
 ) -> Result<Task<'a>, CommandLineFault>
     ensures { IfOk result (IsReportGiven found.now (last_of operands.now)) }
 {
-    let named = found.get_str("OUT");
-    let out = no_source(result_of(found, named), inputs)?;
+    let out = result_of(ProgramCommand::Report, found, inputs)?;
     let certificate = name_or_input(&operands.last);
     Ok(Task::Report {
         certificate,
@@ -438,7 +431,7 @@ fn name_or_input<'a>(name: &Option<&'a str>) -> &'a str
     }
 }
 
-/// What a command asks for, whose program, declaration and last input are these inputs.
+/// What a command asks for whose operands are these, with these inputs and without an operator.
 fn task_of<'a>(
     called: ProgramCommand,
     found: &ArgMatches<'a>,
@@ -457,8 +450,8 @@ fn task_of<'a>(
             stopping: followed.stopping,
         }),
         ProgramCommand::Guess => guess_task(found, operands, inputs),
-        ProgramCommand::Refute => refute_task(found, operands, inputs),
-        ProgramCommand::Declare => declare_task(found, operands, inputs),
+        ProgramCommand::Refute => refute_task(found, inputs),
+        ProgramCommand::Declare => declare_task(found, inputs),
         ProgramCommand::Report => report_task(found, operands, inputs),
         ProgramCommand::Check => Ok(Task::Check {
             certificate: name_or_input(&operands.last),
@@ -486,14 +479,6 @@ fn followed_on(
     Ok(WatchedRunOptions { show, stopping })
 }
 
-/// The last operand of a command, if it is an input.
-fn last_input<'a>(called: ProgramCommand, operands: &Operands<'a>) -> Option<&'a str> {
-    match called {
-        ProgramCommand::Check | ProgramCommand::Report | ProgramCommand::Watch => operands.last,
-        _ => None,
-    }
-}
-
 /// Whether a command is `watch` with an operator.
 fn is_operated(called: ProgramCommand, found: &ArgMatches<'_>) -> bool
     ensures { IsOperated called found.now result }
@@ -515,12 +500,12 @@ fn task_on<'a>(
     ensures { IfOk result (IsTaskGiven called found.now operands.now followed) }
 {
     if is_operated(called, found) {
-        let session = session_of_operands(alloc, found, operands, followed)?;
+        let session = watched_session_of(alloc, found, operands, followed)?;
         return Ok(Task::WatchSession(session));
     }
-    let inputs = inputs_of(alloc, operands, &[last_input(called, operands)])?;
-    read_standard_input_once(&inputs)?;
-    start_once(found, operands.declaration)?;
+    let is_sourced = operands.program.tape().is_none();
+    let inputs = read_once(alloc, found, input_names(called, is_sourced))?;
+    start_once(found)?;
     task_of(called, found, operands, &inputs, followed)
 }
 
@@ -551,21 +536,6 @@ pub(crate) fn program_request<'a>(
     })
 }
 
-/// Where the declaration in numbers goes, which is none of these inputs and is not named like a source.
-fn placed_destination<'a>(
-    found: &ArgMatches<'a>,
-    inputs: &[&str],
-) -> Result<Destination<'a>, CommandLineFault>
-    ensures { IfOk result (IsKeptGiven (value found.now (codes "output"))
-        (operand found.now (codes "OUT"))) }
-{
-    let out = no_input(kept_destination(found), inputs)?;
-    if is_source_name(out.name()) {
-        return Err(CommandLineFault::Misuse(Misuse::PlacedIsSource));
-    }
-    Ok(out)
-}
-
 /// The request for the declaration of a source in numbers.
 pub(crate) fn place_request<'a>(
     alloc: Global,
@@ -575,22 +545,14 @@ pub(crate) fn place_request<'a>(
 {
     let names = source_names(alloc, found)?;
     let declaration = found.get_str("declaration");
-    let operands = Operands {
-        program: ProgramNames::Source(names),
-        declaration,
-        last: None,
-    };
-    let inputs = inputs_of(alloc, &operands, &[])?;
-    read_standard_input_once(&inputs)?;
-    let out = placed_destination(found, &inputs)?;
+    let mut inputs = copied(alloc, &names)?;
+    inputs.extend_from_slice(declaration.as_slice())?;
+    standard_input_at_most(1, &inputs)?;
+    let out = kept_destination(found, "OUT");
+    let out = no_source(out, &inputs, Misuse::PlacedIsSource)?;
     let places = places_of(alloc, found)?;
-    let Operands {
-        program,
-        declaration,
-        ..
-    } = operands;
     Ok(ProgramRequest {
-        program,
+        program: ProgramNames::Source(names),
         declaration,
         task: Task::Place { out },
         places,

@@ -6,13 +6,10 @@ ghost use Rattle.command_line.specs.CommandLines.{IsExplainGiven, IsLineGiven, I
 use crate::command_name::{CommandName, called_of};
 use crate::commands::command;
 use crate::fault::CommandLineFault;
-use crate::operator::{Session, TeletypeSession};
 use crate::programs::{ProgramRequest, place_request, program_request};
-use crate::source_programs::{SourceProgramRequest, machine_request};
+use crate::source_programs::{MachineTask, SourceProgramRequest, machine_request};
 use crate::sources::{AssembleRequest, ListRequest, assemble_request, list_request};
-use crate::tapes::{
-    DumpRequest, MigrateRequest, RunRequest, SourceRequest, migrate_request, source_request,
-};
+use crate::tapes::{MigrateRequest, SourceRequest, migrate_request, source_request};
 use crate::values::is_given;
 use clap::ArgMatches;
 use std::alloc::Global;
@@ -21,14 +18,8 @@ use std::convert::AsStr;
 /// What is requested.
 #[derive(Drop)]
 pub enum Request<'a> {
-    /// To run a tape.
-    Run(RunRequest<'a>),
-    /// To run a tape with an operator.
-    Session(Session<'a>),
-    /// To hold a session at the teletype.
-    Teletype(TeletypeSession<'a>),
-    /// To list the words of a tape.
-    Dump(DumpRequest<'a>),
+    /// To run a tape, or to list its words.
+    Tape(MachineTask<'a>),
     /// To do one of these with the program of a source.
     Sourced(SourceProgramRequest<'a>),
     /// To assemble a source.
@@ -80,8 +71,8 @@ fn request_of<'a>(
         CommandName::Machine(command) => machine_request(alloc, command, found),
         CommandName::Assemble => Ok(Request::Assemble(assemble_request(alloc, found)?)),
         CommandName::List => Ok(Request::List(list_request(alloc, found)?)),
-        CommandName::Source => Ok(Request::Source(source_request(found)?)),
-        CommandName::Migrate => Ok(Request::Migrate(migrate_request(found)?)),
+        CommandName::Source => Ok(Request::Source(source_request(alloc, found)?)),
+        CommandName::Migrate => Ok(Request::Migrate(migrate_request(alloc, found)?)),
         CommandName::Place => Ok(Request::Program(place_request(alloc, found)?)),
         CommandName::Explain => Ok(explain_request(found)),
         CommandName::Program(command) => {

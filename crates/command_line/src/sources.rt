@@ -1,17 +1,15 @@
 //! What may be requested with a source that is assembled.
 
-ghost use Rattle.std.specs.Prelude.{◌≡◌, ◌++◌, IfOk, [], codes, if◌then◌else◌, map};
-ghost use Rattle.command_line.specs.Options.{has_value, values};
+ghost use Rattle.std.specs.Prelude.{◌≡◌, IfOk, map};
 ghost use Rattle.command_line.specs.Sources.{IsAssembleGiven, IsListGiven, source_operands};
 
 use crate::fault::{CommandLineFault, Misuse};
 use crate::names::FileNames;
-use crate::outputs::{Destination, emptied_destination, has_output, is_source_name, no_input};
-use crate::place_options::values_of;
-use crate::values::{is_given, profile_of, read_standard_input_once};
+use crate::outputs::{Destination, emptied_destination, no_source};
+use crate::values::{has_value, inputs_of, is_given, profile_of, standard_input_at_most};
 use clap::ArgMatches;
 use instruct::Profile;
-use std::alloc::{AllocError, Global};
+use std::alloc::Global;
 
 /// To assemble a source.
 #[derive(Drop)]
@@ -48,28 +46,7 @@ pub struct ListRequest<'a> {
     pub crossed: bool,
 }
 
-/// The first operand, if it is a part of the source too: with `-o` it is.
-fn first_parts<'a>(alloc: Global, found: &ArgMatches<'a>) -> Result<Vec<&'a str>, AllocError>
-    ensures { IfOk result (λ names. map (λ name. name.now) names.items ≡
-        (if has_value found.now (codes "output") then values found.now (codes "OUT") else [])) }
-{
-    if has_output(found) {
-        values_of(alloc, found, "OUT")
-    } else {
-        Ok(Vec::new(alloc))
-    }
-}
-
-/// Names and those that come after them.
-fn joined<'a>(mut names: Vec<&'a str>, rest: &[&'a str]) -> Result<Vec<&'a str>, AllocError>
-    ensures { IfOk result (λ all. map (λ name. name.now) all.items ≡
-        map (λ name. name.now) names.entry.items ++ map (λ name. name.now) rest.now) }
-{
-    names.extend_from_slice(rest)?;
-    Ok(names)
-}
-
-/// The names of a source's parts, of which there is one at least.
+/// The names of a source's parts, of which there is one at least: with `-o` the first operand is one of them too.
 pub(crate) fn source_names<'a>(
     alloc: Global,
     found: &ArgMatches<'a>,
@@ -77,13 +54,15 @@ pub(crate) fn source_names<'a>(
     ensures { IfOk result (λ names. map (λ name. name.now) names.items ≡
         source_operands found.now) }
 {
-    let first = first_parts(alloc, found)?;
-    let rest = values_of(alloc, found, "SOURCE")?;
-    let names = joined(first, &rest)?;
+    let names = if has_value(found, "output") {
+        inputs_of(alloc, found, &["OUT", "SOURCE"])?
+    } else {
+        inputs_of(alloc, found, &["SOURCE"])?
+    };
     if names.is_empty() {
         return Err(CommandLineFault::NoOperand("SOURCE"));
     }
-    read_standard_input_once(&names)?;
+    standard_input_at_most(1, &names)?;
     Ok(names)
 }
 
@@ -96,10 +75,8 @@ pub(crate) fn assemble_request<'a>(
     ensures { IfOk result (IsAssembleGiven found.now) }
 {
     let sources = source_names(alloc, found)?;
-    let out = no_input(emptied_destination(found), &sources)?;
-    if is_source_name(out.name()) {
-        return Err(CommandLineFault::Misuse(Misuse::OutputIsSource));
-    }
+    let out = emptied_destination(found, "OUT");
+    let out = no_source(out, &sources, Misuse::OutputIsSource)?;
     let profile = profile_of(found)?;
     Ok(AssembleRequest {
         out,

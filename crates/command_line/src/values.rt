@@ -1,9 +1,9 @@
 //! The values of options and operands that several commands have.
 
-ghost use Rattle.std.specs.Prelude.{◌≡◌, ◌≤◌, IfOk, IfErr, Ok, Some, codes, is_some};
-ghost use Rattle.std.specs.List.{count_by};
+ghost use Rattle.std.specs.Prelude.{◌≡◌, ◌≤◌, ◌||◌, IfOk, Ok, Some, is_some, map};
+ghost use Rattle.std.specs.List.{count_by, list_any};
 ghost use Rattle.command_line.specs.Outputs.{is_standard_input};
-ghost use Rattle.command_line.specs.Options.{AreDeclareOptions, AreRefinements, AreRefuteOptions, AreRunOptions, AreVerifyOptions, IsFlagGiven, IsNumberNamed, is_start_named, machine_given, machine_named, number_or, operand, start_given, value, value_or};
+ghost use Rattle.command_line.specs.Options.{AreDeclareOptions, AreRefinements, AreRefuteOptions, AreRunOptions, AreVerifyOptions, IsFlagGiven, IsNumberNamed, has_value, is_start_named, machine_given, machine_named, named, number_or, operand, start_given, value, value_or, values};
 
 use crate::fault::{CommandLineFault, Misuse};
 use clap::ArgMatches;
@@ -11,6 +11,7 @@ use command_parts::options::{
     DeclareOptions, Refinements, RefuteOptions, RunOptions, VerifyOptions,
 };
 use instruct::Profile;
+use std::alloc::{AllocError, Global};
 use streams::text::decimal_between;
 use word12::Word;
 use wordset::WordSet;
@@ -70,14 +71,61 @@ pub(crate) fn is_given(found: &ArgMatches<'_>, name: &str) -> bool
     found.get_flag(name)
 }
 
+/// Whether one of these options or operands has a value.
+pub(crate) fn has_any(found: &ArgMatches<'_>, names: &[&str]) -> bool
+    ensures { result ≡ list_any (λ name. has_value found.now name.now) names.now }
+{
+    names.iter().any(|name| has_value(found, name))
+}
+
+/// The values of an option or an operand that may have several.
+pub(crate) fn values_of<'a>(
+    alloc: Global,
+    found: &ArgMatches<'a>,
+    name: &str,
+) -> Result<Vec<&'a str>, AllocError>
+    ensures { IfOk result (λ texts. map (λ text. text.now) texts.items ≡
+        values found.now name.now) }
+{
+    match found.get_strs(name) {
+        Some(texts) => copied(alloc, texts),
+        None => Ok(Vec::new(alloc)),
+    }
+}
+
+/// These names in a list of its own.
+pub(crate) fn copied<'a>(alloc: Global, names: &[&'a str]) -> Result<Vec<&'a str>, AllocError>
+    ensures { IfOk result (λ copy. copy.items ≡ names.now) }
+{
+    let mut copy = Vec::new(alloc);
+    copy.extend_from_slice(names)?;
+    Ok(copy)
+}
+
+/// The names of the files that these operands and options give, in this order.
+pub(crate) fn inputs_of<'a>(
+    alloc: Global,
+    found: &ArgMatches<'a>,
+    names: &[&str],
+) -> Result<Vec<&'a str>, AllocError>
+    ensures { IfOk result (λ inputs. map (λ input. input.now) inputs.items ≡
+        named found.now (map (λ name. name.now) names.now)) }
+{
+    let mut inputs = Vec::new(alloc);
+    for name in names {
+        inputs.extend_from_slice(&values_of(alloc, found, name)?)?;
+    }
+    Ok(inputs)
+}
+
 /// The machine of a name.
-fn machine_named(name: &str) -> Result<Profile, CommandLineFault>
-    ensures { IfOk result (λ machine. machine_named name.now ≡ Some machine) }
+fn machine_named(name: &str) -> Option<Profile>
+    ensures { result ≡ machine_named name.now }
 {
     match name {
-        "8i" => Ok(Profile::Pdp8I),
-        "8e" => Ok(Profile::Pdp8E),
-        _ => Err(CommandLineFault::Misuse(Misuse::Profile)),
+        "8i" => Some(Profile::Pdp8I),
+        "8e" => Some(Profile::Pdp8E),
+        _ => None,
     }
 }
 
@@ -85,7 +133,10 @@ fn machine_named(name: &str) -> Result<Profile, CommandLineFault>
 pub(crate) fn profile_of(found: &ArgMatches<'_>) -> Result<Profile, CommandLineFault>
     ensures { IfOk result (λ machine. machine_given found.now ≡ Some machine) }
 {
-    machine_named(value_or(found, "profile", "8i"))
+    match machine_named(value_or(found, "profile", "8i")) {
+        Some(machine) => Ok(machine),
+        None => Err(CommandLineFault::Misuse(Misuse::Profile)),
+    }
 }
 
 /// The address of the first instruction.
@@ -94,7 +145,7 @@ pub(crate) fn start_of(found: &ArgMatches<'_>) -> Result<Word, CommandLineFault>
 {
     match Word::from_octal(value_or(found, "start", "0200").as_bytes()) {
         Ok(start) => Ok(start),
-        Err(fault) => Err(CommandLineFault::from(fault)),
+        Err(fault) => Err(CommandLineFault::Start(fault)),
     }
 }
 
@@ -122,17 +173,6 @@ fn number_or(
     }
 }
 
-/// How many rounds are made at most.
-fn rounds_of(found: &ArgMatches<'_>) -> Result<u32, CommandLineFault>
-    ensures { IfOk result (λ rounds.
-        number_or 1 1000000 100000 (value found.now (codes "steps")) ≡ Some rounds) }
-{
-    match number_or(found, "steps", 1, MOST_ROUNDS, ROUNDS) {
-        Some(rounds) => Ok(rounds),
-        None => Err(CommandLineFault::Steps(MOST_ROUNDS)),
-    }
-}
-
 /// How often CONTINUE is pressed at declared pauses at most, if it may be.
 pub(crate) fn continues_of(found: &ArgMatches<'_>) -> Result<Option<u32>, CommandLineFault>
     ensures { IfOk result (IsNumberNamed 1 1000000 (value found.now (codes "continue"))) }
@@ -155,7 +195,9 @@ pub(crate) fn run_options(
     ensures shown { IfOk result (λ options. options.show ≡ show) }
 {
     let start = start_of(found)?;
-    let rounds = rounds_of(found)?;
+    let Some(rounds) = number_or(found, "steps", 1, MOST_ROUNDS, ROUNDS) else {
+        return Err(CommandLineFault::Steps(MOST_ROUNDS));
+    };
     let profile = profile_of(found)?;
     Ok(RunOptions {
         start,
@@ -189,34 +231,16 @@ pub(crate) fn refinements_of(found: &ArgMatches<'_>) -> Refinements
     }
 }
 
-/// How many steps a search for a run makes at most.
-fn search_steps_of(found: &ArgMatches<'_>) -> Result<u32, CommandLineFault>
-    ensures { IfOk result (λ steps.
-        number_or 1 100000000 20000000 (value found.now (codes "steps")) ≡ Some steps) }
-{
-    match number_or(found, "steps", 1, MOST_SEARCH_STEPS, SEARCH_STEPS) {
-        Some(steps) => Ok(steps),
-        None => Err(CommandLineFault::Steps(MOST_SEARCH_STEPS)),
-    }
-}
-
-/// Where the random numbers of a search begin.
-fn seed_of(found: &ArgMatches<'_>) -> Result<u32, CommandLineFault>
-    ensures { IfOk result (λ seed.
-        number_or 0 99999999 1 (value found.now (codes "seed")) ≡ Some seed) }
-{
-    match number_or(found, "seed", 0, MOST_SEED, SEED) {
-        Some(seed) => Ok(seed),
-        None => Err(CommandLineFault::Misuse(Misuse::Seed)),
-    }
-}
-
 /// How a run that violates a declaration is searched for.
 pub(crate) fn refute_options(found: &ArgMatches<'_>) -> Result<RefuteOptions, CommandLineFault>
     ensures { IfOk result (AreRefuteOptions found.now) }
 {
-    let steps = search_steps_of(found)?;
-    let seed = seed_of(found)?;
+    let Some(steps) = number_or(found, "steps", 1, MOST_SEARCH_STEPS, SEARCH_STEPS) else {
+        return Err(CommandLineFault::Steps(MOST_SEARCH_STEPS));
+    };
+    let Some(seed) = number_or(found, "seed", 0, MOST_SEED, SEED) else {
+        return Err(CommandLineFault::Misuse(Misuse::Seed));
+    };
     Ok(RefuteOptions {
         steps,
         seed,
@@ -245,16 +269,37 @@ fn is_standard_input(name: &str) -> bool
     name == "-" || name == "/dev/stdin"
 }
 
-/// Ensures that at most one of these inputs is standard input.
-pub(crate) fn read_standard_input_once(names: &[&str]) -> Result<(), CommandLineFault>
-    ensures once { IfOk result (λ done.
-        count_by (λ name. is_standard_input name.now) names.now ≤ 1) }
-    ensures refused { IfErr result (λ fault.
-        2 ≤ count_by (λ name. is_standard_input name.now) names.now) }
+/// Ensures that at most so many of these inputs are standard input.
+pub(crate) fn standard_input_at_most(most: usize, names: &[&str]) -> Result<(), CommandLineFault>
+    ensures kept { IfOk result (λ done.
+        count_by (λ name. is_standard_input name.now) names.now ≤ most) }
 {
-    let count = names.iter().filter(|name| is_standard_input(name)).count();
-    if count > 1 {
+    if names.iter().filter(|name| is_standard_input(name)).count() > most {
         return Err(CommandLineFault::Misuse(Misuse::BothStandardInput));
+    }
+    Ok(())
+}
+
+/// The names of the files that these operands and options give, of which one may be standard input.
+pub(crate) fn read_once<'a>(
+    alloc: Global,
+    found: &ArgMatches<'a>,
+    names: &[&str],
+) -> Result<Vec<&'a str>, CommandLineFault>
+    ensures { IfOk result (λ inputs. map (λ input. input.now) inputs.items ≡
+        named found.now (map (λ name. name.now) names.now)) }
+{
+    let inputs = inputs_of(alloc, found, names)?;
+    standard_input_at_most(1, &inputs)?;
+    Ok(inputs)
+}
+
+/// Ensures that a declaration which is given determines the start and the machine.
+pub(crate) fn start_once(found: &ArgMatches<'_>) -> Result<(), CommandLineFault> {
+    let is_declared = has_any(found, &["DECLARATION", "declaration", "from"])
+        || (found.get_strs("source").is_some() && has_value(found, "TAPE"));
+    if is_declared && is_start_named(found) {
+        return Err(CommandLineFault::Misuse(Misuse::DeclarationAndStart));
     }
     Ok(())
 }

@@ -10,6 +10,7 @@ use crate::outputs::{Destination, emptied_destination, kept_destination, no_inpu
 use crate::place_options::{PlaceOptions, StopOptions, shown_on, stopping_on};
 use crate::values::{
     has_value, is_given, operand_of, profile_of, read_once, run_options, start_of, start_once,
+    value_or,
 };
 use clap::ArgMatches;
 use command_parts::options::RunOptions;

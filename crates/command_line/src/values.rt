@@ -38,7 +38,7 @@ const SEED: u32 = 1;
 const MOST_SEED: u32 = 99_999_999;
 
 /// The value of an option, and another text where it is left out.
-fn value_or<'a>(found: &ArgMatches<'a>, name: &str, otherwise: &'a str) -> &'a str
+pub(crate) fn value_or<'a>(found: &ArgMatches<'a>, name: &str, otherwise: &'a str) -> &'a str
     ensures { result.now ≡ value_or found.now name.now otherwise.now }
 {
     match found.get_str(name) {

@@ -117,15 +117,24 @@ abbrev pub watched_declaration : ProgramNames → Option (List ℕ) → List ℕ
 watched_declaration (Tape name) declaration = unwrap_or declaration (codes "-")
 watched_declaration (Source names) declaration = []
 
--- The operand that a result goes to without `-o`: OUT, or the second operand after a source.
-abbrev pub result_operand : ArgMatches → List ℕ
-result_operand found = operand found (if is_some (sources_given found) then codes "DECLARATION" else codes "OUT")
+-- The operand that the result of a search goes to without `-o`: OUT, or the second operand after a source.
+abbrev pub searched_name : Bool → List ℕ
+searched_name sourced = if sourced then codes "DECLARATION" else codes "OUT"
 
--- A result goes to the value of `-o` if it is given, whose file is made last; otherwise to the operand, whose file is emptied first if the
--- result is a certificate, and checked first if it is not.
+-- The operand that the result of a command goes to without `-o`, with a source or with a tape.
+abbrev pub name_of_result : ProgramCommand → Bool → List ℕ
+name_of_result command.Guess sourced = searched_name sourced
+name_of_result command.Refute sourced = searched_name sourced
+name_of_result command.Declare sourced = searched_name sourced
+name_of_result _ sourced = codes "OUT"
+
+-- The same for what is found behind a command's name.
+abbrev pub result_name : ProgramCommand → ArgMatches → List ℕ
+result_name called found = name_of_result called (is_some (sources_given found))
+
+-- A result that is not a certificate goes to the value of `-o` if it is given, and otherwise to the operand.
 abbrev pub IsResultGiven : ProgramCommand → ArgMatches → Destination → Type 0
-IsResultGiven command.Guess found out = IsEmptiedGiven (value found (codes "output")) (result_operand found) out
-IsResultGiven _ found out = IsKeptGiven (value found (codes "output")) (result_operand found) out
+IsResultGiven called found out = IsKeptGiven (value found (codes "output")) (operand found (result_name called found)) out
 
 -- The search for an answer is made and what is found is saved as the options ask. A declaration may be saved exactly if none is given.
 abbrev pub IsVerifyGiven : ArgMatches → Operands → Task → Type 0
@@ -171,7 +180,7 @@ IsWatchGiven found operands followed _ = ⊥
 -- where it is said.
 abbrev pub IsGuessGiven : ArgMatches → Task → Type 0
 IsGuessGiven found (Guess out report version) =
-    IsResultGiven command.Guess found out × (option_map (λ name. name.now) report ≡ value found (codes "report"))
+    IsEmptiedGiven (value found (codes "output")) (operand found (result_name command.Guess found)) out × (option_map (λ name. name.now) report ≡ value found (codes "report"))
     × IsVersionNamed (value found (codes "certificate")) version
 IsGuessGiven found _ = ⊥
 

@@ -24,6 +24,11 @@ use Rattle.command_line.specs.Outputs.{IsEmptiedGiven, IsKeptGiven}
 abbrev pub part_operands : ArgMatches → List (List ℕ)
 part_operands found = if has_value found (codes "output") then codes "OUT" ∷ codes "SOURCE" ∷ [] else codes "SOURCE" ∷ []
 
+-- The operands and the option that give the inputs of `place`.
+abbrev pub placed_operands : ArgMatches → List (List ℕ)
+placed_operands found =
+    if has_value found (codes "output") then codes "OUT" ∷ codes "SOURCE" ∷ codes "declaration" ∷ [] else codes "SOURCE" ∷ codes "declaration" ∷ []
+
 -- The parts of the source that `assemble`, `list` and `place` are given.
 abbrev pub source_operands : ArgMatches → List (List ℕ)
 source_operands found = named found (part_operands found)

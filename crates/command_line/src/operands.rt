@@ -1,8 +1,9 @@
 //! The operands of commands on a program and its declaration: those of a tape, or those that stand after a source. It is
 //! proved that they are the words that were given.
 
-ghost use Rattle.std.specs.Prelude.{◌≡◌, IfOk, Some, codes, map, option_map};
-ghost use Rattle.command_line.specs.Options.{sources_given, value};
+ghost use Rattle.std.specs.Prelude.{◌≡◌, IfErr, MatchResult, Some, codes, false, is_some, map, option_map, true};
+ghost use Rattle.command_line.specs.Options.{has_value, sources_given, value};
+ghost use Rattle.command_line.specs.Refusals.{IsRefused, are_distinct, has_more_words};
 ghost use Rattle.command_line.specs.Requests.{AreOperandsGiven, declaration_behind, declaration_given, declaration_of_source, input_names, last_behind, last_name, last_with_tape};
 
 use crate::fault::{CommandLineFault, Misuse};
@@ -45,7 +46,8 @@ fn last_name(called: ProgramCommand, operated: bool) -> Option<&'static str>
 
 /// The names of the operands and options that give the inputs of a command, with a source or with a tape.
 pub(crate) fn input_names(called: ProgramCommand, is_sourced: bool) -> &'static [&'static str]
-    ensures { map (λ name. name.now) result.now ≡ input_names called is_sourced }
+    ensures given { map (λ name. name.now) result.now ≡ input_names called is_sourced }
+    ensures distinct { are_distinct (map (λ name. name.now) result.now) ≡ true }
 {
     match called {
         ProgramCommand::Declare if is_sourced => &["source", "from"],
@@ -93,45 +95,69 @@ fn operands_behind<'a>(
 }
 
 /// Whether a command with a source takes the operand OUT, which is then the second one: a search without `-o`.
-fn takes_result(called: ProgramCommand, found: &ArgMatches<'_>) -> bool {
-    let is_search = matches!(
-        called,
-        ProgramCommand::Guess | ProgramCommand::Refute | ProgramCommand::Declare
-    );
-    is_search && !has_value(found, "output")
+fn takes_result(called: ProgramCommand, found: &ArgMatches<'_>) -> bool
+    ensures { result ≡ true → has_value found.now (codes "output") ≡ false }
+{
+    match called {
+        ProgramCommand::Guess | ProgramCommand::Refute | ProgramCommand::Declare => {
+            !has_value(found, "output")
+        }
+        _ => false,
+    }
 }
 
-/// Ensures that the words after a source are operands that a command takes, of which the last one needs this input.
-/// clap has taken them for those of a tape. A single operand of a search without `-o` might be meant for the declaration
-/// or for OUT, and is refused.
+/// Ensures that the result of a command with a source has a place to go: the value of `-o`, or of a search the second of
+/// two operands. A single operand might be meant for the declaration, and is refused.
+fn check_result(called: ProgramCommand, found: &ArgMatches<'_>) -> Result<(), CommandLineFault>
+    requires { is_some (sources_given found.now) ≡ true }
+    ensures { IfErr result (IsRefused found.now) }
+{
+    if has_value(found, "output") {
+        return Ok(());
+    }
+    let is_missing = match called {
+        ProgramCommand::Report => true,
+        ProgramCommand::Guess | ProgramCommand::Refute | ProgramCommand::Declare => {
+            !has_value(found, "TAPE") || !has_more(found, true) && !has_value(found, "DECLARATION")
+        }
+        _ => false,
+    };
+    if is_missing {
+        return Err(CommandLineFault::Misuse(Misuse::NoOutput));
+    }
+    Ok(())
+}
+
+/// Whether there are more words than the operands that a command with a source takes, with a second one or without.
+fn has_more(found: &ArgMatches<'_>, takes_second: bool) -> bool
+    ensures { result ≡ true → has_more_words found.now ≡ true }
+{
+    let third = has_any(found, &["CERTIFICATE", "EVENTS", "OUT"]);
+    let second = has_value(found, "DECLARATION");
+    third || (!takes_second && second)
+}
+
+/// Ensures that the words after a source are operands that a command takes, of which the last one is this input, if it
+/// is needed. clap has taken them for those of a tape.
 fn check_operands(
     called: ProgramCommand,
     found: &ArgMatches<'_>,
     needed: Option<&'static str>,
-) -> Result<(), CommandLineFault> {
-    let takes_result = takes_result(called, found);
-    let is_reported = called == ProgramCommand::Report && !has_value(found, "output");
-    if is_reported || (takes_result && !has_value(found, "TAPE")) {
-        return Err(CommandLineFault::Misuse(Misuse::NoOutput));
-    }
-    let takes_two = takes_result || needed.is_some();
-    if has_any(found, &["CERTIFICATE", "EVENTS", "OUT"])
-        || (!takes_two && has_value(found, "DECLARATION"))
-    {
+) -> Result<(), CommandLineFault>
+    requires { is_some (sources_given found.now) ≡ true }
+    ensures { IfErr result (IsRefused found.now) }
+{
+    check_result(called, found)?;
+    if has_more(found, takes_result(called, found) || needed.is_some()) {
         return Err(CommandLineFault::Misuse(Misuse::TapeAndSource));
-    }
-    if let Some(name) = needed {
-        if !has_any(found, &["TAPE", "DECLARATION"]) {
-            return Err(CommandLineFault::NoOperand(name));
-        }
-    }
-    if takes_result && !has_value(found, "DECLARATION") {
-        return Err(CommandLineFault::Misuse(Misuse::NoOutput));
     }
     if called == ProgramCommand::Declare && has_value(found, "TAPE") {
         return Err(CommandLineFault::Misuse(Misuse::TapeAndSource));
     }
-    Ok(())
+    match needed {
+        Some(name) if !has_value(found, "TAPE") => Err(CommandLineFault::NoOperand(name)),
+        _ => Ok(()),
+    }
 }
 
 /// The declaration of a command with a source, of which this one stands after the source.
@@ -157,7 +183,7 @@ fn source_operands<'a>(
     parts: &[&'a str],
 ) -> Result<Operands<'a>, CommandLineFault>
     requires { sources_given found.now ≡ Some (map (λ name. name.now) parts.now) }
-    ensures { IfOk result (AreOperandsGiven called found.now) }
+    ensures { MatchResult result (AreOperandsGiven called found.now) (IsRefused found.now) }
 {
     let operated = is_watched_with_operator(found);
     let needed = last_name(called, operated);
@@ -202,16 +228,16 @@ fn tape_operands<'a>(
     called: ProgramCommand,
     found: &ArgMatches<'a>,
 ) -> Result<Operands<'a>, CommandLineFault>
-    ensures { IfOk result (AreOperandsGiven called found.now) }
+    ensures { MatchResult result (AreOperandsGiven called found.now) (IsRefused found.now) }
 {
-    let last = tape_last(called, found);
-    if called == ProgramCommand::Watch && last.is_none() && !is_watched_with_operator(found) {
+    let is_watched = called == ProgramCommand::Watch && !has_value(found, "EVENTS");
+    if is_watched && !is_watched_with_operator(found) {
         return Err(CommandLineFault::Misuse(Misuse::NoEvents));
     }
     Ok(Operands {
         program: ProgramNames::Tape(operand_of(found, "TAPE")),
         declaration: tape_declaration(called, found),
-        last,
+        last: tape_last(called, found),
     })
 }
 
@@ -221,7 +247,7 @@ pub(crate) fn operands_of<'a>(
     called: ProgramCommand,
     found: &ArgMatches<'a>,
 ) -> Result<Operands<'a>, CommandLineFault>
-    ensures { IfOk result (AreOperandsGiven called found.now) }
+    ensures { MatchResult result (AreOperandsGiven called found.now) (IsRefused found.now) }
 {
     match found.get_strs("source") {
         Some(parts) => source_operands(alloc, called, found, parts),

@@ -1,19 +1,17 @@
 //! The options of a run with an operator.
 
-ghost use Rattle.std.specs.Prelude.{◌≡◌, ◌||◌, IfOk, Some, codes, is_some};
+ghost use Rattle.std.specs.Prelude.{◌≡◌, ◌||◌, IfErr, IfOk, MatchResult, Some, codes, is_some, true};
 ghost use Rattle.command_line.specs.Machines.{IsOperatedRunGiven, IsTeletypeGiven, interrupt_given, interrupt_named};
-ghost use Rattle.command_line.specs.Options.{AreSessionOptions, AreTeletypeOptions, IsRunWithOperator, IsWatchedWithOperator, IsWordNamed, value};
+ghost use Rattle.command_line.specs.Options.{ArePlacesGiven, AreSessionOptions, AreTeletypeOptions, IsRunWithOperator, IsWatchedWithOperator, IsWordNamed, value};
 ghost use Rattle.command_line.specs.Places.{AreShownOn};
+ghost use Rattle.command_line.specs.Refusals.{IsRefused};
 
 use crate::fault::{CommandLineFault, Misuse};
 use crate::names::FileNames;
 use crate::outputs::punch_of;
 use crate::place_options::{PlaceOptions, StopOptions, shown_on, stopping_on};
 use crate::tapes::tape_of;
-use crate::values::{
-    has_any, has_value, inputs_of, is_given, profile_of, read_once, run_options,
-    standard_input_at_most, start_of,
-};
+use crate::values::{has_any, has_value, is_given, profile_of, read_once, run_options, start_of};
 use clap::ArgMatches;
 use command_parts::options::{KeyOptions, SessionOptions, SummaryForm, TeletypeOptions};
 use std::alloc::Global;
@@ -159,7 +157,7 @@ pub fn is_watched_with_operator(found: &ArgMatches<'_>) -> bool
 
 /// What the switches are set to, if they are.
 fn switches_of(found: &ArgMatches<'_>) -> Result<Option<Word>, CommandLineFault>
-    ensures { IfOk result (IsWordNamed (value found.now (codes "switches"))) }
+    ensures { MatchResult result (IsWordNamed (value found.now (codes "switches"))) (IsRefused found.now) }
 {
     match found.get_str("switches") {
         None => Ok(None),
@@ -176,7 +174,9 @@ pub fn session_of<'a>(
     found: &ArgMatches<'a>,
     places: &PlaceOptions<'a>,
 ) -> Result<Session<'a>, CommandLineFault>
-    ensures { IfOk result (IsOperatedRunGiven found.now places.now) }
+    requires places { ArePlacesGiven found.now places.now }
+    requires operated { IsRunWithOperator found.now true }
+    ensures { MatchResult result (IsOperatedRunGiven found.now places.now) (IsRefused found.now) }
 {
     let tape = tape_of(found)?;
     if has_value(found, "events") {
@@ -185,12 +185,12 @@ pub fn session_of<'a>(
     if is_given(found, "trace-long") {
         return Err(CommandLineFault::Misuse(Misuse::LongTrace));
     }
-    let inputs = read_once(alloc, found, &["TAPE", "reader", "keys"])?;
+    let inputs = read_once(alloc, found, &["TAPE", "reader", "keys"], false)?;
     let punch = punch_of(found, &inputs)?;
     let teletype = is_given(found, "teletype");
-    let show = shown_on(tape, places)?;
+    let show = shown_on(found, tape, places)?;
     let options = session_options(found, show)?;
-    let stopping = stopping_on(tape, places)?;
+    let stopping = stopping_on(found, tape, places)?;
     let summary = SummaryForm {
         apart: false,
         seen: teletype,
@@ -217,6 +217,7 @@ pub(crate) fn session_options(
 ) -> Result<SessionOptions, CommandLineFault>
     ensures options { IfOk result (AreSessionOptions found.now) }
     ensures shown { IfOk result (λ options. options.run.show ≡ show) }
+    ensures refused { IfErr result (IsRefused found.now) }
 {
     let run = run_options(found, show)?;
     let switches = switches_of(found)?;
@@ -233,14 +234,16 @@ fn teletype_options(
     tape: Option<&str>,
     places: &PlaceOptions<'_>,
 ) -> Result<TeletypeOptions, CommandLineFault>
+    requires places { ArePlacesGiven found.now places.now }
     ensures options { IfOk result (AreTeletypeOptions found.now) }
     ensures shown { IfOk result (λ options.
         AreShownOn (is_some tape.entry) places.now options.show) }
+    ensures refused { IfErr result (IsRefused found.now) }
 {
     let start = start_of(found)?;
     let profile = profile_of(found)?;
     let switches = switches_of(found)?;
-    let show = shown_on(tape, places)?;
+    let show = shown_on(found, tape, places)?;
     Ok(TeletypeOptions {
         start,
         profile,
@@ -268,8 +271,8 @@ fn interrupt_named(text: &str) -> Option<Interrupt>
 
 /// The key that interrupts a session, where the bytes of keys are struck as they come or are not.
 fn interrupt_of(found: &ArgMatches<'_>, raw: bool) -> Result<Interrupt, CommandLineFault>
-    ensures { IfOk result (λ interrupt.
-        interrupt_given raw (value found.now (codes "interrupt")) ≡ Some interrupt) }
+    ensures { MatchResult result (λ interrupt.
+        interrupt_given raw (value found.now (codes "interrupt")) ≡ Some interrupt) (IsRefused found.now) }
 {
     match found.get_str("interrupt") {
         None if raw => Ok(Interrupt::Off),
@@ -287,14 +290,14 @@ pub fn teletype_of<'a>(
     found: &ArgMatches<'a>,
     places: &PlaceOptions<'a>,
 ) -> Result<TeletypeSession<'a>, CommandLineFault>
-    ensures { IfOk result (IsTeletypeGiven found.now places.now) }
+    requires places { ArePlacesGiven found.now places.now }
+    ensures { MatchResult result (IsTeletypeGiven found.now places.now) (IsRefused found.now) }
 {
     let tape = tape_of(found)?;
-    let inputs = inputs_of(alloc, found, &["TAPE", "reader"])?;
-    standard_input_at_most(0, &inputs)?;
+    let inputs = read_once(alloc, found, &["TAPE", "reader"], true)?;
     let punch = punch_of(found, &inputs)?;
     let options = teletype_options(found, tape, places)?;
-    let stopping = stopping_on(tape, places)?;
+    let stopping = stopping_on(found, tape, places)?;
     let interrupt = interrupt_of(found, options.manner.raw)?;
     Ok(TeletypeSession {
         tape,

@@ -1,25 +1,27 @@
 //! What may be requested with a program and its declaration: the program is given by its tape, or with `--source` by
 //! its source. It is proved that the files of a program are those that were given.
 
-ghost use Rattle.std.specs.Prelude.{◌≡◌, IfOk, Some, codes, false, is_some, option_map, unwrap_or};
-ghost use Rattle.command_line.specs.Options.{IsVersionNamed, value, version_named};
-ghost use Rattle.command_line.specs.Requests.{IsDeclareGiven, IsFollowedOn, IsGuessGiven, IsOperated, IsWatchedRunGiven, IsProgramRequestGiven, IsRefuteGiven, IsReportGiven, IsResultGiven, IsTaskGiven, IsVerifyGiven, is_tape, last_of, part_names, watched_declaration, watched_tape};
+ghost use Rattle.std.specs.Prelude.{◌≡◌, MatchResult, Some, codes, false, is_some, option_map, unwrap_or};
+ghost use Rattle.command_line.specs.Options.{ArePlacesGiven, IsVersionNamed, IsWatchedWithOperator, value, version_named};
+ghost use Rattle.command_line.specs.Refusals.{AreInputsBeside, IsRefused};
+ghost use Rattle.command_line.specs.Requests.{IsDeclareGiven, IsFollowedOn, IsGuessGiven, IsOperated, IsWatchedRunGiven, IsProgramRequestGiven, IsRefuteGiven, IsReportGiven, IsResultGiven, IsTaskGiven, IsVerifyGiven, is_tape, last_of, part_names, result_name, watched_declaration, watched_tape};
 ghost use Rattle.command_line.specs.Sources.{IsPlaceGiven};
+ghost use Rattle.command_line.specs.declared.program_command.ProgramCommand.TheVariants.{Declare, Guess, Refute, Report};
 
 use crate::fault::{CommandLineFault, Misuse};
 use crate::names::FileNames;
 use crate::operands::{Operands, input_names, operands_of};
 use crate::operator::{WatchedSession, is_watched_with_operator, session_options};
 use crate::outputs::{
-    Destination, SaveOptions, emptied_destination, is_taken, kept_destination, no_source,
-    report_of, save_of,
+    Destination, SaveOptions, emptied_destination, is_source_name, is_taken, kept_destination,
+    no_input, no_source, report_of, save_of,
 };
 use crate::place_options::{PlaceOptions, StopOptions, places_of, shown_on, stopping_on};
 use crate::program_command::ProgramCommand;
-use crate::sources::source_names;
+use crate::sources::{placed_operands, source_names};
 use crate::values::{
-    continues_of, copied, declare_options, has_value, is_given, is_start_named, read_once,
-    refinements_of, refute_options, standard_input_at_most, start_once, verify_options,
+    continues_of, declare_options, has_value, is_given, is_sourced, is_start_named, read_once,
+    refinements_of, refute_options, start_once, verify_options,
 };
 use certificate_lines::Version;
 use clap::ArgMatches;
@@ -236,23 +238,30 @@ impl<'a> Task<'a> {
     }
 }
 
-/// Where the result of a command goes. It is none of these inputs, and is not named like a source.
-fn result_of<'a>(
+/// The operand that the result of a command goes to without `-o`: OUT, or of a search the second operand after a source.
+fn result_name(called: ProgramCommand, found: &ArgMatches<'_>) -> &'static str
+    ensures { result.now ≡ result_name called found.now }
+{
+    match called {
+        ProgramCommand::Guess | ProgramCommand::Refute | ProgramCommand::Declare
+            if is_sourced(found) => { "DECLARATION" }
+        _ => "OUT",
+    }
+}
+
+/// Where the result of a command goes that stays as it was if there is nothing to write. It is none of these inputs, and
+/// is not named like a source.
+fn kept_result<'a>(
     called: ProgramCommand,
     found: &ArgMatches<'a>,
     inputs: &[&'a str],
 ) -> Result<Destination<'a>, CommandLineFault>
-    ensures { IfOk result (IsResultGiven called found.now) }
+    requires { AreInputsBeside found.now (result_name called found.now) inputs.now }
+    ensures { MatchResult result (IsResultGiven called found.now) (IsRefused found.now) }
 {
-    let operand = match found.get_strs("source") {
-        Some(_) => "DECLARATION",
-        None => "OUT",
-    };
-    let out = match called {
-        ProgramCommand::Guess => emptied_destination(found, operand),
-        _ => kept_destination(found, operand),
-    };
-    no_source(out, inputs, Misuse::ResultIsSource)
+    let name = result_name(called, found);
+    let out = no_source(found, name, kept_destination(found, name), inputs)?;
+    Ok(out)
 }
 
 /// The tape of a run that is watched with an operator. Of a source, its name is empty.
@@ -283,20 +292,31 @@ fn watched_session_of<'a>(
     operands: &Operands<'a>,
     followed: WatchedRunOptions,
 ) -> Result<WatchedSession<'a>, CommandLineFault>
-    ensures { IfOk result (IsWatchedRunGiven found.now operands.now followed) }
+    requires operated { IsWatchedWithOperator found.now true }
+    ensures { MatchResult result (IsWatchedRunGiven found.now operands.now followed) (IsRefused found.now) }
 {
     if has_value(found, "EVENTS") {
         return Err(CommandLineFault::Misuse(Misuse::ListAndOperator));
     }
     let is_tape = operands.program.tape().is_some();
     if is_tape {
-        read_once(alloc, found, input_names(ProgramCommand::Watch, false))?;
+        read_once(
+            alloc,
+            found,
+            input_names(ProgramCommand::Watch, false),
+            false,
+        )?;
     } else {
-        read_once(alloc, found, &["reader", "keys"])?;
+        read_once(alloc, found, &["reader", "keys"], false)?;
     }
     let options = session_options(found, followed.show)?;
     let continues = continues_of(found)?;
-    read_once(alloc, found, input_names(ProgramCommand::Watch, !is_tape))?;
+    read_once(
+        alloc,
+        found,
+        input_names(ProgramCommand::Watch, !is_tape),
+        false,
+    )?;
     Ok(WatchedSession {
         tape: watched_tape(&operands.program),
         declaration: watched_declaration(operands),
@@ -323,7 +343,7 @@ fn version_named(name: &str) -> Option<Version>
 
 /// The version of the certificate for which a search is asked, if one is.
 fn guessed_version(found: &ArgMatches<'_>) -> Result<Option<Version>, CommandLineFault>
-    ensures { IfOk result (IsVersionNamed (value found.now (codes "certificate"))) }
+    ensures { MatchResult result (IsVersionNamed (value found.now (codes "certificate"))) (IsRefused found.now) }
 {
     match found.get_str("certificate") {
         None => Ok(None),
@@ -341,10 +361,13 @@ fn guess_task<'a>(
     operands: &Operands<'a>,
     inputs: &[&'a str],
 ) -> Result<Task<'a>, CommandLineFault>
-    ensures { IfOk result (IsGuessGiven found.now) }
+    requires { AreInputsBeside found.now (result_name Guess found.now)
+        (inputs.now) }
+    ensures { MatchResult result (IsGuessGiven found.now) (IsRefused found.now) }
 {
     let is_tape = operands.program.tape().is_some();
-    let out = result_of(ProgramCommand::Guess, found, inputs)?;
+    let name = result_name(ProgramCommand::Guess, found);
+    let out = no_source(found, name, emptied_destination(found, name), inputs)?;
     let named = if is_tape {
         inputs
     } else {
@@ -371,7 +394,7 @@ fn verify_task<'a>(
     operands: &Operands<'a>,
     inputs: &[&'a str],
 ) -> Result<Task<'a>, CommandLineFault>
-    ensures { IfOk result (IsVerifyGiven found.now operands.now) }
+    ensures { MatchResult result (IsVerifyGiven found.now operands.now) (IsRefused found.now) }
 {
     let save = save_of(found, inputs, operands.declaration.is_none())?;
     let options = verify_options(found)?;
@@ -380,9 +403,11 @@ fn verify_task<'a>(
 
 /// To search for a run that violates the declaration.
 fn refute_task<'a>(found: &ArgMatches<'a>, inputs: &[&'a str]) -> Result<Task<'a>, CommandLineFault>
-    ensures { IfOk result (IsRefuteGiven found.now) }
+    requires { AreInputsBeside found.now (result_name Refute found.now)
+        (inputs.now) }
+    ensures { MatchResult result (IsRefuteGiven found.now) (IsRefused found.now) }
 {
-    let out = result_of(ProgramCommand::Refute, found, inputs)?;
+    let out = kept_result(ProgramCommand::Refute, found, inputs)?;
     let options = refute_options(found)?;
     Ok(Task::Refute { out, options })
 }
@@ -392,9 +417,11 @@ fn declare_task<'a>(
     found: &ArgMatches<'a>,
     inputs: &[&'a str],
 ) -> Result<Task<'a>, CommandLineFault>
-    ensures { IfOk result (IsDeclareGiven found.now) }
+    requires { AreInputsBeside found.now (result_name Declare found.now)
+        (inputs.now) }
+    ensures { MatchResult result (IsDeclareGiven found.now) (IsRefused found.now) }
 {
-    let out = result_of(ProgramCommand::Declare, found, inputs)?;
+    let out = kept_result(ProgramCommand::Declare, found, inputs)?;
     let options = declare_options(found)?;
     let refinements = refinements_of(found);
     Ok(Task::Declare {
@@ -410,9 +437,11 @@ fn report_task<'a>(
     operands: &Operands<'a>,
     inputs: &[&'a str],
 ) -> Result<Task<'a>, CommandLineFault>
-    ensures { IfOk result (IsReportGiven found.now (last_of operands.now)) }
+    requires { AreInputsBeside found.now (result_name Report found.now)
+        (inputs.now) }
+    ensures { MatchResult result (IsReportGiven found.now (last_of operands.now)) (IsRefused found.now) }
 {
-    let out = result_of(ProgramCommand::Report, found, inputs)?;
+    let out = kept_result(ProgramCommand::Report, found, inputs)?;
     let certificate = name_or_input(&operands.last);
     Ok(Task::Report {
         certificate,
@@ -439,8 +468,11 @@ fn task_of<'a>(
     inputs: &[&'a str],
     followed: WatchedRunOptions,
 ) -> Result<Task<'a>, CommandLineFault>
-    requires { IsOperated called found.now false }
-    ensures { IfOk result (IsTaskGiven called found.now operands.now followed) }
+    requires inputs { AreInputsBeside found.now (result_name called found.now)
+        (inputs.now) }
+    requires operated { IsOperated called found.now false }
+    ensures { MatchResult result (IsTaskGiven called found.now operands.now followed)
+        (IsRefused found.now) }
 {
     match called {
         ProgramCommand::Verify => verify_task(found, operands, inputs),
@@ -468,14 +500,17 @@ struct WatchedRunOptions {
 
 /// What is shown of a watched run of a tape, and where it is stopped. Of a source that is not known yet.
 fn followed_on(
+    found: &ArgMatches<'_>,
     operands: &Operands<'_>,
     places: &PlaceOptions<'_>,
 ) -> Result<WatchedRunOptions, CommandLineFault>
-    ensures { IfOk result (IsFollowedOn operands.now.program places.now) }
+    requires { ArePlacesGiven found.now places.now }
+    ensures { MatchResult result (IsFollowedOn operands.now.program places.now)
+        (IsRefused found.now) }
 {
     let tape = operands.program.tape();
-    let show = shown_on(tape, places)?;
-    let stopping = stopping_on(tape, places)?;
+    let show = shown_on(found, tape, places)?;
+    let stopping = stopping_on(found, tape, places)?;
     Ok(WatchedRunOptions { show, stopping })
 }
 
@@ -497,14 +532,13 @@ fn task_on<'a>(
     operands: &Operands<'a>,
     followed: WatchedRunOptions,
 ) -> Result<Task<'a>, CommandLineFault>
-    ensures { IfOk result (IsTaskGiven called found.now operands.now followed) }
+    ensures { MatchResult result (IsTaskGiven called found.now operands.now followed) (IsRefused found.now) }
 {
     if is_operated(called, found) {
         let session = watched_session_of(alloc, found, operands, followed)?;
         return Ok(Task::WatchSession(session));
     }
-    let is_sourced = operands.program.tape().is_none();
-    let inputs = read_once(alloc, found, input_names(called, is_sourced))?;
+    let inputs = read_once(alloc, found, input_names(called, is_sourced(found)), false)?;
     start_once(found)?;
     task_of(called, found, operands, &inputs, followed)
 }
@@ -515,11 +549,11 @@ pub(crate) fn program_request<'a>(
     called: ProgramCommand,
     found: &ArgMatches<'a>,
 ) -> Result<ProgramRequest<'a>, CommandLineFault>
-    ensures { IfOk result (IsProgramRequestGiven called found.now) }
+    ensures { MatchResult result (IsProgramRequestGiven called found.now) (IsRefused found.now) }
 {
     let operands = operands_of(alloc, called, found)?;
     let places = places_of(alloc, found)?;
-    let followed = followed_on(&operands, &places)?;
+    let followed = followed_on(found, &operands, &places)?;
     let task = task_on(alloc, called, found, &operands, followed)?;
     let Operands {
         program,
@@ -541,19 +575,18 @@ pub(crate) fn place_request<'a>(
     alloc: Global,
     found: &ArgMatches<'a>,
 ) -> Result<ProgramRequest<'a>, CommandLineFault>
-    ensures { IfOk result (IsPlaceGiven found.now) }
+    ensures { MatchResult result (IsPlaceGiven found.now) (IsRefused found.now) }
 {
+    let inputs = read_once(alloc, found, placed_operands(found), false)?;
     let names = source_names(alloc, found)?;
-    let declaration = found.get_str("declaration");
-    let mut inputs = copied(alloc, &names)?;
-    inputs.extend_from_slice(declaration.as_slice())?;
-    standard_input_at_most(1, &inputs)?;
-    let out = kept_destination(found, "OUT");
-    let out = no_source(out, &inputs, Misuse::PlacedIsSource)?;
+    let out = no_input(found, "OUT", kept_destination(found, "OUT"), &inputs)?;
+    if is_source_name(out.name()) {
+        return Err(CommandLineFault::Misuse(Misuse::PlacedIsSource));
+    }
     let places = places_of(alloc, found)?;
     Ok(ProgramRequest {
         program: ProgramNames::Source(names),
-        declaration,
+        declaration: found.get_str("declaration"),
         task: Task::Place { out },
         places,
         asked: false,

@@ -1,7 +1,8 @@
 //! What the command line asks for.
 
-ghost use Rattle.std.specs.Prelude.{IfOk, map};
+ghost use Rattle.std.specs.Prelude.{MatchResult, map};
 ghost use Rattle.command_line.specs.CommandLines.{IsExplainGiven, IsLineGiven, IsRequestGiven};
+ghost use Rattle.command_line.specs.Refusals.{IsLineRefused, IsRefused};
 
 use crate::command_name::{CommandName, called_of};
 use crate::commands::command;
@@ -65,7 +66,7 @@ fn request_of<'a>(
     called: CommandName,
     found: &ArgMatches<'a>,
 ) -> Result<Request<'a>, CommandLineFault>
-    ensures { IfOk result (IsRequestGiven called found.now) }
+    ensures { MatchResult result (IsRequestGiven called found.now) (IsRefused found.now) }
 {
     match called {
         CommandName::Machine(command) => machine_request(alloc, command, found),
@@ -87,7 +88,8 @@ pub fn parse_arguments<'a, S: AsStr>(
     alloc: Global,
     arguments: &'a [S],
 ) -> Result<CommandLine<'a>, CommandLineFault>
-    ensures { IfOk result (IsLineGiven (map S.text arguments.now)) }
+    ensures { MatchResult result (IsLineGiven (map S.text arguments.now))
+        (IsLineRefused (map S.text arguments.now)) }
 {
     let table = command(alloc)?;
     let matches = table.try_get_matches_from(arguments)?;

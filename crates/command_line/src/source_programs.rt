@@ -1,7 +1,8 @@
 //! What may be requested with a source in place of a tape, without a declaration.
 
-ghost use Rattle.std.specs.Prelude.{◌≡◌, IfOk, Some, map};
+ghost use Rattle.std.specs.Prelude.{◌≡◌, MatchResult, Some, map};
 ghost use Rattle.command_line.specs.Options.{ArePlacesGiven, sources_given};
+ghost use Rattle.command_line.specs.Refusals.{IsRefused};
 ghost use Rattle.command_line.specs.Sources.{IsMachineGiven, IsMachineTaskGiven, IsSourcedGiven};
 ghost use Rattle.command_line.specs.declared.command_name.MachineCommand.TheVariants.{Run};
 
@@ -12,7 +13,7 @@ use crate::operator::{Session, TeletypeSession, has_operator, session_of, telety
 use crate::place_options::{PlaceOptions, places_of};
 use crate::requests::Request;
 use crate::tapes::{DumpRequest, RunRequest, dump_request, run_request};
-use crate::values::{copied, inputs_of, is_given, standard_input_at_most};
+use crate::values::{copied, is_given, read_once};
 use clap::ArgMatches;
 use instruct::Profile;
 use std::alloc::Global;
@@ -80,7 +81,8 @@ fn run_task<'a>(
     found: &ArgMatches<'a>,
     places: &PlaceOptions<'a>,
 ) -> Result<MachineTask<'a>, CommandLineFault>
-    ensures { IfOk result (IsMachineTaskGiven Run found.now places.now) }
+    requires places { ArePlacesGiven found.now places.now }
+    ensures { MatchResult result (IsMachineTaskGiven Run found.now places.now) (IsRefused found.now) }
 {
     if has_operator(found) {
         let session = session_of(alloc, found, places)?;
@@ -97,20 +99,13 @@ fn task_of<'a>(
     found: &ArgMatches<'a>,
     places: &PlaceOptions<'a>,
 ) -> Result<MachineTask<'a>, CommandLineFault>
-    ensures { IfOk result (IsMachineTaskGiven called found.now places.now) }
+    requires places { ArePlacesGiven found.now places.now }
+    ensures { MatchResult result (IsMachineTaskGiven called found.now places.now) (IsRefused found.now) }
 {
     match called {
         MachineCommand::Run => run_task(alloc, found, places),
         MachineCommand::Teletype => Ok(MachineTask::Teletype(teletype_of(alloc, found, places)?)),
         MachineCommand::Dump => Ok(MachineTask::Dump(dump_request(found)?)),
-    }
-}
-
-/// How many of the files that `run`, `teletype` or `dump` reads may be standard input: none where that is the keyboard.
-fn most_standard_inputs(called: MachineCommand) -> usize {
-    match called {
-        MachineCommand::Teletype => 0,
-        _ => 1,
     }
 }
 
@@ -120,7 +115,7 @@ pub(crate) fn machine_request<'a>(
     called: MachineCommand,
     found: &ArgMatches<'a>,
 ) -> Result<Request<'a>, CommandLineFault>
-    ensures { IfOk result (IsMachineGiven called found.now) }
+    ensures { MatchResult result (IsMachineGiven called found.now) (IsRefused found.now) }
 {
     let places = places_of(alloc, found)?;
     let task = task_of(alloc, called, found, &places)?;
@@ -145,10 +140,15 @@ fn sourced_request<'a>(
     requires sources { sources_given found.now ≡ Some (map (λ name. name.now) names.now) }
     requires places { ArePlacesGiven found.now places }
     requires task { IsMachineTaskGiven called found.now places task }
-    ensures { IfOk result (IsSourcedGiven called found.now) }
+    ensures { MatchResult result (IsSourcedGiven called found.now) (IsRefused found.now) }
 {
-    let inputs = inputs_of(alloc, found, &["source", "events", "reader", "keys"])?;
-    standard_input_at_most(most_standard_inputs(called), &inputs)?;
+    let keyboard = called == MachineCommand::Teletype;
+    read_once(
+        alloc,
+        found,
+        &["source", "events", "reader", "keys"],
+        keyboard,
+    )?;
     let parts = copied(alloc, names)?;
     let explained = is_given(found, "why");
     Ok(SourceProgramRequest {

@@ -1,12 +1,13 @@
 //! What may be requested with a source that is assembled.
 
-ghost use Rattle.std.specs.Prelude.{◌≡◌, IfOk, map};
-ghost use Rattle.command_line.specs.Sources.{IsAssembleGiven, IsListGiven, source_operands};
+ghost use Rattle.std.specs.Prelude.{◌≡◌, MatchResult, map, true};
+ghost use Rattle.command_line.specs.Refusals.{IsRefused, are_distinct};
+ghost use Rattle.command_line.specs.Sources.{IsAssembleGiven, IsListGiven, part_operands, placed_operands, source_operands};
 
 use crate::fault::{CommandLineFault, Misuse};
 use crate::names::FileNames;
-use crate::outputs::{Destination, emptied_destination, no_source};
-use crate::values::{has_value, inputs_of, is_given, profile_of, standard_input_at_most};
+use crate::outputs::{Destination, emptied_destination, is_source_name, no_input};
+use crate::values::{has_value, is_given, profile_of, read_once};
 use clap::ArgMatches;
 use instruct::Profile;
 use std::alloc::Global;
@@ -46,23 +47,42 @@ pub struct ListRequest<'a> {
     pub crossed: bool,
 }
 
-/// The names of a source's parts, of which there is one at least: with `-o` the first operand is one of them too.
+/// The operands that are parts of a source: with `-o` the first operand is one of them too.
+fn part_operands(found: &ArgMatches<'_>) -> &'static [&'static str]
+    ensures given { map (λ name. name.now) result.now ≡ part_operands found.now }
+    ensures distinct { are_distinct (map (λ name. name.now) result.now) ≡ true }
+{
+    if has_value(found, "output") {
+        &["OUT", "SOURCE"]
+    } else {
+        &["SOURCE"]
+    }
+}
+
+/// The operands and the option that give the inputs of `place`.
+pub(crate) fn placed_operands(found: &ArgMatches<'_>) -> &'static [&'static str]
+    ensures given { map (λ name. name.now) result.now ≡ placed_operands found.now }
+    ensures distinct { are_distinct (map (λ name. name.now) result.now) ≡ true }
+{
+    if has_value(found, "output") {
+        &["OUT", "SOURCE", "declaration"]
+    } else {
+        &["SOURCE", "declaration"]
+    }
+}
+
+/// The names of a source's parts, of which there is one at least.
 pub(crate) fn source_names<'a>(
     alloc: Global,
     found: &ArgMatches<'a>,
 ) -> Result<Vec<&'a str>, CommandLineFault>
-    ensures { IfOk result (λ names. map (λ name. name.now) names.items ≡
-        source_operands found.now) }
+    ensures { MatchResult result (λ names. map (λ name. name.now) names.items ≡
+        source_operands found.now) (IsRefused found.now) }
 {
-    let names = if has_value(found, "output") {
-        inputs_of(alloc, found, &["OUT", "SOURCE"])?
-    } else {
-        inputs_of(alloc, found, &["SOURCE"])?
-    };
+    let names = read_once(alloc, found, part_operands(found), false)?;
     if names.is_empty() {
         return Err(CommandLineFault::NoOperand("SOURCE"));
     }
-    standard_input_at_most(1, &names)?;
     Ok(names)
 }
 
@@ -72,11 +92,13 @@ pub(crate) fn assemble_request<'a>(
     alloc: Global,
     found: &ArgMatches<'a>,
 ) -> Result<AssembleRequest<'a>, CommandLineFault>
-    ensures { IfOk result (IsAssembleGiven found.now) }
+    ensures { MatchResult result (IsAssembleGiven found.now) (IsRefused found.now) }
 {
     let sources = source_names(alloc, found)?;
-    let out = emptied_destination(found, "OUT");
-    let out = no_source(out, &sources, Misuse::OutputIsSource)?;
+    let out = no_input(found, "OUT", emptied_destination(found, "OUT"), &sources)?;
+    if is_source_name(out.name()) {
+        return Err(CommandLineFault::Misuse(Misuse::OutputIsSource));
+    }
     let profile = profile_of(found)?;
     Ok(AssembleRequest {
         out,
@@ -91,7 +113,7 @@ pub(crate) fn list_request<'a>(
     alloc: Global,
     found: &ArgMatches<'a>,
 ) -> Result<ListRequest<'a>, CommandLineFault>
-    ensures { IfOk result (IsListGiven found.now) }
+    ensures { MatchResult result (IsListGiven found.now) (IsRefused found.now) }
 {
     let sources = source_names(alloc, found)?;
     let profile = profile_of(found)?;

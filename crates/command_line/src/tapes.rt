@@ -1,8 +1,9 @@
 //! What may be requested with a tape alone, or with a certificate alone.
 
-ghost use Rattle.std.specs.Prelude.{◌≡◌, IfOk, Some, codes, is_some, option_map};
+ghost use Rattle.std.specs.Prelude.{◌≡◌, IfErr, IfOk, MatchResult, Some, codes, is_some, option_map};
 ghost use Rattle.command_line.specs.Machines.{IsDumpGiven, IsMigrateGiven, IsRunGiven, IsSourceGiven, migrated_version, tape_given, version_with};
-ghost use Rattle.command_line.specs.Options.{value};
+ghost use Rattle.command_line.specs.Refusals.{IsRefused};
+ghost use Rattle.command_line.specs.Options.{ArePlacesGiven, value, value_or};
 
 use crate::fault::{CommandLineFault, Misuse};
 use crate::names::FileNames;
@@ -47,7 +48,7 @@ impl<'a> RunRequest<'a> {
 
 /// The name of the tape's file, unless a source takes its place.
 pub(crate) fn tape_of<'a>(found: &ArgMatches<'a>) -> Result<Option<&'a str>, CommandLineFault>
-    ensures { IfOk result (λ tape. option_map (λ name. name.now) tape ≡ tape_given found.now) }
+    ensures { MatchResult result (λ tape. option_map (λ name. name.now) tape ≡ tape_given found.now) (IsRefused found.now) }
 {
     match found.get_strs("source") {
         None => Ok(Some(operand_of(found, "TAPE"))),
@@ -62,17 +63,18 @@ pub(crate) fn run_request<'a>(
     found: &ArgMatches<'a>,
     places: &PlaceOptions<'a>,
 ) -> Result<RunRequest<'a>, CommandLineFault>
-    ensures { IfOk result (IsRunGiven found.now places.now) }
+    requires places { ArePlacesGiven found.now places.now }
+    ensures { MatchResult result (IsRunGiven found.now places.now) (IsRefused found.now) }
 {
     let tape = tape_of(found)?;
-    read_once(alloc, found, &["TAPE", "events"])?;
+    read_once(alloc, found, &["TAPE", "events"], false)?;
     let long = is_given(found, "trace-long");
     if long && is_given(found, "trace") {
         return Err(CommandLineFault::Misuse(Misuse::LongTrace));
     }
-    let show = shown_on(tape, places)?;
+    let show = shown_on(found, tape, places)?;
     let options = run_options(found, show)?;
-    let stopping = stopping_on(tape, places)?;
+    let stopping = stopping_on(found, tape, places)?;
     Ok(RunRequest {
         tape,
         events: found.get_str("events"),
@@ -105,7 +107,7 @@ impl<'a> DumpRequest<'a> {
 
 /// The list of words that is requested.
 pub(crate) fn dump_request<'a>(found: &ArgMatches<'a>) -> Result<DumpRequest<'a>, CommandLineFault>
-    ensures { IfOk result (IsDumpGiven found.now) }
+    ensures { MatchResult result (IsDumpGiven found.now) (IsRefused found.now) }
 {
     let tape = tape_of(found)?;
     let profile = profile_of(found)?;
@@ -150,11 +152,11 @@ pub(crate) fn source_request<'a>(
     alloc: Global,
     found: &ArgMatches<'a>,
 ) -> Result<SourceRequest<'a>, CommandLineFault>
-    ensures { IfOk result (IsSourceGiven found.now) }
+    ensures { MatchResult result (IsSourceGiven found.now) (IsRefused found.now) }
 {
-    let inputs = read_once(alloc, found, &["TAPE", "declaration"])?;
+    let inputs = read_once(alloc, found, &["TAPE", "declaration"], false)?;
     start_once(found)?;
-    let out = no_input(kept_destination(found, "OUT"), &inputs)?;
+    let out = no_input(found, "OUT", kept_destination(found, "OUT"), &inputs)?;
     let start = start_of(found)?;
     let profile = profile_of(found)?;
     Ok(SourceRequest {
@@ -191,7 +193,7 @@ impl<'a> MigrateRequest<'a> {
 
 /// Whether this text asks for version 3 of a certificate, and not for version 2.
 fn is_third_named(text: &str) -> Option<bool>
-    ensures { option_map version_with result ≡ migrated_version (Some text.now) }
+    ensures { option_map version_with result ≡ migrated_version text.now }
 {
     match text {
         "2" => Some(false),
@@ -205,8 +207,9 @@ fn declaration_of_sites<'a>(found: &ArgMatches<'a>) -> Result<Option<&'a str>, C
     ensures named { IfOk result (λ name. option_map (λ it. it.now) name ≡
         value found.now (codes "declaration")) }
     ensures version { IfOk result (λ name.
-        migrated_version (value found.now (codes "certificate")) ≡
+        migrated_version (value_or found.now (codes "certificate") (codes "2")) ≡
         Some (version_with (is_some name))) }
+    ensures refused { IfErr result (IsRefused found.now) }
 {
     let declaration = found.get_str("declaration");
     let Some(is_third) = is_third_named(value_or(found, "certificate", "2")) else {
@@ -223,12 +226,11 @@ pub(crate) fn migrate_request<'a>(
     alloc: Global,
     found: &ArgMatches<'a>,
 ) -> Result<MigrateRequest<'a>, CommandLineFault>
-    ensures { IfOk result (IsMigrateGiven found.now) }
+    ensures { MatchResult result (IsMigrateGiven found.now) (IsRefused found.now) }
 {
     let declaration = declaration_of_sites(found)?;
-    let inputs = read_once(alloc, found, &["CERTIFICATE", "declaration"])?;
-    let out = emptied_destination(found, "OUT");
-    let out = no_source(out, &inputs, Misuse::ResultIsSource)?;
+    let inputs = read_once(alloc, found, &["CERTIFICATE", "declaration"], false)?;
+    let out = no_source(found, "OUT", emptied_destination(found, "OUT"), &inputs)?;
     Ok(MigrateRequest {
         certificate: operand_of(found, "CERTIFICATE"),
         declaration,

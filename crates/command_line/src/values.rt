@@ -1,9 +1,10 @@
 //! The values of options and operands that several commands have.
 
-ghost use Rattle.std.specs.Prelude.{◌≡◌, ◌≤◌, ◌||◌, IfOk, Ok, Some, is_some, map};
+ghost use Rattle.std.specs.Prelude.{◌≡◌, ◌≤◌, ◌||◌, IfErr, IfOk, MatchResult, Ok, Some, is_some, map, true};
 ghost use Rattle.std.specs.List.{count_by, list_any};
 ghost use Rattle.command_line.specs.Outputs.{is_standard_input};
-ghost use Rattle.command_line.specs.Options.{AreDeclareOptions, AreRefinements, AreRefuteOptions, AreRunOptions, AreVerifyOptions, IsFlagGiven, IsNumberNamed, has_value, is_start_named, machine_given, machine_named, named, number_or, operand, start_given, value, value_or, values};
+ghost use Rattle.command_line.specs.Refusals.{IsRefused, are_distinct, is_declared};
+ghost use Rattle.command_line.specs.Options.{AreDeclareOptions, AreRefinements, AreRefuteOptions, AreRunOptions, AreVerifyOptions, IsFlagGiven, IsNumberNamed, has_value, is_start_named, machine_given, machine_named, named, number_or, operand, sources_given, start_given, value, value_or, values};
 
 use crate::fault::{CommandLineFault, Misuse};
 use clap::ArgMatches;
@@ -131,7 +132,7 @@ fn machine_named(name: &str) -> Option<Profile>
 
 /// The machine that is meant.
 pub(crate) fn profile_of(found: &ArgMatches<'_>) -> Result<Profile, CommandLineFault>
-    ensures { IfOk result (λ machine. machine_given found.now ≡ Some machine) }
+    ensures { MatchResult result (λ machine. machine_given found.now ≡ Some machine) (IsRefused found.now) }
 {
     match machine_named(value_or(found, "profile", "8i")) {
         Some(machine) => Ok(machine),
@@ -141,7 +142,7 @@ pub(crate) fn profile_of(found: &ArgMatches<'_>) -> Result<Profile, CommandLineF
 
 /// The address of the first instruction.
 pub(crate) fn start_of(found: &ArgMatches<'_>) -> Result<Word, CommandLineFault>
-    ensures { IfOk result (λ start. start_given found.now ≡ Ok start) }
+    ensures { MatchResult result (λ start. start_given found.now ≡ Ok start) (IsRefused found.now) }
 {
     match Word::from_octal(value_or(found, "start", "0200").as_bytes()) {
         Ok(start) => Ok(start),
@@ -175,7 +176,7 @@ fn number_or(
 
 /// How often CONTINUE is pressed at declared pauses at most, if it may be.
 pub(crate) fn continues_of(found: &ArgMatches<'_>) -> Result<Option<u32>, CommandLineFault>
-    ensures { IfOk result (IsNumberNamed 1 1000000 (value found.now (codes "continue"))) }
+    ensures { MatchResult result (IsNumberNamed 1 1000000 (value found.now (codes "continue"))) (IsRefused found.now) }
 {
     match found.get_str("continue") {
         None => Ok(None),
@@ -193,6 +194,7 @@ pub(crate) fn run_options(
 ) -> Result<RunOptions, CommandLineFault>
     ensures options { IfOk result (AreRunOptions found.now) }
     ensures shown { IfOk result (λ options. options.show ≡ show) }
+    ensures refused { IfErr result (IsRefused found.now) }
 {
     let start = start_of(found)?;
     let Some(rounds) = number_or(found, "steps", 1, MOST_ROUNDS, ROUNDS) else {
@@ -210,7 +212,7 @@ pub(crate) fn run_options(
 
 /// What a declaration is proposed for.
 pub(crate) fn declare_options(found: &ArgMatches<'_>) -> Result<DeclareOptions, CommandLineFault>
-    ensures { IfOk result (AreDeclareOptions found.now) }
+    ensures { MatchResult result (AreDeclareOptions found.now) (IsRefused found.now) }
 {
     let start = start_of(found)?;
     let profile = profile_of(found)?;
@@ -233,7 +235,7 @@ pub(crate) fn refinements_of(found: &ArgMatches<'_>) -> Refinements
 
 /// How a run that violates a declaration is searched for.
 pub(crate) fn refute_options(found: &ArgMatches<'_>) -> Result<RefuteOptions, CommandLineFault>
-    ensures { IfOk result (AreRefuteOptions found.now) }
+    ensures { MatchResult result (AreRefuteOptions found.now) (IsRefused found.now) }
 {
     let Some(steps) = number_or(found, "steps", 1, MOST_SEARCH_STEPS, SEARCH_STEPS) else {
         return Err(CommandLineFault::Steps(MOST_SEARCH_STEPS));
@@ -250,7 +252,7 @@ pub(crate) fn refute_options(found: &ArgMatches<'_>) -> Result<RefuteOptions, Co
 
 /// How it is found out whether a program complies with its declaration.
 pub(crate) fn verify_options(found: &ArgMatches<'_>) -> Result<VerifyOptions, CommandLineFault>
-    ensures { IfOk result (AreVerifyOptions found.now) }
+    ensures { MatchResult result (AreVerifyOptions found.now) (IsRefused found.now) }
 {
     let start = start_of(found)?;
     let profile = profile_of(found)?;
@@ -269,36 +271,58 @@ fn is_standard_input(name: &str) -> bool
     name == "-" || name == "/dev/stdin"
 }
 
-/// Ensures that at most so many of these inputs are standard input.
-pub(crate) fn standard_input_at_most(most: usize, names: &[&str]) -> Result<(), CommandLineFault>
-    ensures kept { IfOk result (λ done.
-        count_by (λ name. is_standard_input name.now) names.now ≤ most) }
+/// How many of these inputs are standard input.
+fn standard_inputs(names: &[&str]) -> usize
+    ensures { result ≡ count_by (λ name. is_standard_input name.now) names.now }
 {
-    if names.iter().filter(|name| is_standard_input(name)).count() > most {
-        return Err(CommandLineFault::Misuse(Misuse::BothStandardInput));
-    }
-    Ok(())
+    names.iter().filter(|name| is_standard_input(name)).count()
 }
 
-/// The names of the files that these operands and options give, of which one may be standard input.
+/// The names of the files that these operands and options give, of which one may be standard input, or none where that
+/// is the keyboard.
 pub(crate) fn read_once<'a>(
     alloc: Global,
     found: &ArgMatches<'a>,
     names: &[&str],
+    keyboard: bool,
 ) -> Result<Vec<&'a str>, CommandLineFault>
-    ensures { IfOk result (λ inputs. map (λ input. input.now) inputs.items ≡
-        named found.now (map (λ name. name.now) names.now)) }
+    requires { are_distinct (map (λ name. name.now) names.now) ≡ true }
+    ensures { MatchResult result (λ inputs. map (λ input. input.now) inputs.items ≡
+        named found.now (map (λ name. name.now) names.now)) (IsRefused found.now) }
 {
     let inputs = inputs_of(alloc, found, names)?;
-    standard_input_at_most(1, &inputs)?;
+    let most = if keyboard { 0 } else { 1 };
+    if standard_inputs(&inputs) > most {
+        return Err(CommandLineFault::Misuse(Misuse::BothStandardInput));
+    }
     Ok(inputs)
 }
 
+/// Whether the program is given by its source.
+pub(crate) fn is_sourced(found: &ArgMatches<'_>) -> bool
+    ensures { result ≡ is_some (sources_given found.now) }
+{
+    match found.get_strs("source") {
+        Some(_) => true,
+        None => false,
+    }
+}
+
+/// Whether a declaration is given.
+fn is_declared(found: &ArgMatches<'_>) -> bool
+    ensures { result ≡ is_declared found.now }
+{
+    let named = has_any(found, &["DECLARATION", "declaration", "from"]);
+    let sourced = is_sourced(found);
+    let first = has_value(found, "TAPE");
+    named || (sourced && first)
+}
+
 /// Ensures that a declaration which is given determines the start and the machine.
-pub(crate) fn start_once(found: &ArgMatches<'_>) -> Result<(), CommandLineFault> {
-    let is_declared = has_any(found, &["DECLARATION", "declaration", "from"])
-        || (found.get_strs("source").is_some() && has_value(found, "TAPE"));
-    if is_declared && is_start_named(found) {
+pub(crate) fn start_once(found: &ArgMatches<'_>) -> Result<(), CommandLineFault>
+    ensures { IfErr result (IsRefused found.now) }
+{
+    if is_declared(found) && is_start_named(found) {
         return Err(CommandLineFault::Misuse(Misuse::DeclarationAndStart));
     }
     Ok(())

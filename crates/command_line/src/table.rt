@@ -35,13 +35,14 @@ pub(crate) enum Form {
 pub(crate) struct Argument {
     /// The name of an operand, or that of an option, without its dashes.
     pub(crate) name: &'static str,
-    /// The short name of an option.
-    pub(crate) short: Option<char>,
     /// How it is given.
     pub(crate) form: Form,
     /// What help says about it.
     pub(crate) help: &'static str,
 }
+
+/// The options that have a short name as well.
+const SHORT_NAMES: [(&str, char); 2] = [("output", 'o'), ("why", 'w')];
 
 /// A command.
 #[derive(Clone, Copy)]
@@ -54,14 +55,16 @@ pub(crate) struct Entry {
     pub(crate) about: &'static str,
     /// What stands below its options.
     pub(crate) after_help: &'static str,
+    /// Its operands and options.
+    pub(crate) arguments: &'static [Argument],
 }
 
 impl Argument {
     /// An option.
     fn option<'a>(&self, alloc: Global) -> Arg<'a> {
         let option = Arg::new(alloc, self.name).long(self.name);
-        match self.short {
-            Some(short) => option.short(short),
+        match SHORT_NAMES.iter().find(|(name, _)| *name == self.name) {
+            Some((_, short)) => option.short(*short),
             None => option,
         }
     }
@@ -98,25 +101,15 @@ impl Argument {
 }
 
 impl Entry {
-    /// The command for clap, with these arguments.
-    fn built<'a>(&self, alloc: Global, arguments: &[Argument]) -> Result<Command<'a>, AllocError> {
+    /// The command for clap.
+    pub(crate) fn built<'a>(&self, alloc: Global) -> Result<Command<'a>, AllocError> {
         let mut command = Command::new(alloc, self.name)
             .about(self.about)
             .override_usage(self.usage)
             .after_help(self.after_help);
-        for argument in arguments {
+        for argument in self.arguments {
             command = command.arg(argument.built(alloc)?)?;
         }
         Ok(command)
     }
-}
-
-/// Adds a command with its arguments.
-pub(crate) fn with_entry<'a>(
-    alloc: Global,
-    program: Command<'a>,
-    entry: &Entry,
-    arguments: &[Argument],
-) -> Result<Command<'a>, AllocError> {
-    program.subcommand(entry.built(alloc, arguments)?)
 }

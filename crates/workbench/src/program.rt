@@ -5,7 +5,9 @@ ghost use Rattle.std.specs.Prelude.{◌≤◌};
 use clap::Error;
 use command_line::explanations::{push_codes, push_explanations};
 use command_line::tips::is_wrong_tip;
-use command_line::{CommandLine, CommandLineFault, Misuse, Request, parse_arguments};
+use command_line::{
+    CommandLine, CommandLineFault, MachineTask, Misuse, Request, parse_arguments,
+};
 use command_parts::status::{DeviceFault, Fault, Status};
 use command_parts::visible::visible_text;
 use requests::faults::{fault_lines, refusal_lines};
@@ -181,10 +183,12 @@ fn answer<R: Files + Input + Print + Eprint>(
     at_terminal: bool,
 ) -> Result<Status, Fault> {
     match request {
-        Request::Run(asked) => run_from(rt, alloc, asked),
-        Request::Session(session) => hold_session(rt, alloc, session),
-        Request::Teletype(session) => hold_teletype_session(rt, alloc, session, at_terminal),
-        Request::Dump(asked) => dump_from(rt, alloc, asked),
+        Request::Tape(MachineTask::Run(asked)) => run_from(rt, alloc, asked),
+        Request::Tape(MachineTask::Session(session)) => hold_session(rt, alloc, session),
+        Request::Tape(MachineTask::Teletype(session)) => {
+            hold_teletype_session(rt, alloc, session, at_terminal)
+        }
+        Request::Tape(MachineTask::Dump(asked)) => dump_from(rt, alloc, asked),
         Request::Assemble(asked) => assemble_to(rt, alloc, asked),
         Request::List(asked) => list_from(rt, alloc, asked),
         Request::Source(asked) => source_from(rt, alloc, asked),

@@ -81,36 +81,15 @@ pub(crate) fn below_lines<A: Allocator + Copy, D: Allocator, C: Allocator>(
     }
 }
 
-/// What stands below the verdict.
-fn below<A: Allocator + Copy, D: Allocator, C: Allocator>(
-    alloc: A,
-    image: &Image,
-    declaration: &Declaration<D>,
-    certificate: &Certificate<C>,
-    verdict: &Result<(), Refusal>,
-    form: ReportForm,
-    files: &[u8],
-    notes: Option<&SourceNotes<A>>,
-) -> Result<Vec<u8, A>, AllocError> {
-    let lines = why_lines(alloc, image, declaration, certificate, verdict)?;
-    let (finding, failing) = match verdict {
+/// What is known about a certificate of which this is the verdict, and the name of the condition that fails, or nothing.
+fn finding_of(verdict: &Result<(), Refusal>) -> (Finding, &'static str) {
+    match verdict {
         Ok(()) => (Finding::Shown, ""),
         Err(refusal) => (
             Finding::Refused(refusal.address),
             condition_name(refusal.condition),
         ),
-    };
-    let report = Report::new(
-        alloc,
-        image,
-        declaration,
-        certificate,
-        finding,
-        failing,
-        files,
-        notes,
-    )?;
-    below_lines(alloc, &report, &lines, form)
+    }
 }
 
 /// The line of a verdict, with what comes before and right after it in a form, and the rest.
@@ -156,16 +135,19 @@ pub fn report_of<A: Allocator + Copy>(
     let mut rooms = JudgeWorkspace::boxed(alloc)?;
     let verdict = judge(image, declaration, &certified.certificate, &mut rooms);
     let line = verdict_line(alloc, declaration, &verdict)?;
-    let rest = below(
+    let lines = why_lines(alloc, image, declaration, &certified.certificate, &verdict)?;
+    let (finding, failing) = finding_of(&verdict);
+    let report = Report::new(
         alloc,
         image,
         declaration,
         &certified.certificate,
-        &verdict,
-        form,
+        finding,
+        failing,
         names.files,
         notes,
     )?;
+    let rest = below_lines(alloc, &report, &lines, form)?;
     let text = joined(alloc, form, names.program, &verdict, &line, &rest)?;
     let status = verdict_status(&verdict);
     Ok(CommandResult { text, status })

@@ -15,3 +15,6 @@ extends_nothing = extends_writes writes_nothing
 -- One after the other.
 pub extends_then : {A : Type 0} {old mid new : ReportWriter A} → Extends old mid → Extends mid new → Extends old new
 extends_then first second = extends_writes (writes_both first.writes second.writes)
+
+-- What puts them together.
+pub ruleset extending = (extends_writes, extends_nothing, extends_then)

@@ -1,5 +1,6 @@
 -- Items, said otherwise.
-use Rattle.std.proofs.Common.{ℕ, ◌≡◌, Bool, subst, sym}
+use Rattle.std.proofs.Common.{ℕ, ◌≡◌, ◌∙◌, Bool, List, ap, map, subst, sym}
+use Rattle.std.specs.List.{list_any}
 use Rattle.wordset.specs.Words.{Words}
 use Rattle.domain.specs.Facts.{Relation}
 use Rattle.domain.specs.Locations.{Location}
@@ -11,6 +12,7 @@ use Rattle.reports.specs.Writing.{Text, Writes}
 use Rattle.reports.specs.declared.fact_context.ShownFact.{ShownFact}
 use Rattle.reports.specs.declared.items.Equation.{Equation}
 use Rattle.reports.specs.declared.writer.ReportWriter.{ReportWriter}
+use Rattle.reports.proofs.WritingLemmas.{any_of}
 
 -- An item on a set is one on the set that it equals.
 pub item_on : {A : Type 0} {old new : ReportWriter A} (tells is_same : Words → Bool) (text : Words → Text) {told same : Bool} {set other : Words} →
@@ -37,3 +39,7 @@ equation_on {old = old} {new = new} shown r e {set = set} is same_is set_is writ
 
     text : Location → Location → ℕ → Text
     text left right more = equation_text left right more (narrowed shown.setting left (fact_in shown))
+
+-- Whether some element passes a test, of elements that mean those of a list.
+pub any_in : {X Y : Type 0} {r : Bool} (of : X → Y) (test : Y → Bool) (xs : List X) {ys : List Y} → map of xs ≡ ys → r ≡ list_any (λ x. test (of x)) xs → r ≡ list_any test ys
+any_in {Y = Y} of test xs is runs = runs ∙ (sym (any_of of test xs) ∙ ap (λ (zs : List Y). list_any test zs) is)

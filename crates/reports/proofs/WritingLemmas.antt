@@ -30,6 +30,9 @@ writes_both {A = A} {old = old} {mid = mid} {new = new} {a = a} {b = b} first se
   }) first.kept;
 }
 
+-- What puts texts together.
+pub ruleset writing = (writes_both, writes_nothing)
+
 -- A text that adds the same here.
 pub writes_at : {A : Type 0} {old new : ReportWriter A} {a b : Text} → a (form_of old) (line_of old) ≡ b (form_of old) (line_of old) →
     Writes old new a → Writes old new b

@@ -1,6 +1,5 @@
 -- All items of a line that say what is known at an address.
 use Rattle.std.specs.Prelude.{◌≡◌, false, None}
-use Rattle.std.specs.Borrow.{Bor}
 use Rattle.wordset.specs.Lanes.{words}
 use Rattle.wordset.specs.Words.{Words}
 use Rattle.instruct.specs.declared.Profile.{Profile}
@@ -15,7 +14,6 @@ use Rattle.reports.specs.Writing.{Text, Writes, ◌⊕◌}
 use Rattle.reports.specs.declared.cases.FactDifferences.{FactDifferences}
 use Rattle.reports.specs.declared.fact_context.FactContext.{FactContext}
 use Rattle.reports.specs.declared.fact_context.ShownFact.{ShownFact}
-use Rattle.reports.specs.declared.known_fact.KnownFact.{KnownFact}
 use Rattle.reports.specs.declared.known_fact.Subject.TheVariants as subjects
 use Rattle.reports.specs.declared.writer.ReportWriter.{ReportWriter}
 
@@ -48,10 +46,8 @@ abbrev pub by_nothing : FactDifferences
 by_nothing = record { sites = false; offsets = false; link = false; name = None }
 
 -- The items of an exit. What the return word is then is not told.
-abbrev pub exit_text : FactContext → Bor KnownFact → Text
-exit_text setting exit =
-    let shown : ShownFact = record { setting = setting; known = exit; above = None; apart = by_nothing } in
-    subject_item shown subjects.Sites ⊕ claims_text shown
+abbrev pub exit_text : ShownFact → Text
+exit_text shown = subject_item shown subjects.Sites ⊕ claims_text shown
 
 -- A writer became this one by writing the items of a fact of a certificate, as it is shown in its setting, where some fact or none is
 -- shown on the line above.

@@ -131,10 +131,11 @@ abbrev pub is_chain_above : Option Fact → Chain → Bool
 is_chain_above None chain = false
 is_chain_above (Some above) chain = list_any (λ other. same_chain other chain) above.chains
 
--- The items of the chains that a fact claims, in the order in which they are claimed.
+-- The item of a chain.
 abbrev pub chain_item : ShownFact → Chain → Text
 chain_item shown chain = item_text (is_chain_above (claimed_above shown.above) chain) (chain_text shown.setting.profile chain)
 
+-- The items of the chains that a fact claims, in the order in which they are claimed.
 abbrev pub chains_text : ShownFact → Text
 chains_text shown = each (chain_item shown) (claimed_in shown).chains
 

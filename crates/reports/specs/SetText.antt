@@ -24,17 +24,19 @@ first_ranges (suc n) from set =
 abbrev pub outside : List (ℕ × ℕ) → Words → Words
 outside ranges set v = set v && not (list_any (λ range. between range.0 range.1 v) ranges)
 
--- The last of some words or places, unless it is also the first; of places in a page with their labels.
+-- The last of some words or places, a place in a page with its label.
 abbrev pub run_last_text : Bool → ℕ → Text
 run_last_text are_places last = if are_places then cell_text last else word_text last
 
+-- What comes behind the first of some words or places: the last one, unless it is also the first.
 abbrev pub run_end_text : Bool → ℕ → ℕ → Text
 run_end_text are_places first last = if first == last then no_text else plain (codes "-") ⊕ run_last_text are_places last
 
--- The words from one to another, both of them; of places in a page also with a link to the line of the first.
+-- The first of some words or places, a place in a page with its label and with a link to its line.
 abbrev pub run_first_text : Bool → ℕ → Text
 run_first_text are_places first = if are_places then place_text first else word_text first
 
+-- The words or places from one to another, both of them.
 abbrev pub range_text : Bool → ℕ → ℕ → Text
 range_text are_places first last = run_first_text are_places first ⊕ run_end_text are_places first last
 

@@ -1,4 +1,5 @@
 //! What an instruction may read, write, call and jump to, as far as the fact at its address tells.
+#![tactic(auto, using(crate::proofs::ExtendLemmas::extending))]
 
 ghost use Rattle.reports.specs.FactItems.{Extends};
 
@@ -72,13 +73,13 @@ impl Access {
 
 /// An address, and what is known there.
 #[derive(Drop)]
-struct Spot<'a, D: Allocator> {
-    place: Place<'a, D>,
-    known: &'a KnownFact,
+struct Spot<'p, 'k, D: Allocator> {
+    place: Place<'p, D>,
+    known: &'k KnownFact,
     at: Word,
 }
 
-impl<D: Allocator> Spot<'_, D> {
+impl<D: Allocator> Spot<'_, '_, D> {
     /// The words that may stand in a cell.
     fn words_in(&self, cell: Word) -> WordSet {
         let mut words = WordSet::empty();

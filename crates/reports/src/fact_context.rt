@@ -1,6 +1,7 @@
 //! What is known at an address, item by item, and what of it is the same as on the line above.
+#![tactic(auto, using(crate::proofs::WritingLemmas::writing))]
 
-ghost use Rattle.std.specs.Prelude.{◌≡◌, ◌==◌, ◌&&◌, ◌||◌, IfNone, IfSome, false, map, not, true};
+ghost use Rattle.std.specs.Prelude.{◌≡◌, ◌==◌, ◌&&◌, ◌||◌, IfNone, IfSome, None, false, map, not, true};
 ghost use Rattle.std.specs.List.{list_any};
 ghost use Rattle.wordset.specs.Lanes.{words};
 ghost use Rattle.wordset.specs.Links.{links_of};
@@ -12,7 +13,7 @@ ghost use Rattle.domain.specs.ChainsInCode.{chain_of, step_of};
 ghost use Rattle.domain.specs.Offsets.{offsets_in};
 ghost use Rattle.domain.specs.Terms.{same_sum};
 ghost use Rattle.reports.specs.FactText.{are_offsets_above, are_offsets_told, cells_text, fact_above, has_links_above, has_same_links, is_above, is_other_above, is_subject_told, is_unusual, link_item, lost_cell_item, lost_cells_text, offsets_item, subject_item, told_of_offsets, words_below, words_in};
-ghost use Rattle.reports.specs.FactItems.{claims_text, exit_text, fact_text};
+ghost use Rattle.reports.specs.FactItems.{by_nothing, claims_text, exit_text, fact_text};
 ghost use Rattle.reports.specs.ItemText.{has_same_words};
 ghost use Rattle.reports.specs.RelationItems.{IsEquationOf, begins_at, chain_item, chains_text, claimed_above, claimed_in, equation_item, has_relation, is_chain_above, is_equation, is_equation_above, is_relation_above, lost_chain_item, lost_claims_text, lost_relation_item, narrowed, relates, relation_item, relations_text, same_chain, same_step, same_steps};
 ghost use Rattle.reports.specs.Writing.{Writes, each};
@@ -45,9 +46,9 @@ pub(crate) struct FactContext<'a> {
 /// A fact that is shown: where it stands, the fact on the line above, where one is near, and by what facts at its address
 /// are distinguished, of which there is no item.
 #[derive(Clone, Copy)]
-pub(crate) struct ShownFact<'a> {
-    pub(crate) setting: FactContext<'a>,
-    pub(crate) known: &'a KnownFact,
+pub(crate) struct ShownFact<'s, 'k, 'a> {
+    pub(crate) setting: FactContext<'s>,
+    pub(crate) known: &'k KnownFact,
     pub(crate) above: Option<&'a KnownFact>,
     pub(crate) apart: FactDifferences,
 }
@@ -73,14 +74,19 @@ fn is_other_above(above: Option<&KnownFact>, subject: &Subject, set: &WordSet) -
 }
 
 /// Whether a subject has other words than the usual ones, or had them on the line above.
-fn is_unusual(shown: &ShownFact<'_>, subject: &Subject, set: &WordSet, usual: &WordSet) -> bool
+fn is_unusual(
+    shown: &ShownFact<'_, '_, '_>,
+    subject: &Subject,
+    set: &WordSet,
+    usual: &WordSet,
+) -> bool
     ensures { result ≡ is_unusual shown.now subject.now (words set.now) (words usual.now) }
 {
     !has_same_words(set, usual) || is_other_above(shown.above, subject, usual)
 }
 
 /// Whether there is an item on a subject that has these words.
-fn is_subject_told(shown: &ShownFact<'_>, subject: &Subject, set: &WordSet) -> bool
+fn is_subject_told(shown: &ShownFact<'_, '_, '_>, subject: &Subject, set: &WordSet) -> bool
     ensures { result ≡ is_subject_told shown.now subject.now (words set.now) }
 {
     match subject {
@@ -95,7 +101,7 @@ fn is_subject_told(shown: &ShownFact<'_>, subject: &Subject, set: &WordSet) -> b
 /// Writes the item on a subject, if there is one.
 fn write_subject_item<A: Allocator>(
     writer: &mut ReportWriter<'_, A>,
-    shown: &ShownFact<'_>,
+    shown: &ShownFact<'_, '_, '_>,
     subject: &Subject,
 )
     ensures { Writes writer.old writer.new (subject_item shown.now subject.now) }
@@ -117,7 +123,7 @@ fn has_links(above: Option<&KnownFact>, links: Links) -> bool
 }
 
 /// Writes the item on the link, unless facts are distinguished by it.
-fn write_link<A: Allocator>(writer: &mut ReportWriter<'_, A>, shown: &ShownFact<'_>)
+fn write_link<A: Allocator>(writer: &mut ReportWriter<'_, A>, shown: &ShownFact<'_, '_, '_>)
     ensures { Writes writer.old writer.new (link_item shown.now) }
 {
     let links = shown.known.fact.link();
@@ -126,7 +132,7 @@ fn write_link<A: Allocator>(writer: &mut ReportWriter<'_, A>, shown: &ShownFact<
 }
 
 /// Writes the items on the cells of which a fact tells.
-fn write_cells<A: Allocator>(writer: &mut ReportWriter<'_, A>, shown: &ShownFact<'_>)
+fn write_cells<A: Allocator>(writer: &mut ReportWriter<'_, A>, shown: &ShownFact<'_, '_, '_>)
     ensures { Writes writer.old writer.new (cells_text shown.now) }
 {
     for cell in shown.known.cells.iter() {
@@ -177,7 +183,7 @@ fn write_cells_lost<A: Allocator>(
 
 /// Whether some relation is of this sum.
 fn relates(relations: &[Relation], sum: &Sum) -> bool
-    ensures { result ≡ relates (map relation_of relations.now) (sum_of sum.now) }
+    ensures { result ≡ list_any (λ other. same_sum (relation_of other).sum (sum_of sum.now)) relations.now }
 {
     relations.iter().any(|other| other.sum.is_same(sum))
 }
@@ -192,7 +198,8 @@ fn is_same_relation(other: &Relation, relation: &Relation) -> bool
 
 /// Whether some relation is of the same sum and has the same words.
 fn has_relation(relations: &[Relation], relation: &Relation) -> bool
-    ensures { result ≡ has_relation (map relation_of relations.now) (relation_of relation.now) }
+    ensures { let r = relation_of relation.now in result ≡
+        list_any (λ other. same_sum (relation_of other).sum r.sum && has_same_words (relation_of other).set r.set) relations.now }
 {
     relations
         .iter()
@@ -228,7 +235,7 @@ fn equation_of(relation: &Relation) -> Option<Equation>
 }
 
 /// Whether these are the words that all that is known on the line above leaves to a name.
-fn is_left_above(shown: &ShownFact<'_>, name: &Location, set: &WordSet) -> bool
+fn is_left_above(shown: &ShownFact<'_, '_, '_>, name: &Location, set: &WordSet) -> bool
     ensures { result ≡ is_above (narrowed shown.now.setting (location_of name.now)) (fact_above shown.now.above) (words set.now) }
 {
     match shown.above {
@@ -240,7 +247,7 @@ fn is_left_above(shown: &ShownFact<'_>, name: &Location, set: &WordSet) -> bool
 /// Whether the fact on the line above claims an equation, and all that is known there leaves these words to the name on its
 /// left.
 fn is_equation_above(
-    shown: &ShownFact<'_>,
+    shown: &ShownFact<'_, '_, '_>,
     relation: &Relation,
     left: &Location,
     set: &WordSet,
@@ -253,7 +260,7 @@ fn is_equation_above(
 /// Writes the item of an equation, with the words that all that is known leaves to the name on its left.
 fn write_equation<A: Allocator>(
     writer: &mut ReportWriter<'_, A>,
-    shown: &ShownFact<'_>,
+    shown: &ShownFact<'_, '_, '_>,
     relation: &Relation,
 )
     ensures { Writes writer.old writer.new (equation_item shown.now (relation_of relation.now)) }
@@ -269,7 +276,7 @@ fn write_equation<A: Allocator>(
 /// Writes the item of a relation.
 fn write_relation<A: Allocator>(
     writer: &mut ReportWriter<'_, A>,
-    shown: &ShownFact<'_>,
+    shown: &ShownFact<'_, '_, '_>,
     relation: &Relation,
 )
     ensures { Writes writer.old writer.new (relation_item (rules_of shown.now.setting.rules) shown.now (relation_of relation.now)) }
@@ -287,7 +294,7 @@ fn write_relation<A: Allocator>(
 /// Writes the items of some relations.
 fn write_relations<A: Allocator>(
     writer: &mut ReportWriter<'_, A>,
-    shown: &ShownFact<'_>,
+    shown: &ShownFact<'_, '_, '_>,
     relations: &[Relation],
 )
     ensures { Writes writer.old writer.new
@@ -374,7 +381,7 @@ fn is_same_chain(other: &Chain, chain: &Chain) -> bool
 
 /// Whether some chain is the same.
 fn has_chain(chains: &[Chain], chain: &Chain) -> bool
-    ensures { result ≡ list_any (λ other. same_chain other (chain_of chain.now)) (map chain_of chains.now) }
+    ensures { result ≡ list_any (λ other. same_chain (chain_of other) (chain_of chain.now)) chains.now }
 {
     chains.iter().any(|other| is_same_chain(other, chain))
 }
@@ -391,7 +398,7 @@ fn is_chain_above(above: Option<&KnownFact>, chain: &Chain) -> bool
 
 /// Whether some chain begins with the word of a cell.
 fn begins_at(chains: &[Chain], cell: Word) -> bool
-    ensures { result ≡ begins_at (map chain_of chains.now) cell }
+    ensures { result ≡ list_any (λ chain. (chain_of chain).cell == cell) chains.now }
 {
     chains.iter().any(|chain| chain.cell() == cell)
 }
@@ -399,7 +406,7 @@ fn begins_at(chains: &[Chain], cell: Word) -> bool
 /// Writes the items of chains.
 fn write_chains<A: Allocator>(
     writer: &mut ReportWriter<'_, A>,
-    shown: &ShownFact<'_>,
+    shown: &ShownFact<'_, '_, '_>,
     chains: &[Chain],
 )
     ensures { Writes writer.old writer.new (each (chain_item shown.now) (map chain_of chains.now)) }
@@ -462,14 +469,14 @@ fn is_counted_above(above: Option<&KnownFact>) -> bool
 }
 
 /// Whether there is an item on these offsets.
-fn are_offsets_told(shown: &ShownFact<'_>, offsets: ReturnOffsets) -> bool
+fn are_offsets_told(shown: &ShownFact<'_, '_, '_>, offsets: ReturnOffsets) -> bool
     ensures { result ≡ are_offsets_told shown.now (offsets_in offsets) }
 {
     !shown.apart.offsets && (!is_uncounted(offsets) || is_counted_above(shown.above))
 }
 
 /// Writes the item on how far the return word was incremented, where it may have been or was above.
-fn write_offsets_item<A: Allocator>(writer: &mut ReportWriter<'_, A>, shown: &ShownFact<'_>)
+fn write_offsets_item<A: Allocator>(writer: &mut ReportWriter<'_, A>, shown: &ShownFact<'_, '_, '_>)
     ensures { Writes writer.old writer.new (offsets_item shown.now) }
 {
     let offsets = shown.known.fact.offsets();
@@ -479,7 +486,7 @@ fn write_offsets_item<A: Allocator>(writer: &mut ReportWriter<'_, A>, shown: &Sh
 }
 
 /// Writes the items on what a fact claims: where one above is near, what differs from it, and in a page also what does not.
-fn write_claims<A: Allocator>(writer: &mut ReportWriter<'_, A>, shown: &ShownFact<'_>)
+fn write_claims<A: Allocator>(writer: &mut ReportWriter<'_, A>, shown: &ShownFact<'_, '_, '_>)
     ensures { Writes writer.old writer.new (claims_text shown.now) }
 {
     write_subject_item(writer, shown, &Subject::Accumulator);
@@ -493,7 +500,10 @@ fn write_claims<A: Allocator>(writer: &mut ReportWriter<'_, A>, shown: &ShownFac
 }
 
 /// Writes what a fact says as items.
-pub(crate) fn write_fact<A: Allocator>(writer: &mut ReportWriter<'_, A>, shown: &ShownFact<'_>)
+pub(crate) fn write_fact<A: Allocator>(
+    writer: &mut ReportWriter<'_, A>,
+    shown: &ShownFact<'_, '_, '_>,
+)
     ensures { Writes writer.old writer.new (fact_text shown.now) }
 {
     write_claims(writer, shown);
@@ -504,19 +514,14 @@ pub(crate) fn write_fact<A: Allocator>(writer: &mut ReportWriter<'_, A>, shown: 
 /// Writes what holds after a return, in which the return word is not spoken of.
 pub(crate) fn write_exit<A: Allocator>(
     writer: &mut ReportWriter<'_, A>,
-    setting: &FactContext<'_>,
-    exit: &KnownFact,
+    shown: &ShownFact<'_, '_, '_>,
 )
-    ensures { Writes writer.old writer.new (exit_text setting.now exit.entry) }
+    requires alone { shown.now.above ≡ None }
+    requires whole { shown.now.apart ≡ by_nothing }
+    ensures { Writes writer.old writer.new (exit_text shown.now) }
 {
-    let shown = ShownFact {
-        setting: *setting,
-        known: exit,
-        above: None,
-        apart: FactDifferences::by_nothing(),
-    };
-    write_subject_item(writer, &shown, &Subject::Sites);
-    write_claims(writer, &shown);
+    write_subject_item(writer, shown, &Subject::Sites);
+    write_claims(writer, shown);
 }
 
 /// Begins a part of what distinguishes a fact from others.

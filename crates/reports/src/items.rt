@@ -1,4 +1,5 @@
 //! The items of a line: what each kind of them says.
+#![tactic(auto, using(crate::proofs::WritingLemmas::writing))]
 
 ghost use Rattle.std.specs.Prelude.{◌≡◌, ◌||◌, [], codes, if◌then◌else◌, is_some};
 ghost use Rattle.wordset.specs.Lanes.{words};

@@ -524,11 +524,14 @@ impl<A: Allocator, D: Allocator, C: Allocator> Report<'_, A, D, C> {
         let Some(last) = last else {
             return true;
         };
-        let kind = self.kind_of(at);
-        match kind {
+        let above = self.kind_of(*last);
+        match self.kind_of(at) {
             CellKind::Entry => true,
-            CellKind::Routine(entry) if *last == entry => false,
-            _ => self.kind_of(*last) != kind,
+            CellKind::Routine(entry) => above != CellKind::Routine(entry) && *last != entry,
+            CellKind::Main => above != CellKind::Main,
+            CellKind::Variable => above != CellKind::Variable,
+            CellKind::Other => above != CellKind::Other,
+            CellKind::Unset => above != CellKind::Unset,
         }
     }
 

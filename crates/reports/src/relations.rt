@@ -1,4 +1,5 @@
 //! Relations and chains in words.
+#![tactic(auto, using(crate::proofs::WritingLemmas::writing))]
 
 ghost use Rattle.std.specs.Prelude.{◌≡◌, ◌<◌, ◌==◌, ◌&&◌, [], codes, if◌then◌else◌, length, map, not, true};
 ghost use Rattle.std.specs.List.{list_any};
@@ -376,7 +377,7 @@ fn has_any(links: Links) -> bool
 
 /// Whether some step is not an AND.
 fn has_other(steps: &[Step]) -> bool
-    ensures { result ≡ list_any (λ step. not (is_and step)) (map step_of steps.now) }
+    ensures { result ≡ list_any (λ step. not (is_and (step_of step))) steps.now }
 {
     steps.iter().any(|step| !is_and(step))
 }

@@ -21,25 +21,8 @@ use diagnostics::verdicts::reason_context::reason_context_of;
 use diagnostics::verdicts::reason_text::push_why;
 use diagnostics::verdicts::verdict::{condition_name, verdict_line, verdict_status};
 use judge::{JudgeWorkspace, Refusal, judge};
-use reasons::{Reason, ReasonWorkspace, why};
+use reasons::{ReasonWorkspace, why};
 use std::alloc::{AllocError, Allocator};
-
-/// Why a verdict is no; a yes has no reason.
-fn reason_of<A: Allocator + Copy, D: Allocator, C: Allocator>(
-    alloc: A,
-    image: &Image,
-    declaration: &Declaration<D>,
-    certificate: &Certificate<C>,
-    verdict: &Result<(), Refusal>,
-) -> Result<Option<Reason>, AllocError> {
-    match verdict {
-        Ok(()) => Ok(None),
-        Err(refusal) => {
-            let mut rooms = ReasonWorkspace::boxed(alloc)?;
-            Ok(why(image, declaration, certificate, refusal, &mut rooms))
-        }
-    }
-}
 
 /// Why a verdict is no, as lines; of a yes there are none.
 fn why_lines<A: Allocator + Copy, D: Allocator, C: Allocator>(
@@ -50,7 +33,13 @@ fn why_lines<A: Allocator + Copy, D: Allocator, C: Allocator>(
     verdict: &Result<(), Refusal>,
 ) -> Result<Vec<u8, A>, AllocError> {
     let mut text = Vec::new(alloc);
-    let reason = reason_of(alloc, image, declaration, certificate, verdict)?;
+    let reason = match verdict {
+        Ok(()) => None,
+        Err(refusal) => {
+            let mut rooms = ReasonWorkspace::boxed(alloc)?;
+            why(image, declaration, certificate, refusal, &mut rooms)
+        }
+    };
     let telling = reason_context_of(certificate, verdict, &reason);
     push_why(
         &mut text,

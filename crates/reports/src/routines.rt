@@ -5,7 +5,8 @@ ghost use Rattle.facts.specs.Landing.{fact_at};
 ghost use Rattle.certificate_lines.specs.CertificateInCode.{claims};
 ghost use Rattle.reports.specs.Shown.{ShowsExit};
 
-use crate::fact_context::write_exit;
+use crate::cases::FactDifferences;
+use crate::fact_context::{ShownFact, write_exit};
 use crate::items::{offsets_where, write_offsets};
 use crate::known_fact::KnownFact;
 use crate::report::{Report, claimed_of};
@@ -86,7 +87,13 @@ impl<A: Allocator, D: Allocator, C: Allocator> Report<'_, A, D, C> {
         writer.offset(offset);
         writer.mark(b"<td>");
         writer.begin_items(if offset < 8 { 14 } else { 13 });
-        write_exit(writer, &self.setting_of(claimed), exit);
+        let shown = ShownFact {
+            setting: self.setting_of(claimed),
+            known: exit,
+            above: None,
+            apart: FactDifferences::by_nothing(),
+        };
+        write_exit(writer, &shown);
         writer.put(b"\n");
     }
 

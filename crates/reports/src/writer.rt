@@ -1,6 +1,7 @@
 //! What writes: words, numbers, sets and items, as plain text or as HTML.
+#![tactic(auto, using(crate::proofs::WritingLemmas::writing))]
 
-ghost use Rattle.std.specs.Prelude.{◌≡◌, [], codes, decimal, IfOk, IsOk, OnOk, if◌then◌else◌, ◌==◌, replicate};
+ghost use Rattle.std.specs.Prelude.{◌≡◌, ◌==◌, [], codes, decimal, IfOk, IsOk, OnOk, if◌then◌else◌, replicate, true};
 ghost use Rattle.wordset.specs.Lanes.{words};
 ghost use Rattle.reports.specs.FactItems.{Extends};
 ghost use Rattle.reports.specs.Html.{escaped_text};

@@ -1,20 +1,19 @@
 -- The greatest word of a set, steps of chains and terms of sums.
 use Rattle.std.proofs.Common.{ℕ, zero, suc, ◌≡◌, ◌<◌, ◌≤◌, ◌+◌, ◌∙◌, Bool, true, false, List, [], ◌∷◌, length, map, drop, get_or, ap, arith, refl, sym, subst, inl, inr}
-use Rattle.std.specs.Prelude.{◌==◌, ◌&&◌, nat_le, if◌then◌else◌, is_some, Option, Some, None, unwrap_or}
-use Rattle.std.proofs.lemmas.Bool.{cases_lt, eqb-true, leb-true}
+use Rattle.std.specs.Prelude.{◌==◌, ◌&&◌, if◌then◌else◌, Option, Some, None, unwrap_or}
+use Rattle.std.proofs.lemmas.Bool.{cases_lt, eqb-true}
 use Rattle.std.proofs.lemmas.List.{at_drop_all}
-use Rattle.wordset.specs.Words.{Words, IsGreatest, nothing, only}
+use Rattle.wordset.specs.Words.{Words, IsGreatest, nothing}
 use Rattle.wordset.proofs.Tests.{and_first}
 use Rattle.domain.specs.ChainsInCode.{step_of}
 use Rattle.domain.specs.declared.chains.Step.{Step}
-use Rattle.reports.specs.RelationItems.{is_equation, same_step, same_steps}
-use Rattle.domain.specs.Facts.{Relation}
+use Rattle.reports.specs.RelationItems.{same_step, same_steps}
 use Rattle.domain.specs.InCode.{summand_at}
 use Rattle.domain.specs.Terms.{Sum, Summand}
 use Rattle.reports.specs.RelationText.{greatest_word, is_difference, last_below, term_text}
-use Rattle.reports.specs.Writing.{Writes, form_of}
+use Rattle.reports.specs.Writing.{Writes}
 use Rattle.reports.specs.declared.writer.ReportWriter.{ReportWriter}
-use Rattle.reports.proofs.PieceLemmas.{from_place}
+use Rattle.reports.proofs.WritingLemmas.{from_place}
 
 last_is : (n : ℕ) (set : Words) (w : ℕ) → w < n → set w ≡ true → ((v : ℕ) → w < v → v < n → set v ≡ false) → last_below n set ≡ Some w
 unfolding last_below
@@ -88,12 +87,8 @@ steps_apart (x ∷ xs) (y ∷ ys) other =
     and_false false = refl
 
 -- The term of a summand, said otherwise.
-pub term_as : {A : Type 0} (old new : ReportWriter A) (a b : Summand) → a ≡ b → Writes old new (term_text (form_of old) a.term) → Writes old new (term_text (form_of old) b.term)
-term_as old new a b e writes = subst (λ (s : Summand). Writes old new (term_text (form_of old) s.term)) e writes
-
--- An equation has two terms.
-pub two_terms : (r : Relation) → is_equation r ≡ true → 2 ≤ length r.sum
-two_terms r e = leb-true 2 (length r.sum) (and_first (nat_le 2 (length r.sum)) (is_some (only r.set)) e)
+pub term_as : {A : Type 0} {old new : ReportWriter A} {a b : Summand} → a ≡ b → Writes old new (term_text a.term) → Writes old new (term_text b.term)
+term_as {old = old} {new = new} e writes = subst (λ (s : Summand). Writes old new (term_text s.term)) e writes
 
 -- A difference has two terms.
 pub two_summands : (sum : Sum) → is_difference sum ≡ true → length sum ≡ 2

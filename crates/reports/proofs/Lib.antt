@@ -1,13 +1,11 @@
 pub mod AllLemmas
 pub mod AmountLemmas
 pub mod HtmlLemmas
-pub mod CellItemLemmas
-pub mod EachItemLemmas
+pub mod EachWordLemmas
 pub mod ExtendLemmas
 pub mod ItemLemmas
 pub mod KnownLemmas
 pub mod OffsetTextLemmas
-pub mod PieceLemmas
 pub mod RangeLemmas
 pub mod ReachedLemmas
 pub mod ShownLemmas

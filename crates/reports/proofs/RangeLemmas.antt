@@ -1,6 +1,6 @@
 -- The ranges of a set, written one after another.
-use Rattle.std.proofs.Common.{ℕ, zero, suc, ◌≡◌, ◌<◌, ◌≤◌, ◌+◌, ◌-◌, ◌==◌, ◌∙◌, ◌++◌, Bool, true, false, List, [], ◌∷◌, ap, append_assoc, append-nil, arith, inl, inr, refl, sym, subst, true≢false}
-use Rattle.std.specs.Prelude.{◌&&◌, ◌||◌, not, if◌then◌else◌, codes, nat_le, nat_lt, Some, None, Option, unwrap_or}
+use Rattle.std.proofs.Common.{ℕ, zero, suc, ◌≡◌, ◌<◌, ◌≤◌, ◌+◌, ◌-◌, ◌==◌, ◌∙◌, Bool, true, false, List, [], ◌∷◌, ap, arith, inl, inr, refl, sym, subst, true≢false}
+use Rattle.std.specs.Prelude.{◌&&◌, ◌||◌, not, nat_le, nat_lt, Some, None, Option, unwrap_or}
 use Rattle.std.specs.Option.{option_map_or}
 use Rattle.std.specs.List.{list_any}
 use Rattle.std.proofs.lemmas.Bool.{cases_lt}
@@ -10,10 +10,10 @@ use Rattle.wordset.specs.Words.{Words, between, difference, first_below, HasNone
 use Rattle.wordset.specs.Ranging.{IsLastFrom}
 use Rattle.wordset.proofs.Firsts.{first_is}
 use Rattle.wordset.proofs.Tests.{and_both}
-use Rattle.reports.specs.SetText.{first_from, first_ranges, last_from, more_text, outside, range_text, ranges_text}
-use Rattle.reports.specs.Writing.{Form, Writes, form_of}
+use Rattle.reports.specs.SetText.{first_from, first_ranges, last_from, more_text, next_range_text, outside}
+use Rattle.reports.specs.Writing.{Text, Writes, listed}
 use Rattle.reports.specs.declared.writer.ReportWriter.{ReportWriter}
-use Rattle.reports.proofs.WritingLemmas.{writes_both, writes_nothing, same_form}
+use Rattle.reports.proofs.WritingLemmas.{later, writes_both, writes_nothing}
 
 -- One of two tests fails.
 left_fails : (a b : Bool) → a ≡ false → (a && b) ≡ false
@@ -118,49 +118,33 @@ none_outside set = fun_ext (λ v. all (set v))
     all true = refl
     all false = refl
 
--- Some ranges of a set were written: what was written and the ranges that follow are the first sixteen ranges, and the words that
--- are left without those that follow are the words of the set outside of all of these.
+-- Some ranges of a set were written, and others are left to write: the words that are left without those that follow are the words of
+-- the set outside of its first sixteen ranges.
 pub record Shown {A : Type 0} (old now : ReportWriter A) (places : Bool) (set : Words) (count next : ℕ) (left : Words) : Type 0 where
-  pub text : List ℕ
-  pub writes : Writes old now text
-  pub whole : text ++ ranges_text (form_of old) places (count == 0) (first_ranges (16 - count) next set)
-      ≡ ranges_text (form_of old) places true (first_ranges 16 0 set)
+  pub leads : (new : ReportWriter A) → Writes now new (listed (next_range_text places) (count == 0) (first_ranges (16 - count) next set)) →
+      Writes old new (listed (next_range_text places) true (first_ranges 16 0 set))
   pub rest : outside (first_ranges (16 - count) next set) left ≡ outside (first_ranges 16 0 set) set
 
 -- Nothing was written.
 pub none_shown : {A : Type 0} (old : ReportWriter A) (places : Bool) (set : Words) (next : ℕ) → next ≡ 0 → Shown old old places set 0 next set
-none_shown old places set next e = subst (λ (n : ℕ). Shown old old places set 0 n set) (sym e) (record { text = []; writes = writes_nothing old; whole = refl; rest = refl })
+none_shown old places set next e = subst (λ (n : ℕ). Shown old old places set 0 n set) (sym e) (record { leads = λ new writes. writes; rest = refl })
 
 -- Some are left to write.
 some_left : (count : ℕ) → count < 16 → 16 - count ≡ suc (16 - (count + 1))
 some_left count h = omega (arith, h)
 
-later : (count : ℕ) → (count + 1 == 0) ≡ false
-later count = grind (arith, nat_tests)
-
--- What stands before a range.
-abbrev comma : Bool → List ℕ
-comma first = if first then [] else codes ","
-
 -- One range more.
-pub one_shown : {A : Type 0} (old now new : ReportWriter A) (places : Bool) (set : Words) (count next : ℕ) (left after whole : Words) (first last behind : ℕ) (is_first : Bool) → count < 16 →
+pub one_shown : {A : Type 0} {old now new : ReportWriter A} {places : Bool} {set : Words} {count next : ℕ} {left after whole : Words} {first last behind : ℕ} {is_first : Bool} → count < 16 →
     Shown old now places set count next left → whole ≡ set → IsFirstFrom next whole first → IsLastFrom first whole last → is_first ≡ (count == 0) →
-    Writes now new ((if is_first then [] else codes ",") ++ range_text (form_of now) places first last) →
+    Writes now new (next_range_text places is_first (first, last)) →
     after ≡ difference left (between first last) → behind ≡ last + 1 → Shown old new places set (count + 1) behind after
-one_shown {A = A} old now new places set count next left after whole first last behind is_first inside shown same is ends first_is writes taken on = subst (λ (n : ℕ). Shown old new places set (count + 1) n after) (sym on) (record {
-  text = shown.text ++ piece;
-  writes = writes_both old now new shown.text piece shown.writes
-      (subst (λ (form : Form). Writes now new (comma (count == 0) ++ range_text form places first last)) (same_form old now shown.text shown.writes)
-      (subst (λ (b : Bool). Writes now new (comma b ++ range_text (form_of now) places first last)) first_is writes));
-  whole = ap (λ (b : Bool). (shown.text ++ piece) ++ ranges_text (form_of old) places b more) (later count) ∙
-      append_assoc shown.text piece (ranges_text (form_of old) places false more) ∙
-      ap (λ (rs : List (ℕ × ℕ)). shown.text ++ ranges_text (form_of old) places (count == 0) rs) (sym split) ∙ shown.whole;
+one_shown {A = A} {old = old} {now = now} {new = new} {places = places} {set = set} {count = count} {next = next} {left = left} {after = after} {first = first} {last = last} inside shown same is ends first_is writes taken on = subst (λ (n : ℕ). Shown old new places set (count + 1) n after) (sym on) (record {
+  leads = λ end rest. shown.leads end (subst (λ (rs : List (ℕ × ℕ)). Writes now end (listed (next_range_text places) (count == 0) rs)) (sym split)
+      (writes_both (subst (λ (b : Bool). Writes now new (next_range_text places b (first, last))) first_is writes)
+      (subst (λ (b : Bool). Writes new end (listed (next_range_text places) b more)) (later count) rest)));
   rest = ap (λ (s : Words). outside more s) taken ∙ one_outside (first, last) more left ∙ ap (λ (rs : List (ℕ × ℕ)). outside rs left) (sym split) ∙ shown.rest;
 })
   where
-    piece : List ℕ
-    piece = comma (count == 0) ++ range_text (form_of old) places first last
-
     more : List (ℕ × ℕ)
     more = first_ranges (16 - (count + 1)) (last + 1) set
 
@@ -169,11 +153,11 @@ one_shown {A = A} old now new places set count next left after whole first last 
         one_range (16 - (count + 1)) next set first last (subst (λ (s : Words). IsFirstFrom next s first) same is) (subst (λ (s : Words). IsLastFrom first s last) same ends)
 
 -- All were written, if none is left.
-pub all_shown : {A : Type 0} (old now : ReportWriter A) (places : Bool) (set : Words) (count next : ℕ) (left : Words) →
+pub all_shown : {A : Type 0} {old now : ReportWriter A} {places : Bool} {set : Words} {count next : ℕ} {left : Words} →
     Shown old now places set count next left → first_ranges (16 - count) next set ≡ [] →
-    Writes old now (ranges_text (form_of old) places true (first_ranges 16 0 set)) × (left ≡ outside (first_ranges 16 0 set) set)
-all_shown old now places set count next left shown none = (
-  subst (λ (t : List ℕ). Writes old now t) (sym (append-nil shown.text) ∙ ap (λ (rs : List (ℕ × ℕ)). shown.text ++ ranges_text (form_of old) places (count == 0) rs) (sym none) ∙ shown.whole) shown.writes,
+    Writes old now (listed (next_range_text places) true (first_ranges 16 0 set)) × (left ≡ outside (first_ranges 16 0 set) set)
+all_shown {now = now} {places = places} {count = count} {left = left} shown none = (
+  shown.leads now (subst (λ (rs : List (ℕ × ℕ)). Writes now now (listed (next_range_text places) (count == 0) rs)) (sym none) writes_nothing),
   sym (none_outside left) ∙ ap (λ (rs : List (ℕ × ℕ)). outside rs left) (sym none) ∙ shown.rest,
 )
 
@@ -188,7 +172,3 @@ at_most count next set over = ap (λ (n : ℕ). first_ranges n next set) none
   where
     none : 16 - count ≡ 0
     none = omega (arith, over)
-
--- As many words more.
-pub more_written : {A : Type 0} (old new : ReportWriter A) (n m : ℕ) → n ≡ m → Writes old new (more_text n) → Writes old new (more_text m)
-more_written old new n m e writes = subst (λ (k : ℕ). Writes old new (more_text k)) e writes

@@ -11,7 +11,7 @@ use Rattle.domain.specs.declared.cell_sets.CellSet.{CellSet}
 use Rattle.domain.specs.Facts.{Fact, Rules}
 use Rattle.domain.specs.Locations.{Cell}
 use Rattle.reports.specs.ToldCells.{is_told, told_by}
-use Rattle.reports.proofs.PieceLemmas.{from_place}
+use Rattle.reports.proofs.WritingLemmas.{from_place}
 
 -- A set has the cells of which a row tells up to a place among the entries.
 abbrev pub HasTold : Rules → Fact → List CellSet → Words → ℕ → Type 0

@@ -1,22 +1,28 @@
 -- What the items of a line say of the fact at an address, and which are the same as on the line above.
-use Rattle.std.specs.Prelude.{ℕ, ◌++◌, Bool, false, not, ◌&&◌, ◌||◌, nat_lt, if◌then◌else◌, codes, List, [], ◌∷◌, Option, Some, None, flat_map}
+use Rattle.std.specs.Prelude.{ℕ, ◌≡◌, Bool, true, false, not, ◌&&◌, ◌||◌, if◌then◌else◌, codes, List, [], ◌∷◌, ◌++◌, Option, Some, None}
 use Rattle.std.proofs.Common.{zero, suc}
 use Rattle.std.specs.Borrow.{Bor}
-use Rattle.wordset.specs.Words.{Words, all_words, difference, some_below}
+use Rattle.wordset.specs.Words.{Words, all_words, difference, nothing, some_below, with_word}
 use Rattle.wordset.specs.Lanes.{words}
 use Rattle.domain.specs.Locations.{Location, Ac, Cell, same}
 use Rattle.domain.specs.LocationsInCode.{location_of}
 use Rattle.domain.specs.declared.location.Location as names
 use Rattle.domain.specs.Facts.{Fact}
 use Rattle.domain.specs.FactInCode.{fact_in_code}
-use Rattle.reports.specs.ItemText.{Item, has_same_links, has_same_words, held_text, is_all}
+use Rattle.reports.specs.ItemText.{has_same_words, held_text, is_all, item_if}
 use Rattle.reports.specs.Rows.{link_said}
 use Rattle.reports.specs.SetText.{places_text}
-use Rattle.reports.specs.Writing.{Form, cell_text, offset_text}
-use Rattle.reports.specs.declared.cases.FactDifferences.{FactDifferences}
+use Rattle.reports.specs.Writing.{Text, ◌⊕◌, cell_text, each, no_text, offset_text, plain}
 use Rattle.reports.specs.declared.known_fact.KnownFact.{KnownFact}
+use Rattle.reports.specs.declared.known_fact.Subject.{Subject}
+use Rattle.reports.specs.declared.known_fact.Subject.TheVariants as subjects
+use Rattle.reports.specs.declared.fact_context.ShownFact.{ShownFact}
 
--- The fact on the line above, where one is near.
+-- The fact that is shown, as conditions are checked for it.
+abbrev pub fact_in : ShownFact → Fact
+fact_in shown = fact_in_code shown.known.now.fact
+
+-- A fact on the line above, where one is near.
 abbrev pub fact_above : Option (Bor KnownFact) → Option Fact
 fact_above None = None
 fact_above (Some known) = Some (fact_in_code known.now.fact)
@@ -26,96 +32,96 @@ abbrev pub is_above : (Fact → Words) → Option Fact → Words → Bool
 is_above part None set = false
 is_above part (Some above) set = has_same_words (part above) set
 
--- The item on AC.
-abbrev pub accumulator_item : Form → Fact → Option Fact → Item
-accumulator_item form f above =
-    record { same = is_above (λ g. g.set Ac) above (f.set Ac); text = codes "AC" ++ held_text form (f.set Ac) }
+-- The fact on the line above has another set.
+abbrev pub is_other_above : (Fact → Words) → Option Fact → Words → Bool
+is_other_above part None set = false
+is_other_above part (Some above) set = not (has_same_words (part above) set)
 
--- The fact on the line above says something of MQ.
-abbrev pub told_of_mq : Option Fact → Bool
-told_of_mq None = false
-told_of_mq (Some above) = not (is_all above.mq)
+-- The words that a fact leaves to a register or a cell, or the sites from which the routine was called by it.
+abbrev pub words_in : Subject → Fact → Words
+words_in subjects.Accumulator f = f.set Ac
+words_in subjects.Mq f = f.mq
+words_in (subjects.Cell cell) f = f.set (Cell cell)
+words_in subjects.Sites f = f.sites
 
--- The item on MQ, where something is known about it or was above.
-abbrev pub mq_items : Form → Fact → Option Fact → List Item
-mq_items form f above =
-    if not (is_all f.mq) || told_of_mq above
-    then record { same = is_above (λ g. g.mq) above f.mq; text = codes "MQ" ++ held_text form f.mq } ∷ [] else []
-
--- Links are those of the fact on the line above.
-abbrev pub has_links_above : Option Fact → Words → Bool
-has_links_above None links = false
-has_links_above (Some above) links = has_same_links above.link links
-
--- The item on the link.
-abbrev pub link_item : Fact → Option Fact → Item
-link_item f above = record { same = has_links_above above f.link; text = link_said f.link }
+-- What is said of a subject that has these words.
+abbrev pub subject_text : Subject → Words → Text
+subject_text subjects.Accumulator set = plain (codes "AC") ⊕ held_text set
+subject_text subjects.Mq set = plain (codes "MQ") ⊕ held_text set
+subject_text (subjects.Cell cell) set = cell_text cell ⊕ held_text set
+subject_text subjects.Sites set = plain (codes "called from ") ⊕ places_text set
 
 -- The name by which facts are distinguished is this one, if they are distinguished by a name.
 abbrev pub is_by : Option names.Location → Location → Bool
 is_by None name = false
 is_by (Some found) name = same (location_of found) name
 
--- The items on AC, MQ and the link, except for those by which facts are distinguished.
-abbrev pub register_items : Form → FactDifferences → Fact → Option Fact → List Item
-register_items form apart f above =
-    (if is_by apart.name Ac then [] else accumulator_item form f above ∷ []) ++
-    (mq_items form f above ++ (if apart.link then [] else link_item f above ∷ []))
+-- A subject has other words than the usual ones here, or had them above.
+abbrev pub is_unusual : ShownFact → Subject → Words → Words → Bool
+is_unusual shown subject set usual = not (has_same_words set usual) || is_other_above (words_in subject) (fact_above shown.above) usual
+
+-- There is an item on a subject that has these words: on a register or a cell, unless facts are distinguished by it; on MQ where it may
+-- not hold any word; and on the sites where they are not all of the routine's, unless facts are distinguished by them.
+abbrev pub is_subject_told : ShownFact → Subject → Words → Bool
+is_subject_told shown subjects.Accumulator set = not (is_by shown.apart.name Ac)
+is_subject_told shown subjects.Mq set = is_unusual shown subjects.Mq set all_words
+is_subject_told shown (subjects.Cell cell) set = not (is_by shown.apart.name (Cell cell))
+is_subject_told shown subjects.Sites set = not shown.apart.sites && is_unusual shown subjects.Sites set (words shown.setting.sites)
+
+-- The item on a subject. Of a cell of which the fact above says nothing, that fact allows any word.
+abbrev pub subject_item : ShownFact → Subject → Text
+subject_item shown subject =
+    item_if (is_subject_told shown subject (words_in subject (fact_in shown)))
+    (is_above (words_in subject) (fact_above shown.above) (words_in subject (fact_in shown))) (subject_text subject (words_in subject (fact_in shown)))
+
+-- Both are so, or none is.
+abbrev is_both_or_none : Bool → Bool → Bool
+is_both_or_none true b = b
+is_both_or_none false b = not b
+
+-- The two sets have the same links.
+abbrev pub has_same_links : Words → Words → Bool
+has_same_links a b = is_both_or_none (a 0) (b 0) && is_both_or_none (a 1) (b 1)
+
+-- Links are those of the fact on the line above.
+abbrev pub has_links_above : Option Fact → Words → Bool
+has_links_above None links = false
+has_links_above (Some above) links = has_same_links above.link links
+
+-- The item on the link, unless facts are distinguished by it.
+abbrev pub link_item : ShownFact → Text
+link_item shown = item_if (not shown.apart.link) (has_links_above (fact_above shown.above) (fact_in shown).link) (plain (link_said (fact_in shown).link))
 
 -- The words of a set below a number, in order.
 unfoldable pub words_below : ℕ → Words → List ℕ
 words_below zero set = []
 words_below (suc n) set = words_below n set ++ (if set n then n ∷ [] else [])
 
--- The item on a cell. Of a cell of which the fact above says nothing, that fact allows any word.
-abbrev pub cell_item : Form → Fact → Option Fact → ℕ → Item
-cell_item form f above cell =
-    record { same = is_above (λ g. g.set (Cell cell)) above (f.set (Cell cell)); text = cell_text form cell ++ held_text form (f.set (Cell cell)) }
-
--- The item on a cell, unless facts are distinguished by it.
-abbrev pub cell_items : Form → FactDifferences → Fact → Option Fact → ℕ → List Item
-cell_items form apart f above cell = if is_by apart.name (Cell cell) then [] else cell_item form f above cell ∷ []
-
--- The items on the cells of a set, in the order of their addresses.
-abbrev pub cells_items : Form → FactDifferences → Fact → Option Fact → Words → List Item
-cells_items form apart f above cells = flat_map (cell_items form apart f above) (words_below 4096 cells)
+-- The items on the cells of which the fact tells, in the order of their addresses.
+abbrev pub cells_text : ShownFact → Text
+cells_text shown = each (λ cell. subject_item shown (subjects.Cell cell)) (words_below 4096 (words shown.known.now.cells))
 
 -- The item that a cell may hold any word, which the fact above does not allow.
-abbrev pub lost_cell_items : Form → Fact → ℕ → List Item
-lost_cell_items form above cell =
-    if is_all (above.set (Cell cell)) then [] else record { same = false; text = cell_text form cell ++ held_text form all_words } ∷ []
+abbrev pub lost_cell_item : Fact → ℕ → Text
+lost_cell_item above cell = item_if (not (is_all (above.set (Cell cell)))) false (subject_text (subjects.Cell cell) all_words)
 
--- Such items on the cells of a set, in the order of their addresses.
-abbrev pub lost_cells_items : Form → Fact → Words → List Item
-lost_cells_items form above cells = flat_map (lost_cell_items form above) (words_below 4096 cells)
-
--- The items on those cells of which the fact above tells and this one does not.
-abbrev pub cells_lost_since : Form → Words → Option (Bor KnownFact) → List Item
-cells_lost_since form cells None = []
-cells_lost_since form cells (Some above) = lost_cells_items form (fact_in_code above.now.fact) (difference (words above.now.cells) cells)
-
--- The fact on the line above tells its sites: they are not all of the routine's.
-abbrev pub told_of_sites : Words → Option Fact → Bool
-told_of_sites all None = false
-told_of_sites all (Some above) = not (has_same_words above.sites all)
-
--- The item on the sites from which the routine was called, where they are not all of its sites or were not above.
-abbrev pub sites_items : Form → Words → Fact → Option Fact → List Item
-sites_items form all f above =
-    if not (has_same_words f.sites all) || told_of_sites all above
-    then record { same = is_above (λ g. g.sites) above f.sites; text = codes "called from " ++ places_text form f.sites } ∷ [] else []
+-- Such items on those of the cells of which a fact above tells that are not in a set.
+abbrev pub lost_cells_text : Words → Option (Bor KnownFact) → Text
+lost_cells_text cells None = no_text
+lost_cells_text cells (Some above) =
+    each (lost_cell_item (fact_in_code above.now.fact)) (words_below 4096 (difference (words above.now.cells) cells))
 
 -- An offset of a return word, with a comma before it if a lesser one stands before it.
-abbrev pub next_offset_text : Words → ℕ → List ℕ
-next_offset_text offsets offset = (if some_below offset offsets then codes "," else []) ++ offset_text offset
+abbrev pub next_offset_text : Words → ℕ → Text
+next_offset_text offsets offset = plain (if some_below offset offsets then codes "," else []) ⊕ offset_text offset
 
 -- By how much a return word may have been incremented.
-abbrev pub offsets_text : Words → List ℕ
-offsets_text offsets = flat_map (next_offset_text offsets) (words_below 64 offsets)
+abbrev pub offsets_text : Words → Text
+offsets_text offsets = each (next_offset_text offsets) (words_below 64 offsets)
 
--- The return word was not incremented: there is no offset above 0.
+-- The return word was not incremented: there is no offset but 0.
 abbrev pub is_uncounted : Words → Bool
-is_uncounted offsets = not (some_below 64 (λ o. nat_lt 0 o && offsets o))
+is_uncounted offsets = not (some_below 64 (difference offsets (with_word 0 nothing)))
 
 -- Both have the same offsets.
 abbrev pub has_same_offsets : Words → Words → Bool
@@ -131,8 +137,12 @@ abbrev pub told_of_offsets : Option Fact → Bool
 told_of_offsets None = false
 told_of_offsets (Some above) = not (is_uncounted above.offsets)
 
--- The item on how far the return word was incremented, where it may have been or was above.
-abbrev pub offsets_items : Fact → Option Fact → List Item
-offsets_items f above =
-    if not (is_uncounted f.offsets) || told_of_offsets above
-    then record { same = are_offsets_above above f.offsets; text = codes "return word up by " ++ offsets_text f.offsets } ∷ [] else []
+-- The return word may have been incremented by these offsets, or may have been above, and facts are not distinguished by that.
+abbrev pub are_offsets_told : ShownFact → Words → Bool
+are_offsets_told shown offsets = not shown.apart.offsets && (not (is_uncounted offsets) || told_of_offsets (fact_above shown.above))
+
+-- The item on how far the return word was incremented.
+abbrev pub offsets_item : ShownFact → Text
+offsets_item shown =
+    item_if (are_offsets_told shown (fact_in shown).offsets) (are_offsets_above (fact_above shown.above) (fact_in shown).offsets)
+    (plain (codes "return word up by ") ⊕ offsets_text (fact_in shown).offsets)

@@ -19,3 +19,4 @@ pub mod RelationItems
 pub mod ToldCells
 pub mod KnownText
 pub mod ReportSetting
+pub mod Items

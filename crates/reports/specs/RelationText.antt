@@ -1,8 +1,7 @@
 -- How terms, sums and chains are written.
-use Rattle.std.specs.Prelude.{ℕ, ◌==◌, nat_lt, Bool, true, false, ◌&&◌, ◌||◌, not, if◌then◌else◌, is_some, codes, List, [], ◌∷◌, ◌++◌, length, Option, Some, None, unwrap_or}
+use Rattle.std.specs.Prelude.{ℕ, ◌==◌, nat_lt, Bool, true, false, ◌&&◌, ◌||◌, not, if◌then◌else◌, is_some, codes, List, [], length, Option, Some, None, unwrap_or}
 use Rattle.std.proofs.Common.{zero, suc}
 use Rattle.std.specs.List.{list_any}
-use Rattle.word12.specs.Words.{octal_text}
 use Rattle.wordset.specs.Words.{Words, between, difference, first_below, has_some, meet, minus, mirrored, one, only, shifted}
 use Rattle.instruct.specs.Names.{name_of}
 use Rattle.instruct.specs.declared.Profile.{Profile}
@@ -11,10 +10,10 @@ use Rattle.domain.specs.Terms.{Term, Holding, Behind, Summand, Sum, is_sign}
 use Rattle.domain.specs.Facts.{Relation}
 use Rattle.domain.specs.InCode.{summand_at}
 use Rattle.domain.specs.Chains.{Step, Operates, Ands, Adds, Chain}
-use Rattle.reports.specs.ItemText.{has_same_words}
+use Rattle.reports.specs.ItemText.{has_same_words, in_text}
 use Rattle.reports.specs.Rows.{begun_said}
 use Rattle.reports.specs.SetText.{words_text}
-use Rattle.reports.specs.Writing.{Form, cell_text, said_in}
+use Rattle.reports.specs.Writing.{Text, ◌⊕◌, cell_text, listed, no_text, plain, said, word_text}
 
 -- The greatest number below n that passes a test.
 unfoldable pub last_below : ℕ → (ℕ → Bool) → Option ℕ
@@ -22,23 +21,23 @@ last_below zero test = None
 last_below (suc n) test = if test n then Some n else last_below n test
 
 -- The address of a cell in brackets, for the word in it.
-abbrev pub bracketed_text : Form → ℕ → List ℕ
-bracketed_text form cell = codes "[" ++ (cell_text form cell ++ codes "]")
+abbrev pub bracketed_text : ℕ → Text
+bracketed_text cell = plain (codes "[") ⊕ cell_text cell ⊕ plain (codes "]")
 
 -- AC, or the address of a cell in brackets, for the word in it.
-abbrev pub name_text : Form → Location → List ℕ
-name_text form Ac = codes "AC"
-name_text form (Cell cell) = bracketed_text form cell
+abbrev pub name_text : Location → Text
+name_text Ac = plain (codes "AC")
+name_text (Cell cell) = bracketed_text cell
 
 -- A number that is added to a word, or taken away from it, and nothing for 0: from 4000 on it is written as what is taken away.
-abbrev pub added_text : ℕ → List ℕ
+abbrev pub added_text : ℕ → Text
 added_text more =
-    if more == 0 then [] else (if nat_lt more 2048 then codes "+" ++ octal_text more else codes "-" ++ octal_text (minus 0 more))
+    if more == 0 then no_text else if nat_lt more 2048 then plain (codes "+") ⊕ word_text more else plain (codes "-") ⊕ word_text (minus 0 more)
 
 -- A term: a name, or the word that stood at the start at an address.
-abbrev pub term_text : Form → Term → List ℕ
-term_text form (Holding name) = name_text form name
-term_text form (Behind cell more) = codes "the word at " ++ (bracketed_text form cell ++ added_text more)
+abbrev pub term_text : Term → Text
+term_text (Holding name) = name_text name
+term_text (Behind cell more) = plain (codes "the word at ") ⊕ bracketed_text cell ⊕ added_text more
 
 -- What stands before a term for the sign of its coefficient; 7777 is minus one.
 abbrev pub sign_text : Bool → ℕ → List ℕ
@@ -46,34 +45,26 @@ sign_text true coefficient = if coefficient == 4095 then codes "-" else []
 sign_text false coefficient = if coefficient == 4095 then codes " - " else codes " + "
 
 -- A coefficient that is neither 1 nor minus one.
-abbrev pub factor_text : ℕ → List ℕ
-factor_text coefficient = if is_sign coefficient then [] else octal_text coefficient ++ codes " * "
+abbrev pub factor_text : ℕ → Text
+factor_text coefficient = if is_sign coefficient then no_text else word_text coefficient ⊕ plain (codes " * ")
 
 -- A term of a sum with its coefficient.
-abbrev pub summand_text : Form → Bool → Summand → List ℕ
-summand_text form is_first summand =
-    sign_text is_first summand.coefficient ++ (factor_text summand.coefficient ++ term_text form summand.term)
-
--- A sum, of which the first term may be the first of all.
-abbrev pub terms_text : Form → Bool → Sum → List ℕ
-terms_text form is_first [] = []
-terms_text form is_first (summand ∷ rest) = summand_text form is_first summand ++ terms_text form false rest
+abbrev pub summand_text : Bool → Summand → Text
+summand_text is_first summand = plain (sign_text is_first summand.coefficient) ⊕ factor_text summand.coefficient ⊕ term_text summand.term
 
 -- A sum.
-abbrev pub sum_text : Form → Sum → List ℕ
-sum_text form sum = terms_text form true sum
+abbrev pub sum_text : Sum → Text
+sum_text sum = listed summand_text true sum
 
 -- A step of a chain.
-abbrev pub step_text : Form → Profile → Step → List ℕ
-step_text form profile (Operates word) = said_in form.is_page (name_of profile word)
-step_text form profile (Ands word) = codes "AND " ++ octal_text word
-step_text form profile (Adds word) = codes "TAD " ++ octal_text word
+abbrev pub step_text : Profile → Step → Text
+step_text profile (Operates word) = said (name_of profile word)
+step_text profile (Ands word) = plain (codes "AND ") ⊕ word_text word
+step_text profile (Adds word) = plain (codes "TAD ") ⊕ word_text word
 
--- Steps with a comma between two of them.
-abbrev pub steps_text : Form → Profile → Bool → List Step → List ℕ
-steps_text form profile is_first [] = []
-steps_text form profile is_first (step ∷ steps) =
-    ((if is_first then codes " by " else codes ", ") ++ step_text form profile step) ++ steps_text form profile false steps
+-- A step with what stands before it.
+abbrev pub next_step_text : Profile → Bool → Step → Text
+next_step_text profile is_first step = plain (if is_first then codes " by " else codes ", ") ⊕ step_text profile step
 
 -- A step that is an AND, which leaves the link as it is.
 abbrev pub is_and : Step → Bool
@@ -86,13 +77,10 @@ abbrev pub has_link : Chain → Bool
 has_link chain = if chain.link 0 && chain.link 1 then list_any (λ step. not (is_and step)) chain.steps else true
 
 -- A chain: from which word the accumulator comes, by which steps.
-abbrev pub chain_text : Form → Profile → Chain → List ℕ
-chain_text form profile chain =
-    (if has_link chain then codes "AC and L come from " else codes "AC comes from ") ++
-    (bracketed_text form chain.cell ++
-    (added_text chain.more ++
-    ((if has_link chain then begun_said chain.link else []) ++
-    steps_text form profile true chain.steps)))
+abbrev pub chain_text : Profile → Chain → Text
+chain_text profile chain =
+    plain (if has_link chain then codes "AC and L come from " else codes "AC comes from ") ⊕ bracketed_text chain.cell ⊕ added_text chain.more ⊕
+    plain (if has_link chain then begun_said chain.link else []) ⊕ listed (next_step_text profile) true chain.steps
 
 -- The sum is one term less another.
 abbrev pub is_difference : Sum → Bool
@@ -107,10 +95,10 @@ abbrev pub greatest_word : Words → ℕ
 greatest_word set = unwrap_or (last_below 4096 set) 0
 
 -- The words of a set: of a range of more than one word the first and the last one, and otherwise as sets are written.
-abbrev pub amount_text : Form → Words → List ℕ
-amount_text form set =
+abbrev pub amount_text : Words → Text
+amount_text set =
     if not (least_word set == greatest_word set) && has_same_words set (between (least_word set) (greatest_word set))
-    then octal_text (least_word set) ++ (codes " to " ++ octal_text (greatest_word set)) else words_text form set
+    then word_text (least_word set) ⊕ plain (codes " to ") ⊕ word_text (greatest_word set) else words_text set
 
 -- The words of a set from 4000 on, which are said as less than 0.
 abbrev pub words_below_zero : Words → Words
@@ -138,43 +126,45 @@ is_around_zero set =
     has_same_words (words_below_zero set) (between (least_word (words_below_zero set)) 4095) &&
     has_same_words (words_above_zero set) (between 0 (greatest_word (words_above_zero set)))
 
+-- By how much a term is more or less than another, as this relation says.
+abbrev pub by_text : Words → List ℕ → Text
+by_text set relation = plain (codes " is ") ⊕ amount_text set ⊕ plain relation
+
 -- By how much a term is less or more than another: at most so much less, and at most so much more.
-abbrev pub around_text : Words → List ℕ
+abbrev pub around_text : Words → Text
 around_text set =
-    octal_text (minus 0 (least_word (words_below_zero set))) ++ (codes " less to " ++ (octal_text (greatest_word (words_above_zero set)) ++ codes " more than "))
+    plain (codes " is ") ⊕ word_text (minus 0 (least_word (words_below_zero set))) ⊕ plain (codes " less to ") ⊕
+    word_text (greatest_word (words_above_zero set)) ⊕ plain (codes " more than ")
 
 -- A sum, and which words it may be.
-abbrev pub sum_in_text : Form → Relation → List ℕ
-sum_in_text form r = sum_text form r.sum ++ ((if is_some (only r.set) then codes " is " else codes " in ") ++ words_text form r.set)
+abbrev pub sum_in_text : Relation → Text
+sum_in_text r = sum_text r.sum ⊕ in_text r.set
 
--- By how much a term is less than another; or how much it is at most less, and at most more.
-abbrev pub less_text : Form → Words → List ℕ
-less_text form set =
-    if is_only_less set then codes " is " ++ (amount_text form (taken_away set) ++ codes " less than ") else codes " is " ++ around_text set
-
--- By how much a term is more or less than another that it is not.
-abbrev pub unlike_text : Form → Words → List ℕ
-unlike_text form set =
-    if is_only_more set then codes " is " ++ (amount_text form set ++ codes " more than ") else less_text form set
-
--- What stands between two terms of which the first is the second and one of these words.
-abbrev pub distance_text : Form → Words → List ℕ
-distance_text form set = if has_same_words set (one 0) then codes " = " else unlike_text form set
+-- What stands between two terms of which the first is the second and one of these words: that they are the same, or by how much the
+-- first is more or less than the second, or at most less and at most more.
+abbrev pub distance_text : Words → Text
+distance_text set =
+    if has_same_words set (one 0) then plain (codes " = ")
+    else if is_only_more set then by_text set (codes " more than ")
+    else if is_only_less set then by_text (taken_away set) (codes " less than ") else around_text set
 
 -- There are words for a distance.
 abbrev pub has_distance : Words → Bool
 has_distance set = has_same_words set (one 0) || (is_only_more set || (is_only_less set || is_around_zero set))
 
 -- A relation: of a difference by how much the one term is more or less than the other, where there are words for it.
-abbrev pub relation_text : Form → Relation → List ℕ
-relation_text form r =
+abbrev pub relation_text : Relation → Text
+relation_text r =
     if is_difference r.sum && has_distance r.set
-    then term_text form (summand_at r.sum 0).term ++ (distance_text form r.set ++ term_text form (summand_at r.sum 1).term)
-    else sum_in_text form r
+    then term_text (summand_at r.sum 0).term ⊕ distance_text r.set ⊕ term_text (summand_at r.sum 1).term else sum_in_text r
 
 -- That nothing is known of a sum any more.
-abbrev pub lost_text : Form → Sum → List ℕ
-lost_text form sum =
+abbrev pub lost_text : Sum → Text
+lost_text sum =
     if is_difference sum
-    then term_text form (summand_at sum 0).term ++ (codes " and " ++ (term_text form (summand_at sum 1).term ++ codes " unrelated"))
-    else sum_text form sum ++ codes " any"
+    then term_text (summand_at sum 0).term ⊕ plain (codes " and ") ⊕ term_text (summand_at sum 1).term ⊕ plain (codes " unrelated")
+    else sum_text sum ⊕ plain (codes " any")
+
+-- That AC does not come from a cell any more.
+abbrev pub lost_chain_text : ℕ → Text
+lost_chain_text cell = plain (codes "AC no longer comes from ") ⊕ bracketed_text cell

@@ -4,7 +4,7 @@ use Rattle.std.specs.List.{list_any}
 use Rattle.std.specs.Option.{option_map_or}
 use Rattle.std.proofs.Common.{zero, suc}
 use Rattle.wordset.specs.Words.{Words, between, first_below, has_some, how_many}
-use Rattle.reports.specs.Writing.{Form, cell_text, place_text, run_text}
+use Rattle.reports.specs.Writing.{Text, ◌⊕◌, cell_text, listed, no_text, place_text, plain, word_text}
 
 -- The least word of a set from a number on.
 abbrev pub first_from : ℕ → Words → Option ℕ
@@ -24,34 +24,43 @@ first_ranges (suc n) from set =
 abbrev pub outside : List (ℕ × ℕ) → Words → Words
 outside ranges set v = set v && not (list_any (λ range. between range.0 range.1 v) ranges)
 
--- The words from one to another, both of them; of places in a page with their labels, and with a link to the line of the first.
-abbrev pub range_text : Form → Bool → ℕ → ℕ → List ℕ
-range_text form are_places first last =
-    if are_places then place_text form first ++ (if first == last then [] else codes "-" ++ cell_text form last) else run_text first last
+-- The last of some words or places, a place in a page with its label.
+abbrev pub run_last_text : Bool → ℕ → Text
+run_last_text are_places last = if are_places then cell_text last else word_text last
 
--- Ranges with a comma between two of them. Another one may stand before them.
-abbrev pub ranges_text : Form → Bool → Bool → List (ℕ × ℕ) → List ℕ
-ranges_text form are_places is_first [] = []
-ranges_text form are_places is_first (range ∷ ranges) =
-    ((if is_first then [] else codes ",") ++ range_text form are_places range.0 range.1) ++ ranges_text form are_places false ranges
+-- What comes behind the first of some words or places: the last one, unless it is also the first.
+abbrev pub run_end_text : Bool → ℕ → ℕ → Text
+run_end_text are_places first last = if first == last then no_text else plain (codes "-") ⊕ run_last_text are_places last
+
+-- The first of some words or places, a place in a page with its label and with a link to its line.
+abbrev pub run_first_text : Bool → ℕ → Text
+run_first_text are_places first = if are_places then place_text first else word_text first
+
+-- The words or places from one to another, both of them.
+abbrev pub range_text : Bool → ℕ → ℕ → Text
+range_text are_places first last = run_first_text are_places first ⊕ run_end_text are_places first last
+
+-- A range, with a comma before it unless it is the first.
+abbrev pub next_range_text : Bool → Bool → ℕ × ℕ → Text
+next_range_text are_places is_first range = plain (if not is_first then codes "," else []) ⊕ range_text are_places range.0 range.1
 
 -- How many words more there are; nothing if there are none.
-abbrev pub more_text : ℕ → List ℕ
-more_text count = if nat_lt 0 count then codes " and " ++ (decimal count ++ codes " more") else []
+abbrev pub more_text : ℕ → Text
+more_text count = if nat_lt 0 count then plain (codes " and ") ⊕ plain (decimal count) ⊕ plain (codes " more") else no_text
 
 -- What stands for a set without a word.
-abbrev pub none_text : Words → List ℕ
-none_text set = if has_some set then [] else codes "-"
+abbrev pub none_text : Words → Text
+none_text set = plain (if has_some set then [] else codes "-")
 
 -- The words of a set: its first sixteen ranges, and how many words are in none of these.
-abbrev pub set_text : Form → Bool → Words → List ℕ
-set_text form are_places set =
-    none_text set ++ (ranges_text form are_places true (first_ranges 16 0 set) ++ more_text (how_many 4096 (outside (first_ranges 16 0 set) set)))
+abbrev pub set_text : Bool → Words → Text
+set_text are_places set =
+    none_text set ⊕ listed (next_range_text are_places) true (first_ranges 16 0 set) ⊕ more_text (how_many 4096 (outside (first_ranges 16 0 set) set))
 
 -- The words of a set.
-abbrev pub words_text : Form → Words → List ℕ
-words_text form set = set_text form false set
+abbrev pub words_text : Words → Text
+words_text set = set_text false set
 
 -- The addresses of a set, in a page with their labels and with links to the lines that there are.
-abbrev pub places_text : Form → Words → List ℕ
-places_text form set = set_text form true set
+abbrev pub places_text : Words → Text
+places_text set = set_text true set

@@ -1,43 +1,11 @@
 -- What is written of a report. A writer whose memory was refused has written nothing more.
-use Rattle.std.specs.Prelude.{ℕ, ◌≡◌, ◌++◌, ◌/◌, ◌%◌, ◌==◌, nat_lt, Bool, codes, decimal, if◌then◌else◌, IsOk, List, [], ◌∷◌, length}
+use Rattle.std.specs.Prelude.{ℕ, ◌≡◌, ◌++◌, ◌/◌, ◌%◌, ◌==◌, nat_lt, Bool, true, false, codes, decimal, if◌then◌else◌, IsOk, List, [], ◌∷◌, length}
 use Rattle.word12.specs.Words.{octal_text}
 use Rattle.wordset.specs.Words.{Words}
 use Rattle.wordset.specs.Lanes.{words}
 use Rattle.reports.specs.Html.{escaped_text}
 use Rattle.reports.specs.Labels.{label_in}
 use Rattle.reports.specs.declared.writer.ReportWriter.{ReportWriter}
-
--- A writer became this one by writing a text: if no memory was refused until its end, its bytes are those that stood, and then the
--- text. All else about the writer is as it was.
-pub record Writes {A : Type 0} (old new : ReportWriter A) (text : List ℕ) : Type 0 where
-  pub given : IsOk new.written → IsOk old.written
-  pub bytes : IsOk new.written → new.bytes.items ≡ old.bytes.items ++ text
-  pub kept : new ≡ record old { bytes = new.bytes; written = new.written }
-
--- What is written in a page alone.
-abbrev pub in_page : Bool → List ℕ → List ℕ
-in_page is_page text = if is_page then text else []
-
--- A text that is not markup, as it is written: in a page by the names of the bytes that have a meaning there.
-abbrev pub said_in : Bool → List ℕ → List ℕ
-said_in is_page text = if is_page then escaped_text text else text
-
--- How far a return word is incremented, in octal digits.
-abbrev pub offset_text : ℕ → List ℕ
-offset_text offset = (if nat_lt offset 8 then [] else decimal (offset / 8)) ++ decimal (offset % 8)
-
--- The beginning of a link to the line of an address.
-abbrev pub link_text : ℕ → List ℕ
-link_text at = codes "<a href=#a" ++ octal_text at ++ codes ">"
-
--- An address, in a page with a link to its line, if it has one.
-abbrev pub linked_text : Bool → Bool → ℕ → List ℕ
-linked_text is_page has_line at =
-    if has_line then in_page is_page (link_text at) ++ octal_text at ++ in_page is_page (codes "</a>") else octal_text at
-
--- The words from one to another, both of them.
-abbrev pub run_text : ℕ → ℕ → List ℕ
-run_text first last = octal_text first ++ (if first == last then [] else codes "-" ++ octal_text last)
 
 -- In which form a report is written: as a page or as plain text, with links to the lines of these addresses, and with the label that
 -- a source gives each address, which is empty where it gives none.
@@ -50,18 +18,105 @@ pub record Form : Type 0 where
 abbrev pub form_of : {A : Type 0} → ReportWriter A → Form
 form_of writer = record { is_page = writer.is_page; lines = words writer.lines; label = λ at. label_in writer.notes at }
 
+-- What was written of a line: how many blanks stand before its first item in plain text, whether it has an item, and how many items
+-- were the same as on the line above.
+pub record Line : Type 0 where
+  pub indent : ℕ
+  pub has_item : Bool
+  pub same : ℕ
+
+-- The line on which a writer is.
+abbrev pub line_of : {A : Type 0} → ReportWriter A → Line
+line_of writer = record { indent = writer.indent; has_item = writer.has_item; same = writer.same }
+
+-- What is added by writing: bytes, after which the line is this one.
+pub record Addition : Type 0 where
+  pub bytes : List ℕ
+  pub line : Line
+
+-- A text: what it adds, in a form, to a line of which so much was written.
+abbrev pub Text : Type 0
+Text = Form → Line → Addition
+
+-- Bytes that are the same in each form, and leave the line as it is.
+abbrev pub plain : List ℕ → Text
+plain bytes form line = record { bytes = bytes; line = line }
+
+-- No text.
+abbrev pub no_text : Text
+no_text = plain []
+
+-- One text, and then another.
+infixr 30 ◌⊕◌
+unfoldable pub ◌⊕◌ : Text → Text → Text
+(first ⊕ second) form line = record {
+  bytes = (first form line).bytes ++ (second form (first form line).line).bytes;
+  line = (second form (first form line).line).line;
+}
+
+-- The texts of the elements of a list, one after another; the text of an element may depend on whether it is the first.
+abbrev pub listed : {X : Type 0} → (Bool → X → Text) → Bool → List X → Text
+listed text is_first [] = no_text
+listed text is_first (x ∷ xs) = text is_first x ⊕ listed text false xs
+
+-- The same, where it does not matter which element is the first.
+abbrev pub each : {X : Type 0} → (X → Text) → List X → Text
+each text xs = listed (λ is_first. text) true xs
+
+-- A writer became this one by writing a text: if no memory was refused until its end, its bytes are those that stood, and then those
+-- that the text adds; and the line is the one after the text. All else about the writer is as it was.
+pub record Writes {A : Type 0} (old new : ReportWriter A) (text : Text) : Type 0 where
+  pub given : IsOk new.written → IsOk old.written
+  pub bytes : IsOk new.written → new.bytes.items ≡ old.bytes.items ++ (text (form_of old) (line_of old)).bytes
+  pub kept : new ≡ record old {
+    bytes = new.bytes;
+    written = new.written;
+    indent = (text (form_of old) (line_of old)).line.indent;
+    has_item = (text (form_of old) (line_of old)).line.has_item;
+    same = (text (form_of old) (line_of old)).line.same;
+  }
+
+-- What is written in a page alone.
+abbrev pub in_page : Text → Text
+in_page text form = if form.is_page then text form else no_text form
+
+-- A text that is not markup, as it is written: in a page by the names of the bytes that have a meaning there.
+abbrev pub said : List ℕ → Text
+said text form = if form.is_page then plain (escaped_text text) form else plain text form
+
+-- How far a return word is incremented, in octal digits.
+abbrev pub offset_text : ℕ → Text
+offset_text offset = plain ((if nat_lt offset 8 then [] else decimal (offset / 8)) ++ decimal (offset % 8))
+
+-- The four octal digits of a word.
+abbrev pub word_text : ℕ → Text
+word_text word = plain (octal_text word)
+
+-- The beginning of a link to the line of an address.
+abbrev pub link_text : ℕ → Text
+link_text at = plain (codes "<a href=#a") ⊕ word_text at ⊕ plain (codes ">")
+
+-- An address, in a page with a link to its line, if it has one.
+abbrev pub linked_text : ℕ → Text
+linked_text at form =
+    if form.lines at then (in_page (link_text at) ⊕ word_text at ⊕ in_page (plain (codes "</a>"))) form else word_text at form
+
+-- A text that is not markup in parentheses.
+abbrev pub in_parentheses : List ℕ → Text
+in_parentheses text = plain (codes " (") ⊕ plain (escaped_text text) ⊕ plain (codes ")")
+
 -- A label in parentheses; nothing for an empty one.
-abbrev pub noted_text : List ℕ → List ℕ
-noted_text label = if length label == 0 then [] else codes " (" ++ (escaped_text label ++ codes ")")
+abbrev pub noted_text : List ℕ → Text
+noted_text label = if length label == 0 then no_text else in_parentheses label
 
 -- The label of an address in parentheses, in a page alone.
-abbrev pub label_text : Form → ℕ → List ℕ
-label_text form at = in_page form.is_page (noted_text (form.label at))
+abbrev pub label_text : ℕ → Text
+label_text at = in_page (λ form. noted_text (form.label at) form)
 
 -- The address of a cell, in a page with its label.
-abbrev pub cell_text : Form → ℕ → List ℕ
-cell_text form at = octal_text at ++ label_text form at
+abbrev pub cell_text : ℕ → Text
+cell_text at = word_text at ⊕ label_text at
 
 -- An address, in a page with a link to its line, if it has one, and with its label.
-abbrev pub place_text : Form → ℕ → List ℕ
-place_text form at = linked_text form.is_page (form.lines at) at ++ label_text form at
+abbrev pub place_text : ℕ → Text
+place_text at = linked_text at ⊕ label_text at

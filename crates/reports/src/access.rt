@@ -1,4 +1,5 @@
 //! What an instruction may read, write, call and jump to, as far as the fact at its address tells.
+#![tactic(auto, using(crate::proofs::ExtendLemmas::extending))]
 
 ghost use Rattle.reports.specs.FactItems.{Extends};
 
@@ -6,7 +7,7 @@ use crate::known_fact::KnownFact;
 use crate::report::{CellKind, Report};
 use crate::writer::ReportWriter;
 use declaration::Declaration;
-use facts::{NarrowedFact, Place};
+use facts::Place;
 use instruct::{Instruction, Operation, decode, refers_indirectly, target};
 use std::alloc::Allocator;
 use word12::Word;
@@ -23,21 +24,6 @@ struct Access {
     calls: WordSet,
     jumps: WordSet,
     returns: WordSet,
-}
-
-/// Whether an instruction of the tape writes through a pointer.
-pub(crate) fn writes_through<B: Allocator, D: Allocator, C: Allocator>(
-    report: &Report<'_, B, D, C>,
-) -> bool {
-    for index in 0..4096 {
-        let at = Word::from_index(index);
-        if let Some(word) = report.image.get(at) {
-            if report.is_code(at) && refers_indirectly(word) && stores(report.declaration, word) {
-                return true;
-            }
-        }
-    }
-    false
 }
 
 /// Writes an item with addresses, if there are any.
@@ -72,54 +58,6 @@ fn stores<D: Allocator>(declaration: &Declaration<D>, word: Word) -> bool {
         && matches!(Operation::of(word), Operation::Isz | Operation::Dca)
 }
 
-/// The words that may stand in a cell at an address.
-fn words_at<D: Allocator>(place: &Place<'_, D>, fact: &NarrowedFact, at: Word) -> WordSet {
-    let mut words = WordSet::empty();
-    place.put_possible(fact, at, &mut words);
-    words
-}
-
-/// The cells that a word writes.
-fn written<D: Allocator>(
-    place: &Place<'_, D>,
-    fact: &NarrowedFact,
-    at: Word,
-    word: Word,
-) -> WordSet {
-    let mut cells = WordSet::empty();
-    place.put_writes(fact, at, word, &mut cells);
-    cells
-}
-
-/// Where a JMP I that is not a return goes: where the cell that it names points, one up through an auto-index cell.
-fn jumped<D: Allocator>(
-    place: &Place<'_, D>,
-    fact: &NarrowedFact,
-    at: Word,
-    word: Word,
-) -> WordSet {
-    let named = target(word, at);
-    let words = words_at(place, fact, named);
-    if 0o10 <= named.value() && named.value() <= 0o17 {
-        words.shift(Word::from_index(1))
-    } else {
-        words
-    }
-}
-
-/// Where a routine returns: after the sites of a fact, by its offsets.
-fn returned(known: &KnownFact) -> WordSet {
-    let sites = known.sites();
-    let offsets = known.fact.offsets();
-    let mut found = WordSet::empty();
-    for offset in 0..64usize {
-        if offsets.contains(offset) {
-            found = found.union(&sites.shift(Word::from_index(offset + 1)));
-        }
-    }
-    found
-}
-
 impl Access {
     /// Nothing.
     fn none() -> Access {
@@ -131,182 +69,145 @@ impl Access {
             returns: WordSet::empty(),
         }
     }
+}
 
-    /// Adds where a JMP I goes.
-    fn add_jump<D: Allocator>(
-        &mut self,
-        place: &Place<'_, D>,
-        known: &KnownFact,
-        at: Word,
-        word: Word,
-    ) {
-        if place.declaration.is_entry(target(word, at)) {
-            self.returns = self.returns.union(&returned(known));
+/// An address, and what is known there.
+#[derive(Drop)]
+struct Spot<'p, 'k, D: Allocator> {
+    place: Place<'p, D>,
+    known: &'k KnownFact,
+    at: Word,
+}
+
+impl<D: Allocator> Spot<'_, '_, D> {
+    /// The words that may stand in a cell.
+    fn words_in(&self, cell: Word) -> WordSet {
+        let mut words = WordSet::empty();
+        self.place.put_possible(&self.known.fact, cell, &mut words);
+        words
+    }
+
+    /// The cells that a word writes.
+    fn written(&self, word: Word) -> WordSet {
+        let mut cells = WordSet::empty();
+        self.place
+            .put_writes(&self.known.fact, self.at, word, &mut cells);
+        cells
+    }
+
+    /// Where a JMP I that is not a return goes: where the cell that it names points, one up through an auto-index cell.
+    fn jumped(&self, word: Word) -> WordSet {
+        let named = target(word, self.at);
+        let words = self.words_in(named);
+        if 0o10 <= named.value() && named.value() <= 0o17 {
+            words.shift(Word::from_index(1))
         } else {
-            self.jumps = self.jumps.union(&jumped(place, &known.fact, at, word));
+            words
         }
+    }
+
+    /// Where a routine returns: after the sites of the fact, by its offsets.
+    fn returned(&self) -> WordSet {
+        let sites = self.known.sites();
+        let offsets = self.known.fact.offsets();
+        let mut found = WordSet::empty();
+        for offset in 0..64usize {
+            if offsets.contains(offset) {
+                found = found.union(&sites.shift(Word::from_index(offset + 1)));
+            }
+        }
+        found
     }
 
     /// Adds what an indirect word does beside writing.
-    fn add_indirect<D: Allocator>(
-        &mut self,
-        place: &Place<'_, D>,
-        known: &KnownFact,
-        at: Word,
-        word: Word,
-    ) {
+    fn add_indirect(&self, access: &mut Access, word: Word) {
         let mut cells = WordSet::empty();
         match Operation::of(word) {
             Operation::And | Operation::Tad | Operation::Isz => {
-                place.put_reads(&known.fact, at, word, &mut cells);
-                self.reads = self.reads.union(&cells);
+                self.place
+                    .put_reads(&self.known.fact, self.at, word, &mut cells);
+                access.reads = access.reads.union(&cells);
             }
             Operation::Dca => {}
             Operation::Jms => {
-                place.put_called(&known.fact, at, word, &mut cells);
-                self.calls = self.calls.union(&cells);
+                self.place
+                    .put_called(&self.known.fact, self.at, word, &mut cells);
+                access.calls = access.calls.union(&cells);
             }
-            Operation::Jmp => self.add_jump(place, known, at, word),
+            Operation::Jmp if self.place.declaration.is_entry(target(word, self.at)) => {
+                access.returns = access.returns.union(&self.returned());
+            }
+            Operation::Jmp => access.jumps = access.jumps.union(&self.jumped(word)),
         }
     }
 
-    /// Adds what a word does.
-    fn add<D: Allocator>(&mut self, place: &Place<'_, D>, known: &KnownFact, at: Word, word: Word) {
-        self.writes = self.writes.union(&written(place, &known.fact, at, word));
-        if is_indirect(place.declaration, word) {
-            self.add_indirect(place, known, at, word);
+    /// What some words do.
+    fn access_of(&self, words: &WordSet) -> Access {
+        let mut access = Access::none();
+        for word in words.iter() {
+            access.writes = access.writes.union(&self.written(word));
+            if is_indirect(self.place.declaration, word) {
+                self.add_indirect(&mut access, word);
+            }
+        }
+        access
+    }
+
+    /// Writes what some words may do, beside what their names say.
+    fn write_each<A: Allocator>(&self, writer: &mut ReportWriter<'_, A>, words: &WordSet)
+        ensures { Extends writer.old writer.new }
+    {
+        let access = self.access_of(words);
+        write_places(writer, b"reads ", &access.reads);
+        write_places(writer, b"writes ", &access.writes);
+        write_places(writer, b"calls ", &access.calls);
+        write_places(writer, b"jumps to ", &access.jumps);
+        write_places(writer, b"returns to ", &access.returns);
+    }
+
+    /// Writes what the word of the tape does by an indirect reference where no other may stand.
+    fn write_indirect<A: Allocator>(&self, writer: &mut ReportWriter<'_, A>, word: Word)
+        ensures { Extends writer.old writer.new }
+    {
+        if is_indirect(self.place.declaration, word) {
+            self.write_each(writer, &WordSet::one(word));
         }
     }
-}
 
-/// What the words that may stand at an address do.
-fn access_of<D: Allocator>(
-    place: &Place<'_, D>,
-    known: &KnownFact,
-    at: Word,
-    words: &WordSet,
-) -> Access {
-    let mut access = Access::none();
-    for word in words.iter() {
-        access.add(place, known, at, word);
+    /// Writes which words may stand at the address, and what they do, unless they are many.
+    fn write_varying<A: Allocator>(&self, writer: &mut ReportWriter<'_, A>)
+        ensures { Extends writer.old writer.new }
+    {
+        let words = self.words_in(self.at);
+        if words.is_all() {
+            writer.item(b"may be any word");
+        } else {
+            self.write_some(writer, &words);
+        }
     }
-    access
-}
 
-/// Writes what an instruction may do, beside what its name says.
-fn write_each<A: Allocator>(writer: &mut ReportWriter<'_, A>, access: &Access)
-    ensures { Extends writer.old writer.new }
-{
-    write_places(writer, b"reads ", &access.reads);
-    write_places(writer, b"writes ", &access.writes);
-    write_places(writer, b"calls ", &access.calls);
-    write_places(writer, b"jumps to ", &access.jumps);
-    write_places(writer, b"returns to ", &access.returns);
-}
-
-/// Writes what the word of the tape does by an indirect reference at an address where no other may stand.
-fn write_indirect<A: Allocator, D: Allocator>(
-    writer: &mut ReportWriter<'_, A>,
-    place: &Place<'_, D>,
-    known: &KnownFact,
-    at: Word,
-    word: Word,
-)
-    ensures { Extends writer.old writer.new }
-{
-    if is_indirect(place.declaration, word) {
-        write_each(writer, &indirect_access(place, known, at, word));
+    /// Writes that some words may stand at the address, and what they do, unless they are many.
+    fn write_some<A: Allocator>(&self, writer: &mut ReportWriter<'_, A>, words: &WordSet)
+        ensures { Extends writer.old writer.new }
+    {
+        writer.item(b"may be ");
+        writer.words(words);
+        self.write_few(writer, words);
     }
-}
 
-/// What an indirect word does.
-fn indirect_access<D: Allocator>(
-    place: &Place<'_, D>,
-    known: &KnownFact,
-    at: Word,
-    word: Word,
-) -> Access {
-    let mut access = Access::none();
-    access.add_indirect(place, known, at, word);
-    access.writes = written(place, &known.fact, at, word);
-    access
-}
-
-/// Writes which words may stand at an address, and what they do, unless they are many.
-fn write_varying<A: Allocator, D: Allocator>(
-    writer: &mut ReportWriter<'_, A>,
-    place: &Place<'_, D>,
-    known: &KnownFact,
-    at: Word,
-)
-    ensures { Extends writer.old writer.new }
-{
-    let words = words_at(place, &known.fact, at);
-    if words.is_all() {
-        writer.item(b"may be any word");
-    } else {
-        write_some(writer, place, known, at, &words);
-    }
-}
-
-/// Writes that some words may stand at an address, and what they do, unless they are many.
-fn write_some<A: Allocator, D: Allocator>(
-    writer: &mut ReportWriter<'_, A>,
-    place: &Place<'_, D>,
-    known: &KnownFact,
-    at: Word,
-    words: &WordSet,
-)
-    ensures { Extends writer.old writer.new }
-{
-    writer.item(b"may be ");
-    writer.words(words);
-    write_few(writer, place, known, at, words);
-}
-
-/// Writes what words at an address do, unless they are many.
-fn write_few<A: Allocator, D: Allocator>(
-    writer: &mut ReportWriter<'_, A>,
-    place: &Place<'_, D>,
-    known: &KnownFact,
-    at: Word,
-    words: &WordSet,
-)
-    ensures { Extends writer.old writer.new }
-{
-    if are_few(words) {
-        write_each(writer, &access_of(place, known, at, words));
+    /// Writes what words at the address do, unless they are many.
+    fn write_few<A: Allocator>(&self, writer: &mut ReportWriter<'_, A>, words: &WordSet)
+        ensures { Extends writer.old writer.new }
+    {
+        if are_few(words) {
+            self.write_each(writer, words);
+        }
     }
 }
 
 /// Whether words are looked at one by one.
 fn are_few(words: &WordSet) -> bool {
     words.count() <= MOST_WORDS
-}
-
-/// The word of the tape at an address where no other may stand.
-fn fixed_word<B: Allocator, D: Allocator, C: Allocator>(
-    report: &Report<'_, B, D, C>,
-    at: Word,
-) -> Option<Word> {
-    if report.declaration.is_variable(at) {
-        return None;
-    }
-    report.image.get(at)
-}
-
-/// Writes the cell that the word of the tape writes by a direct reference, whatever is known.
-pub(crate) fn write_direct<A: Allocator, B: Allocator, D: Allocator, C: Allocator>(
-    writer: &mut ReportWriter<'_, A>,
-    report: &Report<'_, B, D, C>,
-    at: Word,
-)
-    ensures { Extends writer.old writer.new }
-{
-    match fixed_word(report, at) {
-        Some(word) => write_stored(writer, report.declaration, at, word),
-        None => {}
-    }
 }
 
 /// Writes the cell that a word writes by a direct reference.
@@ -328,20 +229,57 @@ fn stores_directly<D: Allocator>(declaration: &Declaration<D>, word: Word) -> bo
     !is_indirect(declaration, word) && stores(declaration, word)
 }
 
-/// Writes what the words at an address may do by what is known: the cells that they write, and where they go and what they
-/// read by indirect references.
-pub(crate) fn write_access<A: Allocator, B: Allocator, D: Allocator, C: Allocator>(
-    writer: &mut ReportWriter<'_, A>,
-    report: &Report<'_, B, D, C>,
-    kind: &CellKind,
-    known: &KnownFact,
-    at: Word,
-)
-    ensures { Extends writer.old writer.new }
-{
-    let place = report.place_in(kind);
-    match fixed_word(report, at) {
-        Some(word) => write_indirect(writer, &place, known, at, word),
-        None => write_varying(writer, &place, known, at),
+impl<A: Allocator, D: Allocator, C: Allocator> Report<'_, A, D, C> {
+    /// Whether an instruction of the tape writes through a pointer.
+    pub(crate) fn writes_through(&self) -> bool {
+        for index in 0..4096 {
+            let at = Word::from_index(index);
+            if let Some(word) = self.image.get(at) {
+                if self.is_code(at) && refers_indirectly(word) && stores(self.declaration, word) {
+                    return true;
+                }
+            }
+        }
+        false
+    }
+
+    /// The word of the tape at an address where no other may stand.
+    fn fixed_word(&self, at: Word) -> Option<Word> {
+        if self.declaration.is_variable(at) {
+            return None;
+        }
+        self.image.get(at)
+    }
+
+    /// Writes the cell that the word of the tape writes by a direct reference, whatever is known.
+    pub(crate) fn write_direct(&self, writer: &mut ReportWriter<'_, A>, at: Word)
+        ensures { Extends writer.old writer.new }
+    {
+        match self.fixed_word(at) {
+            Some(word) => write_stored(writer, self.declaration, at, word),
+            None => {}
+        }
+    }
+
+    /// Writes what the words at an address may do by what is known: the cells that they write, and where they go and what they
+    /// read by indirect references.
+    pub(crate) fn write_access(
+        &self,
+        writer: &mut ReportWriter<'_, A>,
+        kind: &CellKind,
+        known: &KnownFact,
+        at: Word,
+    )
+        ensures { Extends writer.old writer.new }
+    {
+        let spot = Spot {
+            place: self.place_in(kind),
+            known,
+            at,
+        };
+        match self.fixed_word(at) {
+            Some(word) => spot.write_indirect(writer, word),
+            None => spot.write_varying(writer),
+        }
     }
 }

@@ -6,9 +6,9 @@ ghost use Rattle.domain.specs.LocationsInCode.{location_of};
 ghost use Rattle.certificate_lines.specs.CertificateInCode.{claims};
 ghost use Rattle.domain.specs.Offsets.{offsets_in};
 ghost use Rattle.reports.specs.FactItems.{by_nothing};
-ghost use Rattle.reports.specs.FactText.{has_same_offsets, is_by};
+ghost use Rattle.reports.specs.FactText.{has_same_offsets, is_by, is_uncounted};
 
-use crate::known_fact::KnownFact;
+use crate::known_fact::{KnownFact, Subject};
 use bin_tape::Image;
 use certificate::Certificate;
 use domain::{Location, ReturnOffsets, is_same_location};
@@ -54,12 +54,21 @@ pub(crate) fn are_same_offsets(offsets: ReturnOffsets, others: ReturnOffsets) ->
     are_offsets_within(offsets, others) && are_offsets_within(others, offsets)
 }
 
+/// Whether a return word was not counted up: there is no offset but 0.
+pub(crate) fn is_uncounted(offsets: ReturnOffsets) -> bool
+    ensures { result ≡ is_uncounted (offsets_in offsets) }
+{
+    let mut zero = ReturnOffsets::none();
+    zero.insert(0);
+    are_offsets_within(offsets, zero)
+}
+
 impl Names {
     /// The names of one fact alone, which differs by none.
     fn of(first: &KnownFact) -> Names {
         let mut single = WordSet::empty();
         for cell in first.cells.iter() {
-            if first.set_of(&Location::Cell(cell)).only().is_some() {
+            if first.words_of(&Subject::Cell(cell)).only().is_some() {
                 single.insert(cell);
             }
         }
@@ -74,8 +83,8 @@ impl Names {
     fn add(&mut self, first: &KnownFact, other: &KnownFact) {
         self.accumulator |= first.fact.accumulator() != other.fact.accumulator();
         for cell in first.cells.union(&other.cells).iter() {
-            let set = other.set_of(&Location::Cell(cell));
-            if first.set_of(&Location::Cell(cell)) != set {
+            let set = other.words_of(&Subject::Cell(cell));
+            if first.words_of(&Subject::Cell(cell)) != set {
                 self.cells.insert(cell);
             }
             if set.only().is_none() {

@@ -52,38 +52,6 @@ fn why_lines<A: Allocator + Copy, D: Allocator, C: Allocator>(
     Ok(text)
 }
 
-/// What stands below the line of a search that is stuck.
-fn below_stuck<A: Allocator + Copy, D: Allocator, C: Allocator>(
-    alloc: A,
-    image: &Image,
-    declaration: &Declaration<D>,
-    draft: &Certificate<C>,
-    at: Word,
-    form: ReportForm,
-    files: &[u8],
-    notes: Option<&SourceNotes<A>>,
-    given: Option<&[u8]>,
-) -> Result<Vec<u8, A>, AllocError> {
-    let mut rooms = ReasonWorkspace::boxed(alloc)?;
-    let told = why_stuck(image, declaration, draft, at, &mut rooms);
-    let lines = why_lines(alloc, image, declaration, draft, at, &told, given)?;
-    let failing = match &told {
-        None => "",
-        Some((refusal, _)) => condition_name(refusal.condition),
-    };
-    let report = Report::new(
-        alloc,
-        image,
-        declaration,
-        draft,
-        Finding::Stuck(at),
-        failing,
-        files,
-        notes,
-    )?;
-    below_lines(alloc, &report, &lines, form)
-}
-
 /// The line of a search that is stuck, with what comes before and right after it in a form, and the rest.
 fn joined<A: Allocator>(
     alloc: A,
@@ -122,17 +90,24 @@ pub fn draft_page<A: Allocator + Copy, D: Allocator, C: Allocator>(
 ) -> Result<Vec<u8, A>, AllocError>
     ensures { IfOk result (λ page. IsDraftPage form names.entry.program.now at page.items) }
 {
-    let rest = below_stuck(
+    let mut rooms = ReasonWorkspace::boxed(alloc)?;
+    let told = why_stuck(image, declaration, draft, at, &mut rooms);
+    let lines = why_lines(alloc, image, declaration, draft, at, &told, given)?;
+    let failing = match &told {
+        None => "",
+        Some((refusal, _)) => condition_name(refusal.condition),
+    };
+    let report = Report::new(
         alloc,
         image,
         declaration,
         draft,
-        at,
-        form,
+        Finding::Stuck(at),
+        failing,
         names.files,
         notes,
-        given,
     )?;
+    let rest = below_lines(alloc, &report, &lines, form)?;
     let page = joined(alloc, form, names.program, at, &rest)?;
     Ok(page)
 }

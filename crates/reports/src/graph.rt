@@ -6,7 +6,7 @@ ghost use Rattle.wordset.specs.Words.{has_some, meet};
 
 use crate::map::colour_of;
 use crate::report::{Finding, Report, claimed_of};
-use crate::routines::{write_offsets, write_written};
+use crate::routines::{write_return_offsets, write_written};
 use crate::writer::ReportWriter;
 use declaration::Routine;
 use std::alloc::{AllocError, Allocator};
@@ -45,60 +45,22 @@ impl BoxPlace {
     }
 }
 
-/// The rank of a routine as a word.
-fn rank_of<B: Allocator, D: Allocator, C: Allocator>(
-    report: &Report<'_, B, D, C>,
-    entry: Word,
-) -> Word {
-    Word::from_index(claimed_of(report.certificate, entry).rank.min(63))
-}
-
-/// The ranks of all routines.
-fn ranks_of<B: Allocator, D: Allocator, C: Allocator>(report: &Report<'_, B, D, C>) -> WordSet {
-    let mut ranks = WordSet::empty();
-    for routine in report.declaration.routines() {
-        ranks.insert(rank_of(report, routine.entry()));
-    }
-    ranks
-}
-
 /// How many of some words are greater than one.
 fn greater(words: &WordSet, word: Word) -> usize {
     words.minus(&WordSet::range(Word::ZERO, word)).count()
 }
 
-/// Where the box of each routine stands, in the order of the declaration.
-fn spots_of<A: Allocator, B: Allocator, D: Allocator, C: Allocator>(
-    alloc: A,
-    report: &Report<'_, B, D, C>,
-) -> Result<Vec<BoxPlace, A>, AllocError> {
-    let ranks = ranks_of(report);
-    let mut box_places = Vec::new(alloc);
-    for routine in report.declaration.routines() {
-        let row = greater(&ranks, rank_of(report, routine.entry())).saturating_add(1);
-        let column = count_in(&box_places, row);
-        box_places.push(BoxPlace { row, column })?;
-    }
-    Ok(box_places)
-}
-
 /// How many boxes are in a row.
 fn count_in(box_places: &[BoxPlace], row: usize) -> usize {
-    let mut count = 0usize;
-    for box_place in box_places {
-        if box_place.row == row {
-            count = count.saturating_add(1);
-        }
-    }
-    count
+    box_places
+        .iter()
+        .filter(|box_place| box_place.row == row)
+        .count()
 }
 
 /// The box of the routine at a place in the order of the declaration.
 fn box_place_at(box_places: &[BoxPlace], place: usize) -> BoxPlace {
-    match box_places.get(place) {
-        Some(box_place) => *box_place,
-        None => MAIN,
-    }
+    box_places.get(place).copied().unwrap_or(MAIN)
 }
 
 /// Whether a routine is called from a body, where these are its sites.
@@ -119,26 +81,6 @@ fn write_line<A: Allocator>(
     writer.numbered(b"L", callee.middle());
     writer.numbered(b" ", callee.top());
     writer.put(b"\" />");
-}
-
-/// Writes the lines from the callers of a routine to it.
-fn write_lines<A: Allocator, B: Allocator, D: Allocator, C: Allocator>(
-    writer: &mut ReportWriter<'_, A>,
-    report: &Report<'_, B, D, C>,
-    box_places: &[BoxPlace],
-    place: usize,
-    routine: &Routine,
-) {
-    let callee = box_place_at(box_places, place);
-    let claimed = claimed_of(report.certificate, routine.entry());
-    if is_called_from(report.declaration.main(), &claimed.sites) {
-        write_line(writer, &MAIN, &callee);
-    }
-    for (at, other) in report.declaration.routines().iter().enumerate() {
-        if is_called_from(other.body(), &claimed.sites) {
-            write_line(writer, &box_place_at(box_places, at), &callee);
-        }
-    }
 }
 
 /// Writes a box with a name, and with a label after it, if there is one.
@@ -164,49 +106,6 @@ fn write_box<A: Allocator>(
     writer.put(b"</text>\n");
 }
 
-/// Writes the box of a routine, which leads to its line.
-fn write_routine_box<A: Allocator>(
-    writer: &mut ReportWriter<'_, A>,
-    box_place: &BoxPlace,
-    place: usize,
-    entry: Word,
-    label: &[u8],
-) {
-    writer.link(entry);
-    write_box(
-        writer,
-        box_place,
-        colour_of(place),
-        &entry.to_octal(),
-        label,
-    );
-    writer.put(b"</a>");
-}
-
-/// Writes the row of a routine in the table.
-fn write_row<A: Allocator, B: Allocator, D: Allocator, C: Allocator>(
-    writer: &mut ReportWriter<'_, A>,
-    report: &Report<'_, B, D, C>,
-    routine: &Routine,
-) {
-    writer.put(b"<tr><td>");
-    writer.linked(routine.entry());
-    writer.label(report.label_at(routine.entry()));
-    match report.certificate.routine(routine.entry()) {
-        None => writer.put(b"<td colspan=3>nothing is claimed about it"),
-        Some(claimed) => {
-            writer.numbered(b"<td>", claimed.rank);
-            writer.put(b"<td>");
-            writer.places(&claimed.sites);
-            writer.put(b"<td>");
-            write_written(writer, &claimed.writes);
-        }
-    }
-    writer.put(b"<td>");
-    write_offsets(writer, report.declaration, routine);
-    writer.put(b"\n")
-}
-
 /// The lowest row and the last column that have a box.
 fn corner(box_places: &[BoxPlace]) -> BoxPlace {
     let mut corner = MAIN;
@@ -215,44 +114,6 @@ fn corner(box_places: &[BoxPlace]) -> BoxPlace {
         corner.column = corner.column.max(box_place.column);
     }
     corner
-}
-
-/// Writes the drawing: the lines, and above them the boxes.
-fn write_drawing<A: Allocator, B: Allocator, D: Allocator, C: Allocator>(
-    writer: &mut ReportWriter<'_, A>,
-    report: &Report<'_, B, D, C>,
-    box_places: &[BoxPlace],
-) {
-    let BoxPlace { row, column } = corner(box_places);
-    let width = column.saturating_add(1).saturating_mul(ACROSS);
-    let height = row.saturating_add(1).saturating_mul(DOWN);
-    writer.numbered(b"<svg role=img aria-label=\"graph of calls\" width=", width);
-    writer.numbered(b" viewBox=\"0 0 ", width);
-    writer.numbered(b" ", height.saturating_sub(30));
-    writer.put(b"\">\n");
-    for (place, routine) in report.declaration.routines().iter().enumerate() {
-        write_lines(writer, report, box_places, place, routine);
-    }
-    write_box(writer, &MAIN, b"m", b"main", b"");
-    write_boxes(writer, report, box_places);
-    writer.put(b"</svg>\n");
-}
-
-/// Writes the boxes of the routines.
-fn write_boxes<A: Allocator, B: Allocator, D: Allocator, C: Allocator>(
-    writer: &mut ReportWriter<'_, A>,
-    report: &Report<'_, B, D, C>,
-    box_places: &[BoxPlace],
-) {
-    for (place, routine) in report.declaration.routines().iter().enumerate() {
-        write_routine_box(
-            writer,
-            &box_place_at(box_places, place),
-            place,
-            routine.entry(),
-            report.label_at(routine.entry()),
-        );
-    }
 }
 
 /// What the ranks show; after a no it is only claimed.
@@ -270,25 +131,126 @@ fn ranks_text(finding: Finding) -> &'static [u8] {
     }
 }
 
-/// Writes the routines: a drawing of who calls whom, and a table.
-pub(crate) fn write_graph<A: Allocator, S: Allocator, B: Allocator, D: Allocator, C: Allocator>(
-    writer: &mut ReportWriter<'_, A>,
-    alloc: S,
-    report: &Report<'_, B, D, C>,
-) -> Result<(), AllocError> {
-    writer.put(b"<h2 id=routines>Routines, addresses in octal and ranks in decimal</h2>\n");
-    if report.declaration.routines().is_empty() {
-        writer.put(b"<p>There are none: everything is main.</p>\n");
-        return Ok(());
+impl<A: Allocator, D: Allocator, C: Allocator> Report<'_, A, D, C> {
+    /// The rank of a routine as a word.
+    fn rank_of(&self, entry: Word) -> Word {
+        Word::from_index(claimed_of(self.certificate, entry).rank.min(63))
     }
-    let box_places = spots_of(alloc, report)?;
-    write_drawing(writer, report, &box_places);
-    writer.put(b"<p>A line leads from a caller down to what it calls. ");
-    writer.put(ranks_text(report.finding));
-    writer.put(COLUMNS);
-    for routine in report.declaration.routines() {
-        write_row(writer, report, routine);
+
+    /// The ranks of all routines.
+    fn ranks_of(&self) -> WordSet {
+        let mut ranks = WordSet::empty();
+        for routine in self.declaration.routines() {
+            ranks.insert(self.rank_of(routine.entry()));
+        }
+        ranks
     }
-    writer.put(b"</table>\n");
-    Ok(())
+
+    /// Where the box of each routine stands, in the order of the declaration.
+    fn spots_of(&self, alloc: A) -> Result<Vec<BoxPlace, A>, AllocError> {
+        let ranks = self.ranks_of();
+        let mut box_places = Vec::new(alloc);
+        for routine in self.declaration.routines() {
+            let row = greater(&ranks, self.rank_of(routine.entry())).saturating_add(1);
+            let column = count_in(&box_places, row);
+            box_places.push(BoxPlace { row, column })?;
+        }
+        Ok(box_places)
+    }
+
+    /// Writes the lines from the callers of a routine to it.
+    fn write_call_lines(
+        &self,
+        writer: &mut ReportWriter<'_, A>,
+        box_places: &[BoxPlace],
+        place: usize,
+        routine: &Routine,
+    ) {
+        let callee = box_place_at(box_places, place);
+        let claimed = claimed_of(self.certificate, routine.entry());
+        if is_called_from(self.declaration.main(), &claimed.sites) {
+            write_line(writer, &MAIN, &callee);
+        }
+        for (at, other) in self.declaration.routines().iter().enumerate() {
+            if is_called_from(other.body(), &claimed.sites) {
+                write_line(writer, &box_place_at(box_places, at), &callee);
+            }
+        }
+    }
+
+    /// Writes the row of a routine in the table.
+    fn write_routine_row(&self, writer: &mut ReportWriter<'_, A>, routine: &Routine) {
+        writer.put(b"<tr><td>");
+        writer.linked(routine.entry());
+        writer.label(self.label_at(routine.entry()));
+        match self.certificate.routine(routine.entry()) {
+            None => writer.put(b"<td colspan=3>nothing is claimed about it"),
+            Some(claimed) => {
+                writer.numbered(b"<td>", claimed.rank);
+                writer.put(b"<td>");
+                writer.places(&claimed.sites);
+                writer.put(b"<td>");
+                write_written(writer, &claimed.writes);
+            }
+        }
+        writer.put(b"<td>");
+        write_return_offsets(writer, self.declaration, routine.entry());
+        writer.put(b"\n")
+    }
+
+    /// Writes the drawing: the lines, and above them the boxes.
+    fn write_drawing(&self, writer: &mut ReportWriter<'_, A>, box_places: &[BoxPlace]) {
+        let BoxPlace { row, column } = corner(box_places);
+        let width = column.saturating_add(1).saturating_mul(ACROSS);
+        let height = row.saturating_add(1).saturating_mul(DOWN);
+        writer.numbered(b"<svg role=img aria-label=\"graph of calls\" width=", width);
+        writer.numbered(b" viewBox=\"0 0 ", width);
+        writer.numbered(b" ", height.saturating_sub(30));
+        writer.put(b"\">\n");
+        for (place, routine) in self.declaration.routines().iter().enumerate() {
+            self.write_call_lines(writer, box_places, place, routine);
+        }
+        write_box(writer, &MAIN, b"m", b"main", b"");
+        self.write_boxes(writer, box_places);
+        writer.put(b"</svg>\n");
+    }
+
+    /// Writes the boxes of the routines, which lead to their lines.
+    fn write_boxes(&self, writer: &mut ReportWriter<'_, A>, box_places: &[BoxPlace]) {
+        for (place, routine) in self.declaration.routines().iter().enumerate() {
+            let entry = routine.entry();
+            writer.link(entry);
+            write_box(
+                writer,
+                &box_place_at(box_places, place),
+                colour_of(place),
+                &entry.to_octal(),
+                self.label_at(entry),
+            );
+            writer.put(b"</a>");
+        }
+    }
+
+    /// Writes the routines: a drawing of who calls whom, and a table.
+    pub(crate) fn write_graph(
+        &self,
+        writer: &mut ReportWriter<'_, A>,
+        alloc: A,
+    ) -> Result<(), AllocError> {
+        writer.put(b"<h2 id=routines>Routines, addresses in octal and ranks in decimal</h2>\n");
+        if self.declaration.routines().is_empty() {
+            writer.put(b"<p>There are none: everything is main.</p>\n");
+            return Ok(());
+        }
+        let box_places = self.spots_of(alloc)?;
+        self.write_drawing(writer, &box_places);
+        writer.put(b"<p>A line leads from a caller down to what it calls. ");
+        writer.put(ranks_text(self.finding));
+        writer.put(COLUMNS);
+        for routine in self.declaration.routines() {
+            self.write_routine_row(writer, routine);
+        }
+        writer.put(b"</table>\n");
+        Ok(())
+    }
 }

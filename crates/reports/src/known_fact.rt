@@ -8,15 +8,17 @@ ghost use Rattle.domain.specs.ChainsInCode.{chain_of};
 ghost use Rattle.domain.specs.FactInCode.{fact_in_code, rules_of};
 ghost use Rattle.domain.specs.Locations.{Cell};
 ghost use Rattle.domain.specs.LocationsInCode.{location_of};
-ghost use Rattle.domain.specs.Narrowing.{words_by};
 ghost use Rattle.domain.specs.RelationsInCode.{relation_of};
 ghost use Rattle.facts.specs.Landing.{fact_at};
 ghost use Rattle.peripherals.specs.Loading.{image_of};
 ghost use Rattle.certificate_lines.specs.CertificateInCode.{claims};
+ghost use Rattle.reports.specs.FactText.{words_in};
 ghost use Rattle.reports.specs.ItemText.{is_all};
+ghost use Rattle.reports.specs.RelationItems.{narrowed};
 ghost use Rattle.reports.specs.Shown.{ShowsExit, ShowsFact};
 ghost use Rattle.reports.specs.ToldCells.{is_told, told_by};
 
+use crate::fact_context::FactContext;
 use crate::items::is_all;
 use bin_tape::Image;
 use certificate::Certificate;
@@ -26,6 +28,19 @@ use judge::{Claims, put_asked, put_sites};
 use std::alloc::Allocator;
 use word12::Word;
 use wordset::WordSet;
+
+/// Of what a fact says which words it may be.
+#[derive(Clone, Copy)]
+pub(crate) enum Subject {
+    /// The accumulator.
+    Accumulator,
+    /// MQ.
+    Mq,
+    /// A cell.
+    Cell(Word),
+    /// The sites from which the running routine may have been called.
+    Sites,
+}
 
 /// A fact as it is claimed, and as conditions are checked for it.
 #[derive(Drop)]
@@ -51,13 +66,20 @@ fn is_told(rules: Rules, fact: &NarrowedFact, cell: Word) -> bool
     }
 }
 
+/// The words that a cell may hold by a fact.
+fn words_in_cell(fact: &NarrowedFact, cell: Word) -> WordSet
+    ensures { words result ≡ (fact_in_code fact.now).set (Cell cell) }
+{
+    let mut set = WordSet::empty();
+    fact.put_set_of(&Location::Cell(cell), &mut set);
+    set
+}
+
 /// Whether a cell may hold any word.
 fn is_all_of(fact: &NarrowedFact, cell: Word) -> bool
     ensures { result ≡ is_all ((fact_in_code fact.now).set (Cell cell)) }
 {
-    let mut set = WordSet::empty();
-    fact.put_set_of(&Location::Cell(cell), &mut set);
-    is_all(&set)
+    is_all(&words_in_cell(fact, cell))
 }
 
 /// Puts a cell to others, if something is to be said about it.
@@ -155,22 +177,25 @@ impl KnownFact {
         self.claimed.chains()
     }
 
-    /// The words that a name may hold by what conditions are checked for.
-    pub(crate) fn set_of(&self, name: &Location) -> WordSet
-        ensures { words result ≡ (fact_in_code self.now.fact).set (location_of name.now) }
+    /// The words of a subject by what conditions are checked for.
+    pub(crate) fn words_of(&self, subject: &Subject) -> WordSet
+        ensures { words result ≡ words_in subject.now (fact_in_code self.now.fact) }
     {
-        let mut set = WordSet::empty();
-        self.fact.put_set_of(name, &mut set);
-        set
+        match subject {
+            Subject::Accumulator => *self.fact.accumulator(),
+            Subject::Mq => *self.fact.mq(),
+            Subject::Cell(cell) => words_in_cell(&self.fact, *cell),
+            Subject::Sites => self.sites(),
+        }
     }
 
     /// The words that all that is known leaves to a name.
-    pub(crate) fn narrowed(&self, rules: &Rules, image: &Image, name: &Location) -> WordSet
-        ensures { words result ≡ words_by (rules_of rules.now) (image_of image.now)
-            (fact_in_code self.now.fact) (location_of name.now) }
+    pub(crate) fn narrowed(&self, setting: &FactContext<'_>, name: &Location) -> WordSet
+        ensures { words result ≡ narrowed setting.now (location_of name.now) (fact_in_code self.now.fact) }
     {
         let mut set = WordSet::empty();
-        self.fact.put_words_by(rules, image, name, &mut set);
+        self.fact
+            .put_words_by(&setting.rules, setting.image, name, &mut set);
         set
     }
 

@@ -21,7 +21,7 @@ mod style;
 mod variables;
 mod writer;
 
-use listing::{ClaimCache, push_listing};
+use listing::ClaimCache;
 pub use names::PageNames;
 pub use page::page_below;
 pub use report::{Finding, Report};
@@ -42,7 +42,7 @@ pub fn listing_below<A: Allocator + Copy, D: Allocator, C: Allocator>(
 ) -> Result<Vec<u8, A>, AllocError> {
     let mut writer = ReportWriter::new(alloc, ReportForm::Text, &report.lines(), report.notes);
     let mut cache = ClaimCache::boxed(alloc)?;
-    push_listing(&mut writer, report, &mut cache);
+    report.push_listing(&mut writer, &mut cache);
     writer.into_bytes()
 }
 

@@ -14,12 +14,10 @@ ghost use Rattle.reports.specs.KnownText.{SaysKnown};
 ghost use Rattle.reports.specs.ReportSetting.{report_setting};
 ghost use Rattle.reports.specs.Shown.{ShowsFact, fact_of, is_even, unknown_of};
 
-use crate::access::{write_access, write_direct};
 use crate::cases::FactDifferences;
-use crate::fact_context::{write_apart, write_fact};
+use crate::fact_context::{ShownFact, write_apart, write_fact};
 use crate::known_fact::KnownFact;
 use crate::report::{CellKind, Finding, Report, before, claimed_of, routine_of, unclaimed};
-use crate::routines::{write_exits, write_routine};
 use crate::source_notes::SourceNote;
 use crate::writer::ReportWriter;
 use certificate::Certificate;
@@ -39,99 +37,6 @@ const ALONE: usize = 21;
 /// How many stand where no address is.
 const WITHOUT: usize = 25;
 
-/// Writes the name of a word; that of a direct memory reference leads to the line of its cell.
-fn write_name<A: Allocator, B: Allocator, D: Allocator, C: Allocator>(
-    writer: &mut ReportWriter<'_, A>,
-    report: &Report<'_, B, D, C>,
-    at: Word,
-    word: Word,
-) {
-    let profile = report.declaration.profile();
-    let found = name(word, profile);
-    let length = found.as_str().len();
-    let is_memory = matches!(decode(word, profile), Instruction::Memory);
-    let linked = is_memory && !refers_indirectly(word) && writer.has_line(target(word, at));
-    if linked {
-        writer.link(target(word, at));
-    }
-    writer.say(found.as_str().as_bytes());
-    writer.begin_items(15usize.saturating_sub(length).max(2));
-    if linked {
-        writer.mark(b"</a>");
-    }
-}
-
-/// Writes address and word, and the name of an instruction.
-fn write_word<A: Allocator, B: Allocator, D: Allocator, C: Allocator>(
-    writer: &mut ReportWriter<'_, A>,
-    report: &Report<'_, B, D, C>,
-    at: Word,
-) {
-    writer.mark(if report.is_marked(at) {
-        b"<tr class=bad id=a"
-    } else {
-        b"<tr id=a"
-    });
-    writer.mark(&at.to_octal());
-    writer.mark(b"><td>");
-    writer.word(at);
-    writer.label(report.label_at(at));
-    writer.put(b" ");
-    writer.mark(b"<td>");
-    writer.begin_items(SHORT);
-    let Some(word) = report.image.get(at) else {
-        writer.put(b"----");
-        return writer.mark(b"<td>");
-    };
-    writer.word(word);
-    writer.mark(b"<td class=c>");
-    if report.is_code(at) {
-        writer.put(b" ");
-        write_name(writer, report, at, word);
-    }
-}
-
-/// Writes what is declared of an address.
-fn write_declared<A: Allocator, B: Allocator, D: Allocator, C: Allocator>(
-    writer: &mut ReportWriter<'_, A>,
-    report: &Report<'_, B, D, C>,
-    at: Word,
-) {
-    let declaration = report.declaration;
-    if declaration.start() == at {
-        writer.item(b"start");
-    }
-    if declaration.is_stop(at) {
-        writer.item(b"stop");
-    }
-    if declaration.is_pause(at) {
-        writer.item(b"pause");
-    }
-    if declaration.is_entry(at) {
-        writer.item(b"entry");
-    }
-}
-
-/// Writes which words a variable may hold, and where nothing is known about it.
-pub(crate) fn write_variable<A: Allocator, B: Allocator, D: Allocator, C: Allocator>(
-    writer: &mut ReportWriter<'_, A>,
-    report: &Report<'_, B, D, C>,
-    cell: Word,
-) {
-    let Some(held) = report.held_in(cell) else {
-        return writer.item(b"any word");
-    };
-    writer.item(b"holds ");
-    if held.words.is_all() {
-        writer.put(b"any word");
-    } else {
-        writer.words(&held.words);
-    }
-    if !report.facts.is_subset(&held.known_at) {
-        writer.put(b" where it is known");
-    }
-}
-
 /// What is said about an address without a fact.
 #[derive(Clone, Copy, PartialEq, Eq)]
 pub(crate) enum FactAbsence {
@@ -143,62 +48,6 @@ pub(crate) enum FactAbsence {
     Held,
     /// Nothing.
     Nothing,
-}
-
-/// What is said about an address of this kind without a fact.
-fn unknown_at<B: Allocator, D: Allocator, C: Allocator>(
-    report: &Report<'_, B, D, C>,
-    kind: &CellKind,
-) -> FactAbsence
-    ensures { result ≡ unknown_of kind.now report.now.finding }
-{
-    match kind {
-        CellKind::Main | CellKind::Routine(_) => match report.finding {
-            Finding::Shown => FactAbsence::NeverReached,
-            Finding::Refused(_) | Finding::Stuck(_) => FactAbsence::NoFact,
-        },
-        CellKind::Variable => FactAbsence::Held,
-        CellKind::Entry | CellKind::Other | CellKind::Unset => FactAbsence::Nothing,
-    }
-}
-
-/// Writes what is said about an address without a fact. It is said of no other address that it is never reached.
-fn write_unknown<A: Allocator, B: Allocator, D: Allocator, C: Allocator>(
-    writer: &mut ReportWriter<'_, A>,
-    report: &Report<'_, B, D, C>,
-    kind: &CellKind,
-    at: Word,
-)
-    requires fact { (claims report.now.certificate.now).facts at ≡ [] }
-    requires kind { IsKind report.now.image.now (meaning report.now.declaration.now) at kind.now }
-    ensures { SaysAbsence (unknown_of kind.now report.now.finding) writer.old writer.new }
-{
-    match unknown_at(report, kind) {
-        FactAbsence::NeverReached => writer.item(b"never reached"),
-        FactAbsence::NoFact => writer.item(b"no fact"),
-        FactAbsence::Held => write_variable(writer, report, at),
-        FactAbsence::Nothing => {}
-    }
-}
-
-/// Writes the mark of the address at which the verdict is no or the search is stuck.
-fn write_mark<A: Allocator, B: Allocator, D: Allocator, C: Allocator>(
-    writer: &mut ReportWriter<'_, A>,
-    report: &Report<'_, B, D, C>,
-    at: Word,
-) {
-    if !report.is_marked(at) {
-        return;
-    }
-    writer.mark(b"<b>");
-    if report.failing.is_empty() {
-        writer.item(b"STUCK HERE");
-    } else {
-        writer.item(b"HERE ");
-        writer.say(report.failing.as_bytes());
-        writer.put(b" FAILS");
-    }
-    writer.mark(b"</b>");
 }
 
 /// Whether an address is even.
@@ -297,102 +146,6 @@ impl ClaimCache {
     }
 }
 
-/// Writes the items of a fact that this one shows. `claimed` is what is claimed of the routine in whose body its address is.
-fn write_shown<A: Allocator, B: Allocator, D: Allocator, C: Allocator>(
-    writer: &mut ReportWriter<'_, A>,
-    report: &Report<'_, B, D, C>,
-    claimed: &RoutineClaim,
-    known: &KnownFact,
-    above: Option<&KnownFact>,
-    apart: &FactDifferences,
-)
-    ensures { let s = report_setting report.now (words claimed.now.sites) in (f : Fact) → ShowsFact s.rules s.image s.sites f known.now →
-        SaysFact s apart.now f writer.old writer.new }
-{
-    let setting = report.setting_of(claimed);
-    write_fact(writer, &setting, known, above, apart);
-}
-
-/// Writes the items of the only fact at an address.
-fn write_items_at<A: Allocator, B: Allocator, D: Allocator, C: Allocator>(
-    writer: &mut ReportWriter<'_, A>,
-    report: &Report<'_, B, D, C>,
-    cache: &mut ClaimCache,
-    kind: &CellKind,
-    at: Word,
-)
-    requires { length ((claims report.now.certificate.now).facts at) ≡ 1 }
-    ensures { SaysFact (report_setting report.now (words cache.new.routine.sites)) by_nothing
-        (fact_at ((claims report.now.certificate.now).facts at) 0) writer.old writer.new }
-{
-    let near = is_near(report, cache, kind, at);
-    cache.read(report, at);
-    write_shown(
-        writer,
-        report,
-        &cache.routine,
-        cache.fact(is_even(at)),
-        cache.above(near, at),
-        &FactDifferences::by_nothing(),
-    );
-}
-
-/// Whether the fact on the line above was read last, and is that of the address before this one, which is of the same kind.
-fn is_near<B: Allocator, D: Allocator, C: Allocator>(
-    report: &Report<'_, B, D, C>,
-    cache: &ClaimCache,
-    kind: &CellKind,
-    at: Word,
-) -> bool {
-    let above = before(at);
-    at != Word::ZERO && cache.last == Some(above) && report.kind_of(above) == *kind
-}
-
-/// Writes what is known and done at an address with one fact.
-fn write_only_fact<A: Allocator, B: Allocator, D: Allocator, C: Allocator>(
-    writer: &mut ReportWriter<'_, A>,
-    report: &Report<'_, B, D, C>,
-    cache: &mut ClaimCache,
-    kind: &CellKind,
-    at: Word,
-)
-    requires { length ((claims report.now.certificate.now).facts at) ≡ 1 }
-    ensures { BeginsWithFact (report_setting report.now (words cache.new.routine.sites)) by_nothing
-        (fact_at ((claims report.now.certificate.now).facts at) 0) writer.old writer.new }
-{
-    write_items_at(writer, report, cache, kind, at);
-    writer.end_same();
-    write_access(writer, report, kind, cache.fact(is_even(at)), at);
-    write_direct(writer, report, at);
-}
-
-/// Writes what is known and done at an address, or how many facts there are if there are several.
-#[tactic(auto, using(crate::proofs::ShownLemmas::no_facts))]
-fn write_known<A: Allocator, B: Allocator, D: Allocator, C: Allocator>(
-    writer: &mut ReportWriter<'_, A>,
-    report: &Report<'_, B, D, C>,
-    cache: &mut ClaimCache,
-    at: Word,
-    count: usize,
-)
-    requires { count ≡ length ((claims report.now.certificate.now).facts at) }
-    ensures { SaysKnown report.now (words cache.new.routine.sites) count at writer.old writer.new }
-{
-    let kind = report.kind_of(at);
-    if count == 0 {
-        return write_unknown(writer, report, &kind, at);
-    }
-    cache.look_up(report.certificate, &kind);
-    if count == 1 {
-        return write_only_fact(writer, report, cache, &kind, at);
-    }
-    cache.last = None;
-    writer.item(b"one of ");
-    writer.number(count);
-    writer.put(b" cases");
-    write_direct(writer, report, at);
-}
-
 /// Writes what tells a case apart from the others: its number, if nothing else does.
 fn write_case_head<A: Allocator>(
     writer: &mut ReportWriter<'_, A>,
@@ -413,60 +166,6 @@ fn write_case_head<A: Allocator>(
     writer.begin_items(0);
 }
 
-/// Writes the line of one of several facts at an address.
-fn write_case<A: Allocator, B: Allocator, D: Allocator, C: Allocator>(
-    writer: &mut ReportWriter<'_, A>,
-    report: &Report<'_, B, D, C>,
-    cache: &ClaimCache,
-    apart: &FactDifferences,
-    at: Word,
-    index: usize,
-)
-    // The case that is shown is the fact at that place of those at the address.
-    requires { let c = claims report.now.certificate.now in ShowsFact c.rules
-        (image_of report.now.image.now) (words cache.now.routine.sites)
-        (fact_at (c.facts at) index) cache.now.even }
-{
-    let known = &cache.even;
-    write_case_head(writer, known, apart, index);
-    if known.is_possible {
-        write_shown(writer, report, &cache.routine, known, None, apart);
-        write_access(writer, report, &report.kind_of(at), known, at);
-    } else {
-        writer.item(b"never");
-    }
-    writer.put(b"\n");
-}
-
-/// Writes a line for each of several facts at an address.
-fn write_cases<A: Allocator, B: Allocator, D: Allocator, C: Allocator>(
-    writer: &mut ReportWriter<'_, A>,
-    report: &Report<'_, B, D, C>,
-    cache: &mut ClaimCache,
-    at: Word,
-    count: usize,
-)
-    requires { count ≡ length ((claims report.now.certificate.now).facts at) }
-{
-    let image = report.image;
-    let certificate = report.certificate;
-    let sites = cache.routine.sites;
-    let apart = FactDifferences::of(
-        image,
-        certificate,
-        &sites,
-        at,
-        count,
-        &mut cache.even,
-        &mut cache.odd,
-    );
-    for index in 0..count {
-        let sites = cache.routine.sites;
-        cache.even.read(image, certificate, &sites, at, index);
-        write_case(writer, report, cache, &apart, at, index);
-    }
-}
-
 /// Writes what the source says about an address, if it says something: in a page in a further column.
 fn write_note<A: Allocator>(writer: &mut ReportWriter<'_, A>, note: Option<SourceNote<'_>>) {
     let Some(note) = note else {
@@ -482,130 +181,376 @@ fn write_note<A: Allocator>(writer: &mut ReportWriter<'_, A>, note: Option<Sourc
     }
 }
 
-/// Writes the line of an address.
-fn write_line<A: Allocator, B: Allocator, D: Allocator, C: Allocator>(
-    writer: &mut ReportWriter<'_, A>,
-    report: &Report<'_, B, D, C>,
-    cache: &mut ClaimCache,
-    at: Word,
-) {
-    write_word(writer, report, at);
-    writer.mark(b"<td>");
-    write_declared(writer, report, at);
-    let count = report.certificate.count_facts(at, 0);
-    write_known(writer, report, cache, at, count);
-    write_mark(writer, report, at);
-    write_note(writer, report.note_at(at));
-    writer.put(b"\n");
-    if count > 1 {
-        write_cases(writer, report, cache, at, count);
-    }
-}
-
-/// The last address of the row of variables that begins at one, of which nothing is said.
-fn last_quiet<B: Allocator, D: Allocator, C: Allocator>(
-    report: &Report<'_, B, D, C>,
-    first: Word,
-) -> Word {
-    let mut last = first;
-    for index in first.index()..4096 {
-        let at = Word::from_index(index);
-        if !report.is_quiet(at) {
-            return last;
+impl<A: Allocator, D: Allocator, C: Allocator> Report<'_, A, D, C> {
+    /// Writes the name of a word; that of a direct memory reference leads to the line of its cell.
+    fn write_word_name(&self, writer: &mut ReportWriter<'_, A>, at: Word, word: Word) {
+        let profile = self.declaration.profile();
+        let found = name(word, profile);
+        let length = found.as_str().len();
+        let is_memory = matches!(decode(word, profile), Instruction::Memory);
+        let linked = is_memory && !refers_indirectly(word) && writer.has_line(target(word, at));
+        if linked {
+            writer.link(target(word, at));
         }
-        last = at;
-    }
-    last
-}
-
-/// Writes the line of a row of variables of which nothing is said.
-fn write_quiet<A: Allocator, B: Allocator, D: Allocator, C: Allocator>(
-    writer: &mut ReportWriter<'_, A>,
-    report: &Report<'_, B, D, C>,
-    first: Word,
-) {
-    writer.mark(b"<tr id=a");
-    writer.mark(&first.to_octal());
-    writer.mark(b"><td colspan=3>");
-    let last = last_quiet(report, first);
-    writer.cell_run(first, last);
-    writer.mark(b"<td>");
-    writer.begin_items(if first == last { ALONE } else { SHORT });
-    writer.item(b"any word\n");
-}
-
-/// Writes the heading of lines of a kind; that of a routine with what is claimed about it.
-fn write_heading<A: Allocator, B: Allocator, D: Allocator, C: Allocator>(
-    writer: &mut ReportWriter<'_, A>,
-    report: &Report<'_, B, D, C>,
-    cache: &mut ClaimCache,
-    at: Word,
-) {
-    writer.put(b"\n");
-    writer.mark(b"<tr><th colspan=4>");
-    match report.kind_of(at) {
-        CellKind::Main => writer.put(b"main\n"),
-        CellKind::Variable => writer.put(b"variables\n"),
-        CellKind::Other => writer.put(b"other words of the tape\n"),
-        CellKind::Unset => writer.put(b"nothing is declared here\n"),
-        CellKind::Routine(entry) => {
-            writer.put(b"body of routine ");
-            writer.word(entry);
-            writer.label(report.label_at(entry));
-            writer.put(b"\n");
+        writer.say(found.as_str().as_bytes());
+        writer.begin_items(15usize.saturating_sub(length).max(2));
+        if linked {
+            writer.mark(b"</a>");
         }
-        CellKind::Entry => {
-            for routine in report.declaration.routines() {
-                if routine.entry() == at {
-                    write_routine(writer, report, routine);
+    }
+
+    /// Writes address and word, and the name of an instruction.
+    fn write_word(&self, writer: &mut ReportWriter<'_, A>, at: Word) {
+        writer.mark(if self.is_marked(at) {
+            b"<tr class=bad id=a"
+        } else {
+            b"<tr id=a"
+        });
+        writer.mark(&at.to_octal());
+        writer.mark(b"><td>");
+        writer.word(at);
+        writer.label(self.label_at(at));
+        writer.put(b" ");
+        writer.mark(b"<td>");
+        writer.begin_items(SHORT);
+        let Some(word) = self.image.get(at) else {
+            writer.put(b"----");
+            return writer.mark(b"<td>");
+        };
+        writer.word(word);
+        writer.mark(b"<td class=c>");
+        if self.is_code(at) {
+            writer.put(b" ");
+            self.write_word_name(writer, at, word);
+        }
+    }
+
+    /// Writes what is declared of an address.
+    fn write_declared(&self, writer: &mut ReportWriter<'_, A>, at: Word) {
+        let declaration = self.declaration;
+        if declaration.start() == at {
+            writer.item(b"start");
+        }
+        if declaration.is_stop(at) {
+            writer.item(b"stop");
+        }
+        if declaration.is_pause(at) {
+            writer.item(b"pause");
+        }
+        if declaration.is_entry(at) {
+            writer.item(b"entry");
+        }
+    }
+
+    /// Writes which words a variable may hold, and where nothing is known about it.
+    pub(crate) fn write_variable(&self, writer: &mut ReportWriter<'_, A>, cell: Word) {
+        let Some(held) = self.held_in(cell) else {
+            return writer.item(b"any word");
+        };
+        writer.item(b"holds ");
+        if held.words.is_all() {
+            writer.put(b"any word");
+        } else {
+            writer.words(&held.words);
+        }
+        if !self.facts.is_subset(&held.known_at) {
+            writer.put(b" where it is known");
+        }
+    }
+
+    /// What is said about an address of this kind without a fact.
+    fn unknown_at(&self, kind: &CellKind) -> FactAbsence
+        ensures { result ≡ unknown_of kind.now self.now.finding }
+    {
+        match kind {
+            CellKind::Main | CellKind::Routine(_) => match self.finding {
+                Finding::Shown => FactAbsence::NeverReached,
+                Finding::Refused(_) | Finding::Stuck(_) => FactAbsence::NoFact,
+            },
+            CellKind::Variable => FactAbsence::Held,
+            CellKind::Entry | CellKind::Other | CellKind::Unset => FactAbsence::Nothing,
+        }
+    }
+
+    /// Writes what is said about an address without a fact. It is said of no other address that it is never reached.
+    fn write_unknown(&self, writer: &mut ReportWriter<'_, A>, kind: &CellKind, at: Word)
+        requires fact { (claims self.now.certificate.now).facts at ≡ [] }
+        requires kind { IsKind self.now.image.now (meaning self.now.declaration.now) at kind.now }
+        ensures { SaysAbsence (unknown_of kind.now self.now.finding) writer.old writer.new }
+    {
+        match self.unknown_at(kind) {
+            FactAbsence::NeverReached => writer.item(b"never reached"),
+            FactAbsence::NoFact => writer.item(b"no fact"),
+            FactAbsence::Held => self.write_variable(writer, at),
+            FactAbsence::Nothing => {}
+        }
+    }
+
+    /// Writes the mark of the address at which the verdict is no or the search is stuck.
+    fn write_mark(&self, writer: &mut ReportWriter<'_, A>, at: Word) {
+        if !self.is_marked(at) {
+            return;
+        }
+        writer.mark(b"<b>");
+        if self.failing.is_empty() {
+            writer.item(b"STUCK HERE");
+        } else {
+            writer.item(b"HERE ");
+            writer.say(self.failing.as_bytes());
+            writer.put(b" FAILS");
+        }
+        writer.mark(b"</b>");
+    }
+
+    /// Writes the items of a fact that this one shows. `claimed` is what is claimed of the routine in whose body its address is.
+    fn write_shown(
+        &self,
+        writer: &mut ReportWriter<'_, A>,
+        claimed: &RoutineClaim,
+        known: &KnownFact,
+        above: Option<&KnownFact>,
+        apart: &FactDifferences,
+    )
+        ensures { let s = report_setting self.now (words claimed.now.sites) in (f : Fact) → ShowsFact s.rules s.image s.sites f known.now →
+            SaysFact s apart.now f writer.old writer.new }
+    {
+        let shown = ShownFact {
+            setting: self.setting_of(claimed),
+            known,
+            above,
+            apart: *apart,
+        };
+        write_fact(writer, &shown);
+    }
+
+    /// Writes the items of the only fact at an address.
+    fn write_items_at(
+        &self,
+        writer: &mut ReportWriter<'_, A>,
+        cache: &mut ClaimCache,
+        kind: &CellKind,
+        at: Word,
+    )
+        requires { length ((claims self.now.certificate.now).facts at) ≡ 1 }
+        ensures { SaysFact (report_setting self.now (words cache.new.routine.sites)) by_nothing
+            (fact_at ((claims self.now.certificate.now).facts at) 0) writer.old writer.new }
+    {
+        let near = self.is_near(cache, kind, at);
+        cache.read(self, at);
+        self.write_shown(
+            writer,
+            &cache.routine,
+            cache.fact(is_even(at)),
+            cache.above(near, at),
+            &FactDifferences::by_nothing(),
+        );
+    }
+
+    /// Whether the fact on the line above was read last, and is that of the address before this one, which is of the same kind.
+    fn is_near(&self, cache: &ClaimCache, kind: &CellKind, at: Word) -> bool {
+        let above = before(at);
+        at != Word::ZERO && cache.last == Some(above) && self.kind_of(above) == *kind
+    }
+
+    /// Writes what is known and done at an address with one fact.
+    fn write_only_fact(
+        &self,
+        writer: &mut ReportWriter<'_, A>,
+        cache: &mut ClaimCache,
+        kind: &CellKind,
+        at: Word,
+    )
+        requires { length ((claims self.now.certificate.now).facts at) ≡ 1 }
+        ensures { BeginsWithFact (report_setting self.now (words cache.new.routine.sites)) by_nothing
+            (fact_at ((claims self.now.certificate.now).facts at) 0) writer.old writer.new }
+    {
+        self.write_items_at(writer, cache, kind, at);
+        writer.end_same();
+        self.write_access(writer, kind, cache.fact(is_even(at)), at);
+        self.write_direct(writer, at);
+    }
+
+    /// Writes what is known and done at an address, or how many facts there are if there are several.
+    #[tactic(auto, using(crate::proofs::ShownLemmas::no_facts))]
+    fn write_known(
+        &self,
+        writer: &mut ReportWriter<'_, A>,
+        cache: &mut ClaimCache,
+        at: Word,
+        count: usize,
+    )
+        requires { count ≡ length ((claims self.now.certificate.now).facts at) }
+        ensures { SaysKnown self.now (words cache.new.routine.sites) count at writer.old writer.new }
+    {
+        let kind = self.kind_of(at);
+        if count == 0 {
+            return self.write_unknown(writer, &kind, at);
+        }
+        cache.look_up(self.certificate, &kind);
+        if count == 1 {
+            return self.write_only_fact(writer, cache, &kind, at);
+        }
+        cache.last = None;
+        writer.item(b"one of ");
+        writer.number(count);
+        writer.put(b" cases");
+        self.write_direct(writer, at);
+    }
+
+    /// Writes the line of one of several facts at an address.
+    fn write_case(
+        &self,
+        writer: &mut ReportWriter<'_, A>,
+        cache: &ClaimCache,
+        apart: &FactDifferences,
+        at: Word,
+        index: usize,
+    )
+        // The case that is shown is the fact at that place of those at the address.
+        requires { let c = claims self.now.certificate.now in ShowsFact c.rules
+            (image_of self.now.image.now) (words cache.now.routine.sites)
+            (fact_at (c.facts at) index) cache.now.even }
+    {
+        let known = &cache.even;
+        write_case_head(writer, known, apart, index);
+        if known.is_possible {
+            self.write_shown(writer, &cache.routine, known, None, apart);
+            self.write_access(writer, &self.kind_of(at), known, at);
+        } else {
+            writer.item(b"never");
+        }
+        writer.put(b"\n");
+    }
+
+    /// Writes a line for each of several facts at an address.
+    fn write_cases(
+        &self,
+        writer: &mut ReportWriter<'_, A>,
+        cache: &mut ClaimCache,
+        at: Word,
+        count: usize,
+    )
+        requires { count ≡ length ((claims self.now.certificate.now).facts at) }
+    {
+        let image = self.image;
+        let certificate = self.certificate;
+        let sites = cache.routine.sites;
+        let apart = FactDifferences::of(
+            image,
+            certificate,
+            &sites,
+            at,
+            count,
+            &mut cache.even,
+            &mut cache.odd,
+        );
+        for index in 0..count {
+            let sites = cache.routine.sites;
+            cache.even.read(image, certificate, &sites, at, index);
+            self.write_case(writer, cache, &apart, at, index);
+        }
+    }
+
+    /// Writes the line of an address.
+    fn write_line(&self, writer: &mut ReportWriter<'_, A>, cache: &mut ClaimCache, at: Word) {
+        self.write_word(writer, at);
+        writer.mark(b"<td>");
+        self.write_declared(writer, at);
+        let count = self.certificate.count_facts(at, 0);
+        self.write_known(writer, cache, at, count);
+        self.write_mark(writer, at);
+        write_note(writer, self.note_at(at));
+        writer.put(b"\n");
+        if count > 1 {
+            self.write_cases(writer, cache, at, count);
+        }
+    }
+
+    /// The last address of the row of variables that begins at one, of which nothing is said.
+    fn last_quiet(&self, first: Word) -> Word {
+        let mut last = first;
+        for index in first.index()..4096 {
+            let at = Word::from_index(index);
+            if !self.is_quiet(at) {
+                return last;
+            }
+            last = at;
+        }
+        last
+    }
+
+    /// Writes the line of a row of variables of which nothing is said.
+    fn write_quiet(&self, writer: &mut ReportWriter<'_, A>, first: Word) {
+        writer.mark(b"<tr id=a");
+        writer.mark(&first.to_octal());
+        writer.mark(b"><td colspan=3>");
+        let last = self.last_quiet(first);
+        writer.cell_run(first, last);
+        writer.mark(b"<td>");
+        writer.begin_items(if first == last { ALONE } else { SHORT });
+        writer.item(b"any word\n");
+    }
+
+    /// Writes the heading of lines of a kind; that of a routine with what is claimed about it.
+    fn write_heading(&self, writer: &mut ReportWriter<'_, A>, cache: &mut ClaimCache, at: Word) {
+        writer.put(b"\n");
+        writer.mark(b"<tr><th colspan=4>");
+        match self.kind_of(at) {
+            CellKind::Main => writer.put(b"main\n"),
+            CellKind::Variable => writer.put(b"variables\n"),
+            CellKind::Other => writer.put(b"other words of the tape\n"),
+            CellKind::Unset => writer.put(b"nothing is declared here\n"),
+            CellKind::Routine(entry) => {
+                writer.put(b"body of routine ");
+                writer.word(entry);
+                writer.label(self.label_at(entry));
+                writer.put(b"\n");
+            }
+            CellKind::Entry => {
+                for routine in self.declaration.routines() {
+                    if routine.entry() == at {
+                        self.write_routine(writer, routine);
+                    }
                 }
+                writer.put(b"\n");
+                self.write_exits(writer, at, &mut cache.exit);
             }
-            writer.put(b"\n");
-            write_exits(writer, report, at, &mut cache.exit);
         }
     }
-}
 
-/// Whether the line of an address needs a heading, where the line before is that of another address or
-/// of none: where it is of another kind. The lines of a routine's body need none below its entry.
-fn needs_heading<B: Allocator, D: Allocator, C: Allocator>(
-    report: &Report<'_, B, D, C>,
-    at: Word,
-    last: &Option<Word>,
-) -> bool {
-    let Some(last) = last else {
-        return true;
-    };
-    let above = report.kind_of(*last);
-    match report.kind_of(at) {
-        CellKind::Entry => true,
-        CellKind::Routine(entry) => above != CellKind::Routine(entry) && *last != entry,
-        CellKind::Main => above != CellKind::Main,
-        CellKind::Variable => above != CellKind::Variable,
-        CellKind::Other => above != CellKind::Other,
-        CellKind::Unset => above != CellKind::Unset,
+    /// Whether the line of an address needs a heading, where the line before is that of another address or
+    /// of none: where it is of another kind. The lines of a routine's body need none below its entry.
+    fn needs_heading(&self, at: Word, last: &Option<Word>) -> bool {
+        let Some(last) = last else {
+            return true;
+        };
+        let above = self.kind_of(*last);
+        match self.kind_of(at) {
+            CellKind::Entry => true,
+            CellKind::Routine(entry) => above != CellKind::Routine(entry) && *last != entry,
+            CellKind::Main => above != CellKind::Main,
+            CellKind::Variable => above != CellKind::Variable,
+            CellKind::Other => above != CellKind::Other,
+            CellKind::Unset => above != CellKind::Unset,
+        }
     }
-}
 
-/// Writes the listing.
-pub(crate) fn push_listing<A: Allocator, B: Allocator, D: Allocator, C: Allocator>(
-    writer: &mut ReportWriter<'_, A>,
-    report: &Report<'_, B, D, C>,
-    cache: &mut ClaimCache,
-) {
-    let mut last = None;
-    for index in 0..4096 {
-        let at = Word::from_index(index);
-        if writer.has_line(at) {
-            if needs_heading(report, at, &last) {
-                write_heading(writer, report, cache, at);
+    /// Writes the listing.
+    pub(crate) fn push_listing(&self, writer: &mut ReportWriter<'_, A>, cache: &mut ClaimCache) {
+        let mut last = None;
+        for index in 0..4096 {
+            let at = Word::from_index(index);
+            if writer.has_line(at) {
+                if self.needs_heading(at, &last) {
+                    self.write_heading(writer, cache, at);
+                }
+                if self.is_quiet(at) {
+                    self.write_quiet(writer, at);
+                } else {
+                    self.write_line(writer, cache, at);
+                }
+                last = Some(at);
             }
-            if report.is_quiet(at) {
-                write_quiet(writer, report, at);
-            } else {
-                write_line(writer, report, cache, at);
-            }
-            last = Some(at);
         }
     }
 }

@@ -56,33 +56,6 @@ struct MapRows {
     bottom: usize,
 }
 
-/// Whether nothing stands in the page that begins at an address.
-fn is_empty_page<B: Allocator, D: Allocator, C: Allocator>(
-    report: &Report<'_, B, D, C>,
-    first: Word,
-) -> bool {
-    for offset in 0..PAGE_WORDS {
-        let at = first.add(Word::from_index(offset));
-        if report.kind_of(at) != CellKind::Unset || report.is_marked(at) {
-            return false;
-        }
-    }
-    true
-}
-
-/// The cells of the pages in which nothing stands.
-fn empty_cells<B: Allocator, D: Allocator, C: Allocator>(report: &Report<'_, B, D, C>) -> WordSet {
-    let mut empty = WordSet::empty();
-    for page in 0..PAGES {
-        let first = Word::from_index(PAGE_WORDS * page);
-        if is_empty_page(report, first) {
-            let last = first.add(Word::from_index(PAGE_WORDS - 1));
-            empty = empty.union(&WordSet::range(first, last));
-        }
-    }
-    empty
-}
-
 /// How high the rows are that the page which begins at an address adds: two rows, or one for the first of several in
 /// which nothing stands.
 fn height_of(empty: &WordSet, first: Word) -> usize {
@@ -98,7 +71,7 @@ fn height_of(empty: &WordSet, first: Word) -> usize {
 impl MapRows {
     /// The rows for a report.
     fn of<B: Allocator, D: Allocator, C: Allocator>(report: &Report<'_, B, D, C>) -> MapRows {
-        let empty = empty_cells(report);
+        let empty = report.empty_cells();
         let mut tops = [TOP; PAGES];
         let mut bottom = TOP;
         for (page, top) in tops.iter_mut().enumerate() {
@@ -123,12 +96,10 @@ impl MapRows {
 
 /// The place of a routine among those that are declared.
 fn place_of<D: Allocator>(declaration: &Declaration<D>, entry: Word) -> usize {
-    for (place, routine) in declaration.routines().iter().enumerate() {
-        if routine.entry() == entry {
-            return place;
-        }
-    }
-    0
+    let mut routines = declaration.routines().iter();
+    routines
+        .position(|routine| routine.entry() == entry)
+        .unwrap_or(0)
 }
 
 /// The class of a colour for a routine.
@@ -227,29 +198,6 @@ fn write_square<A: Allocator>(
     writer.put(b" width=9 height=9 />");
 }
 
-/// Writes the marks of a cell: a variable in a body, a halt, the start, the place of a no.
-fn write_marks<A: Allocator, B: Allocator, D: Allocator, C: Allocator>(
-    writer: &mut ReportWriter<'_, A>,
-    report: &Report<'_, B, D, C>,
-    rows: &MapRows,
-    at: Word,
-    kind: &CellKind,
-) {
-    let declaration = report.declaration;
-    if declaration.is_variable(at) && *kind != CellKind::Variable {
-        write_dot(writer, rows, at, b"w", b"2.5");
-    }
-    if declaration.is_stop(at) || declaration.is_pause(at) {
-        write_dot(writer, rows, at, b"h", b"3");
-    }
-    if declaration.start() == at {
-        write_square(writer, rows, at, b"s");
-    }
-    if report.is_marked(at) {
-        write_square(writer, rows, at, b"\"s bad\"");
-    }
-}
-
 /// What is said about a cell where a pointer rests on it; of a routine's its entry stands after it.
 fn kind_text(kind: &CellKind) -> &'static [u8]
     ensures { result.now ≡ kind_text kind.now }
@@ -264,106 +212,135 @@ fn kind_text(kind: &CellKind) -> &'static [u8]
     }
 }
 
-/// Writes the name of a word that is told as an instruction.
-fn write_title_name<A: Allocator, B: Allocator, D: Allocator, C: Allocator>(
-    writer: &mut ReportWriter<'_, A>,
-    report: &Report<'_, B, D, C>,
-    at: Word,
-    word: Word,
-) {
-    if report.is_code(at) {
-        writer.put(b" ");
-        writer.say(name(word, report.declaration.profile()).as_str().as_bytes());
-    }
-}
-
-/// Writes what is shown where a pointer rests on a cell.
-fn write_title<A: Allocator, B: Allocator, D: Allocator, C: Allocator>(
-    writer: &mut ReportWriter<'_, A>,
-    report: &Report<'_, B, D, C>,
-    at: Word,
-    kind: &CellKind,
-) {
-    writer.put(b"<title>");
-    writer.word(at);
-    writer.label(report.label_at(at));
-    writer.put(kind_text(kind));
-    if let CellKind::Routine(entry) = kind {
-        writer.cell(*entry);
-    }
-    if let Some(word) = report.image.get(at) {
-        writer.put(b": ");
-        writer.word(word);
-        write_title_name(writer, report, at, word);
-    }
-    writer.put(b"</title>");
-}
-
-/// Writes a cell, which leads to its line.
-fn write_cell<A: Allocator, B: Allocator, D: Allocator, C: Allocator>(
-    writer: &mut ReportWriter<'_, A>,
-    report: &Report<'_, B, D, C>,
-    rows: &MapRows,
-    at: Word,
-    line: Word,
-) {
-    let kind = report.kind_of(at);
-    writer.link(line);
-    write_title(writer, report, at, &kind);
-    write_square(writer, rows, at, class_of(report.declaration, &kind));
-    write_marks(writer, report, rows, at, &kind);
-    writer.put(b"</a>\n");
-}
-
-/// Writes the cells at which something stands.
-fn write_cells<A: Allocator, B: Allocator, D: Allocator, C: Allocator>(
-    writer: &mut ReportWriter<'_, A>,
-    report: &Report<'_, B, D, C>,
-    rows: &MapRows,
-) {
-    let mut line = Word::ZERO;
-    for index in 0..4096 {
-        let at = Word::from_index(index);
-        if writer.has_line(at) {
-            line = at;
+impl<A: Allocator, D: Allocator, C: Allocator> Report<'_, A, D, C> {
+    /// Whether nothing stands in the page that begins at an address.
+    fn is_empty_page(&self, first: Word) -> bool {
+        for offset in 0..PAGE_WORDS {
+            let at = first.add(Word::from_index(offset));
+            if self.kind_of(at) != CellKind::Unset || self.is_marked(at) {
+                return false;
+            }
         }
-        if report.kind_of(at) != CellKind::Unset || report.is_marked(at) {
-            write_cell(writer, report, rows, at, line);
+        true
+    }
+
+    /// The cells of the pages in which nothing stands.
+    fn empty_cells(&self) -> WordSet {
+        let mut empty = WordSet::empty();
+        for page in 0..PAGES {
+            let first = Word::from_index(PAGE_WORDS * page);
+            if self.is_empty_page(first) {
+                let last = first.add(Word::from_index(PAGE_WORDS - 1));
+                empty = empty.union(&WordSet::range(first, last));
+            }
+        }
+        empty
+    }
+
+    /// Writes the marks of a cell: a variable in a body, a halt, the start, the place of a no.
+    fn write_marks(
+        &self,
+        writer: &mut ReportWriter<'_, A>,
+        rows: &MapRows,
+        at: Word,
+        kind: &CellKind,
+    ) {
+        let declaration = self.declaration;
+        if declaration.is_variable(at) && *kind != CellKind::Variable {
+            write_dot(writer, rows, at, b"w", b"2.5");
+        }
+        if declaration.is_stop(at) || declaration.is_pause(at) {
+            write_dot(writer, rows, at, b"h", b"3");
+        }
+        if declaration.start() == at {
+            write_square(writer, rows, at, b"s");
+        }
+        if self.is_marked(at) {
+            write_square(writer, rows, at, b"\"s bad\"");
         }
     }
-}
 
-/// Writes what the colours and marks mean.
-fn write_legend<A: Allocator, B: Allocator, D: Allocator, C: Allocator>(
-    writer: &mut ReportWriter<'_, A>,
-    report: &Report<'_, B, D, C>,
-) {
-    writer.put(b"<p><span class=\"k m\"></span>main\n");
-    for (place, routine) in report.declaration.routines().iter().enumerate() {
-        writer.put(b"<span class=\"k ");
-        writer.put(colour_of(place));
-        writer.put(b"\"></span>routine ");
-        writer.linked(routine.entry());
-        writer.label(report.label_at(routine.entry()));
+    /// Writes the name of a word that is told as an instruction.
+    fn write_title_name(&self, writer: &mut ReportWriter<'_, A>, at: Word, word: Word) {
+        if self.is_code(at) {
+            writer.put(b" ");
+            writer.say(name(word, self.declaration.profile()).as_str().as_bytes());
+        }
+    }
+
+    /// Writes what is shown where a pointer rests on a cell.
+    fn write_cell_title(&self, writer: &mut ReportWriter<'_, A>, at: Word, kind: &CellKind) {
+        writer.put(b"<title>");
+        writer.word(at);
+        writer.label(self.label_at(at));
+        writer.put(kind_text(kind));
+        if let CellKind::Routine(entry) = kind {
+            writer.cell(*entry);
+        }
+        if let Some(word) = self.image.get(at) {
+            writer.put(b": ");
+            writer.word(word);
+            self.write_title_name(writer, at, word);
+        }
+        writer.put(b"</title>");
+    }
+
+    /// Writes a cell, which leads to its line.
+    fn write_map_cell(
+        &self,
+        writer: &mut ReportWriter<'_, A>,
+        rows: &MapRows,
+        at: Word,
+        line: Word,
+    ) {
+        let kind = self.kind_of(at);
+        writer.link(line);
+        self.write_cell_title(writer, at, &kind);
+        write_square(writer, rows, at, class_of(self.declaration, &kind));
+        self.write_marks(writer, rows, at, &kind);
+        writer.put(b"</a>\n");
+    }
+
+    /// Writes the cells at which something stands.
+    fn write_map_cells(&self, writer: &mut ReportWriter<'_, A>, rows: &MapRows) {
+        let mut line = Word::ZERO;
+        for index in 0..4096 {
+            let at = Word::from_index(index);
+            if writer.has_line(at) {
+                line = at;
+            }
+            if self.kind_of(at) != CellKind::Unset || self.is_marked(at) {
+                self.write_map_cell(writer, rows, at, line);
+            }
+        }
+    }
+
+    /// Writes what the colours and marks mean.
+    fn write_legend(&self, writer: &mut ReportWriter<'_, A>) {
+        writer.put(b"<p><span class=\"k m\"></span>main\n");
+        for (place, routine) in self.declaration.routines().iter().enumerate() {
+            writer.put(b"<span class=\"k ");
+            writer.put(colour_of(place));
+            writer.put(b"\"></span>routine ");
+            writer.linked(routine.entry());
+            writer.label(self.label_at(routine.entry()));
+            writer.put(b"\n");
+        }
+        writer.put(LEGEND);
+    }
+
+    /// Writes memory as a map.
+    pub(crate) fn write_map(&self, writer: &mut ReportWriter<'_, A>) {
+        let rows = MapRows::of(self);
+        writer.numbered(MAP, rows.bottom.saturating_add(6));
+        writer.numbered(GROUND, rows.bottom.saturating_sub(TOP));
+        writer.put(b" />\n");
+        write_row_numbers(writer, &rows);
+        write_empty_rows(writer, &rows);
+        write_column_numbers(writer);
         writer.put(b"\n");
+        self.write_map_cells(writer, &rows);
+        writer.put(b"</svg>\n");
+        self.write_legend(writer);
     }
-    writer.put(LEGEND);
-}
-
-/// Writes memory as a map.
-pub(crate) fn write_map<A: Allocator, B: Allocator, D: Allocator, C: Allocator>(
-    writer: &mut ReportWriter<'_, A>,
-    report: &Report<'_, B, D, C>,
-) {
-    let rows = MapRows::of(report);
-    writer.numbered(MAP, rows.bottom.saturating_add(6));
-    writer.numbered(GROUND, rows.bottom.saturating_sub(TOP));
-    writer.put(b" />\n");
-    write_row_numbers(writer, &rows);
-    write_empty_rows(writer, &rows);
-    write_column_numbers(writer);
-    writer.put(b"\n");
-    write_cells(writer, report, &rows);
-    writer.put(b"</svg>\n");
-    write_legend(writer, report);
 }

@@ -1,9 +1,6 @@
 //! The page: what the verdict means, memory, routines, variables, and the listing.
 
-use crate::access::writes_through;
-use crate::graph::write_graph;
-use crate::listing::{ClaimCache, push_listing, write_variable};
-use crate::map::write_map;
+use crate::listing::ClaimCache;
 use crate::promises::{write_assertions, write_moves, write_returns};
 use crate::report::{Finding, Report};
 use crate::writer::{ReportForm, ReportWriter};
@@ -205,66 +202,6 @@ fn write_files<A: Allocator>(writer: &mut ReportWriter<'_, A>, files: &[u8]) {
     }
 }
 
-/// Writes the verdict's meaning, after what it opens with, and the files of the program.
-fn write_verdict<A: Allocator, B: Allocator, D: Allocator, C: Allocator>(
-    writer: &mut ReportWriter<'_, A>,
-    report: &Report<'_, B, D, C>,
-    why: &[u8],
-) {
-    match report.finding {
-        Finding::Shown => write_yes(writer, report.declaration),
-        Finding::Refused(at) => {
-            write_reason(writer, b" A condition on it fails at ", at, REFUSED, why);
-        }
-        Finding::Stuck(at) => write_reason(
-            writer,
-            b" The search for a certificate is stuck at ",
-            at,
-            STUCK,
-            why,
-        ),
-    }
-    write_files(writer, report.files);
-    writer.put(PARTS);
-}
-
-/// Writes the row of a variable.
-fn write_row<A: Allocator, B: Allocator, D: Allocator, C: Allocator>(
-    writer: &mut ReportWriter<'_, A>,
-    report: &Report<'_, B, D, C>,
-    cell: Word,
-) {
-    writer.put(b"<tr><td>");
-    writer.linked(cell);
-    writer.label(report.label_at(cell));
-    writer.put(b"<td>");
-    match report.image.get(cell) {
-        Some(word) => writer.word(word),
-        None => writer.put(b"----"),
-    }
-    writer.put(b"<td>");
-    writer.begin_items(0);
-    write_variable(writer, report, cell);
-    writer.put(b"\n");
-}
-
-/// Writes the variables of which something is known, each with the words that it may hold anywhere.
-fn write_variables<A: Allocator, B: Allocator, D: Allocator, C: Allocator>(
-    writer: &mut ReportWriter<'_, A>,
-    report: &Report<'_, B, D, C>,
-) {
-    writer.put(b"<h2 id=variables>Variables, in octal</h2>\n<p>The declared variables: ");
-    writer.places(report.declaration.variables());
-    writer.put(VARIABLES);
-    for index in 0..4096 {
-        let cell = Word::from_index(index);
-        if report.held_in(cell).is_some() {
-            write_row(writer, report, cell);
-        }
-    }
-    writer.put(b"</table>\n");
-}
-
 /// What stands beside an instruction; after a no it is only claimed.
 fn listed_text(finding: Finding) -> &'static [u8] {
     match finding {
@@ -274,23 +211,6 @@ fn listed_text(finding: Finding) -> &'static [u8] {
         }
         Finding::Stuck(_) => {
             b"what the search had found <b>before</b> it is executed, which is not proved"
-        }
-    }
-}
-
-/// Writes how the items of the listing are read.
-fn write_items<A: Allocator, B: Allocator, D: Allocator, C: Allocator>(
-    writer: &mut ReportWriter<'_, A>,
-    report: &Report<'_, B, D, C>,
-) {
-    writer.put(ITEMS);
-    match report.certificate.rules() {
-        Rules::OfSums => writer.put(RELATIONS),
-        Rules::OfEquations => {
-            writer.put(EQUATIONS);
-            if writes_through(report) {
-                writer.put(LARGER);
-            }
         }
     }
 }
@@ -307,16 +227,81 @@ pub fn page_below<A: Allocator + Copy, D: Allocator, C: Allocator>(
     why: &[u8],
 ) -> Result<Vec<u8, A>, AllocError> {
     let mut writer = ReportWriter::new(alloc, ReportForm::Page, &report.lines(), report.notes);
-    write_verdict(&mut writer, report, why);
-    write_map(&mut writer, report);
-    write_graph(&mut writer, alloc, report)?;
-    write_variables(&mut writer, report);
+    report.write_verdict(&mut writer, why);
+    report.write_map(&mut writer);
+    report.write_graph(&mut writer, alloc)?;
+    report.write_variables(&mut writer);
     writer.put(b"<h2 id=listing>Listing, in octal</h2>\n<p>Beside each instruction is ");
     writer.put(listed_text(report.finding));
-    write_items(&mut writer, report);
+    report.write_reading(&mut writer);
     writer.put(NAMES);
     let mut cache = ClaimCache::boxed(alloc)?;
-    push_listing(&mut writer, report, &mut cache);
+    report.push_listing(&mut writer, &mut cache);
     writer.put(b"</table>\n</body>\n</html>\n");
     writer.into_bytes()
+}
+
+impl<A: Allocator, D: Allocator, C: Allocator> Report<'_, A, D, C> {
+    /// Writes the verdict's meaning, after what it opens with, and the files of the program.
+    fn write_verdict(&self, writer: &mut ReportWriter<'_, A>, why: &[u8]) {
+        match self.finding {
+            Finding::Shown => write_yes(writer, self.declaration),
+            Finding::Refused(at) => {
+                write_reason(writer, b" A condition on it fails at ", at, REFUSED, why);
+            }
+            Finding::Stuck(at) => write_reason(
+                writer,
+                b" The search for a certificate is stuck at ",
+                at,
+                STUCK,
+                why,
+            ),
+        }
+        write_files(writer, self.files);
+        writer.put(PARTS);
+    }
+
+    /// Writes the row of a variable.
+    fn write_variable_row(&self, writer: &mut ReportWriter<'_, A>, cell: Word) {
+        writer.put(b"<tr><td>");
+        writer.linked(cell);
+        writer.label(self.label_at(cell));
+        writer.put(b"<td>");
+        match self.image.get(cell) {
+            Some(word) => writer.word(word),
+            None => writer.put(b"----"),
+        }
+        writer.put(b"<td>");
+        writer.begin_items(0);
+        self.write_variable(writer, cell);
+        writer.put(b"\n");
+    }
+
+    /// Writes the variables of which something is known, each with the words that it may hold anywhere.
+    fn write_variables(&self, writer: &mut ReportWriter<'_, A>) {
+        writer.put(b"<h2 id=variables>Variables, in octal</h2>\n<p>The declared variables: ");
+        writer.places(self.declaration.variables());
+        writer.put(VARIABLES);
+        for index in 0..4096 {
+            let cell = Word::from_index(index);
+            if self.held_in(cell).is_some() {
+                self.write_variable_row(writer, cell);
+            }
+        }
+        writer.put(b"</table>\n");
+    }
+
+    /// Writes how the items of the listing are read.
+    fn write_reading(&self, writer: &mut ReportWriter<'_, A>) {
+        writer.put(ITEMS);
+        match self.certificate.rules() {
+            Rules::OfSums => writer.put(RELATIONS),
+            Rules::OfEquations => {
+                writer.put(EQUATIONS);
+                if self.writes_through() {
+                    writer.put(LARGER);
+                }
+            }
+        }
+    }
 }

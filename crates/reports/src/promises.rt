@@ -1,5 +1,6 @@
 //! What a declaration promises beyond bodies, variables, halts and reads: how its routines return, and what holds where.
 
+use crate::items::{offsets_where, write_offsets};
 use crate::writer::ReportWriter;
 use declaration::{Assertion, Declaration, PlaceAssertion, ReturnAssertion, Subject};
 use std::alloc::Allocator;
@@ -55,20 +56,6 @@ fn write_place_assertion<A: Allocator>(writer: &mut ReportWriter<'_, A>, holding
     writer.put(b"\n");
 }
 
-/// Writes some offsets, in octal digits, with commas between them.
-fn write_offsets<A: Allocator>(writer: &mut ReportWriter<'_, A>, offsets: &WordSet) {
-    let mut some = false;
-    for offset in 0..OFFSETS {
-        if offsets.contains(Word::from_index(offset)) {
-            if some {
-                writer.put(b",");
-            }
-            writer.offset(offset);
-            some = true;
-        }
-    }
-}
-
 /// Writes what holds whenever a routine returns, by some offsets or by any.
 fn write_return_assertion<A: Allocator>(
     writer: &mut ReportWriter<'_, A>,
@@ -79,7 +66,8 @@ fn write_return_assertion<A: Allocator>(
     writer.put(b" returns");
     if returning.offsets().count() < OFFSETS {
         writer.put(b" by ");
-        write_offsets(writer, returning.offsets());
+        let offsets = returning.offsets();
+        write_offsets(writer, offsets_where(&|offset| offsets.contains(offset)));
     }
     writer.put(b", ");
     write_assertion(writer, returning.assertion());

@@ -1,21 +1,21 @@
 //! Relations and chains in words.
+#![tactic(auto, using(crate::proofs::WritingLemmas::writing))]
 
-ghost use Rattle.std.specs.Prelude.{◌≡◌, ◌<◌, ◌==◌, ◌&&◌, ◌++◌, [], codes, if◌then◌else◌, is_some, length, map, not, true};
+ghost use Rattle.std.specs.Prelude.{◌≡◌, ◌<◌, ◌==◌, ◌&&◌, [], codes, if◌then◌else◌, length, map, not, true};
 ghost use Rattle.std.specs.List.{list_any};
-ghost use Rattle.word12.specs.Words.{octal_text};
 ghost use Rattle.wordset.specs.Lanes.{words};
 ghost use Rattle.wordset.specs.Links.{links_of};
-ghost use Rattle.wordset.specs.Words.{between, one, only};
+ghost use Rattle.wordset.specs.Words.{between, one};
 ghost use Rattle.domain.specs.ChainsInCode.{chain_of, step_of};
 ghost use Rattle.domain.specs.InCode.{sum_of, summand_at, summand_of, term_of};
 ghost use Rattle.domain.specs.RelationsInCode.{relation_of};
 ghost use Rattle.domain.specs.LocationsInCode.{location_of};
 ghost use Rattle.reports.specs.ItemText.{has_same_words};
-ghost use Rattle.reports.specs.RelationText.{added_text, amount_text, around_text, bracketed_text, chain_text, distance_text, factor_text, greatest_word, has_distance, has_link, is_and, is_around_zero, is_difference, is_only_less, is_only_more, least_word, less_text, lost_text, name_text, relation_text, sign_text, step_text, steps_text, sum_in_text, sum_text, summand_text, taken_away, term_text, unlike_text, words_above_zero, words_below_zero};
+ghost use Rattle.reports.specs.RelationText.{added_text, amount_text, around_text, bracketed_text, by_text, chain_text, distance_text, factor_text, greatest_word, has_distance, has_link, is_and, is_around_zero, is_difference, is_only_less, is_only_more, least_word, lost_chain_text, lost_text, name_text, next_step_text, relation_text, sign_text, step_text, sum_text, summand_text, taken_away, term_text, words_above_zero, words_below_zero};
 ghost use Rattle.reports.specs.Rows.{begun_said};
-ghost use Rattle.reports.specs.Writing.{Writes, form_of};
+ghost use Rattle.reports.specs.Writing.{Writes, ◌⊕◌, listed, plain, word_text};
 
-use crate::items::has_same_words;
+use crate::items::{has_same_words, write_in};
 use crate::writer::{ReportWriter, is_first};
 use domain::{Chain, Location, Relation, Step, Sum, Summand, Term, is_sign, negated};
 use instruct::{Profile, name};
@@ -31,7 +31,7 @@ const TOP: usize = 0o7777;
 
 /// Writes AC, or the address of a cell in brackets, for the word in it.
 pub(crate) fn write_name<A: Allocator>(writer: &mut ReportWriter<'_, A>, name: &Location)
-    ensures { Writes writer.old writer.new (name_text (form_of writer.old) (location_of name.now)) }
+    ensures { Writes writer.old writer.new (name_text (location_of name.now)) }
 {
     match name {
         Location::Accumulator => writer.put(b"AC"),
@@ -41,7 +41,7 @@ pub(crate) fn write_name<A: Allocator>(writer: &mut ReportWriter<'_, A>, name: &
 
 /// Writes the address of a cell in brackets, for the word in it.
 fn write_bracketed<A: Allocator>(writer: &mut ReportWriter<'_, A>, cell: Word)
-    ensures { Writes writer.old writer.new (bracketed_text (form_of writer.old) cell) }
+    ensures { Writes writer.old writer.new (bracketed_text cell) }
 {
     writer.put(b"[");
     writer.cell(cell);
@@ -64,7 +64,7 @@ fn write_added<A: Allocator>(writer: &mut ReportWriter<'_, A>, more: Word)
 
 /// Writes a word behind a sign, or behind the name of an instruction.
 fn write_signed<A: Allocator>(writer: &mut ReportWriter<'_, A>, sign: &[u8], word: Word)
-    ensures { Writes writer.old writer.new (sign.now ++ octal_text word) }
+    ensures { Writes writer.old writer.new (plain sign.now ⊕ word_text word) }
 {
     writer.put(sign);
     writer.word(word);
@@ -72,21 +72,16 @@ fn write_signed<A: Allocator>(writer: &mut ReportWriter<'_, A>, sign: &[u8], wor
 
 /// Writes a term: a name, or the word that stood at the start at an address.
 fn write_term<A: Allocator>(writer: &mut ReportWriter<'_, A>, term: &Term)
-    ensures { Writes writer.old writer.new (term_text (form_of writer.old) (term_of term.now)) }
+    ensures { Writes writer.old writer.new (term_text (term_of term.now)) }
 {
     match term {
         Term::Holding(name) => write_name(writer, name),
-        Term::Behind { cell, more } => write_behind(writer, *cell, *more),
+        Term::Behind { cell, more } => {
+            writer.put(b"the word at ");
+            write_bracketed(writer, *cell);
+            write_added(writer, *more);
+        }
     }
-}
-
-/// Writes the word that stood at the start at the address that is the word of a cell plus a number.
-fn write_behind<A: Allocator>(writer: &mut ReportWriter<'_, A>, cell: Word, more: Word)
-    ensures { Writes writer.old writer.new (codes "the word at " ++ (bracketed_text (form_of writer.old) cell ++ added_text more)) }
-{
-    writer.put(b"the word at ");
-    write_bracketed(writer, cell);
-    write_added(writer, more);
 }
 
 /// What stands before a term of a sum for the sign of its coefficient; behind another one there is always something.
@@ -106,21 +101,14 @@ fn write_factor<A: Allocator>(writer: &mut ReportWriter<'_, A>, coefficient: Wor
     ensures { Writes writer.old writer.new (factor_text coefficient) }
 {
     if !is_sign(coefficient) {
-        write_times(writer, coefficient);
+        writer.word(coefficient);
+        writer.put(b" * ");
     }
-}
-
-/// Writes by what a term is multiplied.
-fn write_times<A: Allocator>(writer: &mut ReportWriter<'_, A>, coefficient: Word)
-    ensures { Writes writer.old writer.new (octal_text coefficient ++ codes " * ") }
-{
-    writer.word(coefficient);
-    writer.put(b" * ");
 }
 
 /// Writes a term of a sum with its coefficient; behind another one a sign stands before it.
 fn write_summand<A: Allocator>(writer: &mut ReportWriter<'_, A>, summand: &Summand, is_first: bool)
-    ensures { Writes writer.old writer.new (summand_text (form_of writer.old) is_first (summand_of summand.now)) }
+    ensures { Writes writer.old writer.new (summand_text is_first (summand_of summand.now)) }
 {
     writer.put(sign_of(summand.coefficient, is_first));
     write_factor(writer, summand.coefficient);
@@ -129,14 +117,14 @@ fn write_summand<A: Allocator>(writer: &mut ReportWriter<'_, A>, summand: &Summa
 
 /// Writes a sum.
 fn write_sum<A: Allocator>(writer: &mut ReportWriter<'_, A>, sum: &Sum)
-    ensures { Writes writer.old writer.new (sum_text (form_of writer.old) (sum_of sum.now)) }
+    ensures { Writes writer.old writer.new (sum_text (sum_of sum.now)) }
 {
     write_summands(writer, sum.summands());
 }
 
 /// Writes the terms of a sum.
 fn write_summands<A: Allocator>(writer: &mut ReportWriter<'_, A>, summands: &[Summand])
-    ensures { Writes writer.old writer.new (sum_text (form_of writer.old) (map summand_of summands.now)) }
+    ensures { Writes writer.old writer.new (sum_text (map summand_of summands.now)) }
 {
     for (place, summand) in summands.iter().enumerate() {
         write_summand(writer, summand, is_first(place));
@@ -185,23 +173,16 @@ fn is_row(set: &WordSet, first: Word, last: Word) -> bool
     first != last && has_same_words(set, &WordSet::range(first, last))
 }
 
-/// Writes the first and the last word of a range.
-fn write_row<A: Allocator>(writer: &mut ReportWriter<'_, A>, first: Word, last: Word)
-    ensures { Writes writer.old writer.new (octal_text first ++ (codes " to " ++ octal_text last)) }
-{
-    writer.word(first);
-    writer.put(b" to ");
-    writer.word(last);
-}
-
 /// Writes by how much a term is more or less than another.
 fn write_amount<A: Allocator>(writer: &mut ReportWriter<'_, A>, set: &WordSet)
-    ensures { Writes writer.old writer.new (amount_text (form_of writer.old) (words set.now)) }
+    ensures { Writes writer.old writer.new (amount_text (words set.now)) }
 {
     let first = least_word(set);
     let last = greatest_word(set);
     if is_row(set, first, last) {
-        write_row(writer, first, last);
+        writer.word(first);
+        writer.put(b" to ");
+        writer.word(last);
     } else {
         writer.words(set);
     }
@@ -274,7 +255,7 @@ fn has_distance(set: &WordSet) -> bool
 
 /// Writes by how much a term is more or less than another.
 fn write_by<A: Allocator>(writer: &mut ReportWriter<'_, A>, set: &WordSet, relation: &[u8])
-    ensures { Writes writer.old writer.new (codes " is " ++ (amount_text (form_of writer.old) (words set.now) ++ relation.now)) }
+    ensures { Writes writer.old writer.new (by_text (words set.now) relation.now) }
 {
     writer.put(b" is ");
     write_amount(writer, set);
@@ -283,7 +264,7 @@ fn write_by<A: Allocator>(writer: &mut ReportWriter<'_, A>, set: &WordSet, relat
 
 /// Writes by how much a term is at most less, and at most more, than another.
 fn write_around<A: Allocator>(writer: &mut ReportWriter<'_, A>, set: &WordSet)
-    ensures { Writes writer.old writer.new (codes " is " ++ around_text (words set.now)) }
+    ensures { Writes writer.old writer.new (around_text (words set.now)) }
 {
     writer.put(b" is ");
     writer.word(negated(least_word(&words_below_zero(set))));
@@ -294,35 +275,18 @@ fn write_around<A: Allocator>(writer: &mut ReportWriter<'_, A>, set: &WordSet)
 
 /// Writes what stands between two terms of which the first is the second and one of these words.
 fn write_distance<A: Allocator>(writer: &mut ReportWriter<'_, A>, set: &WordSet)
-    ensures { Writes writer.old writer.new (distance_text (form_of writer.old) (words set.now)) }
+    ensures { Writes writer.old writer.new (distance_text (words set.now)) }
 {
     if is_same(set) {
-        writer.put(b" = ");
-    } else {
-        write_unlike(writer, set);
+        return writer.put(b" = ");
     }
-}
-
-/// Writes by how much a term is more or less than another that it is not.
-fn write_unlike<A: Allocator>(writer: &mut ReportWriter<'_, A>, set: &WordSet)
-    ensures { Writes writer.old writer.new (unlike_text (form_of writer.old) (words set.now)) }
-{
     if is_only_more(set) {
-        write_by(writer, set, b" more than ");
-    } else {
-        write_less(writer, set);
+        return write_by(writer, set, b" more than ");
     }
-}
-
-/// Writes by how much a term is less than another; or how much it is at most less, and at most more.
-fn write_less<A: Allocator>(writer: &mut ReportWriter<'_, A>, set: &WordSet)
-    ensures { Writes writer.old writer.new (less_text (form_of writer.old) (words set.now)) }
-{
     if is_only_less(set) {
-        write_by(writer, &taken_away(set), b" less than ");
-    } else {
-        write_around(writer, set);
+        return write_by(writer, &taken_away(set), b" less than ");
     }
+    write_around(writer, set);
 }
 
 /// The words that are taken away where those of a set are added.
@@ -332,31 +296,11 @@ fn taken_away(set: &WordSet) -> WordSet
     set.complements().shift(Word::ZERO.increment())
 }
 
-/// What stands between a sum and the words that it may be.
-fn sum_in(set: &WordSet) -> &'static [u8]
-    ensures { result.now ≡ (if is_some (only (words set.now)) then codes " is " else codes " in ") }
-{
-    if set.only().is_some() {
-        b" is "
-    } else {
-        b" in "
-    }
-}
-
-/// Writes that a sum is one of some words.
-fn write_sum_in<A: Allocator>(writer: &mut ReportWriter<'_, A>, sum: &Sum, set: &WordSet)
-    ensures { Writes writer.old writer.new (sum_in_text (form_of writer.old) (record { sum = sum_of sum.now; set = words set.now })) }
-{
-    write_sum(writer, sum);
-    writer.put(sum_in(set));
-    writer.words(set);
-}
-
 /// Writes by how much the one term of a difference is more or less than the other.
 fn write_difference<A: Allocator>(writer: &mut ReportWriter<'_, A>, sum: &Sum, set: &WordSet)
     requires { is_difference (sum_of sum.now) ≡ true }
-    ensures { let s = sum_of sum.now in Writes writer.old writer.new (term_text (form_of writer.old) (summand_at s 0).term ++
-        (distance_text (form_of writer.old) (words set.now) ++ term_text (form_of writer.old) (summand_at s 1).term)) }
+    ensures { let s = sum_of sum.now in Writes writer.old writer.new
+        (term_text (summand_at s 0).term ⊕ distance_text (words set.now) ⊕ term_text (summand_at s 1).term) }
 {
     write_term(writer, &sum.get(0).term);
     write_distance(writer, set);
@@ -372,52 +316,44 @@ fn is_told_as_distance(sum: &Sum, set: &WordSet) -> bool
 
 /// Writes that a sum is one of some words: of a difference by how much the one term is more or less than the other.
 fn write_words_of<A: Allocator>(writer: &mut ReportWriter<'_, A>, sum: &Sum, set: &WordSet)
-    ensures { Writes writer.old writer.new (relation_text (form_of writer.old) (record { sum = sum_of sum.now; set = words set.now })) }
+    ensures { Writes writer.old writer.new (relation_text (record { sum = sum_of sum.now; set = words set.now })) }
 {
     if is_told_as_distance(sum, set) {
         write_difference(writer, sum, set);
     } else {
-        write_sum_in(writer, sum, set);
+        write_sum(writer, sum);
+        write_in(writer, set);
     }
 }
 
 /// Writes a relation: of a difference by how much the one term is more or less than the other.
 pub(crate) fn write_relation<A: Allocator>(writer: &mut ReportWriter<'_, A>, relation: &Relation)
-    ensures { Writes writer.old writer.new (relation_text (form_of writer.old) (relation_of relation.now)) }
+    ensures { Writes writer.old writer.new (relation_text (relation_of relation.now)) }
+{
+    write_words_of(writer, &relation.sum, &set_of(relation));
+}
+
+/// The words of a relation.
+pub(crate) fn set_of(relation: &Relation) -> WordSet
+    ensures { words result ≡ (relation_of relation.now).set }
 {
     let mut set = WordSet::empty();
     relation.set.put(&mut set);
-    write_words_of(writer, &relation.sum, &set);
+    set
 }
 
-/// Writes that nothing is known about the one term of a difference and the other any more.
-fn write_unrelated<A: Allocator>(writer: &mut ReportWriter<'_, A>, sum: &Sum)
-    requires { is_difference (sum_of sum.now) ≡ true }
-    ensures { let s = sum_of sum.now in Writes writer.old writer.new (term_text (form_of writer.old) (summand_at s 0).term ++
-        (codes " and " ++ (term_text (form_of writer.old) (summand_at s 1).term ++ codes " unrelated"))) }
-{
-    write_term(writer, &sum.get(0).term);
-    writer.put(b" and ");
-    write_term(writer, &sum.get(1).term);
-    writer.put(b" unrelated");
-}
-
-/// Writes that a sum may be any word.
-fn write_any<A: Allocator>(writer: &mut ReportWriter<'_, A>, sum: &Sum)
-    ensures { Writes writer.old writer.new (sum_text (form_of writer.old) (sum_of sum.now) ++ codes " any") }
-{
-    write_sum(writer, sum);
-    writer.put(b" any");
-}
-
-/// Writes that nothing is known about a sum any more.
+/// Writes that nothing is known about a sum any more; of a difference that its terms are unrelated.
 pub(crate) fn write_lost<A: Allocator>(writer: &mut ReportWriter<'_, A>, sum: &Sum)
-    ensures { Writes writer.old writer.new (lost_text (form_of writer.old) (sum_of sum.now)) }
+    ensures { Writes writer.old writer.new (lost_text (sum_of sum.now)) }
 {
     if is_difference(sum) {
-        write_unrelated(writer, sum);
+        write_term(writer, &sum.get(0).term);
+        writer.put(b" and ");
+        write_term(writer, &sum.get(1).term);
+        writer.put(b" unrelated");
     } else {
-        write_any(writer, sum);
+        write_sum(writer, sum);
+        writer.put(b" any");
     }
 }
 
@@ -441,14 +377,9 @@ fn has_any(links: Links) -> bool
 
 /// Whether some step is not an AND.
 fn has_other(steps: &[Step]) -> bool
-    ensures { result ≡ list_any (λ step. not (is_and step)) (map step_of steps.now) }
+    ensures { result ≡ list_any (λ step. not (is_and (step_of step))) steps.now }
 {
-    for step in steps {
-        if !is_and(step) {
-            return true;
-        }
-    }
-    false
+    steps.iter().any(|step| !is_and(step))
 }
 
 /// Whether a step is an AND.
@@ -475,7 +406,7 @@ fn begun_with(links: Links) -> &'static [u8]
 
 /// Writes a step of a chain.
 fn write_step<A: Allocator>(writer: &mut ReportWriter<'_, A>, profile: Profile, step: &Step)
-    ensures { Writes writer.old writer.new (step_text (form_of writer.old) profile (step_of step.now)) }
+    ensures { Writes writer.old writer.new (step_text profile (step_of step.now)) }
 {
     match step {
         Step::Operates(word) => writer.say(name(*word, profile).as_str().as_bytes()),
@@ -498,8 +429,7 @@ fn write_next_step<A: Allocator>(
     step: &Step,
     is_first: bool,
 )
-    ensures { Writes writer.old writer.new ((if is_first then codes " by " else codes ", ") ++
-        step_text (form_of writer.old) profile (step_of step.now)) }
+    ensures { Writes writer.old writer.new (next_step_text profile is_first (step_of step.now)) }
 {
     writer.put(before_step(is_first));
     write_step(writer, profile, step);
@@ -507,7 +437,7 @@ fn write_next_step<A: Allocator>(
 
 /// Writes the steps of a chain.
 fn write_steps<A: Allocator>(writer: &mut ReportWriter<'_, A>, profile: Profile, steps: &[Step])
-    ensures { Writes writer.old writer.new (steps_text (form_of writer.old) profile true (map step_of steps.now)) }
+    ensures { Writes writer.old writer.new (listed (next_step_text profile) true (map step_of steps.now)) }
 {
     for (place, step) in steps.iter().enumerate() {
         write_next_step(writer, profile, step, is_first(place));
@@ -538,7 +468,7 @@ pub(crate) fn write_chain<A: Allocator>(
     profile: Profile,
     chain: &Chain,
 )
-    ensures { Writes writer.old writer.new (chain_text (form_of writer.old) profile (chain_of chain.now)) }
+    ensures { Writes writer.old writer.new (chain_text profile (chain_of chain.now)) }
 {
     let with_link = has_link(chain);
     writer.put(chain_opening(with_link));
@@ -550,7 +480,7 @@ pub(crate) fn write_chain<A: Allocator>(
 
 /// Writes that the accumulator does not come from a cell any more.
 pub(crate) fn write_lost_chain<A: Allocator>(writer: &mut ReportWriter<'_, A>, cell: Word)
-    ensures { Writes writer.old writer.new (codes "AC no longer comes from " ++ bracketed_text (form_of writer.old) cell) }
+    ensures { Writes writer.old writer.new (lost_chain_text cell) }
 {
     writer.put(b"AC no longer comes from ");
     write_bracketed(writer, cell);

@@ -158,10 +158,7 @@ impl<A: Allocator, D: Allocator, C: Allocator> Report<'_, A, D, C> {
 
     /// What the source says about an address; nothing if it is not known.
     pub(crate) fn note_at(&self, at: Word) -> Option<SourceNote<'_>> {
-        match self.notes {
-            Some(notes) => notes.at(at),
-            None => None,
-        }
+        self.notes?.at(at)
     }
 
     /// The label of an address; empty where the source says none.

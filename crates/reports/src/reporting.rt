@@ -21,25 +21,8 @@ use diagnostics::verdicts::reason_context::reason_context_of;
 use diagnostics::verdicts::reason_text::push_why;
 use diagnostics::verdicts::verdict::{condition_name, verdict_line, verdict_status};
 use judge::{JudgeWorkspace, Refusal, judge};
-use reasons::{Reason, ReasonWorkspace, why};
+use reasons::{ReasonWorkspace, why};
 use std::alloc::{AllocError, Allocator};
-
-/// Why a verdict is no; a yes has no reason.
-fn reason_of<A: Allocator + Copy, D: Allocator, C: Allocator>(
-    alloc: A,
-    image: &Image,
-    declaration: &Declaration<D>,
-    certificate: &Certificate<C>,
-    verdict: &Result<(), Refusal>,
-) -> Result<Option<Reason>, AllocError> {
-    match verdict {
-        Ok(()) => Ok(None),
-        Err(refusal) => {
-            let mut rooms = ReasonWorkspace::boxed(alloc)?;
-            Ok(why(image, declaration, certificate, refusal, &mut rooms))
-        }
-    }
-}
 
 /// Why a verdict is no, as lines; of a yes there are none.
 fn why_lines<A: Allocator + Copy, D: Allocator, C: Allocator>(
@@ -50,7 +33,13 @@ fn why_lines<A: Allocator + Copy, D: Allocator, C: Allocator>(
     verdict: &Result<(), Refusal>,
 ) -> Result<Vec<u8, A>, AllocError> {
     let mut text = Vec::new(alloc);
-    let reason = reason_of(alloc, image, declaration, certificate, verdict)?;
+    let reason = match verdict {
+        Ok(()) => None,
+        Err(refusal) => {
+            let mut rooms = ReasonWorkspace::boxed(alloc)?;
+            why(image, declaration, certificate, refusal, &mut rooms)
+        }
+    };
     let telling = reason_context_of(certificate, verdict, &reason);
     push_why(
         &mut text,
@@ -81,36 +70,15 @@ pub(crate) fn below_lines<A: Allocator + Copy, D: Allocator, C: Allocator>(
     }
 }
 
-/// What stands below the verdict.
-fn below<A: Allocator + Copy, D: Allocator, C: Allocator>(
-    alloc: A,
-    image: &Image,
-    declaration: &Declaration<D>,
-    certificate: &Certificate<C>,
-    verdict: &Result<(), Refusal>,
-    form: ReportForm,
-    files: &[u8],
-    notes: Option<&SourceNotes<A>>,
-) -> Result<Vec<u8, A>, AllocError> {
-    let lines = why_lines(alloc, image, declaration, certificate, verdict)?;
-    let (finding, failing) = match verdict {
+/// What is known about a certificate of which this is the verdict, and the name of the condition that fails, or nothing.
+fn finding_of(verdict: &Result<(), Refusal>) -> (Finding, &'static str) {
+    match verdict {
         Ok(()) => (Finding::Shown, ""),
         Err(refusal) => (
             Finding::Refused(refusal.address),
             condition_name(refusal.condition),
         ),
-    };
-    let report = Report::new(
-        alloc,
-        image,
-        declaration,
-        certificate,
-        finding,
-        failing,
-        files,
-        notes,
-    )?;
-    below_lines(alloc, &report, &lines, form)
+    }
 }
 
 /// The line of a verdict, with what comes before and right after it in a form, and the rest.
@@ -156,16 +124,19 @@ pub fn report_of<A: Allocator + Copy>(
     let mut rooms = JudgeWorkspace::boxed(alloc)?;
     let verdict = judge(image, declaration, &certified.certificate, &mut rooms);
     let line = verdict_line(alloc, declaration, &verdict)?;
-    let rest = below(
+    let lines = why_lines(alloc, image, declaration, &certified.certificate, &verdict)?;
+    let (finding, failing) = finding_of(&verdict);
+    let report = Report::new(
         alloc,
         image,
         declaration,
         &certified.certificate,
-        &verdict,
-        form,
+        finding,
+        failing,
         names.files,
         notes,
     )?;
+    let rest = below_lines(alloc, &report, &lines, form)?;
     let text = joined(alloc, form, names.program, &verdict, &line, &rest)?;
     let status = verdict_status(&verdict);
     Ok(CommandResult { text, status })

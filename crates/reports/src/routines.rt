@@ -5,7 +5,9 @@ ghost use Rattle.facts.specs.Landing.{fact_at};
 ghost use Rattle.certificate_lines.specs.CertificateInCode.{claims};
 ghost use Rattle.reports.specs.Shown.{ShowsExit};
 
-use crate::fact_context::write_exit;
+use crate::cases::FactDifferences;
+use crate::fact_context::{ShownFact, write_exit};
+use crate::items::{offsets_where, write_offsets};
 use crate::known_fact::KnownFact;
 use crate::report::{Report, claimed_of};
 use crate::writer::ReportWriter;
@@ -17,23 +19,16 @@ use word12::Word;
 use wordset::WordSet;
 
 /// Writes the declared offsets of a routine, in octal digits.
-pub(crate) fn write_offsets<A: Allocator, D: Allocator>(
+pub(crate) fn write_return_offsets<A: Allocator, D: Allocator>(
     writer: &mut ReportWriter<'_, A>,
     declaration: &Declaration<D>,
-    routine: &Routine,
+    entry: Word,
 ) {
-    let mut some = false;
-    for offset in 0..64usize {
-        if declaration.has_offset(routine.entry(), Word::from_index(offset)) {
-            if some {
-                writer.put(b",");
-            }
-            writer.offset(offset);
-            some = true;
-        }
-    }
-    if !some {
+    let offsets = offsets_where(&|offset| declaration.has_offset(entry, offset));
+    if offsets.is_empty() {
         writer.put(b"-");
+    } else {
+        write_offsets(writer, offsets);
     }
 }
 
@@ -58,60 +53,64 @@ fn write_claimed<A: Allocator>(writer: &mut ReportWriter<'_, A>, claimed: &Claim
     write_written(writer, &claimed.writes);
 }
 
-/// Writes a routine in a line: its entry, its rank, from where it is called, what it may write, and how it returns.
-pub(crate) fn write_routine<A: Allocator, B: Allocator, D: Allocator, C: Allocator>(
-    writer: &mut ReportWriter<'_, A>,
-    report: &Report<'_, B, D, C>,
-    routine: &Routine,
-) {
-    writer.begin_items(0);
-    writer.item(b"routine ");
-    writer.word(routine.entry());
-    writer.label(report.label_at(routine.entry()));
-    match report.certificate.routine(routine.entry()) {
-        Some(claimed) => write_claimed(writer, &claimed),
-        None => writer.item(b"nothing is claimed about it"),
+impl<A: Allocator, D: Allocator, C: Allocator> Report<'_, A, D, C> {
+    /// Writes a routine in a line: its entry, its rank, from where it is called, what it may write, and how it returns.
+    pub(crate) fn write_routine(&self, writer: &mut ReportWriter<'_, A>, routine: &Routine) {
+        writer.begin_items(0);
+        writer.item(b"routine ");
+        writer.word(routine.entry());
+        writer.label(self.label_at(routine.entry()));
+        match self.certificate.routine(routine.entry()) {
+            Some(claimed) => write_claimed(writer, &claimed),
+            None => writer.item(b"nothing is claimed about it"),
+        }
+        writer.item(b"returns by ");
+        write_return_offsets(writer, self.declaration, routine.entry());
     }
-    writer.item(b"returns by ");
-    write_offsets(writer, report.declaration, routine);
-}
 
-/// Writes the line of an exit: what holds when the routine returns by that offset.
-fn write_exit_line<A: Allocator, B: Allocator, D: Allocator, C: Allocator>(
-    writer: &mut ReportWriter<'_, A>,
-    report: &Report<'_, B, D, C>,
-    claimed: &Claimed,
-    offset: usize,
-    index: usize,
-    entry: Word,
-    exit: &KnownFact,
-)
-    // The exit that is shown is the one at that place of those for the offset.
-    requires { let c = claims report.now.certificate.now in ShowsExit c.rules
-        (words claimed.now.sites) (fact_at (c.exits entry offset) index) exit.now }
-{
-    writer.mark(b"<tr><td colspan=3>");
-    writer.put(b"return by ");
-    writer.offset(offset);
-    writer.mark(b"<td>");
-    writer.begin_items(if offset < 8 { 14 } else { 13 });
-    write_exit(writer, &report.setting_of(claimed), exit);
-    writer.put(b"\n");
-}
+    /// Writes the line of an exit: what holds when the routine returns by that offset.
+    fn write_exit_line(
+        &self,
+        writer: &mut ReportWriter<'_, A>,
+        claimed: &Claimed,
+        offset: usize,
+        index: usize,
+        entry: Word,
+        exit: &KnownFact,
+    )
+        // The exit that is shown is the one at that place of those for the offset.
+        requires { let c = claims self.now.certificate.now in ShowsExit c.rules
+            (words claimed.now.sites) (fact_at (c.exits entry offset) index) exit.now }
+    {
+        writer.mark(b"<tr><td colspan=3>");
+        writer.put(b"return by ");
+        writer.offset(offset);
+        writer.mark(b"<td>");
+        writer.begin_items(if offset < 8 { 14 } else { 13 });
+        let shown = ShownFact {
+            setting: self.setting_of(claimed),
+            known: exit,
+            above: None,
+            apart: FactDifferences::by_nothing(),
+        };
+        write_exit(writer, &shown);
+        writer.put(b"\n");
+    }
 
-/// Writes a line for each exit of a routine that is claimed. One fact is lent.
-pub(crate) fn write_exits<A: Allocator, B: Allocator, D: Allocator, C: Allocator>(
-    writer: &mut ReportWriter<'_, A>,
-    report: &Report<'_, B, D, C>,
-    entry: Word,
-    exit: &mut KnownFact,
-) {
-    let certificate = report.certificate;
-    let claimed = claimed_of(certificate, entry);
-    for offset in 0..64usize {
-        for index in 0..certificate.count_exits(entry, offset) {
-            exit.read_exit(certificate, &claimed.sites, entry, offset, index);
-            write_exit_line(writer, report, &claimed, offset, index, entry, exit);
+    /// Writes a line for each exit of a routine that is claimed. One fact is lent.
+    pub(crate) fn write_exits(
+        &self,
+        writer: &mut ReportWriter<'_, A>,
+        entry: Word,
+        exit: &mut KnownFact,
+    ) {
+        let certificate = self.certificate;
+        let claimed = claimed_of(certificate, entry);
+        for offset in 0..64usize {
+            for index in 0..certificate.count_exits(entry, offset) {
+                exit.read_exit(certificate, &claimed.sites, entry, offset, index);
+                self.write_exit_line(writer, &claimed, offset, index, entry, exit);
+            }
         }
     }
 }

@@ -188,16 +188,10 @@ impl<A: Allocator> SourceNotes<A> {
     pub fn at(&self, at: Word) -> Option<SourceNote<'_>> {
         let entry = self.entries.get(at.index()).copied().flatten()?;
         Some(SourceNote {
-            label: self
-                .bytes
-                .get(entry.label.from..entry.label.to)
-                .unwrap_or(b""),
+            label: self.spanned(&entry.label),
             line: entry.line,
             place: entry.place,
-            text: self
-                .bytes
-                .get(entry.text.from..entry.text.to)
-                .unwrap_or(b""),
+            text: self.spanned(&entry.text),
             is_first: entry.is_first,
         })
     }

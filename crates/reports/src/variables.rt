@@ -1,12 +1,11 @@
 //! Which words variables may hold, as far as the facts of a certificate tell.
 
-use crate::known_fact::KnownFact;
+use crate::known_fact::{KnownFact, Subject};
 use crate::report::{claimed_of, unclaimed};
 use bin_tape::Image;
 use certificate::Certificate;
 use certificate_lines::RoutineClaim;
 use declaration::{Declaration, Owner};
-use domain::Location;
 use judge::Claims;
 use std::alloc::{AllocError, Allocator};
 use word12::Word;
@@ -32,12 +31,8 @@ pub(crate) struct VariableSummaries<A: Allocator> {
 impl<A: Allocator + Copy> VariableSummaries<A> {
     /// Nothing is known.
     fn new(alloc: A) -> Result<VariableSummaries<A>, AllocError> {
-        let mut places = Vec::new(alloc);
-        for _ in 0..4096 {
-            places.push(None)?;
-        }
         Ok(VariableSummaries {
-            places,
+            places: Vec::from_elem(alloc, None, 4096)?,
             list: Vec::new(alloc),
         })
     }
@@ -46,18 +41,12 @@ impl<A: Allocator + Copy> VariableSummaries<A> {
 impl<A: Allocator> VariableSummaries<A> {
     /// The place of a cell in the list, if something is known about it.
     fn place_of(&self, cell: Word) -> Option<usize> {
-        match self.places.get(cell.index()) {
-            Some(Some(place)) => Some(*place),
-            _ => None,
-        }
+        self.places.get(cell.index()).copied().flatten()
     }
 
     /// What is known about a cell.
     pub(crate) fn get(&self, cell: Word) -> Option<&VariableSummary> {
-        match self.place_of(cell) {
-            Some(place) => self.list.get(place),
-            None => None,
-        }
+        self.list.get(self.place_of(cell)?)
     }
 
     /// Adds a cell that may hold these words.
@@ -92,7 +81,7 @@ impl<A: Allocator> VariableSummaries<A> {
     ) -> Result<(), AllocError> {
         for cell in known.cells.iter() {
             if declaration.is_variable(cell) {
-                self.add(cell, &known.set_of(&Location::Cell(cell)))?;
+                self.add(cell, &known.words_of(&Subject::Cell(cell)))?;
             }
         }
         Ok(())

@@ -1,14 +1,14 @@
 //! What writes: words, numbers, sets and items, as plain text or as HTML.
+#![tactic(auto, using(crate::proofs::WritingLemmas::writing))]
 
-ghost use Rattle.std.specs.Prelude.{◌≡◌, ◌++◌, [], codes, decimal, IfOk, IsOk, OnOk, true, if◌then◌else◌, ◌==◌, replicate};
-ghost use Rattle.word12.specs.Words.{octal_text};
+ghost use Rattle.std.specs.Prelude.{◌≡◌, ◌==◌, [], codes, decimal, IfOk, IsOk, OnOk, if◌then◌else◌, replicate, true};
 ghost use Rattle.wordset.specs.Lanes.{words};
 ghost use Rattle.reports.specs.FactItems.{Extends};
 ghost use Rattle.reports.specs.Html.{escaped_text};
-ghost use Rattle.reports.specs.ItemText.{WritesOn, begun_line, indent_text, is_written, line_of, line_with, one_same, opened_line, opening_text, separator_text};
+ghost use Rattle.reports.specs.ItemText.{begun, counted, is_written, marked, separator, single_item};
 ghost use Rattle.reports.specs.Labels.{label_in};
-ghost use Rattle.reports.specs.SetText.{first_ranges, more_text, none_text, outside, places_text, range_text, ranges_text, set_text, words_text};
-ghost use Rattle.reports.specs.Writing.{Writes, cell_text, form_of, in_page, label_text, link_text, linked_text, noted_text, offset_text, place_text, run_text, said_in};
+ghost use Rattle.reports.specs.SetText.{first_ranges, more_text, next_range_text, none_text, outside, places_text, range_text, run_end_text, run_first_text, run_last_text, set_text, words_text};
+ghost use Rattle.reports.specs.Writing.{Writes, ◌⊕◌, cell_text, form_of, in_page, in_parentheses, label_text, line_of, link_text, linked_text, listed, noted_text, offset_text, place_text, plain, said, word_text};
 
 use crate::escaping::push_escaped;
 use crate::source_notes::SourceNotes;
@@ -58,15 +58,11 @@ pub(crate) fn is_first(place: usize) -> bool
     place == 0
 }
 
-/// How many items of a line are the same as on the line above, after one more item.
-fn counted(same: usize, is_same: bool) -> usize
-    ensures { result ≡ (if is_same then one_same same else same) }
+/// A comma, if something stands before it.
+pub(crate) fn comma(some: bool) -> &'static [u8]
+    ensures { result.now ≡ (if some then codes "," else []) }
 {
-    if is_same {
-        same.saturating_add(1)
-    } else {
-        same
-    }
+    if some { b"," } else { b"" }
 }
 
 impl<'a, A: Allocator> ReportWriter<'a, A> {
@@ -113,7 +109,7 @@ impl<'a, A: Allocator> ReportWriter<'a, A> {
 
     /// Writes bytes as they are.
     pub(crate) fn put(&mut self, bytes: &[u8])
-        ensures { Writes self.old self.new bytes.now }
+        ensures { Writes self.old self.new (plain bytes.now) }
     {
         if self.written.is_ok() {
             self.written = self.bytes.extend_from_slice(bytes);
@@ -122,7 +118,7 @@ impl<'a, A: Allocator> ReportWriter<'a, A> {
 
     /// Writes markup, in a page alone.
     pub(crate) fn mark(&mut self, markup: &[u8])
-        ensures { Writes self.old self.new (in_page self.old.is_page markup.now) }
+        ensures { Writes self.old self.new (in_page (plain markup.now)) }
     {
         if self.is_page {
             self.put(markup);
@@ -131,7 +127,7 @@ impl<'a, A: Allocator> ReportWriter<'a, A> {
 
     /// Writes a text that is not markup.
     pub(crate) fn say(&mut self, text: &[u8])
-        ensures { Writes self.old self.new (said_in self.old.is_page text.now) }
+        ensures { Writes self.old self.new (said text.now) }
     {
         if self.is_page {
             self.put_escaped(text);
@@ -142,7 +138,7 @@ impl<'a, A: Allocator> ReportWriter<'a, A> {
 
     /// Writes a text that is not markup in a page.
     fn put_escaped(&mut self, text: &[u8])
-        ensures { Writes self.old self.new (escaped_text text.now) }
+        ensures { Writes self.old self.new (plain (escaped_text text.now)) }
     {
         if self.written.is_ok() {
             self.written = push_escaped(&mut self.bytes, text);
@@ -151,7 +147,7 @@ impl<'a, A: Allocator> ReportWriter<'a, A> {
 
     /// Writes a number in decimal digits.
     pub(crate) fn number(&mut self, number: usize)
-        ensures { Writes self.old self.new (decimal number) }
+        ensures { Writes self.old self.new (plain (decimal number)) }
     {
         let mut digits = Buffer::new();
         self.put(digits.format(number).as_bytes());
@@ -169,7 +165,7 @@ impl<'a, A: Allocator> ReportWriter<'a, A> {
 
     /// Writes a text, and after it a number in decimal digits.
     pub(crate) fn numbered(&mut self, text: &[u8], number: usize)
-        ensures { Writes self.old self.new (text.now ++ decimal number) }
+        ensures { Writes self.old self.new (plain text.now ⊕ plain (decimal number)) }
     {
         self.put(text);
         self.number(number);
@@ -177,48 +173,33 @@ impl<'a, A: Allocator> ReportWriter<'a, A> {
 
     /// Writes the four octal digits of a word.
     pub(crate) fn word(&mut self, word: Word)
-        ensures { Writes self.old self.new (octal_text word) }
+        ensures { Writes self.old self.new (word_text word) }
     {
         self.put(&word.to_octal());
     }
 
     /// Writes in a page the beginning of a link to the line of an address.
     pub(crate) fn link(&mut self, at: Word)
-        ensures { Writes self.old self.new (in_page self.old.is_page (link_text at)) }
+        ensures { Writes self.old self.new (in_page (link_text at)) }
     {
         if self.is_page {
-            self.put_link(at);
+            self.put(b"<a href=#a");
+            self.word(at);
+            self.put(b">");
         }
-    }
-
-    /// Writes the beginning of a link to the line of an address.
-    fn put_link(&mut self, at: Word)
-        ensures { Writes self.old self.new (link_text at) }
-    {
-        self.put(b"<a href=#a");
-        self.word(at);
-        self.put(b">");
     }
 
     /// Writes an address, in a page with a link to its line, if it has one.
     pub(crate) fn linked(&mut self, at: Word)
-        ensures { Writes self.old self.new (linked_text self.old.is_page (words self.old.lines at) at) }
+        ensures { Writes self.old self.new (linked_text at) }
     {
         if self.has_line(at) {
-            self.put_linked(at);
+            self.link(at);
+            self.word(at);
+            self.mark(b"</a>");
         } else {
             self.word(at);
         }
-    }
-
-    /// Writes an address that has a line, in a page with a link to it.
-    fn put_linked(&mut self, at: Word)
-        ensures { Writes self.old self.new (in_page self.old.is_page (link_text at) ++
-            octal_text at ++ in_page self.old.is_page (codes "</a>")) }
-    {
-        self.link(at);
-        self.word(at);
-        self.mark(b"</a>");
     }
 
     /// The label of an address; empty where the source says none.
@@ -233,7 +214,7 @@ impl<'a, A: Allocator> ReportWriter<'a, A> {
 
     /// Writes in a page the label of an address in parentheses, if there is one.
     fn label_in_text(&mut self, at: Word)
-        ensures { Writes self.old self.new (label_text (form_of self.old) at) }
+        ensures { Writes self.old self.new (label_text at) }
     {
         if self.is_page {
             self.put_noted(self.label_of(at));
@@ -251,7 +232,7 @@ impl<'a, A: Allocator> ReportWriter<'a, A> {
 
     /// Writes a text that is not markup in parentheses.
     fn put_in_parentheses(&mut self, text: &[u8])
-        ensures { Writes self.old self.new (codes " (" ++ (escaped_text text.now ++ codes ")")) }
+        ensures { Writes self.old self.new (in_parentheses text.now) }
     {
         self.put(b" (");
         self.put_escaped(text);
@@ -260,7 +241,7 @@ impl<'a, A: Allocator> ReportWriter<'a, A> {
 
     /// Writes an address in a text, in a page with a link to its line, if it has one, and with its label.
     pub(crate) fn place(&mut self, at: Word)
-        ensures { Writes self.old self.new (place_text (form_of self.old) at) }
+        ensures { Writes self.old self.new (place_text at) }
     {
         self.linked(at);
         self.label_in_text(at);
@@ -268,7 +249,7 @@ impl<'a, A: Allocator> ReportWriter<'a, A> {
 
     /// Writes the address of a cell of which something is said, in a page with its label.
     pub(crate) fn cell(&mut self, at: Word)
-        ensures { Writes self.old self.new (cell_text (form_of self.old) at) }
+        ensures { Writes self.old self.new (cell_text at) }
     {
         self.word(at);
         self.label_in_text(at);
@@ -290,65 +271,55 @@ impl<'a, A: Allocator> ReportWriter<'a, A> {
         }
     }
 
-    /// Writes the words from one to another, both of them.
-    fn word_run(&mut self, first: Word, last: Word)
-        ensures { Writes self.old self.new (run_text first last) }
+    /// Writes the addresses from one to another, both of them, in a page with their labels.
+    pub(crate) fn cell_run(&mut self, first: Word, last: Word) {
+        self.cell(first);
+        self.run_end(first, last, true);
+    }
+
+    /// Writes the last of some words or addresses, unless it is also the first.
+    fn run_end(&mut self, first: Word, last: Word, are_places: bool)
+        ensures { Writes self.old self.new (run_end_text are_places first last) }
     {
-        self.word(first);
         if first != last {
             self.put(b"-");
+            self.run_last(last, are_places);
+        }
+    }
+
+    /// Writes the last of some words or addresses.
+    fn run_last(&mut self, last: Word, are_places: bool)
+        ensures { Writes self.old self.new (run_last_text are_places last) }
+    {
+        if are_places {
+            self.cell(last);
+        } else {
             self.word(last);
         }
     }
 
-    /// Writes the addresses from one to another, both of them, in a page with their labels.
-    pub(crate) fn cell_run(&mut self, first: Word, last: Word) {
-        self.cell(first);
-        if first != last {
-            self.put(b"-");
-            self.cell(last);
+    /// Writes the first of some words or addresses.
+    fn run_first(&mut self, first: Word, are_places: bool)
+        ensures { Writes self.old self.new (run_first_text are_places first) }
+    {
+        if are_places {
+            self.place(first);
+        } else {
+            self.word(first);
         }
-    }
-
-    /// Writes the addresses from one to another, both of them, in a page with their labels and with a link to the line of the first.
-    fn place_run(&mut self, first: Word, last: Word)
-        ensures { Writes self.old self.new (range_text (form_of self.old) true first last) }
-    {
-        self.place(first);
-        self.run_end(first, last);
-    }
-
-    /// Writes the last of some addresses, in a page with its label, unless it is also the first.
-    fn run_end(&mut self, first: Word, last: Word)
-        ensures { Writes self.old self.new (if first == last then [] else codes "-" ++ cell_text (form_of self.old) last) }
-    {
-        if first != last {
-            self.put_last(last);
-        }
-    }
-
-    /// Writes the last of some addresses, in a page with its label.
-    fn put_last(&mut self, last: Word)
-        ensures { Writes self.old self.new (codes "-" ++ cell_text (form_of self.old) last) }
-    {
-        self.put(b"-");
-        self.cell(last);
     }
 
     /// Writes a run of words, or of addresses.
     fn run(&mut self, first: Word, last: Word, are_places: bool)
-        ensures { Writes self.old self.new (range_text (form_of self.old) are_places first last) }
+        ensures { Writes self.old self.new (range_text are_places first last) }
     {
-        if are_places {
-            self.place_run(first, last);
-        } else {
-            self.word_run(first, last);
-        }
+        self.run_first(first, are_places);
+        self.run_end(first, last, are_places);
     }
 
     /// Writes the words of a set by their runs, at most some of them; `-` if there is none.
     fn runs(&mut self, set: &WordSet, are_places: bool)
-        ensures { Writes self.old self.new (set_text (form_of self.old) are_places (words set.now)) }
+        ensures { Writes self.old self.new (set_text are_places (words set.now)) }
     {
         self.none(set);
         let rest = self.first_runs(set, are_places);
@@ -366,7 +337,7 @@ impl<'a, A: Allocator> ReportWriter<'a, A> {
 
     /// Writes the first runs of a set, at most some of them; gives the words that are in none of these.
     fn first_runs(&mut self, set: &WordSet, are_places: bool) -> WordSet
-        ensures writes { Writes self.old self.new (ranges_text (form_of self.old) are_places true (first_ranges 16 0 (words set.now))) }
+        ensures writes { Writes self.old self.new (listed (next_range_text are_places) true (first_ranges 16 0 (words set.now))) }
         ensures rest { words result ≡ outside (first_ranges 16 0 (words set.now)) (words set.now) }
     {
         let mut runs = set.ranges();
@@ -384,19 +355,10 @@ impl<'a, A: Allocator> ReportWriter<'a, A> {
 
     /// Writes a run of words, or of addresses, behind a comma unless it is the first.
     fn next_run(&mut self, first: Word, last: Word, are_places: bool, is_first: bool)
-        ensures { Writes self.old self.new ((if is_first then [] else codes ",") ++ range_text (form_of self.old) are_places first last) }
+        ensures { Writes self.old self.new (next_range_text are_places is_first (first, last)) }
     {
-        self.comma(is_first);
+        self.put(comma(!is_first));
         self.run(first, last, are_places);
-    }
-
-    /// Writes a comma, unless something is the first of its kind.
-    fn comma(&mut self, is_first: bool)
-        ensures { Writes self.old self.new (if is_first then [] else codes ",") }
-    {
-        if !is_first {
-            self.put(b",");
-        }
     }
 
     /// Writes how many words are not shown.
@@ -404,29 +366,22 @@ impl<'a, A: Allocator> ReportWriter<'a, A> {
         ensures { Writes self.old self.new (more_text count) }
     {
         if count > 0 {
-            self.put_more(count);
+            self.put(b" and ");
+            self.number(count);
+            self.put(b" more");
         }
-    }
-
-    /// Writes that there are some words more.
-    fn put_more(&mut self, count: usize)
-        ensures { Writes self.old self.new (codes " and " ++ (decimal count ++ codes " more")) }
-    {
-        self.put(b" and ");
-        self.number(count);
-        self.put(b" more");
     }
 
     /// Writes the words of a set.
     pub(crate) fn words(&mut self, set: &WordSet)
-        ensures { Writes self.old self.new (words_text (form_of self.old) (words set.now)) }
+        ensures { Writes self.old self.new (words_text (words set.now)) }
     {
         self.runs(set, false);
     }
 
     /// Writes the addresses of a set, in a page with their labels and with links to the lines that there are.
     pub(crate) fn places(&mut self, set: &WordSet)
-        ensures { Writes self.old self.new (places_text (form_of self.old) (words set.now)) }
+        ensures { Writes self.old self.new (places_text (words set.now)) }
     {
         self.runs(set, true);
     }
@@ -439,29 +394,21 @@ impl<'a, A: Allocator> ReportWriter<'a, A> {
     }
 
     /// Writes what stands between an item and what is before it.
-    fn separate(&mut self)
-        ensures { WritesOn self.old self.new (begun_line (line_of self.old)) (separator_text (form_of self.old) (line_of self.old)) }
+    pub(crate) fn separate(&mut self)
+        ensures { Writes self.old self.new separator }
     {
-        let has_item = self.has_item;
-        if has_item {
+        if self.has_item {
             self.put(b"; ");
         } else {
             self.begin_line();
         }
     }
 
-    /// Writes what stands before the first item.
+    /// Writes what stands before the first item: in plain text, blanks.
     fn begin_line(&mut self)
-        ensures { WritesOn self.old self.new (begun_line (line_of self.old)) (indent_text self.old.is_page self.old.indent) }
+        ensures { Writes self.old self.new begun }
     {
         self.has_item = true;
-        self.put_indent();
-    }
-
-    /// Writes in plain text the blanks before the first item.
-    fn put_indent(&mut self)
-        ensures { Writes self.old self.new (indent_text self.old.is_page self.old.indent) }
-    {
         if !self.is_page {
             self.blanks(self.indent);
         }
@@ -469,54 +416,39 @@ impl<'a, A: Allocator> ReportWriter<'a, A> {
 
     /// Writes some blanks.
     fn blanks(&mut self, count: usize)
-        ensures { Writes self.old self.new (replicate count 32) }
+        ensures { Writes self.old self.new (plain (replicate count 32)) }
     {
         for _before in 0..count {
             self.put(b" ");
         }
     }
 
-    /// Begins an item, unless it is the same as on the line above and is left out; tells whether it was
-    /// begun.
-    pub(crate) fn begin_item(&mut self, same: bool) -> bool
-        ensures shown { result ≡ is_written (form_of self.old) (line_of self.old) same }
-        ensures begun { WritesOn self.old self.new (line_with (form_of self.old) (line_of self.old) same)
-            (opening_text (form_of self.old) (line_of self.old) same) }
-    {
-        let is_written = self.is_written(same);
-        self.open_item(is_written, same);
-        self.same = counted(self.same, same);
-        is_written
-    }
-
     /// Whether an item is written, which may be the same as on the line above.
-    fn is_written(&self, same: bool) -> bool
-        ensures { result ≡ is_written (form_of self.now) (line_of self.now) same }
+    pub(crate) fn shows(&self, same: bool) -> bool
+        ensures { result ≡ is_written same (form_of self.now) (line_of self.now) }
     {
         if same {
-            self.is_page && counted(self.same, true) <= MOST_SAME
+            self.is_page && self.same.saturating_add(1) <= MOST_SAME
         } else {
             true
         }
     }
 
-    /// Writes what stands before an item, if it is written.
-    fn open_item(&mut self, is_written: bool, same: bool)
-        ensures { WritesOn self.old self.new (opened_line is_written (line_of self.old))
-            (if is_written then separator_text (form_of self.old) (line_of self.old) ++ (if same then codes "<i>" else []) else []) }
+    /// Writes markup of an item that is the same as on the line above, in a page alone.
+    pub(crate) fn mark_same(&mut self, same: bool, markup: &[u8])
+        ensures { Writes self.old self.new (marked same markup.now) }
     {
-        if is_written {
-            self.separate();
-            self.begin_same(same);
+        if same {
+            self.mark(markup);
         }
     }
 
-    /// Writes the markup before an item that is the same as on the line above.
-    fn begin_same(&mut self, same: bool)
-        ensures { Writes self.old self.new (if same then codes "<i>" else []) }
+    /// Counts an item, if it is the same as on the line above.
+    pub(crate) fn count(&mut self, same: bool)
+        ensures { Writes self.old self.new (counted same) }
     {
         if same {
-            self.put(b"<i>");
+            self.same = self.same.saturating_add(1);
         }
     }
 
@@ -544,15 +476,6 @@ impl<'a, A: Allocator> ReportWriter<'a, A> {
         self.put(b" more as above</i>");
     }
 
-    /// Ends an item.
-    pub(crate) fn end_item(&mut self, same: bool)
-        ensures { Writes self.old self.new (if same then in_page self.old.is_page (codes "</i>") else []) }
-    {
-        if same {
-            self.mark(b"</i>");
-        }
-    }
-
     /// Writes in plain text what comes before a note after the items.
     pub(crate) fn note(&mut self) {
         if !self.is_page {
@@ -562,8 +485,7 @@ impl<'a, A: Allocator> ReportWriter<'a, A> {
 
     /// Writes an item that has nothing to do with the line above.
     pub(crate) fn item(&mut self, text: &[u8])
-        ensures { WritesOn self.old self.new (begun_line (line_of self.old))
-            (separator_text (form_of self.old) (line_of self.old) ++ said_in self.old.is_page text.now) }
+        ensures { Writes self.old self.new (single_item text.now) }
     {
         self.separate();
         self.say(text);

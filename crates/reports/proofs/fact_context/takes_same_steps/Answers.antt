@@ -6,5 +6,4 @@ use Rattle.reports.proofs.fact_context.takes_same_steps.Goals as goal
 
 pub returns : goal.returns
 returns c =
-    c.has_same_steps.ensures ∙ (ap (λ (s : List Step). same_steps s (map step_of c.steps-2.result.now)) c.steps.ensures.steps ∙
-    ap (λ (s : List Step). same_steps (chain_of c.args.other.now).steps s) c.steps-2.ensures.steps)
+    c.has_same_steps.ensures ∙ (ap (λ (s : List Step). same_steps s (map step_of c.steps-2.result.now)) c.steps.ensures.steps ∙ ap (λ (s : List Step). same_steps (chain_of c.args.other.now).steps s) c.steps-2.ensures.steps)

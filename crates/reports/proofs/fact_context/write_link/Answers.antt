@@ -1,22 +1,12 @@
-use Rattle.std.proofs.Common.{ℕ, ◌≡◌, ◌∙◌, ◌++◌, Bool, false, List, ap, sym, true}
-use Rattle.std.specs.Prelude.{codes, not, ◌||◌, Option}
-use Rattle.wordset.specs.Lanes.{words}
-use Rattle.wordset.specs.Links.{links_of}
-use Rattle.wordset.specs.Words.{Words}
-use Rattle.domain.specs.Facts.{Fact}
-use Rattle.domain.specs.FactInCode.{fact_in_code}
-use Rattle.domain.specs.Locations.{Ac, Cell}
-use Rattle.reports.specs.FactText.{fact_above, has_links_above, is_above, told_of_mq, told_of_sites}
-use Rattle.reports.specs.ItemText.{has_same_words, held_text, is_all}
+use Rattle.std.proofs.Common.{refl}
+use Rattle.std.specs.Prelude.{not}
+use Rattle.reports.specs.FactText.{fact_above, has_links_above}
 use Rattle.reports.specs.Rows.{link_said}
-use Rattle.reports.specs.SetText.{places_text}
-use Rattle.reports.specs.Writing.{Form, cell_text, form_of}
-use Rattle.reports.proofs.ItemLemmas.{items_as, no_items, one_item}
+use Rattle.reports.specs.Writing.{plain}
+use Rattle.reports.proofs.ItemLemmas.{item_on}
 use Rattle.reports.proofs.fact_context.write_link.Goals as goal
 
 pub returns : goal.returns
 returns g c =
-    let above : Option Fact = fact_above c.args.above in
-    items_as _ _ _ _
-    (ap (λ (s : Bool). one_item s (link_said (links_of c.link-links.result))) c.has_links-same.ensures ∙
-    ap (λ (w : Words). one_item (has_links_above above w) (link_said w)) c.link-links.ensures) c.write_link_item.ensures
+    item_on (λ links. not c.args.shown.now.apart.link) (has_links_above (fact_above c.args.shown.now.above)) (λ links. plain (link_said links))
+    refl c.has_links-same.ensures c.link-links.ensures c.write_item_if.ensures

@@ -1,13 +1,13 @@
-use Rattle.std.proofs.Common.{◌∙◌, ap, sym}
-use Rattle.wordset.specs.Words.{Words}
+use Rattle.std.proofs.Common.{ap, false, refl}
+use Rattle.std.specs.Prelude.{not}
+use Rattle.reports.specs.FactText.{subject_text}
 use Rattle.reports.specs.ItemText.{is_all}
-use Rattle.reports.proofs.ItemLemmas.{no_items}
+use Rattle.reports.proofs.ItemLemmas.{item_on}
+use Rattle.reports.specs.declared.known_fact.Subject.TheVariants as subjects
+use Rattle.wordset.specs.Words.{all_words as the_words}
 use Rattle.reports.proofs.fact_context.write_lost_cell.Goals as goal
 
-pub returns-then-not-is_all : goal.returns-then-not-is_all
-returns-then-not-is_all g c =
-    rw (ap (λ (w : Words). is_all w) (sym c.set_of-set.ensures) ∙ (sym c.is_all.ensures ∙ c.if-not-is_all.true)) (rw c.all.ensures at c.write_cell_item.ensures)
-
-pub returns-else-not-is_all : goal.returns-else-not-is_all
-returns-else-not-is_all g c =
-    rw (ap (λ (w : Words). is_all w) (sym c.set_of-set.ensures) ∙ (sym c.is_all.ensures ∙ c.if-not-is_all.false)) (no_items _)
+pub returns : goal.returns
+returns g c =
+    item_on (λ set. not (is_all set)) (λ set. false) (λ set. subject_text (subjects.Cell c.args.cell) the_words)
+    (ap not c.is_all.ensures) refl c.words_of-set.ensures (rw c.all.ensures at c.write_item_if.ensures)

@@ -1,14 +1,11 @@
-use Rattle.domain.specs.FactInCode.{fact_in_code}
-use Rattle.reports.specs.FactText.{lost_cell_items}
-use Rattle.reports.proofs.CellItemLemmas.{all_words, no_words, word_more}
+use Rattle.reports.proofs.EachWordLemmas.{all_words, no_words, word_more}
 use Rattle.reports.proofs.fact_context.write_lost_cells.Goals as goal
 
 pub loop-cell-init : goal.loop-cell-init
-loop-cell-init g c = no_words _ _ _ _ _ c.iter-cell-items.ensures c.into_iter-cell-iterator.ensures.into_iter_gives
+loop-cell-init g c = no_words _ _ _ c.iter-cell-items.ensures c.into_iter-cell-iterator.ensures.into_iter_gives
 
 pub loop-cell-preserved : goal.loop-cell-preserved
-loop-cell-preserved g c = word_more _ _ _ (λ form. lost_cell_items form (fact_in_code c.args.above.now.fact)) _ _ _ _ c.loop-cell.invariant c.in-Some.ensures.steps
-    c.write_lost_cell.ensures
+loop-cell-preserved g c = word_more c.loop-cell.invariant c.in-Some.ensures.steps c.write_lost_cell.ensures
 
 pub returns : goal.returns
-returns g c = all_words _ _ _ _ _ c.loop-cell.invariant c.in-None.ensures.steps
+returns g c = all_words c.loop-cell.invariant c.in-None.ensures.steps

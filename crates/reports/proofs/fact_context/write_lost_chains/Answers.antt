@@ -1,17 +1,17 @@
-use Rattle.std.proofs.Common.{map}
+use Rattle.std.proofs.Common.{refl}
+use Rattle.std.specs.Prelude.{◌==◌}
 use Rattle.domain.specs.ChainsInCode.{chain_of}
-use Rattle.reports.specs.RelationItems.{lost_chain_items}
-use Rattle.reports.specs.Writing.{form_of}
-use Rattle.reports.proofs.EachItemLemmas.{each_end, each_next, some_all, some_more, some_none}
+use Rattle.reports.proofs.ItemLemmas.{any_in}
+use Rattle.reports.proofs.WritingLemmas.{all_left, each_written, none_left}
 use Rattle.reports.proofs.fact_context.write_lost_chains.Goals as goal
 
 pub loop-chain-init : goal.loop-chain-init
-loop-chain-init g c = some_none _ _
+loop-chain-init g c = all_left
 
 pub loop-chain-preserved : goal.loop-chain-preserved
 loop-chain-preserved g c =
-    some_more _ _ _ _ _ _ (λ form. (lost_chain_items form (map chain_of c.args.chains.now)) (chain_of c.chain-item.result)) c.loop-chain.invariant c.write_chain_lost.ensures
-    (each_next chain_of (lost_chain_items (form_of c.args.writer.now) (map chain_of c.args.chains.now)) c.args.above.now c.loop-chain.chain-index c.chain-item.result c.loop-chain-test.true c.chain-item.is)
+    each_written c.loop-chain.invariant c.loop-chain-test.true c.chain-item.is
+    (rw (any_in chain_of (λ y. y.cell == c.cell.result) c.args.chains.now refl c.begins_at.ensures, c.cell.ensures, c.cell-2.ensures) at c.write_item_if.ensures)
 
 pub returns : goal.returns
-returns g c = some_all _ _ _ _ c.loop-chain.invariant (each_end chain_of (lost_chain_items (form_of c.args.writer.now) (map chain_of c.args.chains.now)) c.args.above.now c.loop-chain.chain-index c.loop-chain-test.false)
+returns g c = none_left c.loop-chain.invariant c.loop-chain-test.false

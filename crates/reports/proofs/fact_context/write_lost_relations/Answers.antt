@@ -1,17 +1,18 @@
-use Rattle.std.proofs.Common.{map}
+use Rattle.std.proofs.Common.{refl}
+use Rattle.domain.specs.InCode.{sum_of}
 use Rattle.domain.specs.RelationsInCode.{relation_of}
-use Rattle.reports.specs.RelationItems.{lost_relation_items}
-use Rattle.reports.specs.Writing.{form_of}
-use Rattle.reports.proofs.EachItemLemmas.{each_end, each_next, some_all, some_more, some_none}
+use Rattle.domain.specs.Terms.{same_sum}
+use Rattle.reports.proofs.ItemLemmas.{any_in}
+use Rattle.reports.proofs.WritingLemmas.{all_left, each_written, none_left}
 use Rattle.reports.proofs.fact_context.write_lost_relations.Goals as goal
 
 pub loop-relation-init : goal.loop-relation-init
-loop-relation-init g c = some_none _ _
+loop-relation-init g c = all_left
 
 pub loop-relation-preserved : goal.loop-relation-preserved
 loop-relation-preserved g c =
-    some_more _ _ _ _ _ _ (λ form. (lost_relation_items form (map relation_of c.args.relations.now)) (relation_of c.relation-item.result)) c.loop-relation.invariant c.write_lost_relation.ensures
-    (each_next relation_of (lost_relation_items (form_of c.args.writer.now) (map relation_of c.args.relations.now)) c.args.above.now c.loop-relation.relation-index c.relation-item.result c.loop-relation-test.true c.relation-item.is)
+    each_written c.loop-relation.invariant c.loop-relation-test.true c.relation-item.is
+    (rw (any_in relation_of (λ y. same_sum y.sum (sum_of c.relation-item.result.sum)) c.args.relations.now refl c.relates.ensures) at c.write_item_if.ensures)
 
 pub returns : goal.returns
-returns g c = some_all _ _ _ _ c.loop-relation.invariant (each_end relation_of (lost_relation_items (form_of c.args.writer.now) (map relation_of c.args.relations.now)) c.args.above.now c.loop-relation.relation-index c.loop-relation-test.false)
+returns g c = none_left c.loop-relation.invariant c.loop-relation-test.false

@@ -1,12 +1,10 @@
-use Rattle.std.specs.Prelude.{◌++◌, codes}
-use Rattle.domain.specs.Offsets.{offsets_in}
-use Rattle.reports.specs.FactText.{offsets_text}
-use Rattle.reports.specs.Writing.{form_of}
-use Rattle.reports.proofs.ItemLemmas.{item_left_out, item_written}
+use Rattle.std.specs.Prelude.{codes}
+use Rattle.reports.specs.FactText.{are_offsets_above, are_offsets_told, fact_above, offsets_text}
+use Rattle.reports.specs.Writing.{◌⊕◌, plain}
+use Rattle.reports.proofs.ItemLemmas.{item_on}
 use Rattle.reports.proofs.fact_context.write_offsets_item.Goals as goal
 
-pub returns-then-begin_item : goal.returns-then-begin_item
-returns-then-begin_item g c = item_written _ _ _ _ c.args.same c.begin_item.result (λ f. codes "return word up by " ++ offsets_text (offsets_in c.args.offsets)) c.begin_item.ensures.shown c.if-begin_item.true c.begin_item.ensures.begun c.write_up_by.ensures c.end_item.ensures
-
-pub returns-else-begin_item : goal.returns-else-begin_item
-returns-else-begin_item g c = item_left_out _ _ c.args.same c.begin_item.result (codes "return word up by " ++ offsets_text (offsets_in c.args.offsets)) c.begin_item.ensures.shown c.if-begin_item.false c.begin_item.ensures.begun
+pub returns : goal.returns
+returns g c =
+    item_on (are_offsets_told c.args.shown.now) (are_offsets_above (fact_above c.args.shown.now.above)) (λ offsets. plain (codes "return word up by ") ⊕ offsets_text offsets)
+    c.are_offsets_told-told.ensures c.are_offsets_above-same.ensures c.offsets-offsets.ensures c.write_item_if.ensures

@@ -1,12 +1,7 @@
 use Rattle.std.proofs.Common.{arith}
-use Rattle.std.specs.Prelude.{◌++◌}
-use Rattle.wordset.specs.Lanes.{words}
-use Rattle.wordset.specs.Words.{Words}
-use Rattle.domain.specs.InCode.{sum_of, summand_at}
-use Rattle.domain.specs.Terms.{Sum}
-use Rattle.reports.specs.RelationText.{distance_text, term_text}
+use Rattle.domain.specs.InCode.{sum_of}
 use Rattle.reports.proofs.AmountLemmas.{term_as, two_summands}
-use Rattle.reports.proofs.WritingLemmas.{writes_then}
+use Rattle.reports.proofs.WritingLemmas.{writes_both}
 use Rattle.reports.proofs.relations.write_difference.Goals as goal
 
 pub get-requires : goal.get-requires
@@ -17,8 +12,4 @@ get-requires-2 g c = omega (arith, two_summands (sum_of c.args.sum.now) c.requir
 
 pub returns : goal.returns
 returns g c =
-    let s : Sum = sum_of c.args.sum.now in
-    writes_then _ _ _ _ (λ f. distance_text f (words c.args.set.now) ++ term_text f (summand_at s 1).term)
-    (term_as _ _ _ _ c.get.ensures c.write_term.ensures)
-    (writes_then _ _ _ _ (λ f. term_text f (summand_at s 1).term) c.write_distance.ensures
-    (term_as _ _ _ _ c.get-2.ensures c.write_term-2.ensures))
+    writes_both (term_as c.get.ensures c.write_term.ensures) (writes_both c.write_distance.ensures (term_as c.get-2.ensures c.write_term-2.ensures))

@@ -1,4 +1,8 @@
+use Rattle.reports.proofs.WritingLemmas.{begun_by_blanks, begun_by_nothing}
 use Rattle.reports.proofs.writer.ReportWriter.begin_line.Goals as goal
 
-pub returns : goal.returns
-returns g c = record { given = c.put_indent.ensures.given; bytes = c.put_indent.ensures.bytes; kept = c.put_indent.ensures.kept }
+pub returns-then-not-self : goal.returns-then-not-self
+returns-then-not-self g c = begun_by_blanks c.if-not-self.true c.blanks.ensures
+
+pub returns-else-not-self : goal.returns-else-not-self
+returns-else-not-self g c = begun_by_nothing _ c.if-not-self.false

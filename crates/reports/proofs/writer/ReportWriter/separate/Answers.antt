@@ -1,8 +1,8 @@
-use Rattle.reports.proofs.ItemLemmas.{line_begun, separated}
+use Rattle.reports.proofs.WritingLemmas.{writes_at}
 use Rattle.reports.proofs.writer.ReportWriter.separate.Goals as goal
 
-pub returns-then-has_item : goal.returns-then-has_item
-returns-then-has_item g c = separated _ _ c.if-has_item.true c.put.ensures
+pub returns-then-self : goal.returns-then-self
+returns-then-self g c = writes_at (rw c.if-self.true) c.put.ensures
 
-pub returns-else-has_item : goal.returns-else-has_item
-returns-else-has_item g c = line_begun _ _ c.if-has_item.false c.begin_line.ensures
+pub returns-else-self : goal.returns-else-self
+returns-else-self g c = writes_at (rw c.if-self.false) c.begin_line.ensures

@@ -1,8 +1,0 @@
-use Rattle.reports.proofs.ItemLemmas.{no_items}
-use Rattle.reports.proofs.fact_context.write_accumulator_unless.Goals as goal
-
-pub returns-then-not-is_apart : goal.returns-then-not-is_apart
-returns-then-not-is_apart g c = rw c.if-not-is_apart.true c.write_accumulator.ensures
-
-pub returns-else-not-is_apart : goal.returns-else-not-is_apart
-returns-else-not-is_apart g c = rw c.if-not-is_apart.false (no_items _)

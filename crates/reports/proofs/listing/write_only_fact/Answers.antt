@@ -1,9 +1,0 @@
-use Rattle.reports.proofs.ExtendLemmas.{extends_then}
-use Rattle.reports.proofs.listing.write_only_fact.Goals as goal
-
-pub returns : goal.returns
-returns g c = record {
-  mid = _;
-  says = c.write_items_at.ensures;
-  rest = extends_then _ _ _ c.end_same.ensures (extends_then _ _ _ c.write_access.ensures c.write_direct.ensures);
-}

@@ -1,5 +1,0 @@
-use Rattle.reports.proofs.WritingLemmas.{writes_both}
-use Rattle.reports.proofs.relations.write_times.Goals as goal
-
-pub returns : goal.returns
-returns g c = writes_both _ _ _ _ _ c.word.ensures c.put.ensures

@@ -1,0 +1,14 @@
+use Rattle.wordset.specs.Lanes.{words}
+use Rattle.reports.proofs.KnownLemmas.{of_several}
+use Rattle.reports.proofs.report.Report.write_known.Goals as goal
+
+pub returns-then-count-eq0 : goal.returns-then-count-eq0
+returns-then-count-eq0 g c = rw c.if-count-eq0.true (record { kind = c.kind_of-kind.result; stands = c.kind_of-kind.ensures; says = c.write_unknown.ensures })
+
+pub returns-then-count-eq1 : goal.returns-then-count-eq1
+returns-then-count-eq1 g c = rw c.if-count-eq1.true c.write_only_fact.ensures
+
+pub returns : goal.returns
+returns g c =
+    of_several c.args.self.now (words c.look_up.new.self.routine.sites) c.args.count c.args.at c.args.writer.now c.write_direct.new.writer c.if-count-eq0.false
+    c.if-count-eq1.false

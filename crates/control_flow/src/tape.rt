@@ -3,16 +3,16 @@
 ghost use Rattle.std.specs.Prelude.{◌≡◌};
 
 use crate::ObservedRuns;
-use crate::walk::ProgramPoint;
 use bin_tape::Image;
 use declaration::Owner;
+use tape_walk::ProgramPoint;
 use word12::Word;
 use wordset::WordSet;
 
-/// Where a step was made, and the running routine's entry, if it was not main.
+/// Where a step was made, and whose body ran.
 #[derive(Clone, Copy)]
 pub(crate) struct Visit {
-    pub(crate) entry: Option<Word>,
+    pub(crate) owner: Owner,
     pub(crate) spot: ProgramPoint,
 }
 

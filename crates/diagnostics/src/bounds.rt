@@ -14,7 +14,7 @@ mod sets;
 mod sufficient;
 
 use crate::bounds::draft_facts::DraftFacts;
-use crate::bounds::losses::{PrecisionLoss, loss_at, may_go_on, refers_to_memory};
+use crate::bounds::losses::{PrecisionLoss, loss_at, may_go_on};
 use crate::bounds::relations::{Relation, lost_relation};
 use crate::bounds::sets::push_set;
 use crate::bounds::sufficient::{sufficient_words, test_of_pointer};
@@ -25,7 +25,7 @@ use certificate::Certificate;
 use command_parts::message::{MessageWriter, push_text_and_address};
 use declaration::Declaration;
 use domain::Location;
-use instruct::{Operation, name, refers_indirectly, target};
+use instruct::{Operation, name, refers_indirectly, refers_to_memory, target};
 use judge::{Case, Condition};
 use reasons::{ReasonWorkspace, why_stuck};
 use std::alloc::{AllocError, Allocator};

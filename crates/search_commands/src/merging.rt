@@ -1,14 +1,15 @@
 //! The text of a declaration, with what it lacks of another declaration added.
 
-use control_flow::{above_seven, push_range, push_skips};
+use control_flow::{above_seven, push_cells_ending, push_low_offsets, push_skips};
+use declaration::writing::{push_range, push_ranges};
 use declaration::{Declaration, Offsets, Routine};
 use std::alloc::{AllocError, Allocator};
 use streams::text::{self, Words};
 use word12::Word;
 use wordset::WordSet;
 
-/// The maximum number of ranges in an added line, if there may be several lines of its kind.
-const MOST_RANGES: usize = 7;
+/// The end of an added line.
+const END_OF_ADDED: &[u8] = b" / added\n";
 
 /// What a declaration says about cells, as far as it decides what may be added.
 #[derive(Clone, Copy)]
@@ -23,24 +24,6 @@ struct DeclaredCells {
 struct Addition {
     body: WordSet,
     offsets: WordSet,
-}
-
-/// The cells of the main body and of the bodies of some routines.
-fn bodies(main: &WordSet, routines: &[Routine]) -> WordSet {
-    let mut cells = *main;
-    for routine in routines {
-        cells = cells.union(routine.body());
-    }
-    cells
-}
-
-/// The entries of some routines.
-fn entries(routines: &[Routine]) -> WordSet {
-    let mut cells = WordSet::empty();
-    for routine in routines {
-        cells.insert(routine.entry());
-    }
-    cells
 }
 
 /// The cells that are added to bodies.
@@ -87,8 +70,8 @@ impl DeclaredCells {
     /// What this declaration says.
     fn by<A: Allocator>(declaration: &Declaration<A>) -> DeclaredCells {
         DeclaredCells {
-            bodies: bodies(declaration.main(), declaration.routines()),
-            entries: entries(declaration.routines()),
+            bodies: declaration.bodies(),
+            entries: declaration.entries(),
             variables: *declaration.variables(),
         }
     }
@@ -110,8 +93,7 @@ impl DeclaredCells {
     /// The variables that may be added. A cell of a body becomes a variable only if it is in a body of the other
     /// declaration too.
     fn added_variables<A: Allocator>(&self, proposed: &Declaration<A>) -> WordSet {
-        let code = bodies(proposed.main(), proposed.routines());
-        let kept = self.bodies.minus(&code).union(&self.entries);
+        let kept = self.bodies.minus(&proposed.bodies()).union(&self.entries);
         proposed.variables().minus(&self.variables).minus(&kept)
     }
 }
@@ -148,49 +130,9 @@ fn addition_to<A: Allocator, B: Allocator>(
     Some(Addition { body, offsets })
 }
 
-/// Adds the ranges of a set, each after a space.
-pub(crate) fn push_ranges<A: Allocator>(
-    text: &mut Vec<u8, A>,
-    set: &WordSet,
-) -> Result<(), AllocError> {
-    for (first, last) in set.ranges() {
-        push_range(text, first, last)?;
-    }
-    Ok(())
-}
-
-/// Adds the offsets of a set, each after a space.
-pub(crate) fn push_offsets<A: Allocator>(
-    text: &mut Vec<u8, A>,
-    set: &WordSet,
-) -> Result<(), AllocError> {
-    for offset in 0..8usize {
-        if set.contains(Word::from_index(offset)) {
-            text.extend_from_slice(b" ")?;
-            text.push(b'0' + offset as u8)?;
-        }
-    }
-    Ok(())
-}
-
 /// Ends an added line.
 pub(crate) fn end_line<A: Allocator>(text: &mut Vec<u8, A>) -> Result<(), AllocError> {
-    text.extend_from_slice(b" / added\n")
-}
-
-/// Begins an added line if there is none yet, or if the last one is full; `ranges` is the number of ranges so far.
-fn push_line_break<A: Allocator>(
-    text: &mut Vec<u8, A>,
-    kind: &[u8],
-    ranges: usize,
-) -> Result<(), AllocError> {
-    if ranges % MOST_RANGES != 0 {
-        return Ok(());
-    }
-    if ranges != 0 {
-        end_line(text)?;
-    }
-    text.extend_from_slice(kind)
+    text.extend_from_slice(END_OF_ADDED)
 }
 
 /// Adds lines of a kind with the ranges of a set, if the set is not empty.
@@ -199,16 +141,7 @@ fn push_cells<A: Allocator>(
     kind: &[u8],
     set: &WordSet,
 ) -> Result<(), AllocError> {
-    let mut ranges = 0usize;
-    for (first, last) in set.ranges() {
-        push_line_break(text, kind, ranges)?;
-        push_range(text, first, last)?;
-        ranges = ranges.saturating_add(1);
-    }
-    if ranges != 0 {
-        end_line(text)?;
-    }
-    Ok(())
+    push_cells_ending(text, kind, set, END_OF_ADDED)
 }
 
 /// Adds a line of a kind for each cell of a set.
@@ -236,7 +169,7 @@ fn push_routine<A: Allocator>(
     text.extend_from_slice(b" body")?;
     push_ranges(text, &held.free(routine.body()))?;
     text.extend_from_slice(b" returns")?;
-    push_offsets(text, &set_of(&routine.offsets()))?;
+    push_low_offsets(text, &set_of(&routine.offsets()))?;
     end_line(text)
 }
 
@@ -275,7 +208,7 @@ fn push_end<A: Allocator>(
 ) -> Result<(), AllocError> {
     let (words, rest) = parted(end);
     text.extend_from_slice(words)?;
-    push_offsets(text, &addition.offsets)?;
+    push_low_offsets(text, &addition.offsets)?;
     text.extend_from_slice(rest)?;
     text.extend_from_slice(b" / added")?;
     push_ranges(text, &addition.body)?;
@@ -283,7 +216,7 @@ fn push_end<A: Allocator>(
         return Ok(());
     }
     text.extend_from_slice(b" returns")?;
-    push_offsets(text, &addition.offsets)
+    push_low_offsets(text, &addition.offsets)
 }
 
 /// Adds a routine's line with what is added to it. The first letter `r` in the line is that of `returns`.

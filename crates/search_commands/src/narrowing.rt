@@ -1,10 +1,11 @@
 //! The text of a declaration without what a certificate shows to be unnecessary.
 
-use crate::merging::{parted, push_offsets, push_ranges, routine_of, set_of};
+use crate::merging::{parted, routine_of, set_of};
 use crate::returning::push_digits;
 use bin_tape::Image;
 use certificate::Certificate;
-use control_flow::push_range;
+use control_flow::push_low_offsets;
+use declaration::writing::{push_range, push_ranges};
 use declaration::{Declaration, Routine};
 use std::alloc::{AllocError, Allocator};
 use streams::text::{Words, is, octal_word};
@@ -239,7 +240,7 @@ impl<'a, D: Allocator, C: Allocator> Needless<'a, D, C> {
         text.extend_from_slice(b" body")?;
         push_ranges(text, &body)?;
         text.extend_from_slice(b" returns")?;
-        push_offsets(text, &offsets)?;
+        push_low_offsets(text, &offsets)?;
         push_whole(text, rest)
     }
 

@@ -187,24 +187,6 @@ fn unchanged<A: Allocator + Copy>(alloc: A, text: &[u8], why: &[u8]) -> Result<R
     Ok(Refinement { text, told })
 }
 
-/// The cells of all bodies of a declaration.
-fn bodies_of<D: Allocator>(declaration: &Declaration<D>) -> WordSet {
-    let mut cells = *declaration.main();
-    for routine in declaration.routines() {
-        cells = cells.union(routine.body());
-    }
-    cells
-}
-
-/// The entries of all routines of a declaration.
-fn entries_of<D: Allocator>(declaration: &Declaration<D>) -> WordSet {
-    let mut entries = WordSet::empty();
-    for routine in declaration.routines() {
-        entries.insert(routine.entry());
-    }
-    entries
-}
-
 /// The cells on the list of reads, or no cells if there is no list.
 fn reads_of<D: Allocator>(declaration: &Declaration<D>) -> WordSet {
     match declaration.reads() {
@@ -282,12 +264,12 @@ fn push_lost<L: MessageWriter, A: Allocator, B: Allocator>(
     push_cells(
         told,
         b"--tight leaves out body cells that no run reaches",
-        &bodies_of(given).minus(&bodies_of(less)),
+        &given.bodies().minus(&less.bodies()),
     )?;
     push_cells(
         told,
         b"--tight leaves out routines that are never called",
-        &entries_of(given).minus(&entries_of(less)),
+        &given.entries().minus(&less.entries()),
     )?;
     push_lost_offsets(told, given, less)?;
     push_cells(

@@ -1,184 +1,67 @@
 //! Assembles and lists sources, and reports their faults.
 
-ghost use Rattle.std.specs.Prelude.{◌≡◌, false};
-ghost use Rattle.std.specs.List.{AllByRecursion};
-
-use crate::file_kinds::part_hint;
-use crate::files::{ResultSink, finish, open_inputs, open_output, open_parts};
+use crate::files::{finish, open_output, open_parts};
+use crate::hints::{CommandFiles, hint_line};
 use crate::source_faults::{
-    NO_WORD, input_name, name_slices, output_name, report_file_fault, report_size_fault,
+    NO_WORD, input_name, name_slices, output_name, report_file_fault, report_if, report_size_fault,
     unopened_part, visible_names,
 };
 use crate::telling::{tell, tell_lines, tell_with};
-use command_line::{AssembleRequest, ListRequest};
+use command_line::{AssembleRequest, FileNames, ListRequest};
 use command_parts::status::{DeviceFault, Fault, Status};
 use source_commands::assembling::{assemble, list};
 use source_commands::crossing::list_crossed;
 use std::alloc::Global;
 use std::io;
 use std::rt::Files;
+use streams::ByteSource;
 use streams::standard::StdWriter;
-use streams::{ByteSink, ByteSource};
 
 /// The name of the first part that could not be read.
 fn failed_part<'n, S: ByteSource>(names: &'n [&'n str], parts: &[S]) -> &'n str {
-    for (index, part) in parts.iter().enumerate() {
+    for (name, part) in names.iter().zip(parts) {
         if part.failed() {
-            return match names.get(index) {
-                Some(name) => input_name(name),
-                None => "a source",
-            };
+            return input_name(name);
         }
     }
     "a source"
 }
 
-/// Writes the line of a fault to standard error, and below it what is wrong. For a fault of the source, these are the
-/// lines in `told`.
-fn report_fault<R: Eprint, S: ByteSource>(
+/// Writes the line of a fault to standard error, and below it what is wrong: for a fault of the source, these lines, and
+/// whether a file of another kind was given as a part. `shown` are the names of the parts as they are shown.
+fn report_fault<R: Files + Input + Eprint, S: ByteSource>(
     rt: &R,
     alloc: Global,
     fault: Fault,
-    names: &[&str],
+    files: &CommandFiles<'_, '_>,
+    shown: &[&str],
     parts: &[S],
-    out: &str,
     lines: &str,
 ) -> Status {
-    match fault {
-        Fault::Source(fault) if fault.line == 0 => report_size_fault(rt, alloc, fault, names),
+    let status = match fault {
+        Fault::Source(fault) if fault.line == 0 => report_size_fault(rt, alloc, fault, shown),
         Fault::Source(_) => tell_with(rt, fault, lines),
         Fault::EmptyImage => tell_with(rt, fault, NO_WORD),
-        Fault::Device(DeviceFault::Read) => report_file_fault(
-            rt,
-            alloc,
-            fault,
-            failed_part(names, parts),
-            "cannot be read",
-        ),
-        Fault::Device(DeviceFault::Write) => report_file_fault(
-            rt,
-            alloc,
-            fault,
-            output_name(out),
-            "cannot be written",
-        ),
+        Fault::Device(DeviceFault::Read) => {
+            report_file_fault(
+                rt,
+                alloc,
+                fault,
+                failed_part(shown, parts),
+                "cannot be read",
+            )
+        }
+        Fault::Device(DeviceFault::Write) => {
+            let name = output_name(files.names.output.unwrap_or("-"));
+            report_file_fault(rt, alloc, fault, name, "cannot be written")
+        }
         _ => tell(rt, fault),
-    }
-}
-
-/// Lists a source, with a table of its symbols if that is requested.
-fn list_as_requested<S: ByteSource, W: ByteSink>(
-    alloc: Global,
-    parts: &mut [S],
-    request: &ListRequest<'_>,
-    names: Option<&[&str]>,
-    lines: &mut String,
-    out: &mut W,
-) -> Result<Status, Fault>
-    requires readable { AllByRecursion (λ part. S.mark part ≡ false) parts.old }
-    requires writable { W.mark out.old ≡ false }
-{
-    if request.crossed {
-        list_crossed(alloc, parts, request.profile, names, lines, out)
-    } else {
-        list(alloc, parts, request.profile, names, lines, out)
-    }
-}
-
-/// Lists the source whose parts are in these files. Below the line of a fault, it says what is wrong, with the names of
-/// the files as they are shown.
-fn list_or_report<R: Files + Input + Print + Eprint>(
-    rt: &R,
-    alloc: Global,
-    request: &ListRequest<'_>,
-    shown: &[&str],
-) -> Status {
-    let mut parts = Vec::new(alloc);
-    if let Err(fault) = open_parts(rt, &request.sources, &mut parts) {
-        return report_file_fault(
-            rt,
-            alloc,
-            fault,
-            unopened_part(shown, parts.len()),
-            "cannot be opened",
-        );
-    }
-    let mut out = StdWriter::new(io::writer(rt));
-    let mut lines = String::new(alloc);
-    match list_as_requested(
-        alloc,
-        &mut parts,
-        request,
-        Some(shown),
-        &mut lines,
-        &mut out,
-    ) {
-        Ok(status) => status,
-        Err(fault) => {
-            let status = report_fault(rt, alloc, fault, shown, &parts, "-", &lines);
-            tell_lines(rt, &part_hint(rt, alloc, "list", &request.sources, &fault));
-            status
-        }
-    }
-}
-
-/// Puts the tape in its place once it is assembled.
-fn finish_tape<R: Files + Print>(
-    file: &mut ResultSink<'_, R>,
-    assembled: Result<Status, Fault>,
-) -> Result<Status, Fault> {
-    finish(file, assembled?)
-}
-
-/// Assembles the parts in these files into a tape. Below the line of a fault, it says what is wrong, with the names of
-/// the files as they are shown.
-fn assemble_or_report<R: Files + Input + Print + Eprint>(
-    rt: &R,
-    alloc: Global,
-    request: &AssembleRequest<'_>,
-    shown: &[&str],
-) -> Status {
-    let (names, out) = (request.sources.as_slice(), request.out.name());
-    let mut file = match open_output(rt, alloc, request.out) {
-        Ok(file) => file,
-        Err(fault) => return report_file_fault(
-            rt,
-            alloc,
-            fault,
-            output_name(out),
-            "cannot be created",
-        ),
     };
-    let mut parts = Vec::new(alloc);
-    if let Err(fault) = open_parts(rt, names, &mut parts) {
-        return report_file_fault(
-            rt,
-            alloc,
-            fault,
-            unopened_part(shown, parts.len()),
-            "cannot be opened",
-        );
-    }
-    let mut lines = String::new(alloc);
-    let assembled = assemble(
-        alloc,
-        &mut parts,
-        request.profile,
-        Some(shown),
-        &mut lines,
-        &mut StdWriter::new(&mut file),
-    );
-    match finish_tape(&mut file, assembled) {
-        Ok(status) => status,
-        Err(fault) => {
-            let status = report_fault(rt, alloc, fault, shown, &parts, out, &lines);
-            tell_lines(rt, &part_hint(rt, alloc, "assemble", names, &fault));
-            status
-        }
-    }
+    tell_lines(rt, &hint_line(rt, alloc, &fault, files));
+    status
 }
 
-/// Lists the source whose parts are in these files.
+/// Lists the source whose parts are in these files, with a table of its symbols if that is requested.
 ///
 /// # Errors
 ///
@@ -190,15 +73,51 @@ pub fn list_from<R: Files + Input + Print + Eprint>(
     alloc: Global,
     request: &ListRequest<'_>,
 ) -> Result<Status, Fault> {
-    if request.explained {
-        let shown = visible_names(alloc, &request.sources)?;
-        let slices = name_slices(alloc, &shown)?;
-        return Ok(list_or_report(rt, alloc, request, &slices));
+    let explained = request.explained;
+    let shown = visible_names(alloc, &request.sources)?;
+    let shown = name_slices(alloc, &shown)?;
+    let mut parts = Vec::new(alloc);
+    if let Err(fault) = open_parts(rt, &request.sources, &mut parts) {
+        let name = unopened_part(&shown, parts.len());
+        return report_if(rt, alloc, explained, fault, name, "cannot be opened");
     }
-    let mut parts = open_inputs(rt, alloc, &request.sources)?;
-    let mut out = StdWriter::new(io::writer(rt));
+    let names = if explained {
+        Some(shown.as_slice())
+    } else {
+        None
+    };
     let mut lines = String::new(alloc);
-    list_as_requested(alloc, &mut parts, request, None, &mut lines, &mut out)
+    let mut out = StdWriter::new(io::writer(rt));
+    let listed = if request.crossed {
+        list_crossed(
+            alloc,
+            &mut parts,
+            request.profile,
+            names,
+            &mut lines,
+            &mut out,
+        )
+    } else {
+        list(
+            alloc,
+            &mut parts,
+            request.profile,
+            names,
+            &mut lines,
+            &mut out,
+        )
+    };
+    match listed {
+        Err(fault) if explained => {
+            let files = CommandFiles {
+                command: "list",
+                parts: &request.sources,
+                names: FileNames::NONE,
+            };
+            Ok(report_fault(rt, alloc, fault, &files, &shown, &parts, &lines))
+        }
+        answer => answer,
+    }
 }
 
 /// Assembles the parts in these files into a tape.
@@ -213,21 +132,57 @@ pub fn assemble_to<R: Files + Input + Print + Eprint>(
     alloc: Global,
     request: &AssembleRequest<'_>,
 ) -> Result<Status, Fault> {
-    if request.explained {
-        let shown = visible_names(alloc, &request.sources)?;
-        return Ok(assemble_or_report(rt, alloc, request, &name_slices(alloc, &shown)?));
+    let (explained, out) = (request.explained, request.out.name());
+    let shown = visible_names(alloc, &request.sources)?;
+    let shown = name_slices(alloc, &shown)?;
+    let mut file = match open_output(rt, alloc, request.out) {
+        Ok(file) => file,
+        Err(fault) => {
+            return report_if(
+                rt,
+                alloc,
+                explained,
+                fault,
+                output_name(out),
+                "cannot be created",
+            );
+        }
+    };
+    let mut parts = Vec::new(alloc);
+    if let Err(fault) = open_parts(rt, &request.sources, &mut parts) {
+        let name = unopened_part(&shown, parts.len());
+        return report_if(rt, alloc, explained, fault, name, "cannot be opened");
     }
-    let mut file = open_output(rt, alloc, request.out)?;
-    let mut parts = open_inputs(rt, alloc, &request.sources)?;
+    let names = if explained {
+        Some(shown.as_slice())
+    } else {
+        None
+    };
     let mut lines = String::new(alloc);
     let mut tape = StdWriter::new(&mut file);
-    let status = assemble(
+    let assembled = match assemble(
         alloc,
         &mut parts,
         request.profile,
-        None,
+        names,
         &mut lines,
         &mut tape,
-    )?;
-    finish(&mut file, status)
+    ) {
+        Ok(status) => finish(&mut file, status),
+        Err(fault) => Err(fault),
+    };
+    match assembled {
+        Err(fault) if explained => {
+            let files = CommandFiles {
+                command: "assemble",
+                parts: &request.sources,
+                names: FileNames {
+                    output: Some(out),
+                    ..FileNames::NONE
+                },
+            };
+            Ok(report_fault(rt, alloc, fault, &files, &shown, &parts, &lines))
+        }
+        answer => answer,
+    }
 }

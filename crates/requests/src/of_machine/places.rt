@@ -2,6 +2,7 @@
 
 use command_line::{AddressReader, Misuse, PlaceOptions, StopOptions};
 use labels::address::{Cells, cells_of};
+use machine_commands::stopping::no_stops;
 use pal_acts::SymbolTable;
 use std::alloc::Global;
 use word12::Word;
@@ -9,38 +10,23 @@ use wordset::WordSet;
 
 /// Reads addresses as in a declaration of a source that has these symbols.
 #[derive(Clone, Copy)]
-pub(crate) struct SymbolicAddresses<'s> {
-    pub(crate) symbols: &'s SymbolTable<Global>,
-}
-
-/// Cells as a set.
-fn set_of(cells: Cells) -> WordSet {
-    match cells {
-        Cells::One(at) => WordSet::one(at),
-        Cells::Range(low, high) => WordSet::range(low, high),
-    }
-}
-
-/// The address, if the cells are a single address and not a range.
-fn one_of(cells: Cells) -> Option<Word> {
-    match cells {
-        Cells::One(at) => Some(at),
-        Cells::Range(_, _) => None,
-    }
+struct SymbolicAddresses<'s> {
+    symbols: &'s SymbolTable<Global>,
 }
 
 impl AddressReader for SymbolicAddresses<'_> {
     fn cells(&self, word: &[u8]) -> Option<WordSet> {
         match cells_of(self.symbols, word) {
-            Ok(cells) => Some(set_of(cells)),
+            Ok(Cells::One(at)) => Some(WordSet::one(at)),
+            Ok(Cells::Range(low, high)) => Some(WordSet::range(low, high)),
             Err(_) => None,
         }
     }
 
     fn place(&self, word: &[u8]) -> Option<Word> {
         match cells_of(self.symbols, word) {
-            Ok(cells) => one_of(cells),
-            Err(_) => None,
+            Ok(Cells::One(at)) => Some(at),
+            _ => None,
         }
     }
 }
@@ -55,13 +41,28 @@ pub(crate) struct ResolvedPlaces {
 }
 
 /// The cells and places that these options name, with the symbols of the source.
+///
+/// # Errors
+///
+/// What is wrong with a value.
 pub(crate) fn resolve_places(
     symbols: &SymbolTable<Global>,
     places: &PlaceOptions<'_>,
 ) -> Result<ResolvedPlaces, Misuse> {
     let reader = SymbolicAddresses { symbols };
-    Ok(ResolvedPlaces {
-        show: places.shown(&reader)?,
-        stopping: places.stopping(&reader)?,
-    })
+    match (places.shown(&reader), places.stopping(&reader)) {
+        (Ok(show), Ok(stopping)) => Ok(ResolvedPlaces { show, stopping }),
+        (Err(misuse), _) | (_, Err(misuse)) => Err(misuse.with_symbols()),
+    }
+}
+
+/// How a run is followed: it is not stopped unless that is requested.
+pub(crate) fn stops_of(stopping: &Option<StopOptions>) -> StopOptions {
+    match stopping {
+        None => StopOptions {
+            stops: no_stops(),
+            last: None,
+        },
+        Some(stopping) => *stopping,
+    }
 }

@@ -152,8 +152,9 @@ pub fn finish<R: Files + Print>(
     out: &mut ResultSink<'_, R>,
     status: Status,
 ) -> Result<Status, Fault> {
-    match out {
-        Either::Right(file) if file.finish().is_err() => Err(Fault::Device(DeviceFault::Write)),
-        _ => Ok(status),
+    if let Either::Right(file) = out {
+        file.finish()
+            .map_err(|_| Fault::Device(DeviceFault::Write))?;
     }
+    Ok(status)
 }

@@ -3,7 +3,7 @@
 
 use crate::file_kinds::{Kind, kind_of};
 use crate::files::{bytes_of, is_read_once};
-use command_line::{FileNames, ProgramRequest, Request};
+use command_line::{FileNames, Request};
 use command_parts::status::Fault;
 use command_parts::visible::visible_text;
 use std::alloc::{AllocError, Global};
@@ -80,15 +80,6 @@ impl<'p, 'a> CommandFiles<'p, 'a> {
         CommandFiles {
             command: request.command(),
             parts: request.parts(),
-            names: request.names(),
-        }
-    }
-
-    /// Those of a request on a program and its declaration.
-    pub(crate) fn of_program(request: &'p ProgramRequest<'a>) -> CommandFiles<'p, 'a> {
-        CommandFiles {
-            command: request.task.command(),
-            parts: request.program.parts(),
             names: request.names(),
         }
     }

@@ -111,11 +111,11 @@ fn replaces_source<R: Files + Input>(rt: &R, alloc: Global, request: &Request<'_
 pub fn misused_files<R: Files + Input>(
     rt: &R,
     alloc: Global,
+    files: &CommandFiles<'_, '_>,
     request: &Request<'_>,
 ) -> Result<Option<Misuse>, AllocError> {
-    let files = CommandFiles::of(request);
     let inputs = files.inputs(alloc)?;
-    if let Some(misuse) = misused_output(rt, &files, &inputs) {
+    if let Some(misuse) = misused_output(rt, files, &inputs) {
         return Ok(Some(misuse));
     }
     if saves_over(rt, alloc, request, &inputs)? {

@@ -2,7 +2,6 @@
 
 use crate::hints::CommandFiles;
 use crate::source_faults::input_name;
-use command_line::ProgramRequest;
 use command_parts::visible::visible_text;
 use jiff::Timestamp;
 use jiff::civil::Date;
@@ -74,7 +73,7 @@ pub(crate) struct NamedFiles {
 }
 
 impl NamedFiles {
-    /// The names of a program's files, of its declaration and of the other inputs of a request. The plain files among
+    /// The names of a program's files, of its declaration and of the other inputs of a command. The plain files among
     /// them are read again for the sums of their bytes.
     ///
     /// # Errors
@@ -83,9 +82,9 @@ impl NamedFiles {
     pub(crate) fn of<R: Files>(
         rt: &R,
         alloc: Global,
-        request: &ProgramRequest<'_>,
+        command: &CommandFiles<'_, '_>,
     ) -> Result<NamedFiles, AllocError> {
-        let inputs = CommandFiles::of_program(request).inputs(alloc)?;
+        let inputs = command.inputs(alloc)?;
         let first = inputs.first().copied().unwrap_or("-");
         let program = visible_text(alloc, title_of(first))?;
         let mut files = String::new(alloc);

@@ -81,15 +81,12 @@ fn carry_out_machine_task<R: Files + Input + Print + Eprint>(
 pub fn answer_sourced<R: Files + Input + Print + Eprint>(
     rt: &R,
     alloc: Global,
+    files: &CommandFiles<'_, '_>,
     request: &SourceProgramRequest<'_>,
     at_terminal: bool,
 ) -> Result<Status, Fault> {
     let command = SourceCommand {
-        files: CommandFiles {
-            command: request.task.command(),
-            parts: &request.parts,
-            names: request.task.names(),
-        },
+        files: *files,
         declared: DeclarationUse::Unused(request.task.profile()),
         asked: false,
         explained: request.explained,

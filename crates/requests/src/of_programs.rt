@@ -19,13 +19,14 @@ use std::rt::Files;
 /// Carries out a command on a program that is given as a source. What is known about the source has a stack frame of
 /// its own, which a command on a tape does not need.
 #[inline(never)]
-fn answer_source<R: Files + Input + Print + Eprint>(
+fn answer_source<'a, R: Files + Input + Print + Eprint>(
     rt: &R,
     alloc: Global,
-    request: &ProgramRequest<'_>,
+    files: &CommandFiles<'_, 'a>,
+    request: &ProgramRequest<'a>,
 ) -> Result<Status, Fault> {
     let command = SourceCommand {
-        files: CommandFiles::of_program(request),
+        files: *files,
         declared: DeclarationUse::of(&request.task),
         asked: request.asked,
         explained: request.explained,
@@ -35,7 +36,7 @@ fn answer_source<R: Files + Input + Print + Eprint>(
         Err(status) => return Ok(status),
     };
     let mut program: OpenProgram<'_, '_, R, Either<R::Reader, R::File>> = OpenProgram::of_source(
-        rt, alloc, request, &source,
+        rt, alloc, files, request, &source,
     );
     let answer = program.carry_out();
     report_source(rt, alloc, &command, &source, answer)
@@ -48,16 +49,17 @@ fn answer_source<R: Files + Input + Print + Eprint>(
 ///
 /// The fault of the program, of its declaration, of another file or of the command.
 #[inline(never)]
-pub fn answer_program<R: Files + Input + Print + Eprint>(
+pub fn answer_program<'a, R: Files + Input + Print + Eprint>(
     rt: &R,
     alloc: Global,
-    request: &ProgramRequest<'_>,
+    files: &CommandFiles<'_, 'a>,
+    request: &ProgramRequest<'a>,
 ) -> Result<Status, Fault> {
     match &request.program {
         ProgramNames::Tape(tape) => {
-            let mut program = OpenProgram::of_tape(rt, alloc, request, tape)?;
+            let mut program = OpenProgram::of_tape(rt, alloc, files, request, tape)?;
             program.carry_out()
         }
-        ProgramNames::Source(_) => answer_source(rt, alloc, request),
+        ProgramNames::Source(_) => answer_source(rt, alloc, files, request),
     }
 }

@@ -7,6 +7,7 @@ use std::fmt::Write;
 use std::fs::{self, Metadata, OpenOptions, Permissions};
 use std::io::{self, Read};
 use std::os::unix::fs::{MetadataExt, PermissionsExt, chown};
+use std::path::Path;
 use std::rt::Files;
 
 /// How many names are tried for a temporary file.
@@ -34,21 +35,11 @@ impl<R: Files> Drop for TemporaryFile<'_, R> {
     }
 }
 
-/// Adds the folder in a path, with the slash after it, if the path has one.
-fn push_folder(text: &mut String, path: &str) -> Result<(), AllocError> {
-    if let Some((folder, _)) = path.rsplit_once('/') {
-        text.push_str(folder)?;
-        text.push('/')?;
-    }
-    Ok(())
-}
-
 /// A name for a temporary file beside the file at this path.
 fn name_beside(alloc: Global, path: &str, number: u32) -> Result<String, AllocError> {
     let mut name = String::new(alloc);
-    push_folder(&mut name, path)?;
     write!(name, ".pdp8-{number}").map_err(|_| AllocError)?;
-    Ok(name)
+    Ok(Path::new(path).with_file_name(alloc, &name)?.into_string())
 }
 
 /// The I/O error for memory that was refused.
@@ -82,18 +73,6 @@ fn is_stream(path: &str) -> bool {
     path.starts_with("/dev/fd/") || path.starts_with("/proc/")
 }
 
-/// The path that a symbolic link stands for.
-fn link_target<R: Files>(rt: &R, alloc: Global, link: &str) -> io::Result<String> {
-    let target = rt.read_link(alloc, link)?.into_string();
-    if target.starts_with('/') {
-        return Ok(target);
-    }
-    let mut path = String::new(alloc);
-    push_folder(&mut path, link).map_err(no_memory)?;
-    path.push_str(&target).map_err(no_memory)?;
-    Ok(path)
-}
-
 /// The path of the file with this name, after all symbolic links; `None` if no temporary file may replace it.
 fn place_of<R: Files>(rt: &R, alloc: Global, name: &str) -> Result<Option<String>, AllocError> {
     let mut path = String::from_str(alloc, name)?;
@@ -102,12 +81,16 @@ fn place_of<R: Files>(rt: &R, alloc: Global, name: &str) -> Result<Option<String
             return Ok(None);
         }
         match fs::symlink_metadata(rt, &path) {
-            Ok(found) if found.is_symlink() => match link_target(rt, alloc, &path) {
-                Ok(target) => path = target,
-                Err(_) => return Ok(None),
-            },
+            Ok(found) if found.is_symlink() => {}
             _ => return Ok(Some(path)),
         }
+        let Ok(target) = rt.read_link(alloc, &path) else {
+            return Ok(None);
+        };
+        let target = target.into_string();
+        path = Path::new(&path)
+            .with_file_name(alloc, &target)?
+            .into_string();
     }
     Ok(None)
 }

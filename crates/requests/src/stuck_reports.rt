@@ -1,11 +1,12 @@
 //! The report on a search for a certificate that is stuck.
 
 use crate::files::{finish, open_output};
+use crate::hints::CommandFiles;
 use crate::named_files::NamedFiles;
 use crate::of_sources::assembled::AssembledSource;
 use crate::of_sources::source_lines::rest_with_source_lines;
 use crate::stuck::{StuckSearch, stuck_explanation};
-use command_line::{Destination, ProgramRequest};
+use command_line::Destination;
 use command_parts::status::{Fault, Status};
 use reports::drafting::draft_page;
 use reports::reporting::ReportForm;
@@ -24,7 +25,7 @@ use streams::standard::StdWriter;
 pub fn write_stuck_report<R: Files + Print>(
     rt: &R,
     alloc: Global,
-    request: &ProgramRequest<'_>,
+    files: &CommandFiles<'_, '_>,
     stuck: &StuckSearch<'_>,
     name: &str,
     source: Option<&AssembledSource>,
@@ -38,7 +39,7 @@ pub fn write_stuck_report<R: Files + Print>(
         )?),
         None => None,
     };
-    let files = NamedFiles::of(rt, alloc, request)?;
+    let names = NamedFiles::of(rt, alloc, files)?;
     let mut file = open_output(rt, alloc, Destination::MadeLast(name))?;
     let bytes = draft_page(
         alloc,
@@ -47,7 +48,7 @@ pub fn write_stuck_report<R: Files + Print>(
         stuck.draft,
         stuck.at,
         ReportForm::Page,
-        files.names(),
+        names.names(),
         source.map(|source| &source.notes),
         why.as_ref().map(|lines| lines.as_slice()),
     )?;

@@ -84,7 +84,8 @@ fn carry_out<R: Files + Input + Print + Eprint>(
     line: &CommandLine<'_>,
     at_terminal: bool,
 ) -> Status {
-    match misused_files(rt, alloc, &line.request) {
+    let files = &CommandFiles::of(&line.request);
+    match misused_files(rt, alloc, files, &line.request) {
         Ok(None) => {}
         Ok(Some(misuse)) => return tell_misuse(rt, &misuse),
         Err(_) => return tell(rt, Fault::NoMemory),
@@ -94,11 +95,11 @@ fn carry_out<R: Files + Input + Print + Eprint>(
         Request::Session(session) => hold_session(rt, alloc, session),
         Request::Teletype(session) => hold_teletype_session(rt, alloc, session, at_terminal),
         Request::Dump(asked) => dump_from(rt, alloc, asked),
-        Request::Assemble(asked) => assemble_to(rt, alloc, asked),
-        Request::List(asked) => list_from(rt, alloc, asked),
+        Request::Assemble(asked) => assemble_to(rt, alloc, files, asked),
+        Request::List(asked) => list_from(rt, alloc, files, asked),
         Request::Source(asked) => source_from(rt, alloc, asked),
-        Request::Sourced(asked) => answer_sourced(rt, alloc, asked, at_terminal),
-        Request::Program(asked) => answer_program(rt, alloc, asked),
+        Request::Sourced(asked) => answer_sourced(rt, alloc, files, asked, at_terminal),
+        Request::Program(asked) => answer_program(rt, alloc, files, asked),
         Request::Migrate(asked) => migrate_from(rt, alloc, asked),
         Request::Explain { code, number } => explain_code(rt, alloc, *code, *number),
     };
@@ -109,23 +110,13 @@ fn carry_out<R: Files + Input + Print + Eprint>(
             }
             status
         }
-        Err(fault) => report_fault(rt, alloc, &fault, line),
+        Err(fault) => {
+            let status = tell(rt, fault);
+            tell_lines(rt, &fault_lines(rt, alloc, &fault, files, line.explained));
+            tell_lines(rt, &hint_line(rt, alloc, &fault, files));
+            status
+        }
     }
-}
-
-/// Reports the fault that stopped a command, and returns its status.
-#[inline(never)]
-fn report_fault<R: Files + Input + Eprint>(
-    rt: &R,
-    alloc: Global,
-    fault: &Fault,
-    line: &CommandLine<'_>,
-) -> Status {
-    let files = CommandFiles::of(&line.request);
-    let status = tell(rt, *fault);
-    tell_lines(rt, &fault_lines(rt, alloc, fault, &files, line.explained));
-    tell_lines(rt, &hint_line(rt, alloc, fault, &files));
-    status
 }
 
 /// Reports why the command line cannot be used, or gives the help that it requests, and returns the status.

@@ -1,5 +1,7 @@
 //! Assembles and lists sources, and reports their faults.
 
+ghost use Rattle.std.specs.Prelude.{◌≡◌, false};
+
 use crate::files::{finish, open_output, open_parts};
 use crate::hints::{CommandFiles, hint_line};
 use crate::source_faults::{
@@ -7,15 +9,16 @@ use crate::source_faults::{
     unopened_part, visible_names,
 };
 use crate::telling::{tell, tell_lines, tell_with};
-use command_line::{AssembleRequest, FileNames, ListRequest};
+use command_line::{AssembleRequest, ListRequest};
 use command_parts::status::{DeviceFault, Fault, Status};
+use instruct::Profile;
 use source_commands::assembling::{assemble, list};
 use source_commands::crossing::list_crossed;
 use std::alloc::Global;
 use std::io;
 use std::rt::Files;
-use streams::ByteSource;
 use streams::standard::StdWriter;
+use streams::{ByteSink, ByteSource};
 
 /// The name of the first part that could not be read.
 fn failed_part<'n, S: ByteSource>(names: &'n [&'n str], parts: &[S]) -> &'n str {
@@ -61,23 +64,32 @@ fn report_fault<R: Files + Input + Eprint, S: ByteSource>(
     status
 }
 
-/// Lists the source whose parts are in these files, with a table of its symbols if that is requested.
-///
-/// # Errors
-///
-/// As for `list` and `list_crossed`, and `Device` if a file cannot be opened. If an explanation is requested, these
-/// faults are reported instead, and only `NoMemory` is returned.
-#[inline(never)]
-pub fn list_from<R: Files + Input + Print + Eprint>(
+/// What is made of a source.
+#[derive(Clone, Copy)]
+enum Product {
+    Tape,
+    Listing,
+    /// A listing with a table of the symbols.
+    CrossedListing,
+}
+
+/// Assembles or lists the source whose parts are in the files of a command. If that is requested, a fault is reported,
+/// and its status is returned, which is never `Done`.
+fn translate<R: Files + Input + Eprint, W: ByteSink>(
     rt: &R,
     alloc: Global,
-    request: &ListRequest<'_>,
-) -> Result<Status, Fault> {
-    let explained = request.explained;
-    let shown = visible_names(alloc, &request.sources)?;
+    files: &CommandFiles<'_, '_>,
+    product: Product,
+    profile: Profile,
+    explained: bool,
+    out: &mut W,
+) -> Result<Status, Fault>
+    requires { W.mark out.old ≡ false }
+{
+    let shown = visible_names(alloc, files.parts)?;
     let shown = name_slices(alloc, &shown)?;
     let mut parts = Vec::new(alloc);
-    if let Err(fault) = open_parts(rt, &request.sources, &mut parts) {
+    if let Err(fault) = open_parts(rt, files.parts, &mut parts) {
         let name = unopened_part(&shown, parts.len());
         return report_if(rt, alloc, explained, fault, name, "cannot be opened");
     }
@@ -87,37 +99,47 @@ pub fn list_from<R: Files + Input + Print + Eprint>(
         None
     };
     let mut lines = String::new(alloc);
-    let mut out = StdWriter::new(io::writer(rt));
-    let listed = if request.crossed {
-        list_crossed(
-            alloc,
-            &mut parts,
-            request.profile,
-            names,
-            &mut lines,
-            &mut out,
-        )
-    } else {
-        list(
-            alloc,
-            &mut parts,
-            request.profile,
-            names,
-            &mut lines,
-            &mut out,
-        )
+    let answer = match product {
+        Product::Tape => assemble(alloc, &mut parts, profile, names, &mut lines, out),
+        Product::Listing => list(alloc, &mut parts, profile, names, &mut lines, out),
+        Product::CrossedListing => list_crossed(alloc, &mut parts, profile, names, &mut lines, out),
     };
-    match listed {
+    match answer {
         Err(fault) if explained => {
-            let files = CommandFiles {
-                command: "list",
-                parts: &request.sources,
-                names: FileNames::NONE,
-            };
-            Ok(report_fault(rt, alloc, fault, &files, &shown, &parts, &lines))
+            Ok(report_fault(rt, alloc, fault, files, &shown, &parts, &lines))
         }
         answer => answer,
     }
+}
+
+/// Lists the source whose parts are in these files.
+///
+/// # Errors
+///
+/// As for `list` and `list_crossed`, and `Device` if a file cannot be opened. If an explanation is requested, these
+/// faults are reported instead, and only `NoMemory` is returned.
+#[inline(never)]
+pub fn list_from<R: Files + Input + Print + Eprint>(
+    rt: &R,
+    alloc: Global,
+    files: &CommandFiles<'_, '_>,
+    request: &ListRequest<'_>,
+) -> Result<Status, Fault> {
+    let product = if request.crossed {
+        Product::CrossedListing
+    } else {
+        Product::Listing
+    };
+    let mut out = StdWriter::new(io::writer(rt));
+    translate(
+        rt,
+        alloc,
+        files,
+        product,
+        request.profile,
+        request.explained,
+        &mut out,
+    )
 }
 
 /// Assembles the parts in these files into a tape.
@@ -130,59 +152,30 @@ pub fn list_from<R: Files + Input + Print + Eprint>(
 pub fn assemble_to<R: Files + Input + Print + Eprint>(
     rt: &R,
     alloc: Global,
+    files: &CommandFiles<'_, '_>,
     request: &AssembleRequest<'_>,
 ) -> Result<Status, Fault> {
-    let (explained, out) = (request.explained, request.out.name());
-    let shown = visible_names(alloc, &request.sources)?;
-    let shown = name_slices(alloc, &shown)?;
+    let (profile, explained) = (request.profile, request.explained);
+    let name = output_name(request.out.name());
     let mut file = match open_output(rt, alloc, request.out) {
         Ok(file) => file,
-        Err(fault) => {
-            return report_if(
-                rt,
-                alloc,
-                explained,
-                fault,
-                output_name(out),
-                "cannot be created",
-            );
-        }
+        Err(fault) => return report_if(rt, alloc, explained, fault, name, "cannot be created"),
     };
-    let mut parts = Vec::new(alloc);
-    if let Err(fault) = open_parts(rt, &request.sources, &mut parts) {
-        let name = unopened_part(&shown, parts.len());
-        return report_if(rt, alloc, explained, fault, name, "cannot be opened");
-    }
-    let names = if explained {
-        Some(shown.as_slice())
-    } else {
-        None
-    };
-    let mut lines = String::new(alloc);
     let mut tape = StdWriter::new(&mut file);
-    let assembled = match assemble(
+    let status = translate(
+        rt,
         alloc,
-        &mut parts,
-        request.profile,
-        names,
-        &mut lines,
+        files,
+        Product::Tape,
+        profile,
+        explained,
         &mut tape,
-    ) {
-        Ok(status) => finish(&mut file, status),
-        Err(fault) => Err(fault),
-    };
-    match assembled {
-        Err(fault) if explained => {
-            let files = CommandFiles {
-                command: "assemble",
-                parts: &request.sources,
-                names: FileNames {
-                    output: Some(out),
-                    ..FileNames::NONE
-                },
-            };
-            Ok(report_fault(rt, alloc, fault, &files, &shown, &parts, &lines))
-        }
+    )?;
+    if status != Status::Done {
+        return Ok(status);
+    }
+    match finish(&mut file, status) {
+        Err(fault) => report_if(rt, alloc, explained, fault, name, "cannot be written"),
         answer => answer,
     }
 }

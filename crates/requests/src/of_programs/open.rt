@@ -1,6 +1,7 @@
 //! Programs whose files are open, and the only way to read a program and its declaration.
 
 use crate::files::{input_of, is_read_once};
+use crate::hints::CommandFiles;
 use crate::of_sources::assembled::AssembledSource;
 use bin_tape::Image;
 use command_line::{ProgramRequest, Task};
@@ -25,6 +26,7 @@ static NOTHING: &[u8] = b"";
 pub(crate) struct OpenProgram<'x, 'a, R, I> {
     pub(crate) rt: &'x R,
     pub(crate) alloc: Global,
+    pub(crate) files: &'x CommandFiles<'x, 'a>,
     pub(crate) request: &'x ProgramRequest<'a>,
     /// The frames of the tape.
     pub(crate) frames: ProgramInput<'x, I>,
@@ -41,6 +43,7 @@ impl<'x, 'a, R, I: Read + Drop> OpenProgram<'x, 'a, R, I> {
     pub(crate) fn of_source(
         rt: &'x R,
         alloc: Global,
+        files: &'x CommandFiles<'x, 'a>,
         request: &'x ProgramRequest<'a>,
         source: &'x AssembledSource,
     ) -> OpenProgram<'x, 'a, R, I> {
@@ -51,6 +54,7 @@ impl<'x, 'a, R, I: Read + Drop> OpenProgram<'x, 'a, R, I> {
         OpenProgram {
             rt,
             alloc,
+            files,
             request,
             frames: Either::Right(source.numbered.tape.as_slice()),
             text: Either::Right(text.as_slice()),
@@ -95,6 +99,7 @@ impl<'x, 'a, R: Files + Input> OpenProgram<'x, 'a, R, Either<R::Reader, R::File>
     pub(crate) fn of_tape(
         rt: &'x R,
         alloc: Global,
+        files: &'x CommandFiles<'x, 'a>,
         request: &'x ProgramRequest<'a>,
         tape: &str,
     ) -> Result<OpenProgram<'x, 'a, R, Either<R::Reader, R::File>>, Fault> {
@@ -117,6 +122,7 @@ impl<'x, 'a, R: Files + Input> OpenProgram<'x, 'a, R, Either<R::Reader, R::File>
         Ok(OpenProgram {
             rt,
             alloc,
+            files,
             request,
             frames,
             text,

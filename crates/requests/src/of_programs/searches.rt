@@ -65,15 +65,16 @@ impl<R: Files + Print + Eprint, I: Read + Drop> OpenProgram<'_, '_, R, I> {
         stuck: &StuckSearch<'_>,
         report: Option<&str>,
     ) -> Result<Status, Fault> {
-        let (rt, alloc, request, source) = (self.rt, self.alloc, self.request, self.source);
-        if request.explained {
+        let (rt, alloc, source) = (self.rt, self.alloc, self.source);
+        let explained = self.request.explained;
+        if explained {
             let message = stuck_message(alloc, stuck)?;
             let _ = put(&mut tell_to(rt), &lines_of(alloc, source, &message)?);
         }
         if let Some(name) = report {
-            write_stuck_report(rt, alloc, request, stuck, name, source)?;
+            write_stuck_report(rt, alloc, self.files, stuck, name, source)?;
         }
-        if request.explained {
+        if explained {
             return Ok(Status::Refused);
         }
         Err(Fault::Guess(GuessFault::Stuck(stuck.at)))
@@ -88,8 +89,8 @@ impl<R: Files + Print + Eprint, I: Read + Drop> OpenProgram<'_, '_, R, I> {
         report: Option<&str>,
         version: Option<Version>,
     ) -> Result<Status, Fault> {
-        let alloc = self.alloc;
-        let mut file = open_output(self.rt, alloc, out)?;
+        let (rt, alloc) = (self.rt, self.alloc);
+        let mut file = open_output(rt, alloc, out)?;
         let program = self.read()?;
         let is_drafted = self.request.explained || report.is_some();
         match &search(alloc, &program, version, is_drafted)? {

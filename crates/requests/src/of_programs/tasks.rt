@@ -142,7 +142,7 @@ impl<R: Files + Input + Print + Eprint, I: Read + Drop> OpenProgram<'_, '_, R, I
             program,
             certificate: found,
         };
-        let files = NamedFiles::of(rt, alloc, self.request)?;
+        let files = NamedFiles::of(rt, alloc, self.files)?;
         let page = report_of(alloc, &certified, form, files.names(), notes);
         let status = deliver(page, &mut StdWriter::new(&mut file))?;
         finish(&mut file, status)

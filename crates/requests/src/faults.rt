@@ -119,12 +119,11 @@ pub fn fault_lines<R: Files + Input>(
     alloc: Global,
     fault: &Fault,
     files: &CommandFiles<'_, '_>,
-    explained: bool,
 ) -> String {
     match fault {
         Fault::Device(DeviceFault::Read) => unread_line(rt, alloc, files),
         Fault::Device(DeviceFault::Write) => unwritten_line(alloc, &files.names),
-        _ if !explained => String::new(alloc),
+        _ if !files.explained => String::new(alloc),
         Fault::Guess(GuessFault::TurnsSpent) => advice(alloc, "TurnsSpent"),
         Fault::Declare(ProposeFault::Undeclarable(fault)) => undeclarable_lines(alloc, *fault),
         Fault::Declare(ProposeFault::Mismatch) => advice(alloc, "Mismatch"),

@@ -3,14 +3,14 @@
 
 use crate::file_kinds::{Kind, kind_of};
 use crate::files::{bytes_of, is_read_once};
-use command_line::{FileNames, Request};
+use command_line::{CommandLine, FileNames};
 use command_parts::status::Fault;
 use command_parts::visible::visible_text;
 use std::alloc::{AllocError, Global};
 use std::fmt::Write;
 use std::rt::Files;
 
-/// A command, and the files that it is given.
+/// A command, the files that it is given, and whether it explains what it finds.
 #[derive(Clone, Copy)]
 pub struct CommandFiles<'p, 'a> {
     /// The name of the command.
@@ -19,6 +19,8 @@ pub struct CommandFiles<'p, 'a> {
     pub(crate) parts: &'p [&'a str],
     /// The names of its other files.
     pub(crate) names: FileNames<'a>,
+    /// Whether more is said than the line of an answer or of a fault.
+    pub(crate) explained: bool,
 }
 
 /// Whether a command takes `--source`, in place of a tape.
@@ -75,12 +77,14 @@ fn shown_line(alloc: Global, text: &str) -> String {
 }
 
 impl<'p, 'a> CommandFiles<'p, 'a> {
-    /// Those of a request.
-    pub fn of(request: &'p Request<'a>) -> CommandFiles<'p, 'a> {
+    /// Those of a command line.
+    pub fn of(line: &'p CommandLine<'a>) -> CommandFiles<'p, 'a> {
+        let request = &line.request;
         CommandFiles {
             command: request.command(),
             parts: request.parts(),
             names: request.names(),
+            explained: line.explained,
         }
     }
 

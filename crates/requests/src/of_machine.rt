@@ -11,7 +11,7 @@ use crate::of_files::tapes::run_on;
 use crate::of_machine::places::resolve_places;
 use crate::of_machine::words::{SourceStatements, words_of};
 use crate::of_sources::assembled::{AssembledSource, assemble_source};
-use crate::of_sources::reading::{DeclarationUse, SourceCommand};
+use crate::of_sources::reading::DeclarationUse;
 use crate::of_sources::source_messages::report_source;
 use crate::telling::{tell_lines, tell_misuse};
 use command_line::{MachineTask, SourceProgramRequest};
@@ -85,19 +85,14 @@ pub fn answer_sourced<R: Files + Input + Print + Eprint>(
     request: &SourceProgramRequest<'_>,
     at_terminal: bool,
 ) -> Result<Status, Fault> {
-    let command = SourceCommand {
-        files: *files,
-        declared: DeclarationUse::Unused(request.task.profile()),
-        asked: false,
-        explained: request.explained,
-    };
-    let source = match assemble_source(rt, alloc, &command)? {
+    let declared = DeclarationUse::Unused(request.task.profile());
+    let source = match assemble_source(rt, alloc, files, declared)? {
         Ok(source) => source,
         Err(status) => return Ok(status),
     };
     let status = carry_out_machine_task(rt, alloc, &source, request, at_terminal)?;
-    if request.explained && status == Status::Refused {
+    if files.explained && status == Status::Refused {
         tell_lines(rt, UNSUPPORTED);
     }
-    report_source(rt, alloc, &command, &source, Ok(status))
+    report_source(rt, alloc, files, &source, Ok(status))
 }

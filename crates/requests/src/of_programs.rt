@@ -8,7 +8,7 @@ mod tasks;
 use crate::hints::CommandFiles;
 use crate::of_programs::open::OpenProgram;
 use crate::of_sources::assembled::assemble_source;
-use crate::of_sources::reading::{DeclarationUse, SourceCommand};
+use crate::of_sources::reading::DeclarationUse;
 use crate::of_sources::source_messages::report_source;
 use command_line::{ProgramNames, ProgramRequest};
 use command_parts::status::{Fault, Status};
@@ -25,13 +25,7 @@ fn answer_source<'a, R: Files + Input + Print + Eprint>(
     files: &CommandFiles<'_, 'a>,
     request: &ProgramRequest<'a>,
 ) -> Result<Status, Fault> {
-    let command = SourceCommand {
-        files: *files,
-        declared: DeclarationUse::of(&request.task),
-        asked: request.asked,
-        explained: request.explained,
-    };
-    let source = match assemble_source(rt, alloc, &command)? {
+    let source = match assemble_source(rt, alloc, files, DeclarationUse::of(request))? {
         Ok(source) => source,
         Err(status) => return Ok(status),
     };
@@ -39,7 +33,7 @@ fn answer_source<'a, R: Files + Input + Print + Eprint>(
         rt, alloc, files, request, &source,
     );
     let answer = program.carry_out();
-    report_source(rt, alloc, &command, &source, answer)
+    report_source(rt, alloc, files, &source, answer)
 }
 
 /// Carries out a command on a program and its declaration. The tape or the parts of the source are opened first, then

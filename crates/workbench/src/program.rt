@@ -84,7 +84,7 @@ fn carry_out<R: Files + Input + Print + Eprint>(
     line: &CommandLine<'_>,
     at_terminal: bool,
 ) -> Status {
-    let files = &CommandFiles::of(&line.request);
+    let files = &CommandFiles::of(line);
     match misused_files(rt, alloc, files, &line.request) {
         Ok(None) => {}
         Ok(Some(misuse)) => return tell_misuse(rt, &misuse),
@@ -112,7 +112,7 @@ fn carry_out<R: Files + Input + Print + Eprint>(
         }
         Err(fault) => {
             let status = tell(rt, fault);
-            tell_lines(rt, &fault_lines(rt, alloc, &fault, files, line.explained));
+            tell_lines(rt, &fault_lines(rt, alloc, &fault, files));
             tell_lines(rt, &hint_line(rt, alloc, &fault, files));
             status
         }

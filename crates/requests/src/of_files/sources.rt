@@ -81,7 +81,6 @@ fn translate<R: Files + Input + Eprint, W: ByteSink>(
     files: &CommandFiles<'_, '_>,
     product: Product,
     profile: Profile,
-    explained: bool,
     out: &mut W,
 ) -> Result<Status, Fault>
     requires { W.mark out.old ≡ false }
@@ -91,9 +90,9 @@ fn translate<R: Files + Input + Eprint, W: ByteSink>(
     let mut parts = Vec::new(alloc);
     if let Err(fault) = open_parts(rt, files.parts, &mut parts) {
         let name = unopened_part(&shown, parts.len());
-        return report_if(rt, alloc, explained, fault, name, "cannot be opened");
+        return report_if(rt, alloc, files.explained, fault, name, "cannot be opened");
     }
-    let names = if explained {
+    let names = if files.explained {
         Some(shown.as_slice())
     } else {
         None
@@ -105,7 +104,7 @@ fn translate<R: Files + Input + Eprint, W: ByteSink>(
         Product::CrossedListing => list_crossed(alloc, &mut parts, profile, names, &mut lines, out),
     };
     match answer {
-        Err(fault) if explained => {
+        Err(fault) if files.explained => {
             Ok(report_fault(rt, alloc, fault, files, &shown, &parts, &lines))
         }
         answer => answer,
@@ -155,7 +154,7 @@ pub fn assemble_to<R: Files + Input + Print + Eprint>(
     files: &CommandFiles<'_, '_>,
     request: &AssembleRequest<'_>,
 ) -> Result<Status, Fault> {
-    let (profile, explained) = (request.profile, request.explained);
+    let explained = files.explained;
     let name = output_name(request.out.name());
     let mut file = match open_output(rt, alloc, request.out) {
         Ok(file) => file,

@@ -1,8 +1,9 @@
 //! A source that was assembled, its declaration in numbers, and what the source says about its addresses.
 
+use crate::hints::CommandFiles;
 use crate::of_sources::numbering::{number_source, report_numbering_fault};
 use crate::of_sources::reading::{
-    DeclarationOrigin, SourceCommand, SourceInput, byte_slices, read_source,
+    DeclarationOrigin, DeclarationUse, SourceInput, byte_slices, read_source,
 };
 use crate::source_faults::visible_names;
 use command_parts::status::{Fault, Status};
@@ -166,15 +167,16 @@ fn describe_source(
 pub(crate) fn assemble_source<R: Files + Input + Eprint>(
     rt: &R,
     alloc: Global,
-    command: &SourceCommand<'_, '_>,
+    files: &CommandFiles<'_, '_>,
+    declared: DeclarationUse,
 ) -> Result<Result<AssembledSource, Status>, Fault> {
-    let given = match read_source(rt, alloc, command)? {
+    let given = match read_source(rt, alloc, files, declared)? {
         Ok(given) => given,
         Err(status) => return Ok(Err(status)),
     };
-    let numbered = match number_source(alloc, &given, command.declared) {
+    let numbered = match number_source(alloc, &given, declared) {
         Ok(numbered) => numbered,
-        Err(fault) => return Ok(Err(report_numbering_fault(rt, alloc, fault, command, &given)?)),
+        Err(fault) => return Ok(Err(report_numbering_fault(rt, alloc, fault, files, &given)?)),
     };
-    Ok(Ok(describe_source(alloc, given, numbered, command.files.parts)?))
+    Ok(Ok(describe_source(alloc, given, numbered, files.parts)?))
 }

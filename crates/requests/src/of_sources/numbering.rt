@@ -1,10 +1,9 @@
 //! Numbers sources, and reports why they or their declarations are refused. This is tested, not proved.
 
 use crate::file_kinds::Kind;
+use crate::hints::CommandFiles;
 use crate::of_sources::part_lines::DeclarationLine;
-use crate::of_sources::reading::{
-    DeclarationUse, SourceCommand, SourceInput, byte_slices, says_something,
-};
+use crate::of_sources::reading::{DeclarationUse, SourceInput, byte_slices, says_something};
 use crate::source_faults::{push_source_faults, report_size_fault};
 use crate::telling::{tell, tell_lines, tell_with};
 use command_parts::status::{Fault, Status};
@@ -85,14 +84,13 @@ fn report_place_fault<R: Eprint>(
     rt: &R,
     alloc: Global,
     fault: PlaceFault,
-    command: &SourceCommand<'_, '_>,
+    files: &CommandFiles<'_, '_>,
     parts: &[&[u8]],
     text: &[u8],
 ) -> Result<Status, Fault> {
-    let files = &command.files;
     let place = DeclarationLine::of(alloc, files, parts, text, place_fault_line(fault))?;
     let _ = eprintln!(rt; "pdp8: declaration: {fault}");
-    if command.explained {
+    if files.explained {
         let description = description_of(fault);
         let mut lines = String::new(alloc);
         let _ = if place.line == 0 {
@@ -115,12 +113,12 @@ fn report_refused_source<R: Eprint>(
     rt: &R,
     alloc: Global,
     fault: PalFault,
-    command: &SourceCommand<'_, '_>,
+    files: &CommandFiles<'_, '_>,
     parts: &[&[u8]],
     text: &[u8],
 ) -> Status {
-    let names = command.files.parts;
-    let status = if !command.explained {
+    let names = files.parts;
+    let status = if !files.explained {
         tell(rt, Fault::Source(fault))
     } else if fault.line == 0 {
         report_size_fault(rt, alloc, fault, names)
@@ -131,7 +129,7 @@ fn report_refused_source<R: Eprint>(
     };
     let index = fault.part.wrapping_sub(1);
     if let (Some(name), Some(part)) = (names.get(index), parts.get(index)) {
-        tell_lines(rt, &command.files.hint(alloc, Kind::Source, name, part));
+        tell_lines(rt, &files.hint(alloc, Kind::Source, name, part));
     }
     status
 }
@@ -146,18 +144,18 @@ pub(crate) fn report_numbering_fault<R: Eprint>(
     rt: &R,
     alloc: Global,
     fault: NumberingFault,
-    command: &SourceCommand<'_, '_>,
+    files: &CommandFiles<'_, '_>,
     given: &SourceInput,
 ) -> Result<Status, Fault> {
     let parts = byte_slices(alloc, &given.parts)?;
     let text = given.text.as_slice();
     match fault {
         NumberingFault::Source(fault) => {
-            Ok(report_refused_source(rt, alloc, fault, command, &parts, text))
+            Ok(report_refused_source(rt, alloc, fault, files, &parts, text))
         }
         NumberingFault::EmptyImage => Err(Fault::EmptyImage),
         NumberingFault::Placing(fault) => {
-            report_place_fault(rt, alloc, fault, command, &parts, text)
+            report_place_fault(rt, alloc, fault, files, &parts, text)
         }
         NumberingFault::NoMemory => Err(Fault::NoMemory),
     }

@@ -4,7 +4,7 @@ use crate::files::open_input;
 use crate::hints::CommandFiles;
 use crate::source_faults::{report_if, unopened_part};
 use crate::telling::tell_misuse;
-use command_line::{Misuse, Task};
+use command_line::{Misuse, ProgramRequest, Task};
 use command_parts::status::{Fault, Status};
 use instruct::Profile;
 use labels::declaration_within;
@@ -26,35 +26,26 @@ pub(crate) enum DeclarationUse {
     Unused(Profile),
     /// It needs one.
     Needed,
-    /// It proposes one for this machine if there is none.
-    Proposable(Profile),
+    /// It proposes one for this machine if there is none, which is required if a start or a machine is named.
+    Proposable { profile: Profile, is_required: bool },
     /// It only writes it, so that the source may assemble to no words.
     Written,
 }
 
 impl DeclarationUse {
-    /// What is done with it in a task.
-    pub(crate) fn of(task: &Task<'_>) -> DeclarationUse {
-        match task {
-            Task::Verify { options, .. } => DeclarationUse::Proposable(options.profile),
-            Task::Declare { options, .. } => DeclarationUse::Proposable(options.profile),
-            Task::Place { .. } => DeclarationUse::Written,
-            _ => DeclarationUse::Needed,
+    /// What a request on a program does with it.
+    pub(crate) fn of(request: &ProgramRequest<'_>) -> DeclarationUse {
+        let profile = match &request.task {
+            Task::Verify { options, .. } => options.profile,
+            Task::Declare { options, .. } => options.profile,
+            Task::Place { .. } => return DeclarationUse::Written,
+            _ => return DeclarationUse::Needed,
+        };
+        DeclarationUse::Proposable {
+            profile,
+            is_required: request.asked,
         }
     }
-}
-
-/// A command on a source, before the source is read.
-#[derive(Clone, Copy)]
-pub(crate) struct SourceCommand<'p, 'a> {
-    /// The command and its files.
-    pub(crate) files: CommandFiles<'p, 'a>,
-    /// What it does with the declaration.
-    pub(crate) declared: DeclarationUse,
-    /// Whether a start or a machine is named, which a declaration would determine.
-    pub(crate) asked: bool,
-    /// Whether more is said than the line of a fault.
-    pub(crate) explained: bool,
 }
 
 /// Where a declaration comes from.
@@ -134,7 +125,7 @@ fn unnamed_declaration(
     }
     let text = declaration_within(alloc, &byte_slices(alloc, parts)?)?;
     match declared {
-        DeclarationUse::Proposable(profile) if !says_something(&text) => {
+        DeclarationUse::Proposable { profile, .. } if !says_something(&text) => {
             Ok((
                 unknown_declaration(alloc, profile)?,
                 DeclarationOrigin::Proposed,
@@ -148,11 +139,12 @@ fn unnamed_declaration(
 fn read_declaration<R: Files + Input>(
     rt: &R,
     alloc: Global,
-    command: &SourceCommand<'_, '_>,
+    files: &CommandFiles<'_, '_>,
+    declared: DeclarationUse,
     parts: &[Vec<u8>],
 ) -> Result<(Vec<u8>, DeclarationOrigin), Fault> {
-    let Some(name) = command.files.names.declaration else {
-        return Ok(unnamed_declaration(alloc, command.declared, parts)?);
+    let Some(name) = files.names.declaration else {
+        return Ok(unnamed_declaration(alloc, declared, parts)?);
     };
     let mut input = open_input(rt, name)?;
     let text = read_at_most(alloc, &mut input, DECLARATION_READ_LIMIT)?;
@@ -169,18 +161,24 @@ fn read_declaration<R: Files + Input>(
 pub(crate) fn read_source<R: Files + Input + Eprint>(
     rt: &R,
     alloc: Global,
-    command: &SourceCommand<'_, '_>,
+    files: &CommandFiles<'_, '_>,
+    declared: DeclarationUse,
 ) -> Result<Result<SourceInput, Status>, Fault> {
-    let names = command.files.parts;
     let mut parts = Vec::new(alloc);
-    if let Err(fault) = read_parts(rt, alloc, names, &mut parts) {
-        let name = unopened_part(names, parts.len());
+    if let Err(fault) = read_parts(rt, alloc, files.parts, &mut parts) {
+        let name = unopened_part(files.parts, parts.len());
         let problem = "cannot be opened or read";
-        return Ok(Err(report_if(rt, alloc, command.explained, fault, name, problem)?));
+        return Ok(Err(report_if(rt, alloc, files.explained, fault, name, problem)?));
     }
-    let (text, origin) = read_declaration(rt, alloc, command, &parts)?;
-    if command.asked && origin == DeclarationOrigin::Within {
-        return Ok(Err(tell_misuse(rt, &Misuse::DeclarationAndStart)));
+    let (text, origin) = read_declaration(rt, alloc, files, declared, &parts)?;
+    match declared {
+        DeclarationUse::Proposable {
+            is_required: true,
+            ..
+        } if origin == DeclarationOrigin::Within => {
+            return Ok(Err(tell_misuse(rt, &Misuse::DeclarationAndStart)));
+        }
+        _ => {}
     }
     Ok(Ok(SourceInput {
         parts,

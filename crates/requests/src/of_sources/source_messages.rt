@@ -1,8 +1,9 @@
 //! What is reported about a source once its command has been carried out. This is tested, not proved.
 
+use crate::hints::CommandFiles;
 use crate::of_sources::assembled::AssembledSource;
 use crate::of_sources::part_lines::{DeclarationLine, fault_line, on_line};
-use crate::of_sources::reading::{DeclarationOrigin, SourceCommand, byte_slices};
+use crate::of_sources::reading::{DeclarationOrigin, byte_slices};
 use crate::telling::tell_with;
 use command_parts::status::{Fault, Status};
 use declaration::DeclarationFault;
@@ -16,11 +17,11 @@ fn report_declaration_fault<R: Eprint>(
     rt: &R,
     alloc: Global,
     fault: DeclarationFault,
-    command: &SourceCommand<'_, '_>,
+    files: &CommandFiles<'_, '_>,
     parts: &[&[u8]],
     text: &[u8],
 ) -> Result<Status, AllocError> {
-    let place = DeclarationLine::of(alloc, &command.files, parts, text, fault_line(fault))?;
+    let place = DeclarationLine::of(alloc, files, parts, text, fault_line(fault))?;
     let shown = Fault::Declared(on_line(fault, place.line));
     let mut lines = String::new(alloc);
     let _ = push_fault(&mut lines, shown, &place.file());
@@ -67,17 +68,17 @@ fn report_ignored_parts<R: Eprint>(rt: &R, alloc: Global, names: &[String], part
 pub(crate) fn report_source<R: Eprint>(
     rt: &R,
     alloc: Global,
-    command: &SourceCommand<'_, '_>,
+    files: &CommandFiles<'_, '_>,
     source: &AssembledSource,
     answer: Result<Status, Fault>,
 ) -> Result<Status, Fault> {
     let given = &source.given;
     let parts = byte_slices(alloc, &given.parts)?;
-    let is_shown = command.explained && given.origin == DeclarationOrigin::Within;
+    let is_shown = files.explained && given.origin == DeclarationOrigin::Within;
     match &answer {
         Ok(_) => report_ignored_parts(rt, alloc, &source.names, &parts),
         Err(Fault::Declared(fault)) if is_shown => {
-            return Ok(report_declaration_fault(rt, alloc, *fault, command, &parts, &given.text)?);
+            return Ok(report_declaration_fault(rt, alloc, *fault, files, &parts, &given.text)?);
         }
         Err(_) => {}
     }

@@ -270,23 +270,22 @@ impl<'p, 'a> CommandFiles<'p, 'a> {
     }
 
     /// Adds what a word in braces stands for, in a hint about the file of this name.
-    fn push_word(&self, text: &mut String, name: &str, word: &str) {
+    fn push_word(&self, text: &mut String, name: &str, word: &'static str) {
         let (word, missing) = word.split_once('|').unwrap_or((word, ""));
         let names = &self.names;
-        let given = match word {
+        let _ = match word {
             "program" => return self.push_program(text),
             "operands" => return self.push_operands(text),
             "output" => return self.push_output(text),
             "declared" => return push_after(text, " ", names.declaration),
-            "declaration" => names.declaration.unwrap_or(missing),
-            "events" => names.events.unwrap_or(missing),
-            "command" => self.command,
-            "option" => option_of_declaration(self.command).unwrap_or(""),
-            "place" => self.place_of_tape(),
-            "stem" => stem_of(name),
-            _ => name,
+            "declaration" => text.push_str(names.declaration.unwrap_or(missing)),
+            "events" => text.push_str(names.events.unwrap_or(missing)),
+            "command" => text.push_str(self.command),
+            "option" => text.push_str(option_of_declaration(self.command).unwrap_or("")),
+            "place" => text.push_str(self.place_of_tape()),
+            "stem" => text.push_str(stem_of(name)),
+            _ => text.push_str(name),
         };
-        let _ = text.push_str(given);
     }
 
     /// The line about the file of this name and with these bytes, if something else was expected there. It is empty if

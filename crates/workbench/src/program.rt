@@ -5,7 +5,7 @@ ghost use Rattle.std.specs.Prelude.{◌≤◌};
 use clap::Error;
 use command_line::explanations::{push_codes, push_explanations};
 use command_line::tips::is_wrong_tip;
-use command_line::{CommandLine, CommandLineFault, Misuse, Request, parse_arguments};
+use command_line::{CommandLine, CommandLineFault, Destination, Misuse, Request, parse_arguments};
 use command_parts::status::{DeviceFault, Fault, Status};
 use command_parts::visible::visible_text;
 use requests::faults::{fault_lines, refusal_lines};
@@ -13,7 +13,7 @@ use requests::hints::{CommandFiles, hint_line};
 use requests::inputs::misused_files;
 use requests::of_files::certificates::migrate_from;
 use requests::of_files::session_files::{hold_session, hold_teletype_session};
-use requests::of_files::sources::{assemble_to, list_from};
+use requests::of_files::sources::{Product, translate_to};
 use requests::of_files::tapes::{dump_from, run_from, source_from};
 use requests::of_machine::answer_sourced;
 use requests::of_programs::answer_program;
@@ -95,8 +95,16 @@ fn carry_out<R: Files + Input + Print + Eprint>(
         Request::Session(session) => hold_session(rt, alloc, session),
         Request::Teletype(session) => hold_teletype_session(rt, alloc, session, at_terminal),
         Request::Dump(asked) => dump_from(rt, alloc, asked),
-        Request::Assemble(asked) => assemble_to(rt, alloc, files, asked),
-        Request::List(asked) => list_from(rt, alloc, files, asked),
+        Request::Assemble(asked) => {
+            translate_to(rt, alloc, files, Product::Tape, asked.profile, asked.out)
+        }
+        Request::List(asked) => {
+            let product = Product::Listing {
+                crossed: asked.crossed,
+            };
+            let out = Destination::MadeLast("-");
+            translate_to(rt, alloc, files, product, asked.profile, out)
+        }
         Request::Source(asked) => source_from(rt, alloc, asked),
         Request::Sourced(asked) => answer_sourced(rt, alloc, files, asked, at_terminal),
         Request::Program(asked) => answer_program(rt, alloc, files, asked),

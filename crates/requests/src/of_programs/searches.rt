@@ -57,7 +57,7 @@ fn lists_reads(text: &[u8]) -> bool {
         .any(|line| line.trim_ascii().starts_with(b"read"))
 }
 
-impl<R: Files + Print + Eprint, I: Read + Drop> OpenProgram<'_, '_, R, I> {
+impl<'x, R: Files + Print + Eprint, I: Read + Drop> OpenProgram<'x, '_, R, I> {
     /// Reports on standard error why a search is stuck, and writes a report on its draft, each if it is requested.
     #[inline(never)]
     fn report_stuck_search(
@@ -85,7 +85,7 @@ impl<R: Files + Print + Eprint, I: Read + Drop> OpenProgram<'_, '_, R, I> {
     #[inline(never)]
     pub(crate) fn guess(
         &mut self,
-        out: Destination<'_>,
+        out: Destination<'x>,
         report: Option<&str>,
         version: Option<Version>,
     ) -> Result<Status, Fault> {
@@ -116,7 +116,7 @@ impl<R: Files + Print + Eprint, I: Read + Drop> OpenProgram<'_, '_, R, I> {
     #[inline(never)]
     pub(crate) fn refute(
         &mut self,
-        out: Destination<'_>,
+        out: Destination<'x>,
         options: &RefuteOptions,
     ) -> Result<Status, Fault> {
         let (rt, alloc) = (self.rt, self.alloc);
@@ -196,7 +196,7 @@ impl<R: Files + Print + Eprint, I: Read + Drop> OpenProgram<'_, '_, R, I> {
     #[inline(never)]
     pub(crate) fn declare(
         &mut self,
-        out: Destination<'_>,
+        out: Destination<'x>,
         options: DeclareOptions,
         refinements: Refinements,
     ) -> Result<Status, Fault> {

@@ -16,16 +16,16 @@ use std::alloc::{AllocError, Global};
 fn report_declaration_fault<R: Eprint>(
     rt: &R,
     alloc: Global,
-    fault: DeclarationFault,
+    fault: &DeclarationFault,
     files: &CommandFiles<'_, '_>,
     parts: &[&[u8]],
     text: &[u8],
 ) -> Result<Status, AllocError> {
-    let place = DeclarationLine::of(alloc, files, parts, text, fault_line(fault))?;
-    let shown = Fault::Declared(on_line(fault, place.line));
+    let place = DeclarationLine::of(alloc, files, parts, text, fault_line(*fault))?;
+    let shown = Fault::Declared(on_line(*fault, place.line));
     let mut lines = String::new(alloc);
     let _ = push_fault(&mut lines, shown, &place.file());
-    Ok(tell_with(rt, Fault::Declared(fault), &lines))
+    Ok(tell_with(rt, Fault::Declared(*fault), &lines))
 }
 
 /// The index of the first part that ends the program with `$`.
@@ -78,7 +78,7 @@ pub(crate) fn report_source<R: Eprint>(
     match &answer {
         Ok(_) => report_ignored_parts(rt, alloc, &source.names, &parts),
         Err(Fault::Declared(fault)) if is_shown => {
-            return Ok(report_declaration_fault(rt, alloc, *fault, files, &parts, &given.text)?);
+            return Ok(report_declaration_fault(rt, alloc, fault, files, &parts, &given.text)?);
         }
         Err(_) => {}
     }

@@ -11,7 +11,11 @@ use std::alloc::Global;
 use std::fs;
 use std::io::{self, Printer};
 use std::rt::Files;
+use streams::read_at_most;
 use streams::standard::StdReader;
+
+/// The most bytes of a file that are read at once: one more than any input may have.
+const READ_LIMIT: usize = 1_048_577;
 
 /// The input that a name on the command line stands for: standard input for `-`, otherwise a file.
 pub(crate) fn input_of<R: Files + Input>(
@@ -53,11 +57,35 @@ pub fn is_read_once<R: Files>(rt: &R, name: &str) -> bool {
     }
 }
 
-/// Whether a plain file with this name exists and is not empty.
-pub(crate) fn has_bytes<R: Files>(rt: &R, name: &str) -> bool {
-    match fs::metadata(rt, name) {
-        Ok(found) => found.is_file() && found.len() > 0,
-        Err(_) => false,
+/// The bytes of an input, of which at most `READ_LIMIT` are read.
+pub(crate) fn bytes_of<R: Files + Input>(
+    rt: &R,
+    alloc: Global,
+    name: &str,
+) -> Result<Vec<u8>, Fault> {
+    let mut input = open_input(rt, name)?;
+    Ok(read_at_most(alloc, &mut input, READ_LIMIT)?)
+}
+
+/// Whether a plain file with this name exists, is not empty and, as far as its bytes show, was not written by this
+/// program: it does not begin with this prefix, and differs from this text.
+pub(crate) fn is_foreign<R: Files + Input>(
+    rt: &R,
+    alloc: Global,
+    name: &str,
+    prefix: &[u8],
+    text: &[u8],
+) -> bool {
+    let has_bytes = fs::metadata(rt, name).is_ok_and(|found| found.is_file() && found.len() > 0);
+    if !has_bytes {
+        return false;
+    }
+    let Ok(mut input) = open_input(rt, name) else {
+        return false;
+    };
+    match read_at_most(alloc, &mut input, READ_LIMIT) {
+        Ok(bytes) => !bytes.starts_with(prefix) && *bytes != *text,
+        Err(_) => true,
     }
 }
 
@@ -77,28 +105,9 @@ pub fn open_parts<R: Files + Input>(
 {
     for name in names {
         let input = open_input(rt, name)?;
-        if parts.push(input).is_err() {
-            return Err(Fault::NoMemory);
-        }
+        parts.push(input).map_err(|_| Fault::NoMemory)?;
     }
     Ok(())
-}
-
-/// Opens the parts of a source, in order.
-///
-/// # Errors
-///
-/// As for [`open_input`], and `NoMemory` if memory was refused.
-pub fn open_inputs<R: Files + Input>(
-    rt: &R,
-    alloc: Global,
-    names: &[&str],
-) -> Result<Vec<StdReader<Either<R::Reader, R::File>>>, Fault>
-    ensures { IfOk result (λ inputs. AllByRecursion (λ input. input.failed ≡ false) inputs.items) }
-{
-    let mut inputs = Vec::new(alloc);
-    open_parts(rt, names, &mut inputs)?;
-    Ok(inputs)
 }
 
 /// Where a result goes: standard output, or a file.
@@ -144,9 +153,8 @@ pub fn finish<R: Files + Print>(
     status: Status,
 ) -> Result<Status, Fault> {
     if let Either::Right(file) = out {
-        if file.finish().is_err() {
-            return Err(Fault::Device(DeviceFault::Write));
-        }
+        file.finish()
+            .map_err(|_| Fault::Device(DeviceFault::Write))?;
     }
     Ok(status)
 }

@@ -3,8 +3,9 @@
 #![tactic(auto)]
 
 pub mod faults;
-pub mod file_kinds;
+mod file_kinds;
 pub mod files;
+pub mod hints;
 pub mod inputs;
 mod named_files;
 pub mod of_files;

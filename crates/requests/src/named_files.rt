@@ -1,7 +1,7 @@
 //! What a report says about a program and its files. This is tested, not proved.
 
+use crate::hints::CommandFiles;
 use crate::source_faults::input_name;
-use command_line::{ProgramNames, ProgramRequest};
 use command_parts::visible::visible_text;
 use jiff::Timestamp;
 use jiff::civil::Date;
@@ -57,28 +57,6 @@ fn push_file<R: Files>(
     Ok(())
 }
 
-/// Adds a further file, if there is one, after a semicolon.
-fn push_further<R: Files>(
-    rt: &R,
-    alloc: Global,
-    text: &mut String,
-    name: Option<&str>,
-) -> Result<(), AllocError> {
-    let Some(name) = name else {
-        return Ok(());
-    };
-    text.push_str("; ")?;
-    push_file(rt, alloc, text, name)
-}
-
-/// The name of the file of a tape, or of the first part of a source.
-fn first_of<'a>(program: &ProgramNames<'a>) -> &'a str {
-    match program {
-        ProgramNames::Tape(tape) => tape,
-        ProgramNames::Source(parts) => parts.first().copied().unwrap_or("-"),
-    }
-}
-
 /// The name of a program without its folder and its ending.
 fn title_of(name: &str) -> &str {
     if name == "-" {
@@ -95,7 +73,7 @@ pub(crate) struct NamedFiles {
 }
 
 impl NamedFiles {
-    /// The names of a program's files, of its declaration and of a certificate, if there is one. The plain files among
+    /// The names of a program's files, of its declaration and of the other inputs of a command. The plain files among
     /// them are read again for the sums of their bytes.
     ///
     /// # Errors
@@ -104,19 +82,16 @@ impl NamedFiles {
     pub(crate) fn of<R: Files>(
         rt: &R,
         alloc: Global,
-        request: &ProgramRequest<'_>,
-        certificate: Option<&str>,
+        command: &CommandFiles<'_, '_>,
     ) -> Result<NamedFiles, AllocError> {
-        let first = first_of(&request.program);
+        let inputs = command.inputs(alloc)?;
+        let first = inputs.first().copied().unwrap_or("-");
         let program = visible_text(alloc, title_of(first))?;
         let mut files = String::new(alloc);
-        files.push_str("Files: ")?;
-        push_file(rt, alloc, &mut files, first)?;
-        for part in request.program.parts().iter().skip(1) {
-            push_further(rt, alloc, &mut files, Some(part))?;
+        for name in &inputs {
+            files.push_str(if files.is_empty() { "Files: " } else { "; " })?;
+            push_file(rt, alloc, &mut files, name)?;
         }
-        push_further(rt, alloc, &mut files, request.declaration)?;
-        push_further(rt, alloc, &mut files, certificate)?;
         files.push_str(UNITS)?;
         Ok(NamedFiles { program, files })
     }

@@ -2,43 +2,26 @@
 //! not proved.
 
 pub(crate) mod places;
-mod words;
+pub(crate) mod words;
 
 use crate::faults::UNSUPPORTED;
-use crate::file_kinds::source_hint;
+use crate::hints::CommandFiles;
 use crate::of_files::session_files::{hold_session_on, hold_teletype_session_on};
 use crate::of_files::tapes::run_on;
 use crate::of_machine::places::{ResolvedPlaces, resolve_places};
 use crate::of_machine::words::{SourceStatements, words_of};
-use crate::of_sources::assembled::{AssembledSource, describe_source};
-use crate::of_sources::numbering::{
-    DeclarationOrigin, SourceInput, byte_slices, machine_line, read_parts,
-};
-use crate::of_sources::source_messages::report_ignored_parts;
-use crate::source_faults::{report_file_fault, report_source_fault, unopened_part};
+use crate::of_sources::assembled::{AssembledSource, assemble_source};
+use crate::of_sources::reading::DeclarationUse;
+use crate::of_sources::source_messages::report_source;
 use crate::telling::{tell_lines, tell_misuse};
 use command_line::{MachineTask, RunRequest, Session, SourceProgramRequest, TeletypeSession};
 use command_parts::options::{RunOptions, SessionOptions, TeletypeOptions};
 use command_parts::status::{Fault, Status};
-use labels::{NumberedProgram, NumberingFault, number};
-use pal_asm::PalFault;
 use std::alloc::Global;
 use std::io;
 use std::rt::Files;
 use streams::put;
 use streams::standard::{StdReader, StdWriter};
-
-/// The tape and the lines of a source that was read.
-#[inline(never)]
-fn number_machine_source(
-    alloc: Global,
-    given: &SourceInput,
-) -> Result<NumberedProgram<Global>, NumberingFault> {
-    match byte_slices(alloc, &given.parts) {
-        Ok(parts) => number(alloc, &parts, &given.text),
-        Err(_) => Err(NumberingFault::NoMemory),
-    }
-}
 
 /// The same run, with these cells shown and these stops.
 fn run_of<'a>(run: &RunRequest<'a>, places: &ResolvedPlaces) -> RunRequest<'a> {
@@ -79,7 +62,7 @@ fn teletype_of<'a>(session: &TeletypeSession<'a>, places: &ResolvedPlaces) -> Te
     }
 }
 
-/// Carries out the request on the program of an assembled source.
+/// Carries out the request on the program of an assembled source, with the cells and the stops that its symbols name.
 #[inline(never)]
 fn carry_out_machine_task<R: Files + Input + Print + Eprint>(
     rt: &R,
@@ -90,15 +73,13 @@ fn carry_out_machine_task<R: Files + Input + Print + Eprint>(
 ) -> Result<Status, Fault> {
     let places = match resolve_places(source.numbered.map.symbols(), &request.places) {
         Ok(places) => places,
-        Err(misuse) => return Ok(tell_misuse(rt, &misuse.with_symbols())),
+        Err(misuse) => return Ok(tell_misuse(rt, &misuse)),
     };
     let mut frames = StdReader::new(source.numbered.tape.as_slice());
     match &request.task {
         MachineTask::Run(run) => {
-            let statements = SourceStatements {
-                source,
-                profile: run.options.profile,
-            };
+            let profile = run.options.profile;
+            let statements = SourceStatements { source, profile };
             run_on(rt, alloc, &run_of(run, &places), &mut frames, &statements)
         }
         MachineTask::Session(session) => {
@@ -109,61 +90,12 @@ fn carry_out_machine_task<R: Files + Input + Print + Eprint>(
             hold_teletype_session_on(rt, alloc, &session, at_terminal, &mut frames)
         }
         MachineTask::Dump(dump) => {
-            let text = words_of(alloc, source, dump.profile)?;
+            let image = source.numbered.map.image();
+            let text = words_of(alloc, image, dump.profile, Some(&source.notes))?;
             put(&mut StdWriter::new(io::writer(rt)), &text)?;
             Ok(Status::Done)
         }
     }
-}
-
-/// Reports that a source is refused: why, if that is requested, and whether a file of another kind was given in its
-/// place.
-fn report_source_refusal<R: Eprint>(
-    rt: &R,
-    alloc: Global,
-    fault: PalFault,
-    parts: &[&[u8]],
-    request: &SourceProgramRequest<'_>,
-) -> Status {
-    let names = &request.parts;
-    let profile = request.task.profile();
-    let status = report_source_fault(rt, alloc, fault, names, parts, profile, request.explained);
-    let command = request.task.command();
-    let hint = source_hint(alloc, command, request.task.names(), names, fault, parts);
-    tell_lines(rt, &hint);
-    status
-}
-
-/// Carries out the request on the program of a source that was read, and reports which of its parts are ignored; or
-/// reports why the source is refused.
-fn answer_machine_source<R: Files + Input + Print + Eprint>(
-    rt: &R,
-    alloc: Global,
-    given: SourceInput,
-    request: &SourceProgramRequest<'_>,
-    at_terminal: bool,
-) -> Result<Status, Fault> {
-    let numbered = match number_machine_source(alloc, &given) {
-        Ok(numbered) => numbered,
-        Err(NumberingFault::Source(fault)) => {
-            let parts = byte_slices(alloc, &given.parts)?;
-            return Ok(report_source_refusal(rt, alloc, fault, &parts, request));
-        }
-        Err(NumberingFault::EmptyImage) => return Err(Fault::EmptyImage),
-        Err(_) => return Err(Fault::NoMemory),
-    };
-    let source = describe_source(alloc, given, numbered, &request.parts)?;
-    let status = carry_out_machine_task(rt, alloc, &source, request, at_terminal)?;
-    if request.explained && status == Status::Refused {
-        tell_lines(rt, UNSUPPORTED);
-    }
-    report_ignored_parts(
-        rt,
-        alloc,
-        &request.parts,
-        &byte_slices(alloc, &source.given.parts)?,
-    )?;
-    Ok(status)
 }
 
 /// Runs the program of a source, or lists its words. The parts are opened and read in order, and then the other files of
@@ -176,23 +108,18 @@ fn answer_machine_source<R: Files + Input + Print + Eprint>(
 pub fn answer_sourced<R: Files + Input + Print + Eprint>(
     rt: &R,
     alloc: Global,
+    files: &CommandFiles<'_, '_>,
     request: &SourceProgramRequest<'_>,
     at_terminal: bool,
 ) -> Result<Status, Fault> {
-    let mut parts = Vec::new(alloc);
-    if let Err(fault) = read_parts(rt, alloc, &request.parts, &mut parts) {
-        if !request.explained {
-            return Err(fault);
-        }
-        let name = unopened_part(&request.parts, parts.len());
-        return Ok(report_file_fault(rt, alloc, fault, name, "cannot be opened or read"));
-    }
-    let mut text = Vec::new(alloc);
-    text.extend_from_slice(machine_line(request.task.profile()))?;
-    let given = SourceInput {
-        parts,
-        text,
-        origin: DeclarationOrigin::Proposed,
+    let declared = DeclarationUse::Unused(request.task.profile());
+    let source = match assemble_source(rt, alloc, files, declared)? {
+        Ok(source) => source,
+        Err(status) => return Ok(status),
     };
-    answer_machine_source(rt, alloc, given, request, at_terminal)
+    let status = carry_out_machine_task(rt, alloc, &source, request, at_terminal)?;
+    if files.explained && status == Status::Refused {
+        tell_lines(rt, UNSUPPORTED);
+    }
+    report_source(rt, alloc, files, &source, Ok(status))
 }

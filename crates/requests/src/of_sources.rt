@@ -2,8 +2,9 @@
 //! not proved, except that the first line of a text is proved to stay as it is.
 
 pub(crate) mod assembled;
-pub(crate) mod numbering;
+mod numbering;
 mod part_lines;
 pub(crate) mod proposed;
+pub(crate) mod reading;
 pub(crate) mod source_lines;
 pub(crate) mod source_messages;

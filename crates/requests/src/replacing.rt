@@ -7,6 +7,7 @@ use std::fmt::Write;
 use std::fs::{self, Metadata, OpenOptions, Permissions};
 use std::io::{self, Read};
 use std::os::unix::fs::{MetadataExt, PermissionsExt, chown};
+use std::path::Path;
 use std::rt::Files;
 
 /// How many names are tried for a temporary file.
@@ -34,23 +35,11 @@ impl<R: Files> Drop for TemporaryFile<'_, R> {
     }
 }
 
-/// Adds the folder in a path, with the slash after it, if the path has one.
-fn push_folder(text: &mut String, path: &str) -> Result<(), AllocError> {
-    if let Some((folder, _)) = path.rsplit_once('/') {
-        text.push_str(folder)?;
-        text.push('/')?;
-    }
-    Ok(())
-}
-
 /// A name for a temporary file beside the file at this path.
 fn name_beside(alloc: Global, path: &str, number: u32) -> Result<String, AllocError> {
     let mut name = String::new(alloc);
-    push_folder(&mut name, path)?;
-    match write!(name, ".pdp8-{number}") {
-        Ok(()) => Ok(name),
-        Err(_) => Err(AllocError),
-    }
+    write!(name, ".pdp8-{number}").map_err(|_| AllocError)?;
+    Ok(Path::new(path).with_file_name(alloc, &name)?.into_string())
 }
 
 /// The I/O error for memory that was refused.
@@ -84,18 +73,6 @@ fn is_stream(path: &str) -> bool {
     path.starts_with("/dev/fd/") || path.starts_with("/proc/")
 }
 
-/// The path that a symbolic link stands for.
-fn link_target<R: Files>(rt: &R, alloc: Global, link: &str) -> io::Result<String> {
-    let target = rt.read_link(alloc, link)?.into_string();
-    if target.starts_with('/') {
-        return Ok(target);
-    }
-    let mut path = String::new(alloc);
-    push_folder(&mut path, link).map_err(no_memory)?;
-    path.push_str(&target).map_err(no_memory)?;
-    Ok(path)
-}
-
 /// The path of the file with this name, after all symbolic links; `None` if no temporary file may replace it.
 fn place_of<R: Files>(rt: &R, alloc: Global, name: &str) -> Result<Option<String>, AllocError> {
     let mut path = String::from_str(alloc, name)?;
@@ -104,22 +81,18 @@ fn place_of<R: Files>(rt: &R, alloc: Global, name: &str) -> Result<Option<String
             return Ok(None);
         }
         match fs::symlink_metadata(rt, &path) {
-            Ok(found) if found.is_symlink() => match link_target(rt, alloc, &path) {
-                Ok(target) => path = target,
-                Err(_) => return Ok(None),
-            },
+            Ok(found) if found.is_symlink() => {}
             _ => return Ok(Some(path)),
         }
+        let Ok(target) = rt.read_link(alloc, &path) else {
+            return Ok(None);
+        };
+        let target = target.into_string();
+        path = Path::new(&path)
+            .with_file_name(alloc, &target)?
+            .into_string();
     }
     Ok(None)
-}
-
-/// Whether a file cannot be created because this program may not write to its folder.
-fn is_forbidden(kind: io::ErrorKind) -> bool {
-    matches!(
-        kind,
-        io::ErrorKind::PermissionDenied | io::ErrorKind::ReadOnlyFilesystem
-    )
 }
 
 /// Gives a temporary file the owner, the group and the permissions of the file that it is to replace.
@@ -137,24 +110,13 @@ fn limit_on(line: &str) -> Option<u64> {
     limits.split_whitespace().next()?.parse::<u64>().ok()
 }
 
-/// The most bytes that this program may write to a file: a write beyond that would end the program with a signal.
-fn file_size_limit<R: Files>(rt: &R) -> u64 {
+/// The most bytes that this program may write to a file, if that is known: a write beyond that would end the program
+/// with a signal.
+fn file_size_limit<R: Files>(rt: &R) -> Option<u64> {
     let mut text = [0; 2_048];
-    let Ok(mut file) = fs::open(rt, LIMITS_PATH) else {
-        return u64::MAX;
-    };
-    let Ok(count) = file.read(&mut text) else {
-        return u64::MAX;
-    };
-    let Ok(lines) = str::from_utf8(&text[..count]) else {
-        return u64::MAX;
-    };
-    for line in lines.lines() {
-        if let Some(limit) = limit_on(line) {
-            return limit;
-        }
-    }
-    u64::MAX
+    let count = fs::open(rt, LIMITS_PATH).ok()?.read(&mut text).ok()?;
+    let lines = str::from_utf8(text.get(..count)?).ok()?;
+    lines.lines().find_map(limit_on)
 }
 
 /// A file for a result.
@@ -194,10 +156,7 @@ impl<'r, R: Files> ResultFile<'r, R> {
     /// Whether its name stands for something other than a plain file, such as a pipe. A name that nothing has yet
     /// counts as a plain file.
     fn is_device(&self) -> bool {
-        match fs::metadata(self.rt, self.name) {
-            Ok(found) => !found.is_file(),
-            Err(_) => false,
-        }
+        fs::metadata(self.rt, self.name).is_ok_and(|found| !found.is_file())
     }
 
     /// Creates or empties the file. If it is not a plain file, or may not be replaced, it stays open for writing.
@@ -245,22 +204,28 @@ impl<'r, R: Files> ResultFile<'r, R> {
     /// Opens a temporary file beside the file at this path, to which everything is written from now on. If there is a
     /// file at the path that cannot be replaced, that file itself is opened.
     fn open_beside(&mut self, path: &str) -> io::Result<()> {
-        let (file, beside) = match fs::metadata(self.rt, path) {
-            Ok(found) => {
-                let _file = OpenOptions::new().write(true).open(self.rt, path)?;
-                match make_beside(self.rt, self.alloc, path) {
-                    Ok((file, beside)) => {
-                        if copy_permissions(self.rt, &beside.name, &found).is_err() {
-                            return self.open_in_place();
-                        }
-                        (file, beside)
-                    }
-                    Err(error) if is_forbidden(error.kind()) => return self.open_in_place(),
-                    Err(error) => return Err(error),
-                }
+        let found = fs::metadata(self.rt, path).ok();
+        if found.is_some() {
+            let _file = OpenOptions::new().write(true).open(self.rt, path)?;
+        }
+        let (file, beside) = match make_beside(self.rt, self.alloc, path) {
+            Ok(made) => made,
+            Err(error) => {
+                // The program may not write to the folder of the file.
+                let is_forbidden = matches!(
+                    error.kind(),
+                    io::ErrorKind::PermissionDenied | io::ErrorKind::ReadOnlyFilesystem
+                );
+                return if is_forbidden && found.is_some() {
+                    self.open_in_place()
+                } else {
+                    Err(error)
+                };
             }
-            Err(_) => make_beside(self.rt, self.alloc, path)?,
         };
+        if found.is_some_and(|found| copy_permissions(self.rt, &beside.name, &found).is_err()) {
+            return self.open_in_place();
+        }
         self.file = Some(file);
         self.beside = Some(beside);
         Ok(())
@@ -270,7 +235,7 @@ impl<'r, R: Files> ResultFile<'r, R> {
     fn open(&mut self, count: u64) -> io::Result<()> {
         let device = self.is_device();
         if !device {
-            self.remaining_bytes = file_size_limit(self.rt);
+            self.remaining_bytes = file_size_limit(self.rt).unwrap_or(u64::MAX);
         }
         if count > self.remaining_bytes {
             return Err(io::Error::from(io::ErrorKind::FileTooLarge));
@@ -291,22 +256,15 @@ impl<'r, R: Files> ResultFile<'r, R> {
     ///
     /// Any error from copying the result, if it can be neither moved nor copied to its place.
     pub fn finish(&mut self) -> io::Result<()> {
-        let Some(path) = &self.path else {
+        let (Some(path), Some(beside)) = (&self.path, &mut self.beside) else {
             return Ok(());
         };
-        let Some(beside) = &mut self.beside else {
-            return Ok(());
-        };
-        match fs::rename(self.rt, &beside.name, path) {
-            Ok(()) => {
-                beside.name.clear();
-                Ok(())
-            }
-            Err(_) => {
-                let _count = fs::copy(self.rt, &beside.name, path)?;
-                Ok(())
-            }
+        if fs::rename(self.rt, &beside.name, path).is_ok() {
+            beside.name.clear();
+        } else {
+            let _count = fs::copy(self.rt, &beside.name, path)?;
         }
+        Ok(())
     }
 
     /// Puts the completely written result in its place. If nothing was written, the file is created or emptied.

@@ -20,9 +20,9 @@ pub const NO_WORD: &str = "the source generates no word: `pdp8 list` shows what 
 pub fn visible_names(alloc: Global, names: &[&str]) -> Result<Vec<String>, AllocError> {
     let mut shown = Vec::new(alloc);
     for name in names {
-        if shown.push(visible_text(alloc, name)?).is_err() {
-            return Err(AllocError);
-        }
+        shown
+            .push(visible_text(alloc, name)?)
+            .map_err(|_| AllocError)?;
     }
     Ok(shown)
 }
@@ -33,11 +33,7 @@ pub fn visible_names(alloc: Global, names: &[&str]) -> Result<Vec<String>, Alloc
 ///
 /// `AllocError` if memory was refused.
 pub fn name_slices<'n>(alloc: Global, names: &'n [String]) -> Result<Vec<&'n str>, AllocError> {
-    let mut slices = Vec::new(alloc);
-    for name in names {
-        slices.push(name.as_str())?;
-    }
-    Ok(slices)
+    names.iter().map(|name| name.as_str()).collect(alloc)
 }
 
 /// An input as it is named in a sentence.
@@ -77,6 +73,25 @@ pub fn report_file_fault<R: Eprint>(
     status
 }
 
+/// Does the same if that is requested; otherwise the fault is returned.
+///
+/// # Errors
+///
+/// The fault, unless it is reported.
+pub fn report_if<R: Eprint>(
+    rt: &R,
+    alloc: Global,
+    is_requested: bool,
+    fault: Fault,
+    name: &str,
+    problem: &str,
+) -> Result<Status, Fault> {
+    if !is_requested {
+        return Err(fault);
+    }
+    Ok(report_file_fault(rt, alloc, fault, name, problem))
+}
+
 /// Writes the line of a fault about a size to standard error, and below it what is too large: the number of parts, or
 /// one of the parts. Returns the status of the fault.
 pub fn report_size_fault<R: Eprint>(
@@ -102,7 +117,11 @@ pub fn report_size_fault<R: Eprint>(
 }
 
 /// Adds what is wrong with a source whose parts have these names.
-fn push_source_faults(
+///
+/// # Errors
+///
+/// `AllocError` if memory was refused.
+pub(crate) fn push_source_faults(
     alloc: Global,
     lines: &mut String,
     names: &[&str],
@@ -111,26 +130,4 @@ fn push_source_faults(
 ) -> Result<(), AllocError> {
     let shown = visible_names(alloc, names)?;
     push_faults(alloc, lines, &name_slices(alloc, &shown)?, parts, profile)
-}
-
-/// Writes the line of a source's fault to standard error and, if that is requested, what is wrong below it. Returns the
-/// status of the fault.
-pub fn report_source_fault<R: Eprint>(
-    rt: &R,
-    alloc: Global,
-    fault: PalFault,
-    names: &[&str],
-    parts: &[&[u8]],
-    profile: Profile,
-    explained: bool,
-) -> Status {
-    if !explained {
-        return tell(rt, Fault::Source(fault));
-    }
-    if fault.line == 0 {
-        return report_size_fault(rt, alloc, fault, names);
-    }
-    let mut lines = String::new(alloc);
-    let _ = push_source_faults(alloc, &mut lines, names, parts, profile);
-    tell_with(rt, Fault::Source(fault), &lines)
 }

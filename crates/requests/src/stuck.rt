@@ -34,12 +34,8 @@ pub struct StuckSearch<'x> {
 
 /// Adds the lines about a stuck search: what the tape and the declaration show by themselves, why the search is stuck,
 /// what to do, and what the draft says about the pointer there.
-///
-/// # Errors
-///
-/// `AllocError` if memory was refused.
 #[inline(never)]
-pub fn push_stuck(
+fn push_stuck(
     alloc: Global,
     message: &mut Message<Global>,
     stuck: &StuckSearch<'_>,
@@ -55,23 +51,6 @@ pub fn push_stuck(
     message.push_message(why)?;
     push_stuck_remedy(message, image, declaration, at)?;
     push_bound(alloc, message, image, declaration, stuck.draft, at)
-}
-
-/// The first line of the message about a stuck search.
-fn stuck_line(alloc: Global, at: Word) -> Result<Message<Global>, AllocError> {
-    let mut line = String::new(alloc);
-    let fault = Fault::Guess(GuessFault::Stuck(at));
-    writeln!(line, "{fault}").map_err(|_| AllocError)?;
-    Ok(Message::of(alloc, line.into_bytes()))
-}
-
-/// The message about a stuck search after its first line: why it is stuck, and what to do.
-#[inline(never)]
-fn stuck_reasons(alloc: Global, stuck: &StuckSearch<'_>) -> Result<Message<Global>, AllocError> {
-    let mut message = Message::new(alloc);
-    let why = draft_message(alloc, stuck.image, stuck.declaration, stuck.draft, stuck.at)?;
-    push_stuck(alloc, &mut message, stuck, &why)?;
-    Ok(message)
 }
 
 /// Why a search is stuck, as the report on it says.
@@ -100,8 +79,12 @@ pub fn stuck_message(
     alloc: Global,
     stuck: &StuckSearch<'_>,
 ) -> Result<Message<Global>, AllocError> {
-    let mut message = stuck_line(alloc, stuck.at)?;
-    message.push_message(&stuck_reasons(alloc, stuck)?)?;
+    let mut line = String::new(alloc);
+    let fault = Fault::Guess(GuessFault::Stuck(stuck.at));
+    writeln!(line, "{fault}").map_err(|_| AllocError)?;
+    let mut message = Message::of(alloc, line.into_bytes());
+    let why = draft_message(alloc, stuck.image, stuck.declaration, stuck.draft, stuck.at)?;
+    push_stuck(alloc, &mut message, stuck, &why)?;
     Ok(message)
 }
 

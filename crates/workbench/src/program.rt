@@ -6,16 +6,16 @@ use clap::Error;
 use command_line::explanations::{push_codes, push_explanations};
 use command_line::tips::is_wrong_tip;
 use command_line::{
-    CommandLine, CommandLineFault, MachineTask, Misuse, Request, parse_arguments,
+    CommandLine, CommandLineFault, Destination, MachineTask, Misuse, Request, parse_arguments,
 };
 use command_parts::status::{DeviceFault, Fault, Status};
 use command_parts::visible::visible_text;
 use requests::faults::{fault_lines, refusal_lines};
-use requests::file_kinds::hint_line;
+use requests::hints::{CommandFiles, hint_line};
 use requests::inputs::misused_files;
 use requests::of_files::certificates::migrate_from;
 use requests::of_files::session_files::{hold_session, hold_teletype_session};
-use requests::of_files::sources::{assemble_to, list_from};
+use requests::of_files::sources::{Product, translate_to};
 use requests::of_files::tapes::{dump_from, run_from, source_from};
 use requests::of_machine::answer_sourced;
 use requests::of_programs::answer_program;
@@ -53,7 +53,10 @@ pub fn exit_status<R: Env + Files + Input + Print + Eprint + AllocGlobal>(
     let alloc = rt.alloc();
     let arguments = match env::args(rt) {
         Ok(arguments) => arguments,
-        Err(error) => return refuse(rt, alloc, refusal_of(error.kind())).code(),
+        Err(error) if error.kind() == ErrorKind::InvalidData => {
+            return tell_misuse(rt, &Misuse::NotText).code();
+        }
+        Err(_) => return tell(rt, Fault::NoMemory).code(),
     };
     let Ok(given) = arguments.collect::<Vec<String>>(alloc) else {
         return tell(rt, Fault::NoMemory).code();
@@ -75,7 +78,7 @@ pub fn exit_status<R: Env + Files + Input + Print + Eprint + AllocGlobal>(
 /// Carries out a command line, unless one of its files is used twice, and reports the fault that stops it. The line of
 /// the fault is written first, because the faulty file is read again for the lines below it; the last of these says so
 /// if a file was given in place of one of another kind. If the request is refused without a fault, it says what the
-/// command itself does not.
+/// command itself does not. Each command has a stack frame of its own, since these frames are large.
 #[inline(never)]
 fn carry_out<R: Files + Input + Print + Eprint>(
     rt: &R,
@@ -83,12 +86,36 @@ fn carry_out<R: Files + Input + Print + Eprint>(
     line: &CommandLine<'_>,
     at_terminal: bool,
 ) -> Status {
-    match misused_files(rt, alloc, &line.request) {
+    let files = &CommandFiles::of(line);
+    match misused_files(rt, alloc, files, &line.request) {
         Ok(None) => {}
         Ok(Some(misuse)) => return tell_misuse(rt, &misuse),
         Err(_) => return tell(rt, Fault::NoMemory),
     }
-    match answer(rt, alloc, &line.request, at_terminal) {
+    let answer = match &line.request {
+        Request::Tape(MachineTask::Run(asked)) => run_from(rt, alloc, asked),
+        Request::Tape(MachineTask::Session(session)) => hold_session(rt, alloc, session),
+        Request::Tape(MachineTask::Teletype(session)) => {
+            hold_teletype_session(rt, alloc, session, at_terminal)
+        }
+        Request::Tape(MachineTask::Dump(asked)) => dump_from(rt, alloc, asked),
+        Request::Assemble(asked) => {
+            translate_to(rt, alloc, files, Product::Tape, asked.profile, asked.out)
+        }
+        Request::List(asked) => {
+            let product = Product::Listing {
+                crossed: asked.crossed,
+            };
+            let out = Destination::MadeLast("-");
+            translate_to(rt, alloc, files, product, asked.profile, out)
+        }
+        Request::Source(asked) => source_from(rt, alloc, asked),
+        Request::Sourced(asked) => answer_sourced(rt, alloc, files, asked, at_terminal),
+        Request::Program(asked) => answer_program(rt, alloc, files, asked),
+        Request::Migrate(asked) => migrate_from(rt, alloc, asked),
+        Request::Explain { code, number } => explain_code(rt, alloc, *code, *number),
+    };
+    match answer {
         Ok(status) => {
             if line.explained && status == Status::Refused {
                 tell_lines(rt, refusal_lines(&line.request));
@@ -97,19 +124,10 @@ fn carry_out<R: Files + Input + Print + Eprint>(
         }
         Err(fault) => {
             let status = tell(rt, fault);
-            let lines = fault_lines(rt, alloc, &fault, &line.request, line.explained);
-            tell_lines(rt, &lines);
-            tell_lines(rt, &hint_line(rt, alloc, &fault, &line.request));
+            tell_lines(rt, &fault_lines(rt, alloc, &fault, files));
+            tell_lines(rt, &hint_line(rt, alloc, &fault, files));
             status
         }
-    }
-}
-
-/// Why the arguments could not be copied: one of them is not text, or memory was refused.
-fn refusal_of(kind: ErrorKind) -> CommandLineFault {
-    match kind {
-        ErrorKind::InvalidData => CommandLineFault::Misuse(Misuse::NotText),
-        _ => CommandLineFault::Memory,
     }
 }
 
@@ -137,7 +155,9 @@ fn refuse<R: Print + Eprint>(rt: &R, alloc: Global, refused: CommandLineFault) -
 /// Writes to standard error what is wrong with the command line, or writes help to standard output.
 fn say<R: Print + Eprint>(rt: &R, alloc: Global, text: &Error) -> Status {
     if text.use_stderr() {
-        say_error(rt, alloc, text);
+        if let Ok(lines) = visible_lines(alloc, text) {
+            tell_lines(rt, &lines);
+        }
         return Status::Usage;
     }
     match text.print(rt) {
@@ -147,67 +167,21 @@ fn say<R: Print + Eprint>(rt: &R, alloc: Global, text: &Error) -> Status {
 }
 
 /// The lines of an error as they are shown, each with the line feed that ends it. A misleading tip is left out, with
-/// the empty line below it.
-fn visible_lines(alloc: Global, error: &str) -> Result<String, AllocError> {
+/// the empty line below it. The text may quote an argument.
+fn visible_lines(alloc: Global, text: &Error) -> Result<String, AllocError> {
+    let mut error = String::new(alloc);
+    write!(error, "{text}").map_err(|_| AllocError)?;
     let mut shown = String::new(alloc);
     let mut is_dropped = false;
     for line in error.lines() {
         let is_gap = is_dropped && line.is_empty();
-        is_dropped = is_wrong_tip(alloc, error, line)?;
+        is_dropped = is_wrong_tip(alloc, &error, line)?;
         if !is_dropped && !is_gap {
             shown.push_str(&visible_text(alloc, line)?)?;
             shown.push('\n')?;
         }
     }
     Ok(shown)
-}
-
-/// Writes to standard error what is wrong with the command line. The text may quote an argument.
-fn say_error<R: Eprint>(rt: &R, alloc: Global, text: &Error) {
-    let mut lines = String::new(alloc);
-    if write!(lines, "{text}").is_err() {
-        return;
-    }
-    if let Ok(shown) = visible_lines(alloc, &lines) {
-        tell_lines(rt, &shown);
-    }
-}
-
-/// Opens the files of a request, in the order of its operands, and carries it out. Each command has a stack frame of
-/// its own, since these frames are large.
-#[inline(never)]
-fn answer<R: Files + Input + Print + Eprint>(
-    rt: &R,
-    alloc: Global,
-    request: &Request<'_>,
-    at_terminal: bool,
-) -> Result<Status, Fault> {
-    match request {
-        Request::Tape(MachineTask::Run(asked)) => run_from(rt, alloc, asked),
-        Request::Tape(MachineTask::Session(session)) => hold_session(rt, alloc, session),
-        Request::Tape(MachineTask::Teletype(session)) => {
-            hold_teletype_session(rt, alloc, session, at_terminal)
-        }
-        Request::Tape(MachineTask::Dump(asked)) => dump_from(rt, alloc, asked),
-        Request::Assemble(asked) => assemble_to(rt, alloc, asked),
-        Request::List(asked) => list_from(rt, alloc, asked),
-        Request::Source(asked) => source_from(rt, alloc, asked),
-        Request::Sourced(asked) => answer_sourced(rt, alloc, asked, at_terminal),
-        Request::Program(asked) => answer_program(rt, alloc, asked),
-        Request::Migrate(asked) => migrate_from(rt, alloc, asked),
-        Request::Explain { code, number } => explain_code(rt, alloc, *code, *number),
-    }
-}
-
-/// A code with its number, if the number is an argument of its own, as in `rule 2`.
-fn whole_code(alloc: Global, code: &str, number: Option<&str>) -> Result<String, AllocError> {
-    let mut whole = String::new(alloc);
-    whole.push_str(code)?;
-    if let Some(number) = number {
-        whole.push(' ')?;
-        whole.push_str(number)?;
-    }
-    Ok(whole)
 }
 
 /// Explains a code, or lists all codes. An unknown code is a misuse of the command line.
@@ -222,15 +196,18 @@ fn explain_code<R: Print + Eprint>(
     match code {
         None => push_codes(&mut text)?,
         Some(code) => {
-            let code = whole_code(alloc, code, number)?;
+            // A number that is an argument of its own belongs to the code, as in `rule 2`.
+            let mut code = String::from_str(alloc, code)?;
+            if let Some(number) = number {
+                code.push(' ')?;
+                code.push_str(number)?;
+            }
             if !push_explanations(&mut text, &code)? {
                 let shown = visible_text(alloc, &code)?;
-                let told = eprintln!(rt;
+                let _ = eprintln!(rt;
                     "error: unknown code '{shown}': 'pdp8 explain' lists all codes"
                 );
-                return match told {
-                    Ok(()) | Err(_) => Ok(Status::Usage),
-                };
+                return Ok(Status::Usage);
             }
         }
     }

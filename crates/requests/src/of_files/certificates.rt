@@ -1,6 +1,7 @@
 //! Commands that work on a certificate alone.
 
 use crate::files::{finish, open_input, open_output};
+use crate::standard_error::open_input_if;
 use command_line::MigrateRequest;
 use command_parts::status::{Fault, Status};
 use search_commands::migrating::{migrate, migrate_with_sites};
@@ -8,23 +9,8 @@ use std::alloc::Global;
 use std::rt::Files;
 use streams::standard::StdWriter;
 
-/// Migrates the certificate in a file to version 3. The declaration is opened first.
-#[inline(never)]
-fn migrate_by<R: Files + Input + Print>(
-    rt: &R,
-    alloc: Global,
-    request: &MigrateRequest<'_>,
-    declaration: &str,
-) -> Result<Status, Fault> {
-    let mut declaration_input = open_input(rt, declaration)?;
-    let mut text = open_input(rt, request.certificate)?;
-    let mut file = open_output(rt, alloc, request.out)?;
-    let mut out = StdWriter::new(&mut file);
-    let status = migrate_with_sites(alloc, &mut declaration_input, &mut text, &mut out)?;
-    finish(&mut file, status)
-}
-
-/// Migrates the certificate in a file: to version 3 if there is a declaration, otherwise to version 2.
+/// Migrates the certificate in a file: to version 3 if there is a declaration, which is opened first, otherwise to
+/// version 2.
 ///
 /// # Errors
 ///
@@ -35,11 +21,14 @@ pub fn migrate_from<R: Files + Input + Print>(
     alloc: Global,
     request: &MigrateRequest<'_>,
 ) -> Result<Status, Fault> {
-    if let Some(declaration) = request.declaration {
-        return migrate_by(rt, alloc, request, declaration);
-    }
+    let mut declaration = open_input_if(rt, request.declaration)?;
     let mut text = open_input(rt, request.certificate)?;
     let mut file = open_output(rt, alloc, request.out)?;
-    let status = migrate(alloc, &mut text, &mut StdWriter::new(&mut file))?;
+    let mut out = StdWriter::new(&mut file);
+    let status = if request.declaration.is_some() {
+        migrate_with_sites(alloc, &mut declaration, &mut text, &mut out)?
+    } else {
+        migrate(alloc, &mut text, &mut out)?
+    };
     finish(&mut file, status)
 }

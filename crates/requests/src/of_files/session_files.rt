@@ -5,14 +5,14 @@ ghost use Rattle.std.specs.Prelude.{◌≡◌, false};
 use crate::files::open_input;
 use crate::replacing::ResultFile;
 use crate::standard_error::{NullSink, open_input_if, report_to, tell_to};
-use command_line::{Interrupt, Session, StopOptions, TeletypeSession};
+use crate::of_machine::places::stops_of;
+use command_line::{Interrupt, Session, TeletypeSession};
 use command_parts::options::SummaryForm;
 use command_parts::status::{DeviceFault, Fault, Status};
 use command_parts::visible::visible_text;
 use either::Either;
 use machine_commands::interrupted::InterruptibleKeys;
 use machine_commands::session::{Outputs, run_session};
-use machine_commands::stopping::no_stops;
 use machine_commands::teletype::{Typist, teletype};
 use std::alloc::{AllocError, Global};
 use std::io::{self, Printer};
@@ -91,17 +91,6 @@ fn form_with<'n>(form: SummaryForm<'_>, name: &'n Option<String>) -> SummaryForm
             Some(name) => Some(name.as_str()),
             None => None,
         },
-    }
-}
-
-/// Where a run is stopped and how many of its last instructions are shown: nowhere and none, unless it is requested.
-pub(crate) fn stops_of(stopping: &Option<StopOptions>) -> StopOptions {
-    match stopping {
-        None => StopOptions {
-            stops: no_stops(),
-            last: None,
-        },
-        Some(stopping) => *stopping,
     }
 }
 

@@ -1,233 +1,148 @@
 //! Assembles and lists sources, and reports their faults.
 
-ghost use Rattle.std.specs.Prelude.{◌≡◌, false};
-ghost use Rattle.std.specs.List.{AllByRecursion};
-
-use crate::file_kinds::part_hint;
-use crate::files::{ResultSink, finish, open_inputs, open_output, open_parts};
+use crate::files::{ResultSink, finish, open_output, open_parts};
+use crate::hints::{CommandFiles, hint_line};
 use crate::source_faults::{
-    NO_WORD, input_name, name_slices, output_name, report_file_fault, report_size_fault,
+    NO_WORD, input_name, name_slices, output_name, report_file_fault, report_if, report_size_fault,
     unopened_part, visible_names,
 };
 use crate::telling::{tell, tell_lines, tell_with};
-use command_line::{AssembleRequest, ListRequest};
+use command_line::Destination;
 use command_parts::status::{DeviceFault, Fault, Status};
+use instruct::Profile;
 use source_commands::assembling::{assemble, list};
 use source_commands::crossing::list_crossed;
 use std::alloc::Global;
-use std::io;
 use std::rt::Files;
+use streams::ByteSource;
 use streams::standard::StdWriter;
-use streams::{ByteSink, ByteSource};
 
 /// The name of the first part that could not be read.
 fn failed_part<'n, S: ByteSource>(names: &'n [&'n str], parts: &[S]) -> &'n str {
-    for (index, part) in parts.iter().enumerate() {
+    for (name, part) in names.iter().zip(parts) {
         if part.failed() {
-            return match names.get(index) {
-                Some(name) => input_name(name),
-                None => "a source",
-            };
+            return input_name(name);
         }
     }
     "a source"
 }
 
-/// Writes the line of a fault to standard error, and below it what is wrong. For a fault of the source, these are the
-/// lines in `told`.
+/// Writes the line of a fault to standard error, and below it what is wrong: for a fault of the source, these lines.
+/// `shown` are the names of the parts as they are shown.
 fn report_fault<R: Eprint, S: ByteSource>(
     rt: &R,
     alloc: Global,
     fault: Fault,
-    names: &[&str],
+    files: &CommandFiles<'_, '_>,
+    shown: &[&str],
     parts: &[S],
-    out: &str,
     lines: &str,
 ) -> Status {
     match fault {
-        Fault::Source(fault) if fault.line == 0 => report_size_fault(rt, alloc, fault, names),
+        Fault::Source(fault) if fault.line == 0 => report_size_fault(rt, alloc, fault, shown),
         Fault::Source(_) => tell_with(rt, fault, lines),
         Fault::EmptyImage => tell_with(rt, fault, NO_WORD),
-        Fault::Device(DeviceFault::Read) => report_file_fault(
-            rt,
-            alloc,
-            fault,
-            failed_part(names, parts),
-            "cannot be read",
-        ),
-        Fault::Device(DeviceFault::Write) => report_file_fault(
-            rt,
-            alloc,
-            fault,
-            output_name(out),
-            "cannot be written",
-        ),
+        Fault::Device(DeviceFault::Read) => {
+            report_file_fault(
+                rt,
+                alloc,
+                fault,
+                failed_part(shown, parts),
+                "cannot be read",
+            )
+        }
+        Fault::Device(DeviceFault::Write) => {
+            let name = output_name(files.names.output.unwrap_or("-"));
+            report_file_fault(rt, alloc, fault, name, "cannot be written")
+        }
         _ => tell(rt, fault),
     }
 }
 
-/// Lists a source, with a table of its symbols if that is requested.
-fn list_as_requested<S: ByteSource, W: ByteSink>(
-    alloc: Global,
-    parts: &mut [S],
-    request: &ListRequest<'_>,
-    names: Option<&[&str]>,
-    lines: &mut String,
-    out: &mut W,
-) -> Result<Status, Fault>
-    requires readable { AllByRecursion (λ part. S.mark part ≡ false) parts.old }
-    requires writable { W.mark out.old ≡ false }
-{
-    if request.crossed {
-        list_crossed(alloc, parts, request.profile, names, lines, out)
-    } else {
-        list(alloc, parts, request.profile, names, lines, out)
-    }
+/// What is made of a source.
+#[derive(Clone, Copy)]
+pub enum Product {
+    /// A tape.
+    Tape,
+    /// A listing.
+    Listing {
+        /// Whether it has a table of the symbols.
+        crossed: bool,
+    },
 }
 
-/// Lists the source whose parts are in these files. Below the line of a fault, it says what is wrong, with the names of
-/// the files as they are shown.
-fn list_or_report<R: Files + Input + Print + Eprint>(
+/// Names, if they are needed.
+fn names_if<'n, 's>(is_needed: bool, names: &'n [&'s str]) -> Option<&'n [&'s str]> {
+    if is_needed { Some(names) } else { None }
+}
+
+/// Makes a tape or a listing of the source whose parts are in the files of a command. If a fault is to be explained, it
+/// is reported, and its status is returned, which is never `Done`.
+fn translate<R: Files + Input + Print + Eprint>(
     rt: &R,
     alloc: Global,
-    request: &ListRequest<'_>,
-    shown: &[&str],
-) -> Status {
-    let mut parts = Vec::new(alloc);
-    if let Err(fault) = open_parts(rt, &request.sources, &mut parts) {
-        return report_file_fault(
-            rt,
-            alloc,
-            fault,
-            unopened_part(shown, parts.len()),
-            "cannot be opened",
-        );
-    }
-    let mut out = StdWriter::new(io::writer(rt));
-    let mut lines = String::new(alloc);
-    match list_as_requested(
-        alloc,
-        &mut parts,
-        request,
-        Some(shown),
-        &mut lines,
-        &mut out,
-    ) {
-        Ok(status) => status,
-        Err(fault) => {
-            let status = report_fault(rt, alloc, fault, shown, &parts, "-", &lines);
-            tell_lines(rt, &part_hint(rt, alloc, "list", &request.sources, &fault));
-            status
-        }
-    }
-}
-
-/// Puts the tape in its place once it is assembled.
-fn finish_tape<R: Files + Print>(
+    files: &CommandFiles<'_, '_>,
+    product: Product,
+    profile: Profile,
     file: &mut ResultSink<'_, R>,
-    assembled: Result<Status, Fault>,
 ) -> Result<Status, Fault> {
-    finish(file, assembled?)
-}
-
-/// Assembles the parts in these files into a tape. Below the line of a fault, it says what is wrong, with the names of
-/// the files as they are shown.
-fn assemble_or_report<R: Files + Input + Print + Eprint>(
-    rt: &R,
-    alloc: Global,
-    request: &AssembleRequest<'_>,
-    shown: &[&str],
-) -> Status {
-    let (names, out) = (request.sources.as_slice(), request.out.name());
-    let mut file = match open_output(rt, alloc, request.out) {
-        Ok(file) => file,
-        Err(fault) => return report_file_fault(
-            rt,
-            alloc,
-            fault,
-            output_name(out),
-            "cannot be created",
-        ),
-    };
+    let shown = visible_names(alloc, files.parts)?;
+    let shown = name_slices(alloc, &shown)?;
     let mut parts = Vec::new(alloc);
-    if let Err(fault) = open_parts(rt, names, &mut parts) {
-        return report_file_fault(
-            rt,
-            alloc,
-            fault,
-            unopened_part(shown, parts.len()),
-            "cannot be opened",
-        );
+    if let Err(fault) = open_parts(rt, files.parts, &mut parts) {
+        let name = unopened_part(&shown, parts.len());
+        return report_if(rt, alloc, files.explained, fault, name, "cannot be opened");
     }
+    let names = names_if(files.explained, &shown);
     let mut lines = String::new(alloc);
-    let assembled = assemble(
-        alloc,
-        &mut parts,
-        request.profile,
-        Some(shown),
-        &mut lines,
-        &mut StdWriter::new(&mut file),
-    );
-    match finish_tape(&mut file, assembled) {
-        Ok(status) => status,
-        Err(fault) => {
-            let status = report_fault(rt, alloc, fault, shown, &parts, out, &lines);
-            tell_lines(rt, &part_hint(rt, alloc, "assemble", names, &fault));
-            status
+    let mut out = StdWriter::new(&mut *file);
+    let answer = match product {
+        Product::Tape => assemble(alloc, &mut parts, profile, names, &mut lines, &mut out),
+        Product::Listing { crossed: false } => {
+            list(alloc, &mut parts, profile, names, &mut lines, &mut out)
         }
+        Product::Listing { crossed: true } => {
+            list_crossed(alloc, &mut parts, profile, names, &mut lines, &mut out)
+        }
+    };
+    match answer {
+        Err(fault) if files.explained => {
+            let status = report_fault(rt, alloc, fault, files, &shown, &parts, &lines);
+            tell_lines(rt, &hint_line(rt, alloc, &fault, files));
+            Ok(status)
+        }
+        answer => answer,
     }
 }
 
-/// Lists the source whose parts are in these files.
+/// Makes a tape or a listing of the source whose parts are in the files of a command. The file for it is opened first.
 ///
 /// # Errors
 ///
-/// As for `list` and `list_crossed`, and `Device` if a file cannot be opened. If an explanation is requested, these
-/// faults are reported instead, and only `NoMemory` is returned.
+/// As for `assemble`, `list` and `list_crossed`, and `Device` if a file cannot be opened, created or put in its place.
+/// If an explanation is requested, these faults are reported instead, and only `NoMemory` is returned.
 #[inline(never)]
-pub fn list_from<R: Files + Input + Print + Eprint>(
+pub fn translate_to<R: Files + Input + Print + Eprint>(
     rt: &R,
     alloc: Global,
-    request: &ListRequest<'_>,
+    files: &CommandFiles<'_, '_>,
+    product: Product,
+    profile: Profile,
+    out: Destination<'_>,
 ) -> Result<Status, Fault> {
-    if request.explained {
-        let shown = visible_names(alloc, &request.sources)?;
-        let slices = name_slices(alloc, &shown)?;
-        return Ok(list_or_report(rt, alloc, request, &slices));
+    let name = output_name(out.name());
+    let mut file = match open_output(rt, alloc, out) {
+        Ok(file) => file,
+        Err(fault) => {
+            return report_if(rt, alloc, files.explained, fault, name, "cannot be created");
+        }
+    };
+    let status = translate(rt, alloc, files, product, profile, &mut file)?;
+    if status != Status::Done {
+        return Ok(status);
     }
-    let mut parts = open_inputs(rt, alloc, &request.sources)?;
-    let mut out = StdWriter::new(io::writer(rt));
-    let mut lines = String::new(alloc);
-    list_as_requested(alloc, &mut parts, request, None, &mut lines, &mut out)
-}
-
-/// Assembles the parts in these files into a tape.
-///
-/// # Errors
-///
-/// As for `assemble`, and `Device` if a file cannot be opened, created or put in its place. If an explanation is
-/// requested, these faults are reported instead, and only `NoMemory` is returned.
-#[inline(never)]
-pub fn assemble_to<R: Files + Input + Print + Eprint>(
-    rt: &R,
-    alloc: Global,
-    request: &AssembleRequest<'_>,
-) -> Result<Status, Fault> {
-    if request.explained {
-        let shown = visible_names(alloc, &request.sources)?;
-        return Ok(assemble_or_report(rt, alloc, request, &name_slices(alloc, &shown)?));
+    match finish(&mut file, status) {
+        Ok(status) => Ok(status),
+        Err(fault) => report_if(rt, alloc, files.explained, fault, name, "cannot be written"),
     }
-    let mut file = open_output(rt, alloc, request.out)?;
-    let mut parts = open_inputs(rt, alloc, &request.sources)?;
-    let mut lines = String::new(alloc);
-    let mut tape = StdWriter::new(&mut file);
-    let status = assemble(
-        alloc,
-        &mut parts,
-        request.profile,
-        None,
-        &mut lines,
-        &mut tape,
-    )?;
-    finish(&mut file, status)
 }

@@ -3,58 +3,22 @@
 ghost use Rattle.std.specs.Prelude.{◌≡◌, false};
 
 use crate::files::{finish, open_input, open_output};
-use crate::of_files::session_files::stops_of;
+use crate::of_machine::places::stops_of;
+use crate::of_machine::words::words_of;
 use crate::standard_error::open_input_if;
-use bin_tape::Image;
-use command_line::{DumpRequest, RunRequest, SourceRequest};
+use command_line::{DumpRequest, RunRequest, SourceRequest, StopOptions};
 use command_parts::inputs::{events_from, tape_from};
 use command_parts::status::{Fault, Status};
-use command_parts::text::push_place;
-use instruct::Profile;
 use machine_commands::follow::Course;
-use machine_commands::long_trace::{
-    MnemonicStatements, Statements, push_full_name, run_with_long_trace,
-};
+use machine_commands::long_trace::{MnemonicStatements, Statements, run_with_long_trace};
 use machine_commands::running::{dump, run, run_events};
 use machine_commands::stopping::run_with_stops;
 use source_commands::sourcing::{declared_source, source};
-use std::alloc::{AllocError, Global};
+use std::alloc::Global;
 use std::io;
 use std::rt::Files;
 use streams::standard::StdWriter;
 use streams::{ByteSource, put};
-use word12::Word;
-
-/// A line for each word of an image, with full addresses.
-fn full_words(alloc: Global, image: &Image, profile: Profile) -> Result<Vec<u8>, AllocError> {
-    let mut text = Vec::new(alloc);
-    for index in 0..4096 {
-        let at = Word::from_index(index);
-        if let Some(word) = image.get(at) {
-            push_place(&mut text, b"", at)?;
-            push_place(&mut text, b" ", word)?;
-            text.push(b' ')?;
-            push_full_name(&mut text, at, word, profile)?;
-            text.push(b'\n')?;
-        }
-    }
-    Ok(text)
-}
-
-/// Lists the words of a tape with their names, with full addresses.
-fn dump_full<R: Print, S: ByteSource>(
-    rt: &R,
-    alloc: Global,
-    frames: &mut S,
-    profile: Profile,
-) -> Result<Status, Fault>
-    requires { S.mark frames.old ≡ false }
-{
-    let image = tape_from(frames)?;
-    let text = full_words(alloc, &image, profile)?;
-    put(&mut StdWriter::new(io::writer(rt)), &text)?;
-    Ok(Status::Done)
-}
 
 /// Lists the words of the tape in a file with their names.
 ///
@@ -68,11 +32,13 @@ pub fn dump_from<R: Files + Input + Print>(
     request: &DumpRequest<'_>,
 ) -> Result<Status, Fault> {
     let mut frames = open_input(rt, request.tape.unwrap_or("-"))?;
-    if request.full {
-        return dump_full(rt, alloc, &mut frames, request.profile);
-    }
     let mut out = StdWriter::new(io::writer(rt));
-    dump(alloc, &mut frames, request.profile, &mut out)
+    if !request.full {
+        return dump(alloc, &mut frames, request.profile, &mut out);
+    }
+    let image = tape_from(&mut frames)?;
+    put(&mut out, &words_of(alloc, &image, request.profile, None)?)?;
+    Ok(Status::Done)
 }
 
 /// Runs the tape of these frames, in rounds or with the events of a file, until it is stopped, and shows its last
@@ -99,21 +65,14 @@ fn run_to_stop<R: Files + Input + Print, S: ByteSource, N: Statements>(
         None => Course::Rounds(options.rounds),
         Some(events) => Course::Listed(events),
     };
-    let stopping = stops_of(&request.stopping);
-    let stops = &stopping.stops;
+    let StopOptions { stops, last } = stops_of(&request.stopping);
     let mut out = StdWriter::new(io::writer(rt));
     if request.long {
-        return run_with_long_trace(alloc, &image, options, stops, &course, statements, &mut out);
+        return run_with_long_trace(
+            alloc, &image, options, &stops, &course, statements, &mut out,
+        );
     }
-    run_with_stops(
-        alloc,
-        &image,
-        options,
-        stops,
-        stopping.last,
-        &course,
-        &mut out,
-    )
+    run_with_stops(alloc, &image, options, &stops, last, &course, &mut out)
 }
 
 /// Runs the tape of these frames, in rounds or with the events of a file, and with stops if they are requested. A long
@@ -173,21 +132,19 @@ pub fn source_from<R: Files + Input + Print>(
     request: &SourceRequest<'_>,
 ) -> Result<Status, Fault> {
     let mut frames = open_input(rt, request.tape)?;
-    let Some(declaration) = request.declaration else {
-        let mut file = open_output(rt, alloc, request.out)?;
-        let mut text = StdWriter::new(&mut file);
-        let status = source(
+    let mut declaration = open_input_if(rt, request.declaration)?;
+    let mut file = open_output(rt, alloc, request.out)?;
+    let mut text = StdWriter::new(&mut file);
+    let status = if request.declaration.is_some() {
+        declared_source(alloc, &mut frames, &mut declaration, &mut text)?
+    } else {
+        source(
             alloc,
             &mut frames,
             request.start,
             request.profile,
             &mut text,
-        )?;
-        return finish(&mut file, status);
+        )?
     };
-    let mut declaration_input = open_input(rt, declaration)?;
-    let mut file = open_output(rt, alloc, request.out)?;
-    let mut text = StdWriter::new(&mut file);
-    let status = declared_source(alloc, &mut frames, &mut declaration_input, &mut text)?;
     finish(&mut file, status)
 }

@@ -2,6 +2,7 @@
 
 use command_line::{AddressReader, Misuse, PlaceOptions, StopOptions};
 use labels::address::{Cells, cells_of};
+use machine_commands::stopping::no_stops;
 use pal_acts::SymbolTable;
 use std::alloc::Global;
 use word12::Word;
@@ -9,8 +10,8 @@ use wordset::WordSet;
 
 /// Reads addresses as in a declaration of a source that has these symbols.
 #[derive(Clone, Copy)]
-pub(crate) struct SymbolicAddresses<'s> {
-    pub(crate) symbols: &'s SymbolTable<Global>,
+struct SymbolicAddresses<'s> {
+    symbols: &'s SymbolTable<Global>,
 }
 
 /// Cells as a set.
@@ -55,13 +56,28 @@ pub(crate) struct ResolvedPlaces {
 }
 
 /// The cells and places that these options name, with the symbols of the source.
+///
+/// # Errors
+///
+/// What is wrong with a value.
 pub(crate) fn resolve_places(
     symbols: &SymbolTable<Global>,
     places: &PlaceOptions<'_>,
 ) -> Result<ResolvedPlaces, Misuse> {
     let reader = SymbolicAddresses { symbols };
-    Ok(ResolvedPlaces {
-        show: places.shown(&reader)?,
-        stopping: places.stopping(&reader)?,
-    })
+    match (places.shown(&reader), places.stopping(&reader)) {
+        (Ok(show), Ok(stopping)) => Ok(ResolvedPlaces { show, stopping }),
+        (Err(misuse), _) | (_, Err(misuse)) => Err(misuse.with_symbols()),
+    }
+}
+
+/// How a run is followed: it is not stopped unless that is requested.
+pub(crate) fn stops_of(stopping: &Option<StopOptions>) -> StopOptions {
+    match stopping {
+        None => StopOptions {
+            stops: no_stops(),
+            last: None,
+        },
+        Some(stopping) => *stopping,
+    }
 }

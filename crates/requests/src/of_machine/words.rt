@@ -1,10 +1,12 @@
-//! The words of a source's program, with what the source says about each.
+//! The words of a program, with what its source, if there is one, says about each.
 
 use crate::of_sources::assembled::AssembledSource;
 use crate::of_sources::source_lines::begins_with_tag;
+use bin_tape::Image;
+use command_parts::text::push_place;
 use instruct::Profile;
 use machine_commands::long_trace::{Statements, push_full_name};
-use reports::reporting::SourceNote;
+use reports::reporting::{SourceNote, SourceNotes};
 use std::alloc::{AllocError, Allocator, Global};
 use word12::Word;
 
@@ -26,44 +28,38 @@ fn push_note(text: &mut Vec<u8>, note: SourceNote<'_>) -> Result<(), AllocError>
     Ok(())
 }
 
-/// Adds the line of a word.
-fn push_line(
-    text: &mut Vec<u8>,
-    at: Word,
-    word: Word,
-    source: &AssembledSource,
-    profile: Profile,
-) -> Result<(), AllocError> {
-    text.extend_from_slice(&at.to_octal())?;
-    text.push(b' ')?;
-    text.extend_from_slice(&word.to_octal())?;
-    text.push(b' ')?;
-    push_full_name(text, at, word, profile)?;
-    if let Some(note) = source.notes.at(at) {
-        push_note(text, note)?;
-    }
-    text.extend_from_slice(b"\n")
-}
-
-/// A line for each word of a source's program, in order of address: the address, the word, its name, and what the
-/// source says about it.
+/// A line for each word of an image, in order of address: the address, the word, its name with a full address, and what
+/// the source, if there is one, says about it.
+///
+/// # Errors
+///
+/// `AllocError` if memory was refused.
 pub(crate) fn words_of(
     alloc: Global,
-    source: &AssembledSource,
+    image: &Image,
     profile: Profile,
+    notes: Option<&SourceNotes<Global>>,
 ) -> Result<Vec<u8>, AllocError> {
-    let image = source.numbered.map.image();
     let mut text = Vec::new(alloc);
     for index in 0..4096 {
         let at = Word::from_index(index);
-        if let Some(word) = image.get(at) {
-            push_line(&mut text, at, word, source, profile)?;
+        let Some(word) = image.get(at) else {
+            continue;
+        };
+        push_place(&mut text, b"", at)?;
+        push_place(&mut text, b" ", word)?;
+        text.push(b' ')?;
+        push_full_name(&mut text, at, word, profile)?;
+        if let Some(note) = notes.and_then(|notes| notes.at(at)) {
+            push_note(&mut text, note)?;
         }
+        text.push(b'\n')?;
     }
     Ok(text)
 }
 
-/// Shows instructions as the source writes them.
+/// Shows instructions as the source writes them. A word is shown so if it is the first of a line, and the program has
+/// not changed it.
 #[derive(Clone, Copy)]
 pub(crate) struct SourceStatements<'s> {
     /// The source that was assembled.
@@ -81,19 +77,6 @@ fn without_tag(note: SourceNote<'_>) -> &[u8] {
     rest.trim_ascii_start()
 }
 
-impl SourceStatements<'_> {
-    /// The statement of a word, if the word is the first of a line, and the program has not changed it.
-    fn statement(&self, at: Word, word: Word) -> Option<&[u8]> {
-        if self.source.numbered.map.image().get(at) != Some(word) {
-            return None;
-        }
-        match self.source.notes.at(at) {
-            Some(note) if note.is_first => Some(without_tag(note)),
-            _ => None,
-        }
-    }
-}
-
 impl Statements for SourceStatements<'_> {
     fn push_statement<A: Allocator>(
         &self,
@@ -101,16 +84,18 @@ impl Statements for SourceStatements<'_> {
         at: Word,
         word: Word,
     ) -> Result<(), AllocError> {
-        if let Some(note) = self.source.notes.at(at) {
-            if !note.label.is_empty() {
-                line.extend_from_slice(b" ")?;
-                line.extend_from_slice(note.label)?;
-            }
+        let label = self.source.label(at);
+        if !label.is_empty() {
+            line.extend_from_slice(b" ")?;
+            line.extend_from_slice(label)?;
         }
         line.extend_from_slice(b"  ")?;
-        match self.statement(at, word) {
-            Some(text) => line.extend_from_slice(text),
-            None => push_full_name(line, at, word, self.profile),
+        let is_unchanged = self.source.numbered.map.image().get(at) == Some(word);
+        match self.source.notes.at(at) {
+            Some(note) if note.is_first && is_unchanged => line.extend_from_slice(without_tag(
+                note,
+            )),
+            _ => push_full_name(line, at, word, self.profile),
         }
     }
 }

@@ -1,18 +1,20 @@
 //! A source that was assembled, its declaration in numbers, and what the source says about its addresses.
 
-use crate::of_sources::numbering::{DeclarationOrigin, SourceInput, byte_slices, says_something};
-use crate::source_faults::visible_names;
-use command_line::Task;
-use command_parts::status::Fault;
-use command_parts::visible::visible_bytes;
-use labels::{
-    NumberedProgram, NumberingFault, PlaceFault, declared_lines, machine_of, name_declaration,
-    number, place,
+use crate::hints::CommandFiles;
+use crate::of_sources::numbering::{number_source, report_numbering_fault};
+use crate::of_sources::reading::{
+    DeclarationOrigin, DeclarationUse, SourceInput, byte_slices, read_source,
 };
+use crate::source_faults::visible_names;
+use command_parts::status::{Fault, Status};
+use command_parts::visible::visible_bytes;
+use labels::{NumberedProgram, NumberingFault, declared_lines, name_declaration};
 use pal_acts::{PlacedWord, SourcePlace};
-use pal_asm::{SourceMap, map_source};
+use pal_asm::SourceMap;
 use reports::reporting::{LinePlace, SourceNotes};
 use std::alloc::{AllocError, Global};
+use std::rt::Files;
+use word12::Word;
 
 /// A source that was assembled, what it says about its addresses, and its declaration.
 #[derive(Drop)]
@@ -35,6 +37,14 @@ impl AssembledSource {
     /// Whether there is a declaration; otherwise one is to be proposed.
     pub fn is_declared(&self) -> bool {
         self.given.origin != DeclarationOrigin::Proposed
+    }
+
+    /// The source's name for an address, or nothing if it has none.
+    pub(crate) fn label(&self, at: Word) -> &[u8] {
+        match self.notes.at(at) {
+            Some(note) => note.label,
+            None => b"",
+        }
     }
 
     /// A declaration in numbers, written with the symbols of the source. A line of the declaration that was given stays
@@ -126,66 +136,8 @@ fn readable_declaration(alloc: Global, given: &SourceInput) -> Result<Vec<u8>, A
     readable_text(alloc, &given.text, given.origin)
 }
 
-/// The declaration in numbers of a source that has no fault but assembles to no words, with an empty tape.
-#[inline(never)]
-fn number_wordless(
-    alloc: Global,
-    parts: &[&[u8]],
-    declaration: &[u8],
-) -> Result<NumberedProgram<Global>, NumberingFault> {
-    let Ok(map) = map_source(alloc, parts, machine_of(declaration)) else {
-        return Err(NumberingFault::NoMemory);
-    };
-    match place(alloc, declaration, map.symbols()) {
-        Ok(declaration) => Ok(NumberedProgram {
-            tape: Vec::new(alloc),
-            declaration,
-            map,
-        }),
-        Err(PlaceFault::NoMemory) => Err(NumberingFault::NoMemory),
-        Err(fault) => Err(NumberingFault::Placing(fault)),
-    }
-}
-
-/// The tape of a source and its declaration in numbers. If only the declaration is requested, the source may assemble
-/// to no words.
-fn number_for(
-    alloc: Global,
-    parts: &[&[u8]],
-    declaration: &[u8],
-    task: &Task<'_>,
-) -> Result<NumberedProgram<Global>, NumberingFault> {
-    match (number(alloc, parts, declaration), task) {
-        (Err(NumberingFault::EmptyImage), Task::Place { .. }) if says_something(declaration) => {
-            number_wordless(alloc, parts, declaration)
-        }
-        (numbered, _) => numbered,
-    }
-}
-
-/// The tape of a source that was read, and its declaration in numbers. The source is assembled once.
-///
-/// # Errors
-///
-/// As for `number`, except that the source may assemble to no words if only the declaration is requested.
-#[inline(never)]
-pub fn number_source(
-    alloc: Global,
-    given: &SourceInput,
-    task: &Task<'_>,
-) -> Result<NumberedProgram<Global>, NumberingFault> {
-    match byte_slices(alloc, &given.parts) {
-        Ok(parts) => number_for(alloc, &parts, &given.text, task),
-        Err(_) => Err(NumberingFault::NoMemory),
-    }
-}
-
 /// A source that has no fault and whose parts have these names, with what it says about its addresses.
-///
-/// # Errors
-///
-/// `AllocError` if memory was refused.
-pub fn describe_source(
+fn describe_source(
     alloc: Global,
     given: SourceInput,
     numbered: NumberedProgram<Global>,
@@ -203,4 +155,28 @@ pub fn describe_source(
         written,
         shown,
     })
+}
+
+/// Reads and assembles the source of a command, or returns the status of the problem that was reported. The parts are
+/// opened and read in order, and then the declaration.
+///
+/// # Errors
+///
+/// As for `read_source`, and `EmptyImage` if the source assembles to no words.
+#[inline(never)]
+pub(crate) fn assemble_source<R: Files + Input + Eprint>(
+    rt: &R,
+    alloc: Global,
+    files: &CommandFiles<'_, '_>,
+    declared: DeclarationUse,
+) -> Result<Result<AssembledSource, Status>, Fault> {
+    let given = match read_source(rt, alloc, files, declared)? {
+        Ok(given) => given,
+        Err(status) => return Ok(Err(status)),
+    };
+    let numbered = match number_source(alloc, &given, declared) {
+        Ok(numbered) => numbered,
+        Err(fault) => return Ok(Err(report_numbering_fault(rt, alloc, fault, files, &given)?)),
+    };
+    Ok(Ok(describe_source(alloc, given, numbered, files.parts)?))
 }

@@ -13,34 +13,6 @@ use reports::reporting::{LinePlace, SourceNote};
 use std::alloc::{AllocError, Global};
 use word12::Word;
 
-/// Adds the source's name for an address, or the digits of the address if the source has no name for it.
-fn push_label(
-    text: &mut Vec<u8>,
-    at: Word,
-    note: Option<SourceNote<'_>>,
-) -> Result<(), AllocError> {
-    match note {
-        Some(note) if !note.label.is_empty() => text.extend_from_slice(note.label),
-        _ => text.extend_from_slice(&at.to_octal()),
-    }
-}
-
-/// Adds the source's name for an address in parentheses, if it has one.
-fn push_label_in_brackets(
-    text: &mut Vec<u8>,
-    note: Option<SourceNote<'_>>,
-) -> Result<(), AllocError> {
-    let Some(note) = note else {
-        return Ok(());
-    };
-    if note.label.is_empty() {
-        return Ok(());
-    }
-    text.extend_from_slice(b" (")?;
-    text.extend_from_slice(note.label)?;
-    text.extend_from_slice(b")")
-}
-
 /// Adds what the source says about an instruction, as a line of its own.
 fn push_source_line(
     alloc: Global,
@@ -87,11 +59,21 @@ fn push_piece(
     match mark {
         AddressMark::Address(at) => {
             text.extend_from_slice(piece)?;
-            push_label_in_brackets(text, source.notes.at(at))
+            let label = source.label(at);
+            if label.is_empty() {
+                return Ok(());
+            }
+            text.extend_from_slice(b" (")?;
+            text.extend_from_slice(label)?;
+            text.extend_from_slice(b")")
         }
         AddressMark::AdvisedAddress(at) => {
+            let label = source.label(at);
+            if label.is_empty() {
+                return text.extend_from_slice(piece);
+            }
             text.extend_from_slice(piece.get(..piece.len().saturating_sub(4)).unwrap_or(b""))?;
-            push_label(text, at, source.notes.at(at))
+            text.extend_from_slice(label)
         }
         AddressMark::Instruction(at) => {
             text.extend_from_slice(piece)?;
@@ -117,17 +99,12 @@ fn first_line(text: &[u8]) -> &[u8]
     }
 }
 
-/// A text for people, with what the source says about its addresses.
-pub(crate) fn label_message(
-    alloc: Global,
-    source: &AssembledSource,
-    message: &Message<Global>,
-) -> Result<Vec<u8>, AllocError> {
-    rest_with_source_lines(alloc, source, message, 0)
-}
-
 /// What comes after the first `from` bytes of a text for people, with what the source says about its addresses.
-fn rest_with_source_lines(
+///
+/// # Errors
+///
+/// `AllocError` if memory was refused.
+pub(crate) fn rest_with_source_lines(
     alloc: Global,
     source: &AssembledSource,
     message: &Message<Global>,

@@ -3,9 +3,9 @@
 ghost use Rattle.std.specs.Prelude.{◌≡◌, false};
 
 use crate::files::open_input;
+use crate::of_machine::places::stops_of;
 use crate::replacing::ResultFile;
 use crate::standard_error::{NullSink, open_input_if, report_to, tell_to};
-use crate::of_machine::places::stops_of;
 use command_line::{Interrupt, Session, TeletypeSession};
 use command_parts::options::SummaryForm;
 use command_parts::status::{DeviceFault, Fault, Status};

@@ -11,7 +11,7 @@ use command_parts::options::SummaryForm;
 use command_parts::status::{DeviceFault, Fault, Status};
 use command_parts::visible::visible_text;
 use either::Either;
-use machine_commands::interrupted::InterruptibleKeys;
+use machine_commands::interrupted::{InterruptibleKeys, OperatorPresence};
 use machine_commands::session::{Outputs, run_session};
 use machine_commands::teletype::{Typist, teletype};
 use std::alloc::{AllocError, Global};
@@ -181,6 +181,38 @@ fn report_interrupt_key<R: Eprint>(rt: &R, key: Option<u8>) {
     }
 }
 
+/// Holds a session at the teletype with the frames of this reader and with these keys, until it is stopped if that is
+/// requested, and shows its last instructions if that is requested.
+#[inline(never)]
+fn hold_typed<
+    R: ByteSource,
+    F: ByteSource + Drop,
+    K: ByteSource + OperatorPresence + Drop,
+    W: ByteSink,
+    T: ByteSink,
+    P: ByteSink,
+>(
+    alloc: Global,
+    frames: &mut R,
+    reader: F,
+    keys: K,
+    session: &TeletypeSession<'_>,
+    form: SummaryForm<'_>,
+    out: &mut Outputs<W, T, P>,
+) -> Result<Status, Fault>
+    requires readable { R.mark frames.old ≡ false }
+    requires reader_readable { F.mark reader ≡ false }
+    requires keys_readable { K.mark keys ≡ false }
+    requires writable { W.mark out.old.report ≡ false }
+    requires typable { T.mark out.old.teletype ≡ false }
+    requires punchable { P.mark out.old.punch ≡ false }
+{
+    let mut typist = Typist::new(reader, keys, session.options);
+    let stopping = stops_of(&session.stopping);
+    let (stops, last) = (&stopping.stops, stopping.last);
+    teletype(alloc, frames, &mut typist, stops, last, form, out)
+}
+
 /// Holds a session at the teletype with the tape of these frames: keys come from standard input, what is printed goes
 /// to standard output, and the summary goes to standard error. The reader's frames are opened first; after that, it is
 /// checked that the file for the punch can be written.
@@ -213,17 +245,11 @@ pub(crate) fn hold_teletype_session_on<R: Files + Input + Print + Eprint, S: Byt
         punch: StdWriter::new(&mut punch),
     };
     let out = &mut outputs;
-    let stopping = stops_of(&session.stopping);
-    let (stops, last) = (&stopping.stops, stopping.last);
     let answer = match key {
-        None => {
-            let mut typist = Typist::new(reader, keys, session.options);
-            teletype(alloc, frames, &mut typist, stops, last, form, out)
-        }
+        None => hold_typed(alloc, frames, reader, keys, session, form, out),
         Some(_) => {
             let keys = InterruptibleKeys::new(keys, key);
-            let mut typist = Typist::new(reader, keys, session.options);
-            teletype(alloc, frames, &mut typist, stops, last, form, out)
+            hold_typed(alloc, frames, reader, keys, session, form, out)
         }
     };
     let failed = outputs.punch.failed();

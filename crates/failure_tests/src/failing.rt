@@ -6,19 +6,18 @@ ghost use Rattle.std.specs.Prelude.{◌≡◌, false};
 use crate::fixtures::{HALT, HALT_CERTIFICATE, HALT_DECLARED, HALT_SEVERAL, LETTER, UNDECLARED};
 use analyser::{Attempt, guess_or_draft};
 use command_parts::inputs::bytes_from;
-use command_parts::options::{DeclareOptions, RunOptions, SessionOptions, Stops, SummaryForm};
+use command_parts::options::{DeclareOptions, RunOptions, SessionOptions, SummaryForm};
 use command_parts::outcome::write_text;
-use command_parts::programs::{program_from, program_run_from};
+use command_parts::programs::program_from;
 use command_parts::status::{DeviceFault, Fault, Status};
 use diagnostics::verdicts::certificates::{certified_from, write_certificate};
 use diagnostics::verdicts::messages::check_message;
 use instruct::Profile;
 use machine_commands::running::{dump, run, run_events};
 use machine_commands::session::{Outputs, run_session};
-use machine_commands::stopped_watch::{
-    WatchOptions, watch_message_to_stop, watch_session_message_to_stop,
-};
+use machine_commands::stopped_watch::{WatchOptions, watch_session_message_to_stop};
 use machine_commands::stopping::no_stops;
+use machine_commands::watching::watch;
 use search_commands::checking::check;
 use search_commands::declaring::declare;
 use search_commands::guessing::guess;
@@ -159,16 +158,6 @@ fn answered<A: Allocator + Copy>(
     }
 }
 
-/// How a run is watched that nothing stops and of which nothing more is shown.
-fn to_the_end<'s>(stops: &'s Stops, show: &'s WordSet) -> WatchOptions<'s> {
-    WatchOptions {
-        stops,
-        last: None,
-        explained: false,
-        show,
-    }
-}
-
 /// Watches a run with a list of events.
 fn watched<A: Allocator + Copy>(
     alloc: A,
@@ -177,23 +166,15 @@ fn watched<A: Allocator + Copy>(
 ) -> Result<Status, Fault>
     requires { out.old.failed ≡ false }
 {
-    let given = program_run_from(
+    watch(
         alloc,
         &mut plan.source(0, HALT),
         &mut plan.source(1, HALT_DECLARED),
         &mut plan.source(2, b"step\n"),
-    )?;
-    let program = &given.program;
-    let (stops, show) = (no_stops(), WordSet::empty());
-    let seen = watch_message_to_stop(
-        alloc,
-        &program.image,
-        &program.declaration,
-        &given.events,
-        &to_the_end(&stops, &show),
-    )?;
-    write_text(out, seen.told.as_bytes())?;
-    Ok(seen.status)
+        false,
+        &WordSet::empty(),
+        out,
+    )
 }
 
 /// Watches a run with an operator.
@@ -210,6 +191,12 @@ fn watched_with_operator<A: Allocator + Copy>(
     let frames = bytes_from(alloc, &mut plan.source(2, b"\x00\x01"), options.run.rounds)?;
     let keys = bytes_from(alloc, &mut plan.source(3, b"A"), options.run.rounds)?;
     let (stops, show) = (no_stops(), WordSet::empty());
+    let telling = WatchOptions {
+        stops: &stops,
+        last: None,
+        explained: false,
+        show: &show,
+    };
     let seen = watch_session_message_to_stop(
         alloc,
         &program.image,
@@ -218,7 +205,7 @@ fn watched_with_operator<A: Allocator + Copy>(
         &keys,
         &options,
         None,
-        &to_the_end(&stops, &show),
+        &telling,
     )?;
     write_text(out, seen.told.as_bytes())?;
     Ok(seen.status)

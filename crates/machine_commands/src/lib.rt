@@ -24,3 +24,4 @@ pub mod teletype;
 mod trace;
 mod typist;
 pub mod violations;
+pub mod watching;

@@ -92,7 +92,7 @@ fn watched_lines<A: Allocator + Copy, D: Allocator>(
 }
 
 /// What is told of the run of some events, by what there was to come.
-fn watch_of<A: Allocator + Copy, D: Allocator>(
+pub(crate) fn watch_of<A: Allocator + Copy, D: Allocator>(
     alloc: A,
     image: &Image,
     declaration: &Declaration<D>,

@@ -1,11 +1,13 @@
 -- Where results go, and when an output is an input, as far as the names tell.
-use Rattle.std.specs.Prelude.{ℕ, ◌≡◌, Bool, ◌||◌, if◌then◌else◌, not, codes, drop, take, List, Option, None, Some}
+use Rattle.std.specs.Prelude.{ℕ, ◌≡◌, Bool, ◌&&◌, ◌||◌, if◌then◌else◌, not, codes, drop, length, take, List, [], ◌∷◌, ◌-◌, Option, None, Some}
+use Rattle.std.specs.Borrow.{Bor}
+use Rattle.std.specs.List.{list_any}
 use Rattle.std.specs.Str.{bytes_eq}
 use Rattle.clap.specs.declared.parser.matches.ArgMatches.{ArgMatches}
 use Rattle.command_line.specs.declared.outputs.Destination.{Destination}
 use Rattle.command_line.specs.declared.outputs.Destination.TheVariants.{EmptiedFirst, CheckedFirst, MadeLast}
 use Rattle.command_line.specs.declared.outputs.SaveOptions.{SaveOptions}
-use Rattle.command_line.specs.Options.{IsFlagGiven, operand, value}
+use Rattle.command_line.specs.Options.{IsFlagGiven, value}
 
 -- A name without `./` at its front.
 abbrev pub without_here : List ℕ → List ℕ
@@ -25,18 +27,22 @@ file_of (EmptiedFirst name) = name.now
 file_of (CheckedFirst name) = name.now
 file_of (MadeLast name) = name.now
 
--- A result goes to the operand if it is given, whose file is checked first; otherwise to the value of `-o`, whose file is made last, and
--- without it to standard output.
-abbrev pub IsResultGiven : ArgMatches → Option (List ℕ) → Destination → Type 0
-IsResultGiven found (Some name) (CheckedFirst file) = file.now ≡ name
-IsResultGiven found None (MadeLast file) = file.now ≡ operand found (codes "output")
-IsResultGiven found _ _ = ⊥
+-- The file that an output goes to is one of these, as far as the names tell; standard output is none.
+abbrev pub is_taken : List ℕ → List (Bor (List ℕ)) → Bool
+is_taken name others = not (bytes_eq name (codes "-")) && list_any (λ other. is_same_file other.now name) others
 
--- A certificate goes to the operand if it is given, whose file is emptied first; otherwise as other results.
-abbrev pub IsCertificateResultGiven : ArgMatches → Option (List ℕ) → Destination → Type 0
-IsCertificateResultGiven found (Some name) (EmptiedFirst file) = file.now ≡ name
-IsCertificateResultGiven found None (MadeLast file) = file.now ≡ operand found (codes "output")
-IsCertificateResultGiven found _ _ = ⊥
+-- What the name of a source ends in.
+abbrev pub source_endings : List (List ℕ)
+source_endings =
+    codes ".pal" ∷ codes ".PAL" ∷ codes ".pa" ∷ codes ".PA" ∷ codes ".pal8" ∷ codes ".PAL8" ∷ codes ".asm" ∷ codes ".ASM" ∷ codes ".src" ∷ codes ".SRC" ∷ []
+
+-- A name ends in this.
+abbrev pub ends_in : List ℕ → List ℕ → Bool
+ends_in name ending = bytes_eq ending (drop (length name - length ending) name)
+
+-- A name ends as that of a source does.
+abbrev pub is_source_name : List ℕ → Bool
+is_source_name name = list_any (ends_in name) source_endings
 
 -- A result goes to the value of `-o` if it is given, whose file is made last; otherwise to the operand, whose file is emptied first.
 abbrev pub IsEmptiedGiven : Option (List ℕ) → List ℕ → Destination → Type 0

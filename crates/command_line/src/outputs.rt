@@ -1,14 +1,14 @@
 //! Where the result of a command goes.
 
-ghost use Rattle.std.specs.Prelude.{◌≡◌, ◌&&◌, IfOk, not, codes, false, option_map};
+ghost use Rattle.std.specs.Prelude.{◌≡◌, ◌&&◌, IfErr, IfOk, MatchResult, not, codes, false, option_map};
 ghost use Rattle.std.specs.Option.{ForSome};
 ghost use Rattle.std.specs.List.{list_any};
-ghost use Rattle.std.specs.Str.{bytes_eq};
-ghost use Rattle.command_line.specs.Options.{has_value, operand, value};
-ghost use Rattle.command_line.specs.Outputs.{IsEmptiedGiven, IsKeptGiven, IsSaveGiven, file_of, is_same_file, without_here};
+ghost use Rattle.command_line.specs.Options.{operand, value};
+ghost use Rattle.command_line.specs.Outputs.{IsEmptiedGiven, IsKeptGiven, IsSaveGiven, ends_in, file_of, is_same_file, is_source_name, is_taken, without_here};
+ghost use Rattle.command_line.specs.Refusals.{AreInputs, AreInputsBeside, IsRefused, result_file};
 
 use crate::fault::{CommandLineFault, Misuse};
-use crate::values::{has_value, is_given, operand_of};
+use crate::values::{is_given, operand_of};
 use clap::ArgMatches;
 
 /// Where a result goes: the name of a file, or `-` for standard output.
@@ -63,8 +63,7 @@ fn is_one_of(name: &str, others: &[&str]) -> bool
 
 /// Whether the file that an output goes to is one of these; standard output is none.
 pub fn is_taken(name: &str, others: &[&str]) -> bool
-    ensures { result ≡ (not (bytes_eq name.now (codes "-")) &&
-        list_any (λ other. is_same_file other.now name.now) others.now) }
+    ensures { result ≡ is_taken name.now others.now }
 {
     if name == "-" {
         return false;
@@ -77,16 +76,18 @@ const SOURCE_ENDINGS: [&str; 10] = [
     ".pal", ".PAL", ".pa", ".PA", ".pal8", ".PAL8", ".asm", ".ASM", ".src", ".SRC",
 ];
 
-/// Whether a name ends as that of a source does.
-pub fn is_source_name(name: &str) -> bool {
-    SOURCE_ENDINGS.iter().any(|ending| name.ends_with(*ending))
+/// Whether a name ends in this.
+fn ends_in(name: &str, ending: &str) -> bool
+    ensures { result ≡ ends_in name.now ending.now }
+{
+    name.as_bytes().ends_with(ending.as_bytes())
 }
 
-/// Whether the result goes to the value of `-o`.
-pub fn has_output(found: &ArgMatches<'_>) -> bool
-    ensures { result ≡ has_value found.now (codes "output") }
+/// Whether a name ends as that of a source does.
+pub fn is_source_name(name: &str) -> bool
+    ensures { result ≡ is_source_name name.now }
 {
-    has_value(found, "output")
+    SOURCE_ENDINGS.iter().any(|ending| ends_in(name, ending))
 }
 
 /// Where the report of a search that is stuck goes, if it is requested: it is neither an input nor the
@@ -98,8 +99,9 @@ pub fn report_of<'a>(
 ) -> Result<Option<&'a str>, CommandLineFault>
     ensures named { IfOk result (λ name. option_map (λ it. it.now) name ≡
         value found.now (codes "report")) }
-    ensures free { IfOk result (λ name. ForSome name (λ it. (not (bytes_eq it.now (codes "-")) &&
-        list_any (λ other. is_same_file other.now it.now) others.now) ≡ false)) }
+    ensures free { IfOk result (λ name.
+        ForSome name (λ it. is_taken it.now others.now ≡ false)) }
+    ensures refused { IfErr result (IsRefused found.now) }
 {
     let Some(name) = found.get_str("report") else {
         return Ok(None);
@@ -118,10 +120,12 @@ pub fn punch_of<'a>(
     found: &ArgMatches<'a>,
     inputs: &[&str],
 ) -> Result<Option<&'a str>, CommandLineFault>
+    requires { AreInputs found.now inputs.now }
+    ensures refused { IfErr result (IsRefused found.now) }
     ensures named { IfOk result (λ name. option_map (λ it. it.now) name ≡
         value found.now (codes "punch")) }
-    ensures free { IfOk result (λ name. ForSome name (λ it. (not (bytes_eq it.now (codes "-")) &&
-        list_any (λ other. is_same_file other.now it.now) inputs.now) ≡ false)) }
+    ensures free { IfOk result (λ name.
+        ForSome name (λ it. is_taken it.now inputs.now ≡ false)) }
 {
     let Some(name) = found.get_str("punch") else {
         return Ok(None);
@@ -138,14 +142,18 @@ pub fn punch_of<'a>(
     Ok(Some(name))
 }
 
-/// Ensures that the result goes to none of these inputs.
-pub fn no_input<'a>(
+/// Ensures that the result goes to none of these inputs. It goes to the value of `-o`, otherwise to this operand.
+pub(crate) fn no_input<'a>(
+    found: &ArgMatches<'_>,
+    name: &str,
     destination: Destination<'a>,
     inputs: &[&str],
 ) -> Result<Destination<'a>, CommandLineFault>
+    requires file { file_of destination.entry ≡ result_file found.now name.now }
+    requires inputs { AreInputsBeside found.now name.now inputs.now }
     ensures kept { IfOk result (λ out. out ≡ destination.entry) }
-    ensures free { IfOk result (λ out. (not (bytes_eq (file_of out) (codes "-")) &&
-        list_any (λ other. is_same_file other.now (file_of out)) inputs.now) ≡ false) }
+    ensures free { IfOk result (λ out. is_taken (file_of out) inputs.now ≡ false) }
+    ensures refused { IfErr result (IsRefused found.now) }
 {
     if is_taken(destination.name(), inputs) {
         return Err(CommandLineFault::Misuse(Misuse::OutputIsInput));
@@ -153,42 +161,49 @@ pub fn no_input<'a>(
     Ok(destination)
 }
 
-/// Ensures that the result goes to none of these inputs, nor to a file that is named like a source.
-pub fn no_source<'a>(
+/// Ensures that the result goes to none of these inputs, nor to a file that is named like a source. It goes to the value
+/// of `-o`, otherwise to this operand.
+pub(crate) fn no_source<'a>(
+    found: &ArgMatches<'_>,
+    name: &str,
     destination: Destination<'a>,
     inputs: &[&str],
 ) -> Result<Destination<'a>, CommandLineFault>
+    requires file { file_of destination.entry ≡ result_file found.now name.now }
+    requires inputs { AreInputsBeside found.now name.now inputs.now }
     ensures kept { IfOk result (λ out. out ≡ destination.entry) }
-    ensures free { IfOk result (λ out. (not (bytes_eq (file_of out) (codes "-")) &&
-        list_any (λ other. is_same_file other.now (file_of out)) inputs.now) ≡ false) }
+    ensures free { IfOk result (λ out. is_taken (file_of out) inputs.now ≡ false) }
+    ensures refused { IfErr result (IsRefused found.now) }
 {
-    let destination = no_input(destination, inputs)?;
+    let destination = no_input(found, name, destination, inputs)?;
     if is_source_name(destination.name()) {
         return Err(CommandLineFault::Misuse(Misuse::ResultIsSource));
     }
     Ok(destination)
 }
 
-/// Where the result goes: the value of `-o`, otherwise the operand OUT, which is emptied first.
-pub fn emptied_destination<'a>(found: &ArgMatches<'a>) -> Destination<'a>
-    ensures { IsEmptiedGiven (value found.now (codes "output"))
-        (operand found.now (codes "OUT")) result }
+/// Where the result goes: the value of `-o`, otherwise this operand, which is emptied first.
+pub(crate) fn emptied_destination<'a>(found: &ArgMatches<'a>, name: &str) -> Destination<'a>
+    ensures given { IsEmptiedGiven (value found.now (codes "output"))
+        (operand found.now name.now) result }
+    ensures file { file_of result ≡ result_file found.now name.now }
 {
     match found.get_str("output") {
-        Some(name) => Destination::MadeLast(name),
-        None => Destination::EmptiedFirst(operand_of(found, "OUT")),
+        Some(file) => Destination::MadeLast(file),
+        None => Destination::EmptiedFirst(operand_of(found, name)),
     }
 }
 
-/// Where the result goes: the value of `-o`, otherwise the operand OUT, which stays as it was if there is nothing to
+/// Where the result goes: the value of `-o`, otherwise this operand, which stays as it was if there is nothing to
 /// write.
-pub fn kept_destination<'a>(found: &ArgMatches<'a>) -> Destination<'a>
-    ensures { IsKeptGiven (value found.now (codes "output"))
-        (operand found.now (codes "OUT")) result }
+pub(crate) fn kept_destination<'a>(found: &ArgMatches<'a>, name: &str) -> Destination<'a>
+    ensures given { IsKeptGiven (value found.now (codes "output"))
+        (operand found.now name.now) result }
+    ensures file { file_of result ≡ result_file found.now name.now }
 {
     match found.get_str("output") {
-        Some(name) => Destination::MadeLast(name),
-        None => Destination::CheckedFirst(operand_of(found, "OUT")),
+        Some(file) => Destination::MadeLast(file),
+        None => Destination::CheckedFirst(operand_of(found, name)),
     }
 }
 
@@ -248,7 +263,7 @@ pub fn save_of<'a>(
     inputs: &[&str],
     proposed: bool,
 ) -> Result<Option<SaveOptions<'a>>, CommandLineFault>
-    ensures { IfOk result (IsSaveGiven found.now (not proposed)) }
+    ensures { MatchResult result (IsSaveGiven found.now (not proposed)) (IsRefused found.now) }
 {
     let Some(name) = found.get_str("save") else {
         return Ok(None);

@@ -4,8 +4,8 @@ use Rattle.command_line.proofs.operator.session_of.Goals as goal
 pub returns : goal.returns
 returns c = record {
   tape = c.in_ok-tape.ensures;
-  reader = c.get_str-reader.ensures;
-  keys = c.get_str-keys.ensures;
+  reader = c.get_str.ensures;
+  keys = c.get_str-2.ensures;
   punch = c.in_ok-punch.ensures.named;
   teletype = c.is_given-teletype.ensures;
   options = c.in_ok-options.ensures.options;

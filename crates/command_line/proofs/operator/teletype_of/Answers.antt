@@ -4,7 +4,7 @@ use Rattle.command_line.proofs.operator.teletype_of.Goals as goal
 pub returns : goal.returns
 returns c = record {
   tape = c.in_ok-tape.ensures;
-  reader = c.get_str-reader.ensures;
+  reader = c.get_str.ensures;
   punch = c.in_ok-punch.ensures.named;
   options = c.in_ok-options.ensures.options;
   interrupt = c.in_ok-interrupt.ensures;

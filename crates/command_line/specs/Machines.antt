@@ -6,6 +6,7 @@ use Rattle.certificate_lines.specs.declared.Version.{Version}
 use Rattle.certificate_lines.specs.declared.Version.TheVariants.{Two, Three}
 use Rattle.streams.specs.Text.{octal_byte}
 use Rattle.command_parts.specs.declared.options.SummaryForm.{SummaryForm}
+use Rattle.command_line.specs.declared.command_name.CommandName.TheVariants as kind
 use Rattle.command_line.specs.declared.operator.Interrupt.{Interrupt}
 use Rattle.command_line.specs.declared.operator.Interrupt.TheVariants.{Usual, Key, Off}
 use Rattle.command_line.specs.declared.operator.Session.{Session}
@@ -15,7 +16,7 @@ use Rattle.command_line.specs.declared.tapes.DumpRequest.{DumpRequest}
 use Rattle.command_line.specs.declared.tapes.MigrateRequest.{MigrateRequest}
 use Rattle.command_line.specs.declared.tapes.RunRequest.{RunRequest}
 use Rattle.command_line.specs.declared.tapes.SourceRequest.{SourceRequest}
-use Rattle.command_line.specs.Outputs.{IsEmptiedGiven, IsKeptGiven}
+use Rattle.command_line.specs.Outputs.{IsResultGiven}
 use Rattle.command_line.specs.Places.{AreShownOn, IsStoppedOn}
 use Rattle.command_line.specs.Options.{AreRunOptions, AreSessionOptions, AreTeletypeOptions, IsFlagGiven, machine_given, operand, sources_given, start_given, value, value_or}
 
@@ -91,7 +92,7 @@ pub record IsSourceGiven (found : ArgMatches) (source : SourceRequest) : Type 0 
   pub declaration : option_map (λ name. name.now) source.declaration ≡ value found (codes "declaration")
   pub start : start_given found ≡ Ok source.start
   pub machine : machine_given found ≡ Some source.profile
-  pub out : IsKeptGiven (value found (codes "output")) (operand found (codes "OUT")) source.out
+  pub out : IsResultGiven kind.Source found source.out
   pub forced : IsFlagGiven found (codes "force") source.forced
 
 -- The version that `migrate` is asked for by a text. Texts other than 2 and 3 ask for none.
@@ -108,4 +109,4 @@ pub record IsMigrateGiven (found : ArgMatches) (migrate : MigrateRequest) : Type
   pub certificate : migrate.certificate.now ≡ operand found (codes "CERTIFICATE")
   pub declaration : option_map (λ name. name.now) migrate.declaration ≡ value found (codes "declaration")
   pub version : migrated_version (value_or found (codes "certificate") (codes "2")) ≡ Some (version_with (is_some migrate.declaration))
-  pub out : IsEmptiedGiven (value found (codes "output")) (operand found (codes "OUT")) migrate.out
+  pub out : IsResultGiven kind.Migrate found migrate.out

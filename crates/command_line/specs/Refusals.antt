@@ -1,5 +1,5 @@
 -- When the words behind a command's name are refused: what is wrong with them.
-use Rattle.std.specs.Prelude.{ℕ, ⊤, ◌≡◌, ◌<◌, ◌&&◌, ◌||◌, ◌⊎◌, Bool, true, false, not, is_some, List, [], ◌∷◌, Option, None, Some, Err, codes, count_by, if◌then◌else◌, length, map, option_map, unwrap_or}
+use Rattle.std.specs.Prelude.{ℕ, ⊤, ◌≡◌, ◌<◌, ◌++◌, ◌&&◌, ◌||◌, ◌⊎◌, Bool, true, false, not, is_some, List, [], ◌∷◌, Option, None, Some, Err, codes, count_by, length, map, option_map}
 use Rattle.std.specs.Borrow.{Bor}
 use Rattle.std.specs.List.{list_any}
 use Rattle.std.specs.Str.{bytes_eq}
@@ -11,6 +11,9 @@ use Rattle.clap.specs.declared.parser.matches.ArgMatches.{ArgMatches}
 use Rattle.streams.specs.Text.{decimal_between}
 use Rattle.word12.specs.Octal.{octal_reading}
 use Rattle.word12.specs.declared.OctalFault.{OctalFault}
+use Rattle.command_line.specs.declared.command_name.CommandName.{CommandName}
+use Rattle.command_line.specs.declared.command_name.CommandName.TheVariants as kind
+use Rattle.command_line.specs.declared.command_name.MachineCommand.TheVariants as machine
 use Rattle.command_line.specs.declared.fault.CommandLineFault.{CommandLineFault}
 use Rattle.command_line.specs.declared.fault.CommandLineFault.TheVariants as fault
 use Rattle.command_line.specs.declared.fault.Misuse.{Misuse}
@@ -18,9 +21,13 @@ use Rattle.command_line.specs.declared.fault.Misuse.TheVariants as misuse
 use Rattle.command_line.specs.declared.fault.PlaceOption.{PlaceOption}
 use Rattle.command_line.specs.declared.fault.PlaceOption.TheVariants as option
 use Rattle.command_line.specs.declared.place_options.PlaceOptions.{PlaceOptions}
+use Rattle.command_line.specs.declared.program_command.ProgramCommand.{ProgramCommand}
+use Rattle.command_line.specs.declared.program_command.ProgramCommand.TheVariants as command
+use Rattle.command_line.specs.CommandNames.{called_of}
 use Rattle.command_line.specs.Machines.{interrupt_named, migrated_version, version_with}
-use Rattle.command_line.specs.Options.{ArePlacesGiven, IsFlagGiven, IsRunWithOperator, IsWatchedWithOperator, has_value, is_start_named, machine_given, named, operand, sources_given, start_given, value, value_or, version_named}
-use Rattle.command_line.specs.Outputs.{is_source_name, is_standard_input, is_taken}
+use Rattle.command_line.specs.Options.{ArePlacesGiven, IsFlagGiven, IsRunWithOperator, IsWatchedWithOperator, has_value, is_start_named, machine_given, named, sources_given, start_given, value, value_or, version_named}
+use Rattle.command_line.specs.Outputs.{is_search, is_source_name, is_standard_input, is_taken, result_file, result_operand}
+use Rattle.command_line.specs.Requests.{last_name}
 use Rattle.command_line.specs.Sources.{source_operands}
 
 -- What an error of the parser becomes: that error, or want of memory.
@@ -34,48 +41,53 @@ abbrev pub are_distinct : List (List ℕ) → Bool
 are_distinct [] = true
 are_distinct (name ∷ rest) = not (list_any (bytes_eq name) rest) && are_distinct rest
 
--- These inputs are what different operands and options give.
+-- The options whose values are the files of results.
+abbrev pub result_options : List (List ℕ)
+result_options = codes "output" ∷ codes "punch" ∷ codes "report" ∷ codes "save" ∷ []
+
+-- These operands and options, each another one, may give inputs: they are no options for results, and OUT is one of them only with `-o`.
+pub record AreOfInputs (found : ArgMatches) (names : List (List ℕ)) : Type 0 where
+  pub distinct : are_distinct (result_options ++ names) ≡ true
+  pub out : list_any (bytes_eq (codes "OUT")) names ≡ true → has_value found (codes "output") ≡ true
+
+-- These inputs are what such operands and options give.
 pub record AreInputs (found : ArgMatches) (inputs : List (Bor (List ℕ))) : Type 0 where
   pub names : List (List ℕ)
-  pub distinct : are_distinct names ≡ true
+  pub are : AreOfInputs found names
   pub given : map (λ input. input.now) inputs ≡ named found names
 
--- More inputs than one, or with a keyboard any input, are standard input.
-pub record IsReadTwice (found : ArgMatches) (keyboard : Bool) : Type 0 where
+-- The operand for the result of a command is none of those that give these inputs, unless the result goes to the value of `-o`.
+pub record AreInputsBeside (called : CommandName) (found : ArgMatches) (inputs : List (Bor (List ℕ))) : Type 0 where
+  pub names : List (List ℕ)
+  pub are : AreOfInputs found names
+  pub beside : has_value found (codes "output") ≡ false → list_any (bytes_eq (result_operand called found)) names ≡ false
+  pub given : map (λ input. input.now) inputs ≡ named found names
+
+-- More than so many inputs are standard input.
+pub record IsReadOften (most : ℕ) (found : ArgMatches) : Type 0 where
   pub inputs : List (Bor (List ℕ))
   pub are : AreInputs found inputs
-  pub twice : (if keyboard then 0 else 1) < count_by (λ name. is_standard_input name.now) inputs
+  pub often : most < count_by (λ name. is_standard_input name.now) inputs
 
--- These inputs are what operands and options give that are different from one another and from `-o`, and without `-o` also from this operand.
-pub record AreInputsBeside (found : ArgMatches) (operand_name : List ℕ) (inputs : List (Bor (List ℕ))) : Type 0 where
-  pub names : List (List ℕ)
-  pub distinct : are_distinct (codes "output" ∷ names) ≡ true
-  pub beside : has_value found (codes "output") ≡ false → list_any (bytes_eq operand_name) names ≡ false
-  pub given : map (λ input. input.now) inputs ≡ named found names
-
--- The file that a result goes to: the value of `-o`, and without it an operand.
-abbrev pub result_file : ArgMatches → List ℕ → List ℕ
-result_file found operand_name = unwrap_or (value found (codes "output")) (operand found operand_name)
-
--- The result goes to a file that is an input, as far as the names tell: to the value of `-o`, or without it to an operand.
-pub record IsResultTaken (found : ArgMatches) : Type 0 where
-  pub operand_name : List ℕ
+-- The result goes to a file that is an input, as far as the names tell.
+pub record IsResultTaken (called : CommandName) (found : ArgMatches) : Type 0 where
   pub inputs : List (Bor (List ℕ))
-  pub are : AreInputsBeside found operand_name inputs
-  pub taken : is_taken (result_file found operand_name) inputs ≡ true
+  pub are : AreInputsBeside called found inputs
+  pub taken : is_taken (result_file called found) inputs ≡ true
 
 -- The file of an option is an input, as far as the names tell.
-pub record IsInputTaken (found : ArgMatches) (option_name : List ℕ) : Type 0 where
+pub record IsFileTaken (found : ArgMatches) (given_by : List ℕ) : Type 0 where
   pub inputs : List (Bor (List ℕ))
   pub are : AreInputs found inputs
   pub file : List ℕ
-  pub file_is : value found option_name ≡ Some file
+  pub file_is : value found given_by ≡ Some file
   pub taken : is_taken file inputs ≡ true
 
--- The result goes to a file that is named like a source: to the value of `-o`, or without it to an operand.
-abbrev pub IsResultNamedLikeSource : ArgMatches → Type 0
-IsResultNamedLikeSource found =
-    (operand_name : List ℕ) × (is_source_name (result_file found operand_name) ≡ true)
+-- The file of an option is named like a source.
+pub record IsFileNamedLikeSource (found : ArgMatches) (given_by : List ℕ) : Type 0 where
+  pub file : List ℕ
+  pub file_is : value found given_by ≡ Some file
+  pub like : is_source_name file ≡ true
 
 -- What is given is no number between these two in decimal digits.
 abbrev pub IsNumberRefused : ℕ → ℕ → Option (List ℕ) → Type 0
@@ -122,13 +134,8 @@ IsPlaceGiven option.UntilRead places = 0 < length places.read.items
 abbrev pub IsPlaceMisused : PlaceOptions → Misuse → Type 0
 IsPlaceMisused places wrong = (which : PlaceOption) × (wrong ≡ misuse.Place which) × IsPlaceGiven which places
 
--- A word after a source is one more than the command takes.
-abbrev pub has_more_words : ArgMatches → Bool
-has_more_words found =
-    list_any (has_value found) (codes "TAPE" ∷ codes "DECLARATION" ∷ codes "CERTIFICATE" ∷ codes "EVENTS" ∷ codes "OUT" ∷ [])
-
--- What is wrong with operands and options that cannot be combined, or with their values. A word that is not text, and an output that a
--- file shows to be an input, are never found here.
+-- What is wrong with options and operands that cannot be combined, or with their values, whichever command has them. A word that is not
+-- text, and an output that a file shows to be an input, are never found here.
 abbrev pub IsMisused : Misuse → ArgMatches → Type 0
 IsMisused (misuse.Place which) found = (places : PlaceOptions) × ArePlacesGiven found places × IsPlaceGiven which places
 IsMisused misuse.Last found = IsNumberRefused 1 1000000 (value found (codes "last"))
@@ -137,41 +144,117 @@ IsMisused misuse.LongTrace found = IsFlagGiven found (codes "trace-long") true �
 IsMisused misuse.EventsAndOperator found = (has_value found (codes "events") ≡ true) × IsRunWithOperator found true
 IsMisused misuse.ListAndOperator found = (has_value found (codes "EVENTS") ≡ true) × IsWatchedWithOperator found true
 IsMisused misuse.DeclarationAndStart found = (is_declared found ≡ true) × (is_start_named found ≡ true)
-IsMisused misuse.TapeAndSource found = (is_some (sources_given found) ≡ true) × (has_more_words found ≡ true)
-IsMisused misuse.NoOutput found = (is_some (sources_given found) ≡ true) × (has_value found (codes "output") ≡ false)
-IsMisused misuse.NoEvents found = (has_value found (codes "EVENTS") ≡ false) × IsWatchedWithOperator found false
 IsMisused misuse.PunchToOutput found = value found (codes "punch") ≡ Some (codes "-")
 IsMisused misuse.Seed found = IsNumberRefused 0 99999999 (value found (codes "seed"))
 IsMisused misuse.Interrupt found = IsKeyRefused (value found (codes "interrupt"))
 IsMisused misuse.Continue found = IsNumberRefused 1 1000000 (value found (codes "continue"))
 IsMisused misuse.Profile found = machine_given found ≡ None
-IsMisused misuse.Version found = migrated_version (value_or found (codes "certificate") (codes "2")) ≡ None
 IsMisused misuse.GuessedVersion found = IsVersionRefused (value found (codes "certificate"))
-IsMisused misuse.VersionAndDeclaration found =
-    migrated_version (value_or found (codes "certificate") (codes "2")) ≡ Some (version_with (not (has_value found (codes "declaration"))))
-IsMisused misuse.BothStandardInput found = (keyboard : Bool) × IsReadTwice found keyboard
-IsMisused misuse.OutputIsInput found = IsResultTaken found
-IsMisused misuse.PunchIsTaken found = IsInputTaken found (codes "punch")
+IsMisused misuse.BothStandardInput found = IsReadOften 1 found
+IsMisused misuse.PunchIsTaken found = IsFileTaken found (codes "punch")
+IsMisused misuse.PunchIsSource found = IsFileNamedLikeSource found (codes "punch")
+IsMisused misuse.ReportIsSource found = IsFileNamedLikeSource found (codes "report")
 IsMisused misuse.ReportIsTaken found = has_value found (codes "report") ≡ true
-IsMisused misuse.ReportIsSource found = has_value found (codes "report") ≡ true
 IsMisused misuse.ReportOfStandardInput found = has_value found (codes "report") ≡ true
-IsMisused misuse.PunchIsSource found = has_value found (codes "punch") ≡ true
 IsMisused misuse.SaveIsFolder found = has_value found (codes "save") ≡ true
 IsMisused misuse.SaveIsTaken found = has_value found (codes "save") ≡ true
-IsMisused misuse.OutputIsSource found = IsResultNamedLikeSource found
-IsMisused misuse.PlacedIsSource found = IsResultNamedLikeSource found
-IsMisused misuse.ResultIsSource found = IsResultNamedLikeSource found
 IsMisused _ found = ⊥
 
--- Why the words behind a command's name are refused, apart from want of memory.
-abbrev pub IsRefused : ArgMatches → CommandLineFault → Type 0
-IsRefused found (fault.Misuse what) = IsMisused what found
-IsRefused found (fault.Start wrong) = start_given found ≡ Err wrong
-IsRefused found (fault.Switches wrong) = IsWordRefused (value found (codes "switches")) wrong
-IsRefused found (fault.Steps most) = IsNumberRefused 1 most (value found (codes "steps"))
-IsRefused found (fault.NoOperand name) = (source_operands found ≡ []) ⊎ ((is_some (sources_given found) ≡ true) × (has_value found (codes "TAPE") ≡ false))
-IsRefused found (fault.CommandLine error) = ⊥
-IsRefused found fault.Memory = ⊤
+-- Why words are refused whichever command has them, apart from want of memory.
+abbrev pub IsRefusedByAny : ArgMatches → CommandLineFault → Type 0
+IsRefusedByAny found (fault.Misuse what) = IsMisused what found
+IsRefusedByAny found (fault.Start wrong) = start_given found ≡ Err wrong
+IsRefusedByAny found (fault.Switches wrong) = IsWordRefused (value found (codes "switches")) wrong
+IsRefusedByAny found (fault.Steps most) = IsNumberRefused 1 most (value found (codes "steps"))
+IsRefusedByAny found (fault.NoOperand name) = ⊥
+IsRefusedByAny found (fault.CommandLine error) = ⊥
+IsRefusedByAny found fault.Memory = ⊤
+
+-- The result of the command needs `-o` after a source.
+abbrev pub needs_output : ProgramCommand → Bool
+needs_output command.Report = true
+needs_output command.Guess = true
+needs_output command.Refute = true
+needs_output command.Declare = true
+needs_output _ = false
+
+-- The command takes a declaration after a source.
+abbrev pub takes_declaration : ProgramCommand → Bool
+takes_declaration command.Declare = false
+takes_declaration _ = true
+
+-- The command takes two operands after a source: the second one is the last input that it needs, or the result of a search without `-o`.
+abbrev pub takes_second : ProgramCommand → Bool → ArgMatches → Bool
+takes_second called operated found = (is_search called && not (has_value found (codes "output"))) || is_some (last_name operated called)
+
+-- There are more operands after a source than the command takes. clap takes them for a tape and what stands behind it.
+abbrev pub has_more_operands : ProgramCommand → Bool → ArgMatches → Bool
+has_more_operands called second found =
+    list_any (has_value found) (codes "CERTIFICATE" ∷ codes "EVENTS" ∷ codes "OUT" ∷ [])
+    || (not second && has_value found (codes "DECLARATION"))
+    || (not (takes_declaration called) && has_value found (codes "TAPE"))
+
+-- The program is given by its source, and there are more operands than the command takes.
+pub record HasMoreOperands (called : ProgramCommand) (found : ArgMatches) : Type 0 where
+  pub sourced : is_some (sources_given found) ≡ true
+  pub operated : Bool
+  pub operated_is : IsWatchedWithOperator found operated
+  pub more : has_more_operands called (takes_second called operated found) found ≡ true
+
+-- A run of a tape is to be watched, and there is neither a list of events nor an option for an operator.
+pub record HasNoEvents (found : ArgMatches) : Type 0 where
+  pub tape : sources_given found ≡ None
+  pub list : has_value found (codes "EVENTS") ≡ false
+  pub operator : IsWatchedWithOperator found false
+
+-- What is wrong with the operands and options of this command only.
+abbrev pub IsMisusedBy : Misuse → CommandName → ArgMatches → Type 0
+IsMisusedBy misuse.TapeAndSource (kind.Machine called) found = (is_some (sources_given found) ≡ true) × (has_value found (codes "TAPE") ≡ true)
+IsMisusedBy misuse.TapeAndSource (kind.Program called) found = HasMoreOperands called found
+IsMisusedBy misuse.NoOutput (kind.Program called) found =
+    (needs_output called ≡ true) × (is_some (sources_given found) ≡ true) × (has_value found (codes "output") ≡ false)
+IsMisusedBy misuse.NoEvents (kind.Program command.Watch) found = HasNoEvents found
+IsMisusedBy misuse.Version kind.Migrate found = migrated_version (value_or found (codes "certificate") (codes "2")) ≡ None
+IsMisusedBy misuse.VersionAndDeclaration kind.Migrate found =
+    migrated_version (value_or found (codes "certificate") (codes "2")) ≡ Some (version_with (not (has_value found (codes "declaration"))))
+IsMisusedBy misuse.BothStandardInput (kind.Machine machine.Teletype) found = IsReadOften 0 found
+IsMisusedBy misuse.OutputIsInput called found = IsResultTaken called found
+IsMisusedBy misuse.OutputIsSource called found = is_source_name (result_file called found) ≡ true
+IsMisusedBy misuse.PlacedIsSource called found = is_source_name (result_file called found) ≡ true
+IsMisusedBy misuse.ResultIsSource called found = is_source_name (result_file called found) ≡ true
+IsMisusedBy _ called found = ⊥
+
+-- A command needs a last input of this name, and there is none after the source.
+pub record IsLastMissing (called : ProgramCommand) (found : ArgMatches) (name : List ℕ) : Type 0 where
+  pub operated : Bool
+  pub operated_is : IsWatchedWithOperator found operated
+  pub needed : last_name operated called ≡ Some name
+  pub sourced : is_some (sources_given found) ≡ true
+  pub alone : has_value found (codes "TAPE") ≡ false
+
+-- An operand of this command is missing that the parser does not ask for.
+abbrev pub IsOperandMissing : CommandName → ArgMatches → List ℕ → Type 0
+IsOperandMissing (kind.Program called) found name = IsLastMissing called found name
+IsOperandMissing kind.Assemble found name = source_operands found ≡ []
+IsOperandMissing kind.List found name = source_operands found ≡ []
+IsOperandMissing kind.Place found name = source_operands found ≡ []
+IsOperandMissing _ found name = ⊥
+
+-- Why words are refused that only this command has, or that only this command refuses.
+abbrev pub IsRefusedBy : CommandName → ArgMatches → CommandLineFault → Type 0
+IsRefusedBy called found (fault.Misuse what) = IsMisusedBy what called found
+IsRefusedBy called found (fault.NoOperand name) = IsOperandMissing called found name.now
+IsRefusedBy called found _ = ⊥
+
+-- Why the words behind the name of a command are refused, apart from want of memory.
+abbrev pub IsRefused : CommandName → ArgMatches → CommandLineFault → Type 0
+IsRefused called found refused = IsRefusedByAny found refused ⊎ IsRefusedBy called found refused
+
+-- Why the parts of a source are refused, whichever of the commands has them that take such parts as operands.
+pub record ArePartsRefused (found : ArgMatches) (refused : CommandLineFault) : Type 0 where
+  pub assemble : IsRefused kind.Assemble found refused
+  pub listing : IsRefused kind.List found refused
+  pub place : IsRefused kind.Place found refused
 
 -- By some table of commands, clap finds a command in the words and what stands behind its name, and that is refused.
 pub record IsFoundRefused (words : List (List ℕ)) (refused : CommandLineFault) : Type 0 where
@@ -182,7 +265,7 @@ pub record IsFoundRefused (words : List (List ℕ)) (refused : CommandLineFault)
   pub named : Some called ≡ subcommand_name_of matches
   pub found : ArgMatches
   pub rows : Some (rows_of (found_of found)) ≡ option_map (λ row. row.1) (subcommand_rows_of matches)
-  pub why : IsRefused found refused
+  pub why : IsRefused (called_of called) found refused
 
 -- Why a command line is refused, apart from want of memory and from what clap refuses itself.
 abbrev pub IsLineRefused : List (List ℕ) → CommandLineFault → Type 0

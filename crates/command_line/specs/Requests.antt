@@ -2,6 +2,7 @@
 use Rattle.std.specs.Prelude.{ℕ, ◌≡◌, Bool, true, false, is_some, List, [], ◌∷◌, Option, None, Some, codes, if◌then◌else◌, map, option_map, unwrap_or}
 use Rattle.std.specs.Borrow.{Bor}
 use Rattle.clap.specs.declared.parser.matches.ArgMatches.{ArgMatches}
+use Rattle.command_line.specs.declared.command_name.CommandName.TheVariants as kind
 use Rattle.command_line.specs.declared.program_command.ProgramCommand.{ProgramCommand}
 use Rattle.command_line.specs.declared.program_command.ProgramCommand.TheVariants as command
 use Rattle.command_line.specs.declared.operands.Operands.{Operands}
@@ -16,7 +17,7 @@ use Rattle.command_line.specs.declared.programs.WatchedRunOptions.{WatchedRunOpt
 use Rattle.command_line.specs.declared.programs.Task.TheVariants.{Verify, Check, Report, Watch, WatchSession, Guess, Refute, Declare}
 use Rattle.command_line.specs.declared.outputs.Destination.{Destination}
 use Rattle.certificate_lines.specs.declared.Version.{Version}
-use Rattle.command_line.specs.Outputs.{IsEmptiedGiven, IsKeptGiven, IsSaveGiven}
+use Rattle.command_line.specs.Outputs.{IsResultGiven, IsSaveGiven}
 use Rattle.command_line.specs.Options.{AreDeclareOptions, ArePlacesGiven, AreRefinements, AreRefuteOptions, AreSessionOptions, AreVerifyOptions, IsFlagGiven, IsNumberNamed, IsVersionNamed, IsWatchedWithOperator, is_start_named, operand, sources_given, value}
 use Rattle.command_line.specs.Places.{AreShownOn, IsStoppedOn}
 
@@ -117,25 +118,6 @@ abbrev pub watched_declaration : ProgramNames → Option (List ℕ) → List ℕ
 watched_declaration (Tape name) declaration = unwrap_or declaration (codes "-")
 watched_declaration (Source names) declaration = []
 
--- The operand that the result of a search goes to without `-o`: OUT, or the second operand after a source.
-abbrev pub searched_name : Bool → List ℕ
-searched_name sourced = if sourced then codes "DECLARATION" else codes "OUT"
-
--- The operand that the result of a command goes to without `-o`, with a source or with a tape.
-abbrev pub name_of_result : ProgramCommand → Bool → List ℕ
-name_of_result command.Guess sourced = searched_name sourced
-name_of_result command.Refute sourced = searched_name sourced
-name_of_result command.Declare sourced = searched_name sourced
-name_of_result _ sourced = codes "OUT"
-
--- The same for what is found behind a command's name.
-abbrev pub result_name : ProgramCommand → ArgMatches → List ℕ
-result_name called found = name_of_result called (is_some (sources_given found))
-
--- A result that is not a certificate goes to the value of `-o` if it is given, and otherwise to the operand.
-abbrev pub IsResultGiven : ProgramCommand → ArgMatches → Destination → Type 0
-IsResultGiven called found out = IsKeptGiven (value found (codes "output")) (operand found (result_name called found)) out
-
 -- The search for an answer is made and what is found is saved as the options ask. A declaration may be saved exactly if none is given.
 abbrev pub IsVerifyGiven : ArgMatches → Operands → Task → Type 0
 IsVerifyGiven found operands (Verify save options) = IsSaveGiven found (is_some operands.declaration) save × AreVerifyOptions found options
@@ -180,25 +162,25 @@ IsWatchGiven found operands followed _ = ⊥
 -- where it is said.
 abbrev pub IsGuessGiven : ArgMatches → Task → Type 0
 IsGuessGiven found (Guess out report version) =
-    IsEmptiedGiven (value found (codes "output")) (operand found (result_name command.Guess found)) out × (option_map (λ name. name.now) report ≡ value found (codes "report"))
+    IsResultGiven (kind.Program command.Guess) found out × (option_map (λ name. name.now) report ≡ value found (codes "report"))
     × IsVersionNamed (value found (codes "certificate")) version
 IsGuessGiven found _ = ⊥
 
 -- The search for a run is made as the options ask, and the run goes where it is said.
 abbrev pub IsRefuteGiven : ArgMatches → Task → Type 0
-IsRefuteGiven found (Refute out options) = IsResultGiven command.Refute found out × AreRefuteOptions found options
+IsRefuteGiven found (Refute out options) = IsResultGiven (kind.Program command.Refute) found out × AreRefuteOptions found options
 IsRefuteGiven found _ = ⊥
 
 -- A declaration is proposed as the options ask, and goes where it is said.
 abbrev pub IsDeclareGiven : ArgMatches → Task → Type 0
 IsDeclareGiven found (Declare out options refinements) =
-    IsResultGiven command.Declare found out × AreDeclareOptions found options × AreRefinements found refinements
+    IsResultGiven (kind.Program command.Declare) found out × AreDeclareOptions found options × AreRefinements found refinements
 IsDeclareGiven found _ = ⊥
 
 -- The report is of the certificate that is given last, as text or as a page as the option asks, and goes where it is said.
 abbrev pub IsReportGiven : ArgMatches → Option (List ℕ) → Task → Type 0
 IsReportGiven found last (Report certificate out text) =
-    (certificate.now ≡ unwrap_or last (codes "-")) × IsResultGiven command.Report found out × IsFlagGiven found (codes "text") text
+    (certificate.now ≡ unwrap_or last (codes "-")) × IsResultGiven (kind.Program command.Report) found out × IsFlagGiven found (codes "text") text
 IsReportGiven found last _ = ⊥
 
 -- The certificate that is checked is the one that is given last.

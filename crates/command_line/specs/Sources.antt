@@ -1,6 +1,7 @@
 -- What requests for a source, and requests to run a program, have of the words that were given.
 use Rattle.std.specs.Prelude.{ℕ, ◌≡◌, ◌∷◌, true, false, List, [], Option, None, Some, codes, if◌then◌else◌, map, option_map}
 use Rattle.clap.specs.declared.parser.matches.ArgMatches.{ArgMatches}
+use Rattle.command_line.specs.declared.command_name.CommandName.TheVariants as kind
 use Rattle.command_line.specs.declared.command_name.MachineCommand.{MachineCommand}
 use Rattle.command_line.specs.declared.command_name.MachineCommand.TheVariants as command
 use Rattle.command_line.specs.declared.place_options.PlaceOptions.{PlaceOptions}
@@ -17,8 +18,8 @@ use Rattle.command_line.specs.declared.source_programs.SourceProgramRequest.{Sou
 use Rattle.command_line.specs.declared.sources.AssembleRequest.{AssembleRequest}
 use Rattle.command_line.specs.declared.sources.ListRequest.{ListRequest}
 use Rattle.command_line.specs.Machines.{IsDumpGiven, IsOperatedRunGiven, IsRunGiven, IsTeletypeGiven}
-use Rattle.command_line.specs.Options.{ArePlacesGiven, IsFlagGiven, IsRunWithOperator, has_value, machine_given, named, operand, sources_given, value}
-use Rattle.command_line.specs.Outputs.{IsEmptiedGiven, IsKeptGiven}
+use Rattle.command_line.specs.Options.{ArePlacesGiven, IsFlagGiven, IsRunWithOperator, has_value, machine_given, named, sources_given, value}
+use Rattle.command_line.specs.Outputs.{IsResultGiven}
 
 -- The operands that are parts of the source of `assemble`, `list` and `place`: with `-o` the first operand is one of them too.
 abbrev pub part_operands : ArgMatches → List (List ℕ)
@@ -36,7 +37,7 @@ source_operands found = named found (part_operands found)
 -- The source that is assembled has the parts that are given, in their order, for the machine that is requested, and the tape goes where it
 -- is said.
 pub record IsAssembleGiven (found : ArgMatches) (assemble : AssembleRequest) : Type 0 where
-  pub out : IsEmptiedGiven (value found (codes "output")) (operand found (codes "OUT")) assemble.out
+  pub out : IsResultGiven kind.Assemble found assemble.out
   pub sources : map (λ name. name.now) assemble.sources.items ≡ source_operands found
   pub machine : machine_given found ≡ Some assemble.profile
   pub explained : IsFlagGiven found (codes "why") assemble.explained
@@ -88,7 +89,7 @@ ArePartsGiven found (Tape name) = ⊥
 
 -- A declaration is written in numbers, and goes where it is said.
 abbrev pub IsPlaceTask : ArgMatches → Task → Type 0
-IsPlaceTask found (Place out) = IsKeptGiven (value found (codes "output")) (operand found (codes "OUT")) out
+IsPlaceTask found (Place out) = IsResultGiven kind.Place found out
 IsPlaceTask found _ = ⊥
 
 -- The declaration that is written in numbers is the one that is given, for the source whose parts are given.

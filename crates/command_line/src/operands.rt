@@ -1,14 +1,17 @@
 //! The operands of commands on a program and its declaration: those of a tape, or those that stand after a source. It is
 //! proved that they are the words that were given.
 
-ghost use Rattle.std.specs.Prelude.{◌≡◌, IfErr, MatchResult, Some, codes, false, is_some, map, option_map, true};
-ghost use Rattle.command_line.specs.Options.{has_value, sources_given, value};
-ghost use Rattle.command_line.specs.Refusals.{IsRefused, are_distinct, has_more_words};
+ghost use Rattle.std.specs.Prelude.{◌≡◌, ◌++◌, IfErr, MatchResult, None, Some, codes, false, is_some, map, option_map, true};
+ghost use Rattle.std.specs.List.{list_any};
+ghost use Rattle.std.specs.Str.{bytes_eq};
+ghost use Rattle.command_line.specs.Options.{IsWatchedWithOperator, has_value, sources_given, value};
+ghost use Rattle.command_line.specs.Refusals.{IsRefused, are_distinct, has_more_operands, needs_output, result_options, takes_declaration, takes_second};
 ghost use Rattle.command_line.specs.Requests.{AreOperandsGiven, declaration_behind, declaration_given, declaration_of_source, input_names, last_behind, last_name, last_with_tape};
+ghost use Rattle.command_line.specs.declared.command_name.CommandName.TheVariants.{Program};
 
 use crate::fault::{CommandLineFault, Misuse};
 use crate::operator::is_watched_with_operator;
-use crate::program_command::ProgramCommand;
+use crate::program_command::{ProgramCommand, is_search};
 use crate::programs::ProgramNames;
 use crate::values::{copied, has_any, has_value, operand_of, start_once};
 use clap::ArgMatches;
@@ -47,7 +50,8 @@ fn last_name(called: ProgramCommand, operated: bool) -> Option<&'static str>
 /// The names of the operands and options that give the inputs of a command, with a source or with a tape.
 pub(crate) fn input_names(called: ProgramCommand, is_sourced: bool) -> &'static [&'static str]
     ensures given { map (λ name. name.now) result.now ≡ input_names called is_sourced }
-    ensures distinct { are_distinct (map (λ name. name.now) result.now) ≡ true }
+    ensures distinct { are_distinct (result_options ++ map (λ name. name.now) result.now) ≡ true }
+    ensures no_result { list_any (bytes_eq (codes "OUT")) (map (λ name. name.now) result.now) ≡ false }
 {
     match called {
         ProgramCommand::Declare if is_sourced => &["source", "from"],
@@ -94,67 +98,73 @@ fn operands_behind<'a>(
     }
 }
 
-/// Whether a command with a source takes the operand OUT, which is then the second one: a search without `-o`.
-fn takes_result(called: ProgramCommand, found: &ArgMatches<'_>) -> bool
-    ensures { result ≡ true → has_value found.now (codes "output") ≡ false }
-{
-    match called {
-        ProgramCommand::Guess | ProgramCommand::Refute | ProgramCommand::Declare => {
-            !has_value(found, "output")
-        }
-        _ => false,
-    }
-}
-
-/// Ensures that the result of a command with a source has a place to go: the value of `-o`, or of a search the second of
-/// two operands. A single operand might be meant for the declaration, and is refused.
-fn check_result(called: ProgramCommand, found: &ArgMatches<'_>) -> Result<(), CommandLineFault>
-    requires { is_some (sources_given found.now) ≡ true }
-    ensures { IfErr result (IsRefused found.now) }
+/// Whether the result of a command with a source has no place to go: that is the value of `-o`, or of a search the second
+/// of two operands. A single operand might be meant for the declaration.
+fn lacks_output(called: ProgramCommand, found: &ArgMatches<'_>) -> bool
+    ensures { result ≡ true → (needs_output called ≡ true)
+        × (has_value found.now (codes "output") ≡ false) }
 {
     if has_value(found, "output") {
-        return Ok(());
+        return false;
     }
-    let is_missing = match called {
+    match called {
         ProgramCommand::Report => true,
         ProgramCommand::Guess | ProgramCommand::Refute | ProgramCommand::Declare => {
-            !has_value(found, "TAPE") || !has_more(found, true) && !has_value(found, "DECLARATION")
+            let second = has_any(found, &["DECLARATION", "CERTIFICATE", "EVENTS", "OUT"]);
+            !(has_value(found, "TAPE") && second)
         }
         _ => false,
-    };
-    if is_missing {
-        return Err(CommandLineFault::Misuse(Misuse::NoOutput));
     }
-    Ok(())
 }
 
-/// Whether there are more words than the operands that a command with a source takes, with a second one or without.
-fn has_more(found: &ArgMatches<'_>, takes_second: bool) -> bool
-    ensures { result ≡ true → has_more_words found.now ≡ true }
+/// Whether a command takes a declaration after a source.
+fn takes_declaration(called: ProgramCommand) -> bool
+    ensures { result ≡ takes_declaration called }
+{
+    match called {
+        ProgramCommand::Declare => false,
+        _ => true,
+    }
+}
+
+/// Whether a command takes two operands after a source: the second one is the last input that it needs, or the result of
+/// a search without `-o`.
+fn takes_second(called: ProgramCommand, operated: bool, found: &ArgMatches<'_>) -> bool
+    ensures { result ≡ takes_second called operated found.now }
+{
+    let has_result = is_search(called) && !has_value(found, "output");
+    has_result || last_name(called, operated).is_some()
+}
+
+/// Whether there are more operands after a source than a command takes, with a second one or without. clap has taken
+/// them for those of a tape.
+fn has_more_operands(called: ProgramCommand, second: bool, found: &ArgMatches<'_>) -> bool
+    ensures { result ≡ has_more_operands called second found.now }
 {
     let third = has_any(found, &["CERTIFICATE", "EVENTS", "OUT"]);
-    let second = has_value(found, "DECLARATION");
-    third || (!takes_second && second)
+    let is_second_more = !second && has_value(found, "DECLARATION");
+    let is_first_more = !takes_declaration(called) && has_value(found, "TAPE");
+    third || is_second_more || is_first_more
 }
 
-/// Ensures that the words after a source are operands that a command takes, of which the last one is this input, if it
-/// is needed. clap has taken them for those of a tape.
+/// Ensures that the words after a source are operands that a command takes, and that the last input is there, if the
+/// command needs one.
 fn check_operands(
     called: ProgramCommand,
+    operated: bool,
     found: &ArgMatches<'_>,
-    needed: Option<&'static str>,
 ) -> Result<(), CommandLineFault>
-    requires { is_some (sources_given found.now) ≡ true }
-    ensures { IfErr result (IsRefused found.now) }
+    requires sourced { is_some (sources_given found.now) ≡ true }
+    requires operated { IsWatchedWithOperator found.now operated }
+    ensures { IfErr result (IsRefused (Program called) found.now) }
 {
-    check_result(called, found)?;
-    if has_more(found, takes_result(called, found) || needed.is_some()) {
+    if lacks_output(called, found) {
+        return Err(CommandLineFault::Misuse(Misuse::NoOutput));
+    }
+    if has_more_operands(called, takes_second(called, operated, found), found) {
         return Err(CommandLineFault::Misuse(Misuse::TapeAndSource));
     }
-    if called == ProgramCommand::Declare && has_value(found, "TAPE") {
-        return Err(CommandLineFault::Misuse(Misuse::TapeAndSource));
-    }
-    match needed {
+    match last_name(called, operated) {
         Some(name) if !has_value(found, "TAPE") => Err(CommandLineFault::NoOperand(name)),
         _ => Ok(()),
     }
@@ -183,11 +193,12 @@ fn source_operands<'a>(
     parts: &[&'a str],
 ) -> Result<Operands<'a>, CommandLineFault>
     requires { sources_given found.now ≡ Some (map (λ name. name.now) parts.now) }
-    ensures { MatchResult result (AreOperandsGiven called found.now) (IsRefused found.now) }
+    ensures { MatchResult result (AreOperandsGiven called found.now)
+        (IsRefused (Program called) found.now) }
 {
     let operated = is_watched_with_operator(found);
     let needed = last_name(called, operated);
-    check_operands(called, found, needed)?;
+    check_operands(called, operated, found)?;
     let first = found.get_str("TAPE");
     let second = found.get_str("DECLARATION");
     let behind = operands_behind(needed.is_some(), first, second);
@@ -223,17 +234,32 @@ fn tape_last<'a>(called: ProgramCommand, found: &ArgMatches<'a>) -> Option<&'a s
     }
 }
 
+/// Ensures that a run of a tape that is watched has a list of events, or an operator.
+fn check_events(called: ProgramCommand, found: &ArgMatches<'_>) -> Result<(), CommandLineFault>
+    requires { sources_given found.now ≡ None }
+    ensures { IfErr result (IsRefused (Program called) found.now) }
+{
+    match called {
+        ProgramCommand::Watch if !has_value(found, "EVENTS") => {
+            if is_watched_with_operator(found) {
+                return Ok(());
+            }
+            Err(CommandLineFault::Misuse(Misuse::NoEvents))
+        }
+        _ => Ok(()),
+    }
+}
+
 /// The operands of a command with a tape.
 fn tape_operands<'a>(
     called: ProgramCommand,
     found: &ArgMatches<'a>,
 ) -> Result<Operands<'a>, CommandLineFault>
-    ensures { MatchResult result (AreOperandsGiven called found.now) (IsRefused found.now) }
+    requires { sources_given found.now ≡ None }
+    ensures { MatchResult result (AreOperandsGiven called found.now)
+        (IsRefused (Program called) found.now) }
 {
-    let is_watched = called == ProgramCommand::Watch && !has_value(found, "EVENTS");
-    if is_watched && !is_watched_with_operator(found) {
-        return Err(CommandLineFault::Misuse(Misuse::NoEvents));
-    }
+    check_events(called, found)?;
     Ok(Operands {
         program: ProgramNames::Tape(operand_of(found, "TAPE")),
         declaration: tape_declaration(called, found),
@@ -247,7 +273,8 @@ pub(crate) fn operands_of<'a>(
     called: ProgramCommand,
     found: &ArgMatches<'a>,
 ) -> Result<Operands<'a>, CommandLineFault>
-    ensures { MatchResult result (AreOperandsGiven called found.now) (IsRefused found.now) }
+    ensures { MatchResult result (AreOperandsGiven called found.now)
+        (IsRefused (Program called) found.now) }
 {
     match found.get_strs("source") {
         Some(parts) => source_operands(alloc, called, found, parts),

@@ -1,17 +1,20 @@
 //! The options of a run with an operator.
 
-ghost use Rattle.std.specs.Prelude.{◌≡◌, ◌||◌, IfErr, IfOk, MatchResult, Some, codes, is_some, true};
-ghost use Rattle.command_line.specs.Machines.{IsOperatedRunGiven, IsTeletypeGiven, interrupt_given, interrupt_named};
+ghost use Rattle.std.specs.Prelude.{◌≡◌, ◌||◌, IfErr, IfOk, MatchResult, Some, codes, is_some, option_map, true};
+ghost use Rattle.command_line.specs.Machines.{IsOperatedRunGiven, IsTeletypeGiven, interrupt_given, interrupt_named, tape_given};
 ghost use Rattle.command_line.specs.Options.{ArePlacesGiven, AreSessionOptions, AreTeletypeOptions, IsRunWithOperator, IsWatchedWithOperator, IsWordNamed, value};
 ghost use Rattle.command_line.specs.Places.{AreShownOn};
-ghost use Rattle.command_line.specs.Refusals.{IsRefused};
+ghost use Rattle.command_line.specs.Refusals.{IsRefused, IsRefusedByAny};
+ghost use Rattle.command_line.specs.declared.command_name.CommandName.TheVariants.{Machine};
+ghost use Rattle.command_line.specs.declared.command_name.MachineCommand.TheVariants.{Teletype};
 
 use crate::fault::{CommandLineFault, Misuse};
 use crate::names::FileNames;
 use crate::outputs::punch_of;
 use crate::place_options::{PlaceOptions, StopOptions, shown_on, stopping_on};
-use crate::tapes::tape_of;
-use crate::values::{has_any, has_value, is_given, profile_of, read_once, run_options, start_of};
+use crate::values::{
+    has_any, has_value, is_given, profile_of, read_beside_keys, read_once, run_options, start_of,
+};
 use clap::ArgMatches;
 use command_parts::options::{KeyOptions, SessionOptions, SummaryForm, TeletypeOptions};
 use std::alloc::Global;
@@ -157,7 +160,7 @@ pub fn is_watched_with_operator(found: &ArgMatches<'_>) -> bool
 
 /// What the switches are set to, if they are.
 fn switches_of(found: &ArgMatches<'_>) -> Result<Option<Word>, CommandLineFault>
-    ensures { MatchResult result (IsWordNamed (value found.now (codes "switches"))) (IsRefused found.now) }
+    ensures { MatchResult result (IsWordNamed (value found.now (codes "switches"))) (IsRefusedByAny found.now) }
 {
     match found.get_str("switches") {
         None => Ok(None),
@@ -172,20 +175,22 @@ fn switches_of(found: &ArgMatches<'_>) -> Result<Option<Word>, CommandLineFault>
 pub fn session_of<'a>(
     alloc: Global,
     found: &ArgMatches<'a>,
+    tape: Option<&'a str>,
     places: &PlaceOptions<'a>,
 ) -> Result<Session<'a>, CommandLineFault>
+    requires tape { option_map (λ name. name.now) tape.entry ≡ tape_given found.now }
     requires places { ArePlacesGiven found.now places.now }
     requires operated { IsRunWithOperator found.now true }
-    ensures { MatchResult result (IsOperatedRunGiven found.now places.now) (IsRefused found.now) }
+    ensures { MatchResult result (IsOperatedRunGiven found.now places.now)
+        (IsRefusedByAny found.now) }
 {
-    let tape = tape_of(found)?;
     if has_value(found, "events") {
         return Err(CommandLineFault::Misuse(Misuse::EventsAndOperator));
     }
     if is_given(found, "trace-long") {
         return Err(CommandLineFault::Misuse(Misuse::LongTrace));
     }
-    let inputs = read_once(alloc, found, &["TAPE", "reader", "keys"], false)?;
+    let inputs = read_once(alloc, found, &["TAPE", "reader", "keys"])?;
     let punch = punch_of(found, &inputs)?;
     let teletype = is_given(found, "teletype");
     let show = shown_on(found, tape, places)?;
@@ -217,7 +222,7 @@ pub(crate) fn session_options(
 ) -> Result<SessionOptions, CommandLineFault>
     ensures options { IfOk result (AreSessionOptions found.now) }
     ensures shown { IfOk result (λ options. options.run.show ≡ show) }
-    ensures refused { IfErr result (IsRefused found.now) }
+    ensures refused { IfErr result (IsRefusedByAny found.now) }
 {
     let run = run_options(found, show)?;
     let switches = switches_of(found)?;
@@ -238,7 +243,7 @@ fn teletype_options(
     ensures options { IfOk result (AreTeletypeOptions found.now) }
     ensures shown { IfOk result (λ options.
         AreShownOn (is_some tape.entry) places.now options.show) }
-    ensures refused { IfErr result (IsRefused found.now) }
+    ensures refused { IfErr result (IsRefusedByAny found.now) }
 {
     let start = start_of(found)?;
     let profile = profile_of(found)?;
@@ -272,7 +277,7 @@ fn interrupt_named(text: &str) -> Option<Interrupt>
 /// The key that interrupts a session, where the bytes of keys are struck as they come or are not.
 fn interrupt_of(found: &ArgMatches<'_>, raw: bool) -> Result<Interrupt, CommandLineFault>
     ensures { MatchResult result (λ interrupt.
-        interrupt_given raw (value found.now (codes "interrupt")) ≡ Some interrupt) (IsRefused found.now) }
+        interrupt_given raw (value found.now (codes "interrupt")) ≡ Some interrupt) (IsRefusedByAny found.now) }
 {
     match found.get_str("interrupt") {
         None if raw => Ok(Interrupt::Off),
@@ -288,13 +293,15 @@ fn interrupt_of(found: &ArgMatches<'_>, raw: bool) -> Result<Interrupt, CommandL
 pub fn teletype_of<'a>(
     alloc: Global,
     found: &ArgMatches<'a>,
+    tape: Option<&'a str>,
     places: &PlaceOptions<'a>,
 ) -> Result<TeletypeSession<'a>, CommandLineFault>
+    requires tape { option_map (λ name. name.now) tape.entry ≡ tape_given found.now }
     requires places { ArePlacesGiven found.now places.now }
-    ensures { MatchResult result (IsTeletypeGiven found.now places.now) (IsRefused found.now) }
+    ensures { MatchResult result (IsTeletypeGiven found.now places.now)
+        (IsRefused (Machine Teletype) found.now) }
 {
-    let tape = tape_of(found)?;
-    let inputs = read_once(alloc, found, &["TAPE", "reader"], true)?;
+    let inputs = read_beside_keys(alloc, found, &["TAPE", "reader"])?;
     let punch = punch_of(found, &inputs)?;
     let options = teletype_options(found, tape, places)?;
     let stopping = stopping_on(found, tape, places)?;

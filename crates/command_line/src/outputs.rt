@@ -1,14 +1,16 @@
 //! Where the result of a command goes.
 
-ghost use Rattle.std.specs.Prelude.{◌≡◌, ◌&&◌, IfErr, IfOk, MatchResult, not, codes, false, option_map};
+ghost use Rattle.std.specs.Prelude.{◌≡◌, IfErr, IfOk, MatchResult, not, codes, false, option_map};
 ghost use Rattle.std.specs.Option.{ForSome};
 ghost use Rattle.std.specs.List.{list_any};
-ghost use Rattle.command_line.specs.Options.{operand, value};
-ghost use Rattle.command_line.specs.Outputs.{IsEmptiedGiven, IsKeptGiven, IsSaveGiven, ends_in, file_of, is_same_file, is_source_name, is_taken, without_here};
-ghost use Rattle.command_line.specs.Refusals.{AreInputs, AreInputsBeside, IsRefused, result_file};
+ghost use Rattle.command_line.specs.Options.{value};
+ghost use Rattle.command_line.specs.Outputs.{IsResultGiven, IsSaveGiven, ends_in, file_of, is_emptied, is_same_file, is_source_name, is_taken, result_file, result_operand, without_here};
+ghost use Rattle.command_line.specs.Refusals.{AreInputs, AreInputsBeside, IsRefused, IsRefusedByAny};
 
+use crate::command_name::CommandName;
 use crate::fault::{CommandLineFault, Misuse};
-use crate::values::{is_given, operand_of};
+use crate::program_command::{ProgramCommand, is_search};
+use crate::values::{is_given, is_sourced, operand_of};
 use clap::ArgMatches;
 
 /// Where a result goes: the name of a file, or `-` for standard output.
@@ -101,7 +103,7 @@ pub fn report_of<'a>(
         value found.now (codes "report")) }
     ensures free { IfOk result (λ name.
         ForSome name (λ it. is_taken it.now others.now ≡ false)) }
-    ensures refused { IfErr result (IsRefused found.now) }
+    ensures refused { IfErr result (IsRefusedByAny found.now) }
 {
     let Some(name) = found.get_str("report") else {
         return Ok(None);
@@ -121,7 +123,7 @@ pub fn punch_of<'a>(
     inputs: &[&str],
 ) -> Result<Option<&'a str>, CommandLineFault>
     requires { AreInputs found.now inputs.now }
-    ensures refused { IfErr result (IsRefused found.now) }
+    ensures refused { IfErr result (IsRefusedByAny found.now) }
     ensures named { IfOk result (λ name. option_map (λ it. it.now) name ≡
         value found.now (codes "punch")) }
     ensures free { IfOk result (λ name.
@@ -142,68 +144,64 @@ pub fn punch_of<'a>(
     Ok(Some(name))
 }
 
-/// Ensures that the result goes to none of these inputs. It goes to the value of `-o`, otherwise to this operand.
-pub(crate) fn no_input<'a>(
-    found: &ArgMatches<'_>,
-    name: &str,
-    destination: Destination<'a>,
+/// The operand that the result of a command goes to without `-o`: OUT, or the second operand of a search after a source.
+fn result_operand(called: CommandName, found: &ArgMatches<'_>) -> &'static str
+    ensures { result.now ≡ result_operand called found.now }
+{
+    match called {
+        CommandName::Program(command) if is_search(command) && is_sourced(found) => "DECLARATION",
+        _ => "OUT",
+    }
+}
+
+/// Where the result of a command goes: to the value of `-o`, and without it to the operand.
+fn destination_of<'a>(called: CommandName, found: &ArgMatches<'a>) -> Destination<'a>
+    ensures given { IsResultGiven called found.now result }
+    ensures file { file_of result ≡ result_file called found.now }
+{
+    let operand = operand_of(found, result_operand(called, found));
+    match found.get_str("output") {
+        Some(file) => Destination::MadeLast(file),
+        None if is_emptied(called) => Destination::EmptiedFirst(operand),
+        None => Destination::CheckedFirst(operand),
+    }
+}
+
+/// Whether the operand for the result of a command is emptied before an input is read.
+fn is_emptied(called: CommandName) -> bool
+    ensures { result ≡ is_emptied called }
+{
+    match called {
+        CommandName::Assemble | CommandName::Migrate => true,
+        CommandName::Program(ProgramCommand::Guess) => true,
+        _ => false,
+    }
+}
+
+/// Where the result of a command goes. It is none of these inputs, and only the result of `source` has the name of a
+/// source; the operands of `assemble` and `place` may stand in the wrong order.
+pub(crate) fn result_of<'a>(
+    called: CommandName,
+    found: &ArgMatches<'a>,
     inputs: &[&str],
 ) -> Result<Destination<'a>, CommandLineFault>
-    requires file { file_of destination.entry ≡ result_file found.now name.now }
-    requires inputs { AreInputsBeside found.now name.now inputs.now }
-    ensures kept { IfOk result (λ out. out ≡ destination.entry) }
+    requires { AreInputsBeside called found.now inputs.now }
+    ensures given { IfOk result (IsResultGiven called found.now) }
     ensures free { IfOk result (λ out. is_taken (file_of out) inputs.now ≡ false) }
-    ensures refused { IfErr result (IsRefused found.now) }
+    ensures refused { IfErr result (IsRefused called found.now) }
 {
-    if is_taken(destination.name(), inputs) {
+    let out = destination_of(called, found);
+    if is_taken(out.name(), inputs) {
         return Err(CommandLineFault::Misuse(Misuse::OutputIsInput));
     }
-    Ok(destination)
-}
-
-/// Ensures that the result goes to none of these inputs, nor to a file that is named like a source. It goes to the value
-/// of `-o`, otherwise to this operand.
-pub(crate) fn no_source<'a>(
-    found: &ArgMatches<'_>,
-    name: &str,
-    destination: Destination<'a>,
-    inputs: &[&str],
-) -> Result<Destination<'a>, CommandLineFault>
-    requires file { file_of destination.entry ≡ result_file found.now name.now }
-    requires inputs { AreInputsBeside found.now name.now inputs.now }
-    ensures kept { IfOk result (λ out. out ≡ destination.entry) }
-    ensures free { IfOk result (λ out. is_taken (file_of out) inputs.now ≡ false) }
-    ensures refused { IfErr result (IsRefused found.now) }
-{
-    let destination = no_input(found, name, destination, inputs)?;
-    if is_source_name(destination.name()) {
-        return Err(CommandLineFault::Misuse(Misuse::ResultIsSource));
+    if !is_source_name(out.name()) {
+        return Ok(out);
     }
-    Ok(destination)
-}
-
-/// Where the result goes: the value of `-o`, otherwise this operand, which is emptied first.
-pub(crate) fn emptied_destination<'a>(found: &ArgMatches<'a>, name: &str) -> Destination<'a>
-    ensures given { IsEmptiedGiven (value found.now (codes "output"))
-        (operand found.now name.now) result }
-    ensures file { file_of result ≡ result_file found.now name.now }
-{
-    match found.get_str("output") {
-        Some(file) => Destination::MadeLast(file),
-        None => Destination::EmptiedFirst(operand_of(found, name)),
-    }
-}
-
-/// Where the result goes: the value of `-o`, otherwise this operand, which stays as it was if there is nothing to
-/// write.
-pub(crate) fn kept_destination<'a>(found: &ArgMatches<'a>, name: &str) -> Destination<'a>
-    ensures given { IsKeptGiven (value found.now (codes "output"))
-        (operand found.now name.now) result }
-    ensures file { file_of result ≡ result_file found.now name.now }
-{
-    match found.get_str("output") {
-        Some(file) => Destination::MadeLast(file),
-        None => Destination::CheckedFirst(operand_of(found, name)),
+    match called {
+        CommandName::Source => Ok(out),
+        CommandName::Assemble => Err(CommandLineFault::Misuse(Misuse::OutputIsSource)),
+        CommandName::Place => Err(CommandLineFault::Misuse(Misuse::PlacedIsSource)),
+        _ => Err(CommandLineFault::Misuse(Misuse::ResultIsSource)),
     }
 }
 
@@ -263,7 +261,8 @@ pub fn save_of<'a>(
     inputs: &[&str],
     proposed: bool,
 ) -> Result<Option<SaveOptions<'a>>, CommandLineFault>
-    ensures { MatchResult result (IsSaveGiven found.now (not proposed)) (IsRefused found.now) }
+    ensures { MatchResult result (IsSaveGiven found.now (not proposed))
+        (IsRefusedByAny found.now) }
 {
     let Some(name) = found.get_str("save") else {
         return Ok(None);

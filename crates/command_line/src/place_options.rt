@@ -4,7 +4,7 @@ ghost use Rattle.std.specs.Prelude.{◌≡◌, ◌==◌, ◌<◌, IfSome, MatchR
 ghost use Rattle.std.specs.List.{position};
 ghost use Rattle.command_line.specs.Options.{ArePlacesGiven, IsNumberNamed, value, values};
 ghost use Rattle.command_line.specs.Places.{AreCellsOf, AreCellsOfText, AreCellsOfTexts, AreShownOn, AreStopsNamed, IsFollowed, IsStoppedOn, IsUntilNamed, IsVisitNamed, is_followed};
-ghost use Rattle.command_line.specs.Refusals.{IsPlaceMisused, IsRefused, IsTraced};
+ghost use Rattle.command_line.specs.Refusals.{IsPlaceMisused, IsRefusedByAny, IsTraced};
 ghost use Rattle.command_line.specs.declared.fault.Misuse.TheVariants.{Place};
 ghost use Rattle.command_line.specs.OctalPlaces.{cells_between, cells_of_word};
 ghost use Rattle.streams.specs.Text.{octal_word};
@@ -157,7 +157,7 @@ pub(crate) fn places_of<'a>(
     alloc: Global,
     found: &ArgMatches<'a>,
 ) -> Result<PlaceOptions<'a>, CommandLineFault>
-    ensures { MatchResult result (ArePlacesGiven found.now) (IsRefused found.now) }
+    ensures { MatchResult result (ArePlacesGiven found.now) (IsRefusedByAny found.now) }
 {
     let last = last_of(found)?;
     let show = values_of(alloc, found, "show")?;
@@ -295,7 +295,7 @@ fn is_traced(found: &ArgMatches<'_>) -> bool
 
 /// How many of the last instructions are shown, if that is requested.
 fn last_of(found: &ArgMatches<'_>) -> Result<Option<u32>, CommandLineFault>
-    ensures { MatchResult result (IsNumberNamed 1 1000000 (value found.now (codes "last"))) (IsRefused found.now) }
+    ensures { MatchResult result (IsNumberNamed 1 1000000 (value found.now (codes "last"))) (IsRefusedByAny found.now) }
 {
     let is_traced = is_traced(found);
     match found.get_str("last") {
@@ -316,7 +316,7 @@ pub(crate) fn shown_on(
 ) -> Result<WordSet, CommandLineFault>
     requires { ArePlacesGiven found.now places.now }
     ensures { MatchResult result (AreShownOn (is_some tape.entry) places.now)
-        (IsRefused found.now) }
+        (IsRefusedByAny found.now) }
 {
     match tape {
         None => Ok(WordSet::empty()),
@@ -332,7 +332,7 @@ pub(crate) fn stopping_on(
 ) -> Result<Option<StopOptions>, CommandLineFault>
     requires { ArePlacesGiven found.now places.now }
     ensures { MatchResult result (IsStoppedOn (is_some tape.entry) places.now)
-        (IsRefused found.now) }
+        (IsRefusedByAny found.now) }
 {
     match tape {
         None => Ok(None),

@@ -3,19 +3,18 @@
 
 ghost use Rattle.std.specs.Prelude.{◌≡◌, MatchResult, Some, codes, false, is_some, option_map, unwrap_or};
 ghost use Rattle.command_line.specs.Options.{ArePlacesGiven, IsVersionNamed, IsWatchedWithOperator, value, version_named};
-ghost use Rattle.command_line.specs.Refusals.{AreInputsBeside, IsRefused};
-ghost use Rattle.command_line.specs.Requests.{IsDeclareGiven, IsFollowedOn, IsGuessGiven, IsOperated, IsWatchedRunGiven, IsProgramRequestGiven, IsRefuteGiven, IsReportGiven, IsResultGiven, IsTaskGiven, IsVerifyGiven, is_tape, last_of, part_names, result_name, watched_declaration, watched_tape};
+ghost use Rattle.command_line.specs.Refusals.{AreInputsBeside, IsRefused, IsRefusedByAny};
+ghost use Rattle.command_line.specs.Requests.{IsDeclareGiven, IsFollowedOn, IsGuessGiven, IsOperated, IsWatchedRunGiven, IsProgramRequestGiven, IsRefuteGiven, IsReportGiven, IsTaskGiven, IsVerifyGiven, is_tape, last_of, part_names, watched_declaration, watched_tape};
 ghost use Rattle.command_line.specs.Sources.{IsPlaceGiven};
+ghost use Rattle.command_line.specs.declared.command_name.CommandName.TheVariants.{Place, Program};
 ghost use Rattle.command_line.specs.declared.program_command.ProgramCommand.TheVariants.{Declare, Guess, Refute, Report};
 
+use crate::command_name::CommandName;
 use crate::fault::{CommandLineFault, Misuse};
 use crate::names::FileNames;
 use crate::operands::{Operands, input_names, operands_of};
 use crate::operator::{WatchedSession, is_watched_with_operator, session_options};
-use crate::outputs::{
-    Destination, SaveOptions, emptied_destination, is_source_name, is_taken, kept_destination,
-    no_input, no_source, report_of, save_of,
-};
+use crate::outputs::{Destination, SaveOptions, is_taken, report_of, result_of, save_of};
 use crate::place_options::{PlaceOptions, StopOptions, places_of, shown_on, stopping_on};
 use crate::program_command::ProgramCommand;
 use crate::sources::{placed_operands, source_names};
@@ -238,32 +237,6 @@ impl<'a> Task<'a> {
     }
 }
 
-/// The operand that the result of a command goes to without `-o`: OUT, or of a search the second operand after a source.
-fn result_name(called: ProgramCommand, found: &ArgMatches<'_>) -> &'static str
-    ensures { result.now ≡ result_name called found.now }
-{
-    match called {
-        ProgramCommand::Guess | ProgramCommand::Refute | ProgramCommand::Declare
-            if is_sourced(found) => { "DECLARATION" }
-        _ => "OUT",
-    }
-}
-
-/// Where the result of a command goes that stays as it was if there is nothing to write. It is none of these inputs, and
-/// is not named like a source.
-fn kept_result<'a>(
-    called: ProgramCommand,
-    found: &ArgMatches<'a>,
-    inputs: &[&'a str],
-) -> Result<Destination<'a>, CommandLineFault>
-    requires { AreInputsBeside found.now (result_name called found.now) inputs.now }
-    ensures { MatchResult result (IsResultGiven called found.now) (IsRefused found.now) }
-{
-    let name = result_name(called, found);
-    let out = no_source(found, name, kept_destination(found, name), inputs)?;
-    Ok(out)
-}
-
 /// The tape of a run that is watched with an operator. Of a source, its name is empty.
 fn watched_tape<'a>(program: &ProgramNames<'a>) -> &'a str
     ensures { result.now ≡ watched_tape program.now }
@@ -293,30 +266,21 @@ fn watched_session_of<'a>(
     followed: WatchedRunOptions,
 ) -> Result<WatchedSession<'a>, CommandLineFault>
     requires operated { IsWatchedWithOperator found.now true }
-    ensures { MatchResult result (IsWatchedRunGiven found.now operands.now followed) (IsRefused found.now) }
+    ensures { MatchResult result (IsWatchedRunGiven found.now operands.now followed)
+        (IsRefusedByAny found.now) }
 {
     if has_value(found, "EVENTS") {
         return Err(CommandLineFault::Misuse(Misuse::ListAndOperator));
     }
-    let is_tape = operands.program.tape().is_some();
-    if is_tape {
-        read_once(
-            alloc,
-            found,
-            input_names(ProgramCommand::Watch, false),
-            false,
-        )?;
+    let is_sourced = operands.program.tape().is_none();
+    if is_sourced {
+        read_once(alloc, found, &["reader", "keys"])?;
     } else {
-        read_once(alloc, found, &["reader", "keys"], false)?;
+        read_once(alloc, found, input_names(ProgramCommand::Watch, false))?;
     }
     let options = session_options(found, followed.show)?;
     let continues = continues_of(found)?;
-    read_once(
-        alloc,
-        found,
-        input_names(ProgramCommand::Watch, !is_tape),
-        false,
-    )?;
+    read_once(alloc, found, input_names(ProgramCommand::Watch, is_sourced))?;
     Ok(WatchedSession {
         tape: watched_tape(&operands.program),
         declaration: watched_declaration(operands),
@@ -343,7 +307,8 @@ fn version_named(name: &str) -> Option<Version>
 
 /// The version of the certificate for which a search is asked, if one is.
 fn guessed_version(found: &ArgMatches<'_>) -> Result<Option<Version>, CommandLineFault>
-    ensures { MatchResult result (IsVersionNamed (value found.now (codes "certificate"))) (IsRefused found.now) }
+    ensures { MatchResult result (IsVersionNamed (value found.now (codes "certificate")))
+        (IsRefusedByAny found.now) }
 {
     match found.get_str("certificate") {
         None => Ok(None),
@@ -361,13 +326,12 @@ fn guess_task<'a>(
     operands: &Operands<'a>,
     inputs: &[&'a str],
 ) -> Result<Task<'a>, CommandLineFault>
-    requires { AreInputsBeside found.now (result_name Guess found.now)
-        (inputs.now) }
-    ensures { MatchResult result (IsGuessGiven found.now) (IsRefused found.now) }
+    requires { AreInputsBeside (Program Guess) found.now inputs.now }
+    ensures { MatchResult result (IsGuessGiven found.now)
+        (IsRefused (Program Guess) found.now) }
 {
     let is_tape = operands.program.tape().is_some();
-    let name = result_name(ProgramCommand::Guess, found);
-    let out = no_source(found, name, emptied_destination(found, name), inputs)?;
+    let out = result_of(CommandName::Program(ProgramCommand::Guess), found, inputs)?;
     let named = if is_tape {
         inputs
     } else {
@@ -394,7 +358,8 @@ fn verify_task<'a>(
     operands: &Operands<'a>,
     inputs: &[&'a str],
 ) -> Result<Task<'a>, CommandLineFault>
-    ensures { MatchResult result (IsVerifyGiven found.now operands.now) (IsRefused found.now) }
+    ensures { MatchResult result (IsVerifyGiven found.now operands.now)
+        (IsRefusedByAny found.now) }
 {
     let save = save_of(found, inputs, operands.declaration.is_none())?;
     let options = verify_options(found)?;
@@ -403,11 +368,11 @@ fn verify_task<'a>(
 
 /// To search for a run that violates the declaration.
 fn refute_task<'a>(found: &ArgMatches<'a>, inputs: &[&'a str]) -> Result<Task<'a>, CommandLineFault>
-    requires { AreInputsBeside found.now (result_name Refute found.now)
-        (inputs.now) }
-    ensures { MatchResult result (IsRefuteGiven found.now) (IsRefused found.now) }
+    requires { AreInputsBeside (Program Refute) found.now inputs.now }
+    ensures { MatchResult result (IsRefuteGiven found.now)
+        (IsRefused (Program Refute) found.now) }
 {
-    let out = kept_result(ProgramCommand::Refute, found, inputs)?;
+    let out = result_of(CommandName::Program(ProgramCommand::Refute), found, inputs)?;
     let options = refute_options(found)?;
     Ok(Task::Refute { out, options })
 }
@@ -417,11 +382,11 @@ fn declare_task<'a>(
     found: &ArgMatches<'a>,
     inputs: &[&'a str],
 ) -> Result<Task<'a>, CommandLineFault>
-    requires { AreInputsBeside found.now (result_name Declare found.now)
-        (inputs.now) }
-    ensures { MatchResult result (IsDeclareGiven found.now) (IsRefused found.now) }
+    requires { AreInputsBeside (Program Declare) found.now inputs.now }
+    ensures { MatchResult result (IsDeclareGiven found.now)
+        (IsRefused (Program Declare) found.now) }
 {
-    let out = kept_result(ProgramCommand::Declare, found, inputs)?;
+    let out = result_of(CommandName::Program(ProgramCommand::Declare), found, inputs)?;
     let options = declare_options(found)?;
     let refinements = refinements_of(found);
     Ok(Task::Declare {
@@ -437,11 +402,11 @@ fn report_task<'a>(
     operands: &Operands<'a>,
     inputs: &[&'a str],
 ) -> Result<Task<'a>, CommandLineFault>
-    requires { AreInputsBeside found.now (result_name Report found.now)
-        (inputs.now) }
-    ensures { MatchResult result (IsReportGiven found.now (last_of operands.now)) (IsRefused found.now) }
+    requires { AreInputsBeside (Program Report) found.now inputs.now }
+    ensures { MatchResult result (IsReportGiven found.now (last_of operands.now))
+        (IsRefused (Program Report) found.now) }
 {
-    let out = kept_result(ProgramCommand::Report, found, inputs)?;
+    let out = result_of(CommandName::Program(ProgramCommand::Report), found, inputs)?;
     let certificate = name_or_input(&operands.last);
     Ok(Task::Report {
         certificate,
@@ -468,14 +433,13 @@ fn task_of<'a>(
     inputs: &[&'a str],
     followed: WatchedRunOptions,
 ) -> Result<Task<'a>, CommandLineFault>
-    requires inputs { AreInputsBeside found.now (result_name called found.now)
-        (inputs.now) }
+    requires inputs { AreInputsBeside (Program called) found.now inputs.now }
     requires operated { IsOperated called found.now false }
     ensures { MatchResult result (IsTaskGiven called found.now operands.now followed)
-        (IsRefused found.now) }
+        (IsRefused (Program called) found.now) }
 {
     match called {
-        ProgramCommand::Verify => verify_task(found, operands, inputs),
+        ProgramCommand::Verify => Ok(verify_task(found, operands, inputs)?),
         ProgramCommand::Watch => Ok(Task::Watch {
             events: name_or_input(&operands.last),
             show: followed.show,
@@ -506,7 +470,7 @@ fn followed_on(
 ) -> Result<WatchedRunOptions, CommandLineFault>
     requires { ArePlacesGiven found.now places.now }
     ensures { MatchResult result (IsFollowedOn operands.now.program places.now)
-        (IsRefused found.now) }
+        (IsRefusedByAny found.now) }
 {
     let tape = operands.program.tape();
     let show = shown_on(found, tape, places)?;
@@ -532,13 +496,14 @@ fn task_on<'a>(
     operands: &Operands<'a>,
     followed: WatchedRunOptions,
 ) -> Result<Task<'a>, CommandLineFault>
-    ensures { MatchResult result (IsTaskGiven called found.now operands.now followed) (IsRefused found.now) }
+    ensures { MatchResult result (IsTaskGiven called found.now operands.now followed)
+        (IsRefused (Program called) found.now) }
 {
     if is_operated(called, found) {
         let session = watched_session_of(alloc, found, operands, followed)?;
         return Ok(Task::WatchSession(session));
     }
-    let inputs = read_once(alloc, found, input_names(called, is_sourced(found)), false)?;
+    let inputs = read_once(alloc, found, input_names(called, is_sourced(found)))?;
     start_once(found)?;
     task_of(called, found, operands, &inputs, followed)
 }
@@ -549,7 +514,8 @@ pub(crate) fn program_request<'a>(
     called: ProgramCommand,
     found: &ArgMatches<'a>,
 ) -> Result<ProgramRequest<'a>, CommandLineFault>
-    ensures { MatchResult result (IsProgramRequestGiven called found.now) (IsRefused found.now) }
+    ensures { MatchResult result (IsProgramRequestGiven called found.now)
+        (IsRefused (Program called) found.now) }
 {
     let operands = operands_of(alloc, called, found)?;
     let places = places_of(alloc, found)?;
@@ -575,14 +541,11 @@ pub(crate) fn place_request<'a>(
     alloc: Global,
     found: &ArgMatches<'a>,
 ) -> Result<ProgramRequest<'a>, CommandLineFault>
-    ensures { MatchResult result (IsPlaceGiven found.now) (IsRefused found.now) }
+    ensures { MatchResult result (IsPlaceGiven found.now) (IsRefused Place found.now) }
 {
-    let inputs = read_once(alloc, found, placed_operands(found), false)?;
+    let inputs = read_once(alloc, found, placed_operands(found))?;
     let names = source_names(alloc, found)?;
-    let out = no_input(found, "OUT", kept_destination(found, "OUT"), &inputs)?;
-    if is_source_name(out.name()) {
-        return Err(CommandLineFault::Misuse(Misuse::PlacedIsSource));
-    }
+    let out = result_of(CommandName::Place, found, &inputs)?;
     let places = places_of(alloc, found)?;
     Ok(ProgramRequest {
         program: ProgramNames::Source(names),

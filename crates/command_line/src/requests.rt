@@ -66,7 +66,7 @@ fn request_of<'a>(
     called: CommandName,
     found: &ArgMatches<'a>,
 ) -> Result<Request<'a>, CommandLineFault>
-    ensures { MatchResult result (IsRequestGiven called found.now) (IsRefused found.now) }
+    ensures { MatchResult result (IsRequestGiven called found.now) (IsRefused called found.now) }
 {
     match called {
         CommandName::Machine(command) => machine_request(alloc, command, found),

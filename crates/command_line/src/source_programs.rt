@@ -1,19 +1,21 @@
 //! What may be requested with a source in place of a tape, without a declaration.
 
-ghost use Rattle.std.specs.Prelude.{◌≡◌, MatchResult, Some, map};
+ghost use Rattle.std.specs.Prelude.{◌≡◌, MatchResult, Some, map, option_map};
+ghost use Rattle.command_line.specs.Machines.{tape_given};
 ghost use Rattle.command_line.specs.Options.{ArePlacesGiven, sources_given};
-ghost use Rattle.command_line.specs.Refusals.{IsRefused};
+ghost use Rattle.command_line.specs.Refusals.{IsRefused, IsRefusedByAny};
 ghost use Rattle.command_line.specs.Sources.{IsMachineGiven, IsMachineTaskGiven, IsSourcedGiven};
+ghost use Rattle.command_line.specs.declared.command_name.CommandName.TheVariants.{Machine};
 ghost use Rattle.command_line.specs.declared.command_name.MachineCommand.TheVariants.{Run};
 
 use crate::command_name::MachineCommand;
-use crate::fault::CommandLineFault;
+use crate::fault::{CommandLineFault, Misuse};
 use crate::names::FileNames;
 use crate::operator::{Session, TeletypeSession, has_operator, session_of, teletype_of};
 use crate::place_options::{PlaceOptions, places_of};
 use crate::requests::Request;
-use crate::tapes::{DumpRequest, RunRequest, dump_request, run_request};
-use crate::values::{copied, is_given, read_once};
+use crate::tapes::{DumpRequest, RunRequest, dump_request, run_request, tape_of};
+use crate::values::{copied, has_value, is_given, is_sourced, read_beside_keys, read_once};
 use clap::ArgMatches;
 use instruct::Profile;
 use std::alloc::Global;
@@ -79,16 +81,19 @@ impl<'a> MachineTask<'a> {
 fn run_task<'a>(
     alloc: Global,
     found: &ArgMatches<'a>,
+    tape: Option<&'a str>,
     places: &PlaceOptions<'a>,
 ) -> Result<MachineTask<'a>, CommandLineFault>
+    requires tape { option_map (λ name. name.now) tape.entry ≡ tape_given found.now }
     requires places { ArePlacesGiven found.now places.now }
-    ensures { MatchResult result (IsMachineTaskGiven Run found.now places.now) (IsRefused found.now) }
+    ensures { MatchResult result (IsMachineTaskGiven Run found.now places.now)
+        (IsRefusedByAny found.now) }
 {
     if has_operator(found) {
-        let session = session_of(alloc, found, places)?;
+        let session = session_of(alloc, found, tape, places)?;
         return Ok(MachineTask::Session(session));
     }
-    let run = run_request(alloc, found, places)?;
+    let run = run_request(alloc, found, tape, places)?;
     Ok(MachineTask::Run(run))
 }
 
@@ -97,15 +102,20 @@ fn task_of<'a>(
     alloc: Global,
     called: MachineCommand,
     found: &ArgMatches<'a>,
+    tape: Option<&'a str>,
     places: &PlaceOptions<'a>,
 ) -> Result<MachineTask<'a>, CommandLineFault>
+    requires tape { option_map (λ name. name.now) tape.entry ≡ tape_given found.now }
     requires places { ArePlacesGiven found.now places.now }
-    ensures { MatchResult result (IsMachineTaskGiven called found.now places.now) (IsRefused found.now) }
+    ensures { MatchResult result (IsMachineTaskGiven called found.now places.now)
+        (IsRefused (Machine called) found.now) }
 {
     match called {
-        MachineCommand::Run => run_task(alloc, found, places),
-        MachineCommand::Teletype => Ok(MachineTask::Teletype(teletype_of(alloc, found, places)?)),
-        MachineCommand::Dump => Ok(MachineTask::Dump(dump_request(found)?)),
+        MachineCommand::Run => Ok(run_task(alloc, found, tape, places)?),
+        MachineCommand::Teletype => {
+            Ok(MachineTask::Teletype(teletype_of(alloc, found, tape, places)?))
+        }
+        MachineCommand::Dump => Ok(MachineTask::Dump(dump_request(found, tape)?)),
     }
 }
 
@@ -115,10 +125,14 @@ pub(crate) fn machine_request<'a>(
     called: MachineCommand,
     found: &ArgMatches<'a>,
 ) -> Result<Request<'a>, CommandLineFault>
-    ensures { MatchResult result (IsMachineGiven called found.now) (IsRefused found.now) }
+    ensures { MatchResult result (IsMachineGiven called found.now)
+        (IsRefused (Machine called) found.now) }
 {
     let places = places_of(alloc, found)?;
-    let task = task_of(alloc, called, found, &places)?;
+    if is_sourced(found) && has_value(found, "TAPE") {
+        return Err(CommandLineFault::Misuse(Misuse::TapeAndSource));
+    }
+    let task = task_of(alloc, called, found, tape_of(found), &places)?;
     match found.get_strs("source") {
         None => Ok(Request::Tape(task)),
         Some(names) => {
@@ -140,15 +154,14 @@ fn sourced_request<'a>(
     requires sources { sources_given found.now ≡ Some (map (λ name. name.now) names.now) }
     requires places { ArePlacesGiven found.now places }
     requires task { IsMachineTaskGiven called found.now places task }
-    ensures { MatchResult result (IsSourcedGiven called found.now) (IsRefused found.now) }
+    ensures { MatchResult result (IsSourcedGiven called found.now)
+        (IsRefused (Machine called) found.now) }
 {
-    let keyboard = called == MachineCommand::Teletype;
-    read_once(
-        alloc,
-        found,
-        &["source", "events", "reader", "keys"],
-        keyboard,
-    )?;
+    match called {
+        MachineCommand::Teletype => read_beside_keys(alloc, found, &["source", "reader"])?,
+        MachineCommand::Run => read_once(alloc, found, &["source", "events", "reader", "keys"])?,
+        MachineCommand::Dump => read_once(alloc, found, &["source"])?,
+    };
     let parts = copied(alloc, names)?;
     let explained = is_given(found, "why");
     Ok(SourceProgramRequest {

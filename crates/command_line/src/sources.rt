@@ -1,12 +1,14 @@
 //! What may be requested with a source that is assembled.
 
-ghost use Rattle.std.specs.Prelude.{◌≡◌, MatchResult, map, true};
-ghost use Rattle.command_line.specs.Refusals.{IsRefused, are_distinct};
+ghost use Rattle.std.specs.Prelude.{◌≡◌, MatchResult, map};
+ghost use Rattle.command_line.specs.Refusals.{AreOfInputs, ArePartsRefused, IsRefused};
 ghost use Rattle.command_line.specs.Sources.{IsAssembleGiven, IsListGiven, part_operands, placed_operands, source_operands};
+ghost use Rattle.command_line.specs.declared.command_name.CommandName.TheVariants.{Assemble, List as ListSource};
 
-use crate::fault::{CommandLineFault, Misuse};
+use crate::command_name::CommandName;
+use crate::fault::CommandLineFault;
 use crate::names::FileNames;
-use crate::outputs::{Destination, emptied_destination, is_source_name, no_input};
+use crate::outputs::{Destination, result_of};
 use crate::values::{has_value, is_given, profile_of, read_once};
 use clap::ArgMatches;
 use instruct::Profile;
@@ -50,7 +52,7 @@ pub struct ListRequest<'a> {
 /// The operands that are parts of a source: with `-o` the first operand is one of them too.
 fn part_operands(found: &ArgMatches<'_>) -> &'static [&'static str]
     ensures given { map (λ name. name.now) result.now ≡ part_operands found.now }
-    ensures distinct { are_distinct (map (λ name. name.now) result.now) ≡ true }
+    ensures inputs { AreOfInputs found.now (map (λ name. name.now) result.now) }
 {
     if has_value(found, "output") {
         &["OUT", "SOURCE"]
@@ -62,7 +64,7 @@ fn part_operands(found: &ArgMatches<'_>) -> &'static [&'static str]
 /// The operands and the option that give the inputs of `place`.
 pub(crate) fn placed_operands(found: &ArgMatches<'_>) -> &'static [&'static str]
     ensures given { map (λ name. name.now) result.now ≡ placed_operands found.now }
-    ensures distinct { are_distinct (map (λ name. name.now) result.now) ≡ true }
+    ensures inputs { AreOfInputs found.now (map (λ name. name.now) result.now) }
 {
     if has_value(found, "output") {
         &["OUT", "SOURCE", "declaration"]
@@ -77,9 +79,9 @@ pub(crate) fn source_names<'a>(
     found: &ArgMatches<'a>,
 ) -> Result<Vec<&'a str>, CommandLineFault>
     ensures { MatchResult result (λ names. map (λ name. name.now) names.items ≡
-        source_operands found.now) (IsRefused found.now) }
+        source_operands found.now) (ArePartsRefused found.now) }
 {
-    let names = read_once(alloc, found, part_operands(found), false)?;
+    let names = read_once(alloc, found, part_operands(found))?;
     if names.is_empty() {
         return Err(CommandLineFault::NoOperand("SOURCE"));
     }
@@ -92,13 +94,10 @@ pub(crate) fn assemble_request<'a>(
     alloc: Global,
     found: &ArgMatches<'a>,
 ) -> Result<AssembleRequest<'a>, CommandLineFault>
-    ensures { MatchResult result (IsAssembleGiven found.now) (IsRefused found.now) }
+    ensures { MatchResult result (IsAssembleGiven found.now) (IsRefused Assemble found.now) }
 {
     let sources = source_names(alloc, found)?;
-    let out = no_input(found, "OUT", emptied_destination(found, "OUT"), &sources)?;
-    if is_source_name(out.name()) {
-        return Err(CommandLineFault::Misuse(Misuse::OutputIsSource));
-    }
+    let out = result_of(CommandName::Assemble, found, &sources)?;
     let profile = profile_of(found)?;
     Ok(AssembleRequest {
         out,
@@ -113,7 +112,7 @@ pub(crate) fn list_request<'a>(
     alloc: Global,
     found: &ArgMatches<'a>,
 ) -> Result<ListRequest<'a>, CommandLineFault>
-    ensures { MatchResult result (IsListGiven found.now) (IsRefused found.now) }
+    ensures { MatchResult result (IsListGiven found.now) (IsRefused ListSource found.now) }
 {
     let sources = source_names(alloc, found)?;
     let profile = profile_of(found)?;

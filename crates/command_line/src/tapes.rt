@@ -2,16 +2,17 @@
 
 ghost use Rattle.std.specs.Prelude.{◌≡◌, IfErr, IfOk, MatchResult, Some, codes, is_some, option_map};
 ghost use Rattle.command_line.specs.Machines.{IsDumpGiven, IsMigrateGiven, IsRunGiven, IsSourceGiven, migrated_version, tape_given, version_with};
-ghost use Rattle.command_line.specs.Refusals.{IsRefused};
+ghost use Rattle.command_line.specs.Refusals.{IsRefused, IsRefusedByAny};
 ghost use Rattle.command_line.specs.Options.{ArePlacesGiven, value, value_or};
+ghost use Rattle.command_line.specs.declared.command_name.CommandName.TheVariants.{Migrate, Source};
 
+use crate::command_name::CommandName;
 use crate::fault::{CommandLineFault, Misuse};
 use crate::names::FileNames;
-use crate::outputs::{Destination, emptied_destination, kept_destination, no_input, no_source};
+use crate::outputs::{Destination, result_of};
 use crate::place_options::{PlaceOptions, StopOptions, shown_on, stopping_on};
 use crate::values::{
-    has_value, is_given, operand_of, profile_of, read_once, run_options, start_of, start_once,
-    value_or,
+    is_given, operand_of, profile_of, read_once, run_options, start_of, start_once, value_or,
 };
 use clap::ArgMatches;
 use command_parts::options::RunOptions;
@@ -47,13 +48,12 @@ impl<'a> RunRequest<'a> {
 }
 
 /// The name of the tape's file, unless a source takes its place.
-pub(crate) fn tape_of<'a>(found: &ArgMatches<'a>) -> Result<Option<&'a str>, CommandLineFault>
-    ensures { MatchResult result (λ tape. option_map (λ name. name.now) tape ≡ tape_given found.now) (IsRefused found.now) }
+pub(crate) fn tape_of<'a>(found: &ArgMatches<'a>) -> Option<&'a str>
+    ensures { option_map (λ name. name.now) result ≡ tape_given found.now }
 {
     match found.get_strs("source") {
-        None => Ok(Some(operand_of(found, "TAPE"))),
-        Some(_) if has_value(found, "TAPE") => Err(CommandLineFault::Misuse(Misuse::TapeAndSource)),
-        Some(_) => Ok(None),
+        None => Some(operand_of(found, "TAPE")),
+        Some(_) => None,
     }
 }
 
@@ -61,13 +61,14 @@ pub(crate) fn tape_of<'a>(found: &ArgMatches<'a>) -> Result<Option<&'a str>, Com
 pub(crate) fn run_request<'a>(
     alloc: Global,
     found: &ArgMatches<'a>,
+    tape: Option<&'a str>,
     places: &PlaceOptions<'a>,
 ) -> Result<RunRequest<'a>, CommandLineFault>
+    requires tape { option_map (λ name. name.now) tape.entry ≡ tape_given found.now }
     requires places { ArePlacesGiven found.now places.now }
-    ensures { MatchResult result (IsRunGiven found.now places.now) (IsRefused found.now) }
+    ensures { MatchResult result (IsRunGiven found.now places.now) (IsRefusedByAny found.now) }
 {
-    let tape = tape_of(found)?;
-    read_once(alloc, found, &["TAPE", "events"], false)?;
+    read_once(alloc, found, &["TAPE", "events"])?;
     let long = is_given(found, "trace-long");
     if long && is_given(found, "trace") {
         return Err(CommandLineFault::Misuse(Misuse::LongTrace));
@@ -106,10 +107,13 @@ impl<'a> DumpRequest<'a> {
 }
 
 /// The list of words that is requested.
-pub(crate) fn dump_request<'a>(found: &ArgMatches<'a>) -> Result<DumpRequest<'a>, CommandLineFault>
-    ensures { MatchResult result (IsDumpGiven found.now) (IsRefused found.now) }
+pub(crate) fn dump_request<'a>(
+    found: &ArgMatches<'a>,
+    tape: Option<&'a str>,
+) -> Result<DumpRequest<'a>, CommandLineFault>
+    requires tape { option_map (λ name. name.now) tape.entry ≡ tape_given found.now }
+    ensures { MatchResult result (IsDumpGiven found.now) (IsRefusedByAny found.now) }
 {
-    let tape = tape_of(found)?;
     let profile = profile_of(found)?;
     let full = is_given(found, "full");
     Ok(DumpRequest {
@@ -152,11 +156,11 @@ pub(crate) fn source_request<'a>(
     alloc: Global,
     found: &ArgMatches<'a>,
 ) -> Result<SourceRequest<'a>, CommandLineFault>
-    ensures { MatchResult result (IsSourceGiven found.now) (IsRefused found.now) }
+    ensures { MatchResult result (IsSourceGiven found.now) (IsRefused Source found.now) }
 {
-    let inputs = read_once(alloc, found, &["TAPE", "declaration"], false)?;
+    let inputs = read_once(alloc, found, &["TAPE", "declaration"])?;
     start_once(found)?;
-    let out = no_input(found, "OUT", kept_destination(found, "OUT"), &inputs)?;
+    let out = result_of(CommandName::Source, found, &inputs)?;
     let start = start_of(found)?;
     let profile = profile_of(found)?;
     Ok(SourceRequest {
@@ -209,7 +213,7 @@ fn declaration_of_sites<'a>(found: &ArgMatches<'a>) -> Result<Option<&'a str>, C
     ensures version { IfOk result (λ name.
         migrated_version (value_or found.now (codes "certificate") (codes "2")) ≡
         Some (version_with (is_some name))) }
-    ensures refused { IfErr result (IsRefused found.now) }
+    ensures refused { IfErr result (IsRefused Migrate found.now) }
 {
     let declaration = found.get_str("declaration");
     let Some(is_third) = is_third_named(value_or(found, "certificate", "2")) else {
@@ -226,11 +230,11 @@ pub(crate) fn migrate_request<'a>(
     alloc: Global,
     found: &ArgMatches<'a>,
 ) -> Result<MigrateRequest<'a>, CommandLineFault>
-    ensures { MatchResult result (IsMigrateGiven found.now) (IsRefused found.now) }
+    ensures { MatchResult result (IsMigrateGiven found.now) (IsRefused Migrate found.now) }
 {
     let declaration = declaration_of_sites(found)?;
-    let inputs = read_once(alloc, found, &["CERTIFICATE", "declaration"], false)?;
-    let out = no_source(found, "OUT", emptied_destination(found, "OUT"), &inputs)?;
+    let inputs = read_once(alloc, found, &["CERTIFICATE", "declaration"])?;
+    let out = result_of(CommandName::Migrate, found, &inputs)?;
     Ok(MigrateRequest {
         certificate: operand_of(found, "CERTIFICATE"),
         declaration,

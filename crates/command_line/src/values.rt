@@ -3,7 +3,9 @@
 ghost use Rattle.std.specs.Prelude.{◌≡◌, ◌≤◌, ◌||◌, IfErr, IfOk, MatchResult, Ok, Some, is_some, map, true};
 ghost use Rattle.std.specs.List.{count_by, list_any};
 ghost use Rattle.command_line.specs.Outputs.{is_standard_input};
-ghost use Rattle.command_line.specs.Refusals.{IsRefused, are_distinct, is_declared};
+ghost use Rattle.command_line.specs.Refusals.{AreInputs, AreOfInputs, IsRefused, IsRefusedByAny, is_declared};
+ghost use Rattle.command_line.specs.declared.command_name.CommandName.TheVariants.{Machine};
+ghost use Rattle.command_line.specs.declared.command_name.MachineCommand.TheVariants.{Teletype};
 ghost use Rattle.command_line.specs.Options.{AreDeclareOptions, AreRefinements, AreRefuteOptions, AreRunOptions, AreVerifyOptions, IsFlagGiven, IsNumberNamed, has_value, is_start_named, machine_given, machine_named, named, number_or, operand, sources_given, start_given, value, value_or, values};
 
 use crate::fault::{CommandLineFault, Misuse};
@@ -132,7 +134,7 @@ fn machine_named(name: &str) -> Option<Profile>
 
 /// The machine that is meant.
 pub(crate) fn profile_of(found: &ArgMatches<'_>) -> Result<Profile, CommandLineFault>
-    ensures { MatchResult result (λ machine. machine_given found.now ≡ Some machine) (IsRefused found.now) }
+    ensures { MatchResult result (λ machine. machine_given found.now ≡ Some machine) (IsRefusedByAny found.now) }
 {
     match machine_named(value_or(found, "profile", "8i")) {
         Some(machine) => Ok(machine),
@@ -142,7 +144,7 @@ pub(crate) fn profile_of(found: &ArgMatches<'_>) -> Result<Profile, CommandLineF
 
 /// The address of the first instruction.
 pub(crate) fn start_of(found: &ArgMatches<'_>) -> Result<Word, CommandLineFault>
-    ensures { MatchResult result (λ start. start_given found.now ≡ Ok start) (IsRefused found.now) }
+    ensures { MatchResult result (λ start. start_given found.now ≡ Ok start) (IsRefusedByAny found.now) }
 {
     match Word::from_octal(value_or(found, "start", "0200").as_bytes()) {
         Ok(start) => Ok(start),
@@ -176,7 +178,7 @@ fn number_or(
 
 /// How often CONTINUE is pressed at declared pauses at most, if it may be.
 pub(crate) fn continues_of(found: &ArgMatches<'_>) -> Result<Option<u32>, CommandLineFault>
-    ensures { MatchResult result (IsNumberNamed 1 1000000 (value found.now (codes "continue"))) (IsRefused found.now) }
+    ensures { MatchResult result (IsNumberNamed 1 1000000 (value found.now (codes "continue"))) (IsRefusedByAny found.now) }
 {
     match found.get_str("continue") {
         None => Ok(None),
@@ -194,7 +196,7 @@ pub(crate) fn run_options(
 ) -> Result<RunOptions, CommandLineFault>
     ensures options { IfOk result (AreRunOptions found.now) }
     ensures shown { IfOk result (λ options. options.show ≡ show) }
-    ensures refused { IfErr result (IsRefused found.now) }
+    ensures refused { IfErr result (IsRefusedByAny found.now) }
 {
     let start = start_of(found)?;
     let Some(rounds) = number_or(found, "steps", 1, MOST_ROUNDS, ROUNDS) else {
@@ -212,7 +214,7 @@ pub(crate) fn run_options(
 
 /// What a declaration is proposed for.
 pub(crate) fn declare_options(found: &ArgMatches<'_>) -> Result<DeclareOptions, CommandLineFault>
-    ensures { MatchResult result (AreDeclareOptions found.now) (IsRefused found.now) }
+    ensures { MatchResult result (AreDeclareOptions found.now) (IsRefusedByAny found.now) }
 {
     let start = start_of(found)?;
     let profile = profile_of(found)?;
@@ -235,7 +237,7 @@ pub(crate) fn refinements_of(found: &ArgMatches<'_>) -> Refinements
 
 /// How a run that violates a declaration is searched for.
 pub(crate) fn refute_options(found: &ArgMatches<'_>) -> Result<RefuteOptions, CommandLineFault>
-    ensures { MatchResult result (AreRefuteOptions found.now) (IsRefused found.now) }
+    ensures { MatchResult result (AreRefuteOptions found.now) (IsRefusedByAny found.now) }
 {
     let Some(steps) = number_or(found, "steps", 1, MOST_SEARCH_STEPS, SEARCH_STEPS) else {
         return Err(CommandLineFault::Steps(MOST_SEARCH_STEPS));
@@ -252,7 +254,7 @@ pub(crate) fn refute_options(found: &ArgMatches<'_>) -> Result<RefuteOptions, Co
 
 /// How it is found out whether a program complies with its declaration.
 pub(crate) fn verify_options(found: &ArgMatches<'_>) -> Result<VerifyOptions, CommandLineFault>
-    ensures { MatchResult result (AreVerifyOptions found.now) (IsRefused found.now) }
+    ensures { MatchResult result (AreVerifyOptions found.now) (IsRefusedByAny found.now) }
 {
     let start = start_of(found)?;
     let profile = profile_of(found)?;
@@ -278,21 +280,39 @@ fn standard_inputs(names: &[&str]) -> usize
     names.iter().filter(|name| is_standard_input(name)).count()
 }
 
-/// The names of the files that these operands and options give, of which one may be standard input, or none where that
-/// is the keyboard.
+/// The names of the files that these operands and options give, of which one may be standard input.
 pub(crate) fn read_once<'a>(
     alloc: Global,
     found: &ArgMatches<'a>,
     names: &[&str],
-    keyboard: bool,
 ) -> Result<Vec<&'a str>, CommandLineFault>
-    requires { are_distinct (map (λ name. name.now) names.now) ≡ true }
-    ensures { MatchResult result (λ inputs. map (λ input. input.now) inputs.items ≡
-        named found.now (map (λ name. name.now) names.now)) (IsRefused found.now) }
+    requires names { AreOfInputs found.now (map (λ name. name.now) names.now) }
+    ensures given { IfOk result (λ inputs. map (λ input. input.now) inputs.items ≡
+        named found.now (map (λ name. name.now) names.now)) }
+    ensures are { IfOk result (λ inputs. AreInputs found.now inputs.items) }
+    ensures refused { IfErr result (IsRefusedByAny found.now) }
 {
     let inputs = inputs_of(alloc, found, names)?;
-    let most = if keyboard { 0 } else { 1 };
-    if standard_inputs(&inputs) > most {
+    if standard_inputs(&inputs) > 1 {
+        return Err(CommandLineFault::Misuse(Misuse::BothStandardInput));
+    }
+    Ok(inputs)
+}
+
+/// The same beside the keys of a session at the teletype, which are standard input.
+pub(crate) fn read_beside_keys<'a>(
+    alloc: Global,
+    found: &ArgMatches<'a>,
+    names: &[&str],
+) -> Result<Vec<&'a str>, CommandLineFault>
+    requires names { AreOfInputs found.now (map (λ name. name.now) names.now) }
+    ensures given { IfOk result (λ inputs. map (λ input. input.now) inputs.items ≡
+        named found.now (map (λ name. name.now) names.now)) }
+    ensures are { IfOk result (λ inputs. AreInputs found.now inputs.items) }
+    ensures refused { IfErr result (IsRefused (Machine Teletype) found.now) }
+{
+    let inputs = inputs_of(alloc, found, names)?;
+    if standard_inputs(&inputs) > 0 {
         return Err(CommandLineFault::Misuse(Misuse::BothStandardInput));
     }
     Ok(inputs)
@@ -320,7 +340,7 @@ fn is_declared(found: &ArgMatches<'_>) -> bool
 
 /// Ensures that a declaration which is given determines the start and the machine.
 pub(crate) fn start_once(found: &ArgMatches<'_>) -> Result<(), CommandLineFault>
-    ensures { IfErr result (IsRefused found.now) }
+    ensures { IfErr result (IsRefusedByAny found.now) }
 {
     if is_declared(found) && is_start_named(found) {
         return Err(CommandLineFault::Misuse(Misuse::DeclarationAndStart));

@@ -3,7 +3,7 @@ use Rattle.command_line.proofs.operator.session_of.Goals as goal
 
 pub returns : goal.returns
 returns c = record {
-  tape = c.in_ok-tape.ensures;
+  tape = c.requires.tape;
   reader = c.get_str.ensures;
   keys = c.get_str-2.ensures;
   punch = c.in_ok-punch.ensures.named;

@@ -1,4 +1,4 @@
 use Rattle.command_line.proofs.programs.guess_task.Goals as goal
 
 pub returns : goal.returns
-returns c = (rw (c.in_ok-out.ensures.kept, ← c.result_name-name.ensures) c.emptied_destination.ensures.given, c.in_ok-report.ensures.named, c.in_ok-version.ensures)
+returns c = (c.in_ok-out.ensures.given, c.in_ok-report.ensures.named, c.in_ok-version.ensures)

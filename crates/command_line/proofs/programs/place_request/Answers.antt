@@ -5,7 +5,7 @@ pub returns : goal.returns
 returns c = record {
   program = c.in_ok-names.ensures;
   declaration = c.get_str-declaration.ensures;
-  task = rw c.in_ok-out.ensures.kept c.kept_destination.ensures.given;
+  task = c.in_ok-out.ensures.given;
   places = c.in_ok-places.ensures;
   named = refl;
   explained = c.is_given.ensures;

@@ -5,5 +5,5 @@ returns c = record {
   certificate = c.operand_of.ensures;
   declaration = c.in_ok-declaration.ensures.named;
   version = c.in_ok-declaration.ensures.version;
-  out = rw c.in_ok-out.ensures.kept c.emptied_destination.ensures.given;
+  out = c.in_ok-out.ensures.given;
 }

@@ -6,6 +6,6 @@ returns c = record {
   declaration = c.get_str.ensures;
   start = c.in_ok-start.ensures;
   machine = c.in_ok-profile.ensures;
-  out = rw c.in_ok-out.ensures.kept c.kept_destination.ensures.given;
+  out = c.in_ok-out.ensures.given;
   forced = c.is_given.ensures;
 }

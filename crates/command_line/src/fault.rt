@@ -2,7 +2,7 @@
 
 ghost use Rattle.std.specs.Prelude.{◌≡◌};
 ghost use Rattle.command_line.specs.Refusals.{IsOfParser};
-ghost use Rattle.command_line.specs.declared.fault.CommandLineFault.TheVariants.{Memory, Misuse as Misused};
+ghost use Rattle.command_line.specs.declared.fault.CommandLineFault.TheVariants.{Memory};
 
 use clap::Error;
 use clap::error::ErrorKind;
@@ -235,14 +235,6 @@ impl From<Error> for CommandLineFault {
         } else {
             CommandLineFault::CommandLine(error)
         }
-    }
-}
-
-impl From<Misuse> for CommandLineFault {
-    ghost from_gives = { λ misuse result. result ≡ Misused misuse };
-
-    fn from(misuse: Misuse) -> CommandLineFault {
-        CommandLineFault::Misuse(misuse)
     }
 }
 

@@ -178,7 +178,7 @@ pub fn session_of<'a>(
     tape: Option<&'a str>,
     places: &PlaceOptions<'a>,
 ) -> Result<Session<'a>, CommandLineFault>
-    requires tape { option_map (λ name. name.now) tape.entry ≡ tape_given found.now }
+    requires tape { option_map (λ name. name.now) tape ≡ tape_given found.now }
     requires places { ArePlacesGiven found.now places.now }
     requires operated { IsRunWithOperator found.now true }
     ensures { MatchResult result (IsOperatedRunGiven found.now places.now)
@@ -296,7 +296,7 @@ pub fn teletype_of<'a>(
     tape: Option<&'a str>,
     places: &PlaceOptions<'a>,
 ) -> Result<TeletypeSession<'a>, CommandLineFault>
-    requires tape { option_map (λ name. name.now) tape.entry ≡ tape_given found.now }
+    requires tape { option_map (λ name. name.now) tape ≡ tape_given found.now }
     requires places { ArePlacesGiven found.now places.now }
     ensures { MatchResult result (IsTeletypeGiven found.now places.now)
         (IsRefused (Machine Teletype) found.now) }

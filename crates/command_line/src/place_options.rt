@@ -1,9 +1,9 @@
 //! The cells and the places that options name.
 
-ghost use Rattle.std.specs.Prelude.{◌≡◌, ◌==◌, ◌<◌, IfSome, MatchResult, length, Some, codes, is_some, map, option_map};
+ghost use Rattle.std.specs.Prelude.{◌≡◌, ◌==◌, ◌<◌, IfSome, MatchResult, length, Some, codes, is_some, map, option_map, true};
 ghost use Rattle.std.specs.List.{position};
-ghost use Rattle.command_line.specs.Options.{ArePlacesGiven, IsNumberNamed, value, values};
-ghost use Rattle.command_line.specs.Places.{AreCellsOf, AreCellsOfText, AreCellsOfTexts, AreShownOn, AreStopsNamed, IsFollowed, IsStoppedOn, IsUntilNamed, IsVisitNamed, is_followed};
+ghost use Rattle.command_line.specs.Options.{ArePlacesGiven, IsNumberNamed, value};
+ghost use Rattle.command_line.specs.Places.{AreCellsOf, AreCellsOfText, AreCellsOfTexts, AreShownOn, AreStopsNamed, IsFollowed, IsStoppedOn, IsUntilNamed, is_followed};
 ghost use Rattle.command_line.specs.Refusals.{IsPlaceMisused, IsRefusedByAny, IsTraced};
 ghost use Rattle.command_line.specs.declared.fault.Misuse.TheVariants.{Place};
 ghost use Rattle.command_line.specs.OctalPlaces.{cells_between, cells_of_word};
@@ -320,7 +320,10 @@ pub(crate) fn shown_on(
 {
     match tape {
         None => Ok(WordSet::empty()),
-        Some(_) => Ok(places.shown(&OctalAddresses)?),
+        Some(_) => match places.shown(&OctalAddresses) {
+            Ok(show) => Ok(show),
+            Err(misuse) => Err(CommandLineFault::Misuse(misuse)),
+        },
     }
 }
 
@@ -336,6 +339,9 @@ pub(crate) fn stopping_on(
 {
     match tape {
         None => Ok(None),
-        Some(_) => Ok(places.stopping(&OctalAddresses)?),
+        Some(_) => match places.stopping(&OctalAddresses) {
+            Ok(stopping) => Ok(stopping),
+            Err(misuse) => Err(CommandLineFault::Misuse(misuse)),
+        },
     }
 }

@@ -1,7 +1,7 @@
 //! What may be requested with a program and its declaration: the program is given by its tape, or with `--source` by
 //! its source. It is proved that the files of a program are those that were given.
 
-ghost use Rattle.std.specs.Prelude.{◌≡◌, MatchResult, Some, codes, false, is_some, option_map, unwrap_or};
+ghost use Rattle.std.specs.Prelude.{◌≡◌, MatchResult, codes, false, is_some, option_map, unwrap_or, true};
 ghost use Rattle.command_line.specs.Options.{ArePlacesGiven, IsVersionNamed, IsWatchedWithOperator, value, version_named};
 ghost use Rattle.command_line.specs.Refusals.{AreInputsBeside, IsRefused, IsRefusedByAny};
 ghost use Rattle.command_line.specs.Requests.{IsDeclareGiven, IsFollowedOn, IsGuessGiven, IsOperated, IsWatchedRunGiven, IsProgramRequestGiven, IsRefuteGiven, IsReportGiven, IsTaskGiven, IsVerifyGiven, is_tape, last_of, part_names, watched_declaration, watched_tape};

@@ -1,6 +1,6 @@
 //! What may be requested with a source in place of a tape, without a declaration.
 
-ghost use Rattle.std.specs.Prelude.{◌≡◌, MatchResult, Some, map, option_map};
+ghost use Rattle.std.specs.Prelude.{◌≡◌, IfErr, MatchResult, Some, map, option_map};
 ghost use Rattle.command_line.specs.Machines.{tape_given};
 ghost use Rattle.command_line.specs.Options.{ArePlacesGiven, sources_given};
 ghost use Rattle.command_line.specs.Refusals.{IsRefused, IsRefusedByAny};
@@ -84,7 +84,7 @@ fn run_task<'a>(
     tape: Option<&'a str>,
     places: &PlaceOptions<'a>,
 ) -> Result<MachineTask<'a>, CommandLineFault>
-    requires tape { option_map (λ name. name.now) tape.entry ≡ tape_given found.now }
+    requires tape { option_map (λ name. name.now) tape ≡ tape_given found.now }
     requires places { ArePlacesGiven found.now places.now }
     ensures { MatchResult result (IsMachineTaskGiven Run found.now places.now)
         (IsRefusedByAny found.now) }
@@ -105,7 +105,7 @@ fn task_of<'a>(
     tape: Option<&'a str>,
     places: &PlaceOptions<'a>,
 ) -> Result<MachineTask<'a>, CommandLineFault>
-    requires tape { option_map (λ name. name.now) tape.entry ≡ tape_given found.now }
+    requires tape { option_map (λ name. name.now) tape ≡ tape_given found.now }
     requires places { ArePlacesGiven found.now places.now }
     ensures { MatchResult result (IsMachineTaskGiven called found.now places.now)
         (IsRefused (Machine called) found.now) }
@@ -142,6 +142,28 @@ pub(crate) fn machine_request<'a>(
     }
 }
 
+/// Ensures that a source and the other inputs are read from standard input once at most.
+fn check_inputs(
+    alloc: Global,
+    called: MachineCommand,
+    found: &ArgMatches<'_>,
+) -> Result<(), CommandLineFault>
+    ensures { IfErr result (IsRefused (Machine called) found.now) }
+{
+    match called {
+        MachineCommand::Teletype => {
+            read_beside_keys(alloc, found, &["source", "reader"])?;
+        }
+        MachineCommand::Run => {
+            read_once(alloc, found, &["source", "events", "reader", "keys"])?;
+        }
+        MachineCommand::Dump => {
+            read_once(alloc, found, &["source"])?;
+        }
+    }
+    Ok(())
+}
+
 /// The request to do this with a source that has these parts.
 fn sourced_request<'a>(
     alloc: Global,
@@ -157,11 +179,7 @@ fn sourced_request<'a>(
     ensures { MatchResult result (IsSourcedGiven called found.now)
         (IsRefused (Machine called) found.now) }
 {
-    match called {
-        MachineCommand::Teletype => read_beside_keys(alloc, found, &["source", "reader"])?,
-        MachineCommand::Run => read_once(alloc, found, &["source", "events", "reader", "keys"])?,
-        MachineCommand::Dump => read_once(alloc, found, &["source"])?,
-    };
+    check_inputs(alloc, called, found)?;
     let parts = copied(alloc, names)?;
     let explained = is_given(found, "why");
     Ok(SourceProgramRequest {

@@ -64,7 +64,7 @@ pub(crate) fn run_request<'a>(
     tape: Option<&'a str>,
     places: &PlaceOptions<'a>,
 ) -> Result<RunRequest<'a>, CommandLineFault>
-    requires tape { option_map (λ name. name.now) tape.entry ≡ tape_given found.now }
+    requires tape { option_map (λ name. name.now) tape ≡ tape_given found.now }
     requires places { ArePlacesGiven found.now places.now }
     ensures { MatchResult result (IsRunGiven found.now places.now) (IsRefusedByAny found.now) }
 {
@@ -111,7 +111,7 @@ pub(crate) fn dump_request<'a>(
     found: &ArgMatches<'a>,
     tape: Option<&'a str>,
 ) -> Result<DumpRequest<'a>, CommandLineFault>
-    requires tape { option_map (λ name. name.now) tape.entry ≡ tape_given found.now }
+    requires tape { option_map (λ name. name.now) tape ≡ tape_given found.now }
     ensures { MatchResult result (IsDumpGiven found.now) (IsRefusedByAny found.now) }
 {
     let profile = profile_of(found)?;

@@ -1,6 +1,6 @@
 //! The values of options and operands that several commands have.
 
-ghost use Rattle.std.specs.Prelude.{◌≡◌, ◌≤◌, ◌||◌, IfErr, IfOk, MatchResult, Ok, Some, is_some, map, true};
+ghost use Rattle.std.specs.Prelude.{◌≡◌, ◌≤◌, ◌||◌, IfErr, IfOk, MatchResult, Ok, Some, is_some, map, codes};
 ghost use Rattle.std.specs.List.{count_by, list_any};
 ghost use Rattle.command_line.specs.Outputs.{is_standard_input};
 ghost use Rattle.command_line.specs.Refusals.{AreInputs, AreOfInputs, IsRefused, IsRefusedByAny, is_declared};

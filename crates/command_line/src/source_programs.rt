@@ -136,7 +136,7 @@ pub(crate) fn machine_request<'a>(
     match found.get_strs("source") {
         None => Ok(Request::Tape(task)),
         Some(names) => {
-            let asked = sourced_request(alloc, called, found, names, places, task)?;
+            let asked = sourced_request(alloc, called, found, names, places, &task)?;
             Ok(Request::Sourced(asked))
         }
     }
@@ -171,11 +171,11 @@ fn sourced_request<'a>(
     found: &ArgMatches<'a>,
     names: &[&'a str],
     places: PlaceOptions<'a>,
-    task: MachineTask<'a>,
+    task: &MachineTask<'a>,
 ) -> Result<SourceProgramRequest<'a>, CommandLineFault>
     requires sources { sources_given found.now ≡ Some (map (λ name. name.now) names.now) }
     requires places { ArePlacesGiven found.now places }
-    requires task { IsMachineTaskGiven called found.now places task }
+    requires task { IsMachineTaskGiven called found.now places task.now }
     ensures { MatchResult result (IsSourcedGiven called found.now)
         (IsRefused (Machine called) found.now) }
 {
@@ -185,7 +185,7 @@ fn sourced_request<'a>(
     Ok(SourceProgramRequest {
         parts,
         places,
-        task,
+        task: *task,
         explained,
     })
 }

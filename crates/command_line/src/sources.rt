@@ -1,7 +1,7 @@
 //! What may be requested with a source that is assembled.
 
-ghost use Rattle.std.specs.Prelude.{◌≡◌, MatchResult, map};
-ghost use Rattle.command_line.specs.Refusals.{AreOfInputs, ArePartsRefused, IsRefused};
+ghost use Rattle.std.specs.Prelude.{◌≡◌, IfErr, IfOk, MatchResult, map};
+ghost use Rattle.command_line.specs.Refusals.{AreInputs, AreOfInputs, ArePartsRefused, IsRefused};
 ghost use Rattle.command_line.specs.Sources.{IsAssembleGiven, IsListGiven, part_operands, placed_operands, source_operands};
 ghost use Rattle.command_line.specs.declared.command_name.CommandName.TheVariants.{Assemble, List as ListSource};
 
@@ -78,8 +78,10 @@ pub(crate) fn source_names<'a>(
     alloc: Global,
     found: &ArgMatches<'a>,
 ) -> Result<Vec<&'a str>, CommandLineFault>
-    ensures { MatchResult result (λ names. map (λ name. name.now) names.items ≡
-        source_operands found.now) (ArePartsRefused found.now) }
+    ensures given { IfOk result (λ names. map (λ name. name.now) names.items ≡
+        source_operands found.now) }
+    ensures are { IfOk result (λ names. AreInputs found.now names.items) }
+    ensures refused { IfErr result (ArePartsRefused found.now) }
 {
     let names = read_once(alloc, found, part_operands(found))?;
     if names.is_empty() {

@@ -13,3 +13,6 @@ returns c = record {
   shown = rw c.in_ok-options.ensures.shown c.in_ok-show.ensures;
   stopping = c.in_ok-stopping.ensures;
 }
+
+pub punch_of-punch-requires : goal.punch_of-punch-requires
+punch_of-punch-requires c = rw c.deref.ensures.value c.in_ok-inputs.ensures.are

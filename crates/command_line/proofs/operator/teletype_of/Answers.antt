@@ -12,3 +12,6 @@ returns c = record {
   shown = c.in_ok-options.ensures.shown;
   stopping = c.in_ok-stopping.ensures;
 }
+
+pub punch_of-punch-requires : goal.punch_of-punch-requires
+punch_of-punch-requires c = rw c.deref.ensures.value c.in_ok-inputs.ensures.are

@@ -1,3 +1,6 @@
+use Rattle.std.proofs.Common.{refl}
+use Rattle.command_line.specs.declared.command_name.CommandName.TheVariants as kind
+use Rattle.command_line.proofs.RefusalLemmas.{beside_out}
 use Rattle.command_line.proofs.tapes.source_request.Goals as goal
 
 pub returns : goal.returns
@@ -9,3 +12,6 @@ returns c = record {
   out = c.in_ok-out.ensures.given;
   forced = c.is_given.ensures;
 }
+
+pub result_of-out-requires : goal.result_of-out-requires
+result_of-out-requires c = rw c.deref.ensures.value (beside_out kind.Source c.args.found.now _ refl c.in_ok-inputs.ensures.are)

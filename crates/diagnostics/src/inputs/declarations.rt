@@ -2,11 +2,11 @@
 
 ghost use Rattle.std.specs.Prelude.{OnOk};
 ghost use Rattle.std.specs.String.{string_bytes};
-ghost use Rattle.diagnostics.specs.FaultText.{SaysAddress, SaysDeclared, SaysLine, SaysMore};
+ghost use Rattle.diagnostics.specs.FaultText.{SaysAddress, SaysDeclared};
 
 use crate::inputs::forms::declaration_form;
 use crate::inputs::lines::line_of;
-use crate::inputs::{FaultyFile, push_formed, push_numbered, push_said};
+use crate::inputs::{FaultyFile, push_formed, push_said};
 use declaration::DeclarationFault;
 use peripherals::NoMemory;
 use std::alloc::Allocator;
@@ -27,8 +27,22 @@ pub(crate) fn push_declaration<A: Allocator>(
             let form = declaration_form(line_of(file.bytes, number));
             push_formed(text, file, number, form)
         }
-        DeclarationFault::TwoStarts(number) => push_repeated(text, file, number, "start"),
-        DeclarationFault::TwoProfiles(number) => push_repeated(text, file, number, "profile"),
+        DeclarationFault::TwoStarts(number) => {
+            push_formed(
+                text,
+                file,
+                number,
+                "duplicate start line: only one is allowed",
+            )
+        }
+        DeclarationFault::TwoProfiles(number) => {
+            push_formed(
+                text,
+                file,
+                number,
+                "duplicate profile line: only one is allowed",
+            )
+        }
         DeclarationFault::NoStart => push_said(
             text,
             file,
@@ -74,27 +88,6 @@ pub(crate) fn push_declaration<A: Allocator>(
         ),
         DeclarationFault::NoMemory => Ok(()),
     }
-}
-
-/// Adds the lines on a line of a kind of which there may be one only.
-fn push_repeated<A: Allocator>(
-    text: &mut String<A>,
-    file: &FaultyFile<'_>,
-    number: usize,
-    kind: &str,
-) -> Result<(), NoMemory>
-    ensures { OnOk result (SaysLine file.now.name.now number
-        (string_bytes text.old) (string_bytes text.new)) }
-{
-    push_numbered(text, file, number)?;
-    push_duplicate(text, kind)
-}
-
-/// Adds that there may be one line of a kind only.
-fn push_duplicate<A: Allocator>(text: &mut String<A>, kind: &str) -> Result<(), NoMemory>
-    ensures { OnOk result (SaysMore (string_bytes text.old) (string_bytes text.new)) }
-{
-    writeln!(text, "duplicate {kind} line: only one is allowed").map_err(|_| NoMemory)
 }
 
 /// Adds a line with the name of a file and what is said of an address in it.

@@ -1,17 +1,20 @@
 //! What a declaration leaves out, as far as that is seen by the tape and the declaration alone: no
 //! certificate can fix it, if a run comes there.
 
-ghost use Rattle.std.specs.Prelude.{◌≡◌, ◌++◌, ℕ, List, Option, Some, IfSome, OnOk, codes, false, true};
+ghost use Rattle.std.specs.Prelude.{◌≡◌, ◌++◌, ℕ, List, Option, Some, IfSome, OnOk, false, true};
 ghost use Rattle.instruct.specs.Bits.{is_indirect};
 ghost use Rattle.instruct.specs.Instructions.{Dca, Jms, Jmp, instruction_of, kind_of, meaning_of, reference};
 ghost use Rattle.instruct.specs.declared.Instruction.TheVariants.{Memory, Unsupported};
 ghost use Rattle.bin_tape.specs.Image.{word_at};
 ghost use Rattle.declaration.specs.Declaration.{Declaration as Promise, Routine};
 ghost use Rattle.declaration.specs.DeclarationInCode.{meaning, routine_of};
-ghost use Rattle.diagnostics.specs.OmissionText.{IsHalt, IsOmitted, IsViolation, Means, SaysOmissions, SaysRemedy, Stores, act_text, around_place, halt_remedy, lack_text, omission_line, remedy_line, remedy_text, stop_for_pause, stuck_line, twice};
+ghost use Rattle.diagnostics.specs.OmissionText.{IsHalt, IsOmitted, IsViolation, Means, SaysOmissions, SaysRemedy, Stores, act_text, lack_text, omission_line, remedy_line, remedy_text, stuck_line};
+ghost use Rattle.diagnostics.specs.Pieces.{around};
 
+use crate::pieces::Piece::{Advised, Text};
+use crate::pieces::push_pieces;
 use bin_tape::Image;
-use command_parts::message::{MessageWriter, push_text_and_address, push_text_and_advised};
+use command_parts::message::{MessageWriter, push_text_and_address};
 use declaration::{Declaration, Owner};
 use instruct::{Instruction, Operation, Profile, decode, halts, refers_indirectly, target};
 use processor::is_auto_index;
@@ -320,38 +323,9 @@ fn push_advice<L: MessageWriter>(
     after: &[u8],
 ) -> Result<(), AllocError>
     ensures { OnOk result
-        (L.text text.new ≡ L.text text.old ++ around_place before.now place after.now) }
+        (L.text text.new ≡ L.text text.old ++ around before.now place after.now) }
 {
-    push_text_and_advised(text, before, place)?;
-    text.push_text(after)
-}
-
-/// Adds an address within a line of a declaration that is advised, where it stands twice.
-fn push_advice_twice<L: MessageWriter>(
-    text: &mut L,
-    before: &[u8],
-    place: Word,
-    between: &[u8],
-    after: &[u8],
-) -> Result<(), AllocError>
-    ensures { OnOk result
-        (L.text text.new ≡ L.text text.old ++ twice before.now place between.now after.now) }
-{
-    push_advice(text, before, place, between)?;
-    push_advice(text, b"", place, after)
-}
-
-/// Adds that a stop may be declared at an address, or a pause.
-fn push_halt_remedy<L: MessageWriter>(text: &mut L, at: Word) -> Result<(), AllocError>
-    ensures { OnOk result (L.text text.new ≡ L.text text.old ++ halt_remedy at) }
-{
-    push_advice_twice(
-        text,
-        b"add `stop ",
-        at,
-        b"`, or `pause ",
-        b"` if the operator may continue",
-    )
+    push_pieces(text, &[Text(before), Advised(place), Text(after)])
 }
 
 /// Adds what the instruction at an address does.
@@ -404,17 +378,6 @@ fn lack_of(omission: &Omission) -> &'static [u8]
     }
 }
 
-/// Adds that a stop is declared at an address in place of a pause.
-fn push_stop_for_pause<L: MessageWriter>(
-    text: &mut L,
-    before: &[u8],
-    at: Word,
-) -> Result<(), AllocError>
-    ensures { OnOk result (L.text text.new ≡ L.text text.old ++ stop_for_pause before.now at) }
-{
-    push_advice_twice(text, before, at, b"` in place of `pause ", b"`")
-}
-
 /// Adds what to do about what is omitted at an address.
 fn push_remedy<L: MessageWriter>(
     text: &mut L,
@@ -430,21 +393,26 @@ fn push_remedy<L: MessageWriter>(
         Omission::Unsupported => text.push_text(b"if this word is data, remove it from the body"),
         Omission::OfThe8e => text.push_text(b"add `profile 8e` if the program is for a PDP-8/E"),
         Omission::Stores(cell) | Omission::Steps(cell) => {
-            push_advice(text, b"add `var ", *cell, b"`")
+            push_advice(text, b"if this is intended, add `var ", *cell, b"`")
         }
         Omission::StoresInEntry(_) => text.push_text(
             b"only a JMS that calls the routine, an ISZ in the routine and, with a `moves` line, a DCA in the routine may write there",
         ),
         Omission::StoresInOwn(entry) => push_advice(text, b"add `moves ", *entry, b"`"),
-        Omission::Calls(entry) => push_advice(text, b"add `sub ", *entry, b" body .. returns ..`"),
+        Omission::Calls(entry) => push_advice(
+            text,
+            b"if this is intended, add `sub ",
+            *entry,
+            b" body .. returns ..`",
+        ),
         Omission::CallsIntoBody(entry) => push_advice(
             text,
-            b"add `sub ",
+            b"if this is intended, add `sub ",
             *entry,
             b" body .. returns ..`, and remove the entry from the body and the variables",
         ),
         Omission::CallsAutoIndex(_) => text.push_text(b"no routine can begin at 0010 to 0017"),
-        Omission::Jumps(_) => text.push_text(b"add that address to the body"),
+        Omission::Jumps(_) => text.push_text(b"if this is intended, add that address to the body"),
         Omission::JumpsAcross(_) => {
             text.push_text(b"call a routine with a JMS, and leave it with a return")
         },
@@ -454,12 +422,49 @@ fn push_remedy<L: MessageWriter>(
             *place,
             b"`",
         ),
-        Omission::Halts => push_halt_remedy(text, at),
-        Omission::GoesOn(_) => {
-            push_stop_for_pause(text, b"add that address to the body, or declare `stop ", at)
-        }
-        Omission::GoesAcross(_) => push_stop_for_pause(text, b"declare `stop ", at),
+        Omission::Halts => push_pieces(
+            text,
+            &[
+                Text(b"add `stop "),
+                Advised(at),
+                Text(b"`, or `pause "),
+                Advised(at),
+                Text(b"` if the operator may continue"),
+            ],
+        ),
+        Omission::GoesOn(_) => push_pieces(
+            text,
+            &[
+                Text(b"if this is intended, add that address to the body, or declare `stop "),
+                Advised(at),
+                Text(b"` in place of `pause "),
+                Advised(at),
+                Text(b"`"),
+            ],
+        ),
+        Omission::GoesAcross(_) => push_pieces(
+            text,
+            &[
+                Text(b"declare `stop "),
+                Advised(at),
+                Text(b"` in place of `pause "),
+                Advised(at),
+                Text(b"`"),
+            ],
+        ),
     }
+}
+
+/// Adds the line of what to do about what is omitted at an address.
+fn push_remedy_line<L: MessageWriter>(
+    text: &mut L,
+    at: Word,
+    omission: &Omission,
+) -> Result<(), AllocError>
+    ensures { OnOk result (L.text text.new ≡ L.text text.old ++ remedy_line at omission.now) }
+{
+    push_remedy(text, at, omission)?;
+    text.push_text(b"\n")
 }
 
 /// Adds the line of what the instruction at an address would violate, and what to do about it.
@@ -473,35 +478,7 @@ fn push_omission<L: MessageWriter>(
     push_act(text, at, omission)?;
     text.push_text(lack_of(omission))?;
     text.push_text(b": ")?;
-    push_remedy(text, at, omission)?;
-    text.push_text(b"\n")
-}
-
-/// Adds the line of what to do about what is omitted at an address.
-fn push_remedy_line<L: MessageWriter>(
-    text: &mut L,
-    before: &[u8],
-    at: Word,
-    omission: &Omission,
-) -> Result<(), AllocError>
-    ensures { OnOk result (L.text text.new ≡
-        L.text text.old ++ remedy_line before.now at omission.now) }
-{
-    text.push_text(before)?;
-    push_remedy(text, at, omission)?;
-    text.push_text(b"\n")
-}
-
-/// Adds the line of what to do about what is omitted at an address, if the instruction is intended.
-fn push_intended<L: MessageWriter>(
-    text: &mut L,
-    at: Word,
-    omission: &Omission,
-) -> Result<(), AllocError>
-    ensures { OnOk result (L.text text.new ≡
-        L.text text.old ++ remedy_line (codes "if this is intended, ") at omission.now) }
-{
-    push_remedy_line(text, b"if this is intended, ", at, omission)
+    push_remedy_line(text, at, omission)
 }
 
 /// Adds what is said of the instruction at which a search is stuck, where this is omitted. Where the reason already names a line
@@ -516,18 +493,21 @@ fn push_stuck<L: MessageWriter>(
     match omission {
         Omission::NoWord | Omission::OfThe8e => push_omission(text, at, omission),
         Omission::StoresInOwn(_) | Omission::JumpsToMain(_) => Ok(()),
-        Omission::Unsupported
-        | Omission::StoresInEntry(_)
-        | Omission::CallsAutoIndex(_)
-        | Omission::JumpsAcross(_)
-        | Omission::GoesAcross(_) => push_remedy_line(text, b"", at, omission),
-        Omission::Stores(_) | Omission::Steps(_) | Omission::Calls(_) => {
-            push_intended(text, at, omission)
+        Omission::Halts => {
+            text.push_text(b"if this is intended, ")?;
+            push_remedy_line(text, at, omission)
         }
-        Omission::CallsIntoBody(_) => push_intended(text, at, omission),
-        Omission::Jumps(_) => push_intended(text, at, omission),
-        Omission::GoesOn(_) => push_intended(text, at, omission),
-        Omission::Halts => push_intended(text, at, omission),
+        Omission::Unsupported
+        | Omission::Stores(_)
+        | Omission::StoresInEntry(_)
+        | Omission::Steps(_)
+        | Omission::Calls(_)
+        | Omission::CallsIntoBody(_)
+        | Omission::CallsAutoIndex(_)
+        | Omission::Jumps(_)
+        | Omission::JumpsAcross(_)
+        | Omission::GoesOn(_)
+        | Omission::GoesAcross(_) => push_remedy_line(text, at, omission),
     }
 }
 

@@ -158,20 +158,20 @@ abbrev pub remedy_text : ℕ → Omission → List ℕ
 remedy_text at omission.NoWord = codes "remove it from the body, or end the program before it"
 remedy_text at omission.Unsupported = codes "if this word is data, remove it from the body"
 remedy_text at omission.OfThe8e = codes "add `profile 8e` if the program is for a PDP-8/E"
-remedy_text at (omission.Stores cell) = around (codes "if this is intended, add `var ") cell (codes "`")
+remedy_text at (omission.Stores cell) = around (codes "add `var ") cell (codes "`")
 remedy_text at (omission.StoresInEntry cell) = codes "only a JMS that calls the routine, an ISZ in the routine and, with a `moves` line, a DCA in the routine may write there"
 remedy_text at (omission.StoresInOwn entry) = around (codes "add `moves ") entry (codes "`")
-remedy_text at (omission.Steps cell) = around (codes "if this is intended, add `var ") cell (codes "`")
-remedy_text at (omission.Calls entry) = around (codes "if this is intended, add `sub ") entry (codes " body .. returns ..`")
+remedy_text at (omission.Steps cell) = around (codes "add `var ") cell (codes "`")
+remedy_text at (omission.Calls entry) = around (codes "add `sub ") entry (codes " body .. returns ..`")
 remedy_text at (omission.CallsIntoBody entry) =
-    around (codes "if this is intended, add `sub ") entry (codes " body .. returns ..`, and remove the entry from the body and the variables")
+    around (codes "add `sub ") entry (codes " body .. returns ..`, and remove the entry from the body and the variables")
 remedy_text at (omission.CallsAutoIndex entry) = codes "no routine can begin at 0010 to 0017"
-remedy_text at (omission.Jumps place) = codes "if this is intended, add that address to the body"
+remedy_text at (omission.Jumps place) = codes "add that address to the body"
 remedy_text at (omission.JumpsAcross place) = codes "call a routine with a JMS, and leave it with a return"
 remedy_text at (omission.JumpsToMain place) = around (codes "leave the routine with a return, or add `abandon ") place (codes "`")
 remedy_text at omission.Halts =
     codes "add `stop " ++ octal_text at ++ codes "`, or `pause " ++ octal_text at ++ codes "` if the operator may continue"
-remedy_text at (omission.GoesOn next) = stop_for_pause (codes "if this is intended, add that address to the body, or declare `stop ") at
+remedy_text at (omission.GoesOn next) = stop_for_pause (codes "add that address to the body, or declare `stop ") at
 remedy_text at (omission.GoesAcross next) = stop_for_pause (codes "declare `stop ") at
 
 -- The line of what to do about what is omitted at an address.
@@ -189,8 +189,12 @@ stuck_line at omission.NoWord = omission_line at omission.NoWord
 stuck_line at omission.OfThe8e = omission_line at omission.OfThe8e
 stuck_line at (omission.StoresInOwn entry) = []
 stuck_line at (omission.JumpsToMain place) = []
-stuck_line at omission.Halts = codes "if this is intended, " ++ remedy_line at omission.Halts
-stuck_line at o = remedy_line at o
+stuck_line at omission.Unsupported = remedy_line at omission.Unsupported
+stuck_line at (omission.StoresInEntry cell) = remedy_line at (omission.StoresInEntry cell)
+stuck_line at (omission.CallsAutoIndex place) = remedy_line at (omission.CallsAutoIndex place)
+stuck_line at (omission.JumpsAcross place) = remedy_line at (omission.JumpsAcross place)
+stuck_line at (omission.GoesAcross next) = remedy_line at (omission.GoesAcross next)
+stuck_line at o = codes "if this is intended, " ++ remedy_line at o
 
 -- The lines on what is omitted at an address: the instruction, and what is said of it.
 abbrev pub omission_lines : List (Option ℕ) → Declaration → ℕ → Omission → List ℕ

@@ -25,9 +25,8 @@ use certificate::Certificate;
 use command_parts::message::{MessageWriter, push_text_and_address};
 use declaration::Declaration;
 use domain::Location;
-use instruct::{Operation, name, refers_indirectly, target};
-use judge::{Case, Condition};
-use reasons::{ReasonWorkspace, why_stuck};
+use instruct::{name, refers_indirectly, target};
+use judge::Case;
 use std::alloc::{AllocError, Allocator};
 use word12::Word;
 use wordset::WordSet;
@@ -46,25 +45,6 @@ fn pointer_at<D: Allocator>(image: &Image, declaration: &Declaration<D>, at: Wor
         return Some(named);
     }
     None
-}
-
-/// Whether a search is stuck at an address by a condition on the cells to which the instruction there refers, or by none that is told.
-fn fails_by_cells<A: Allocator + Copy, D: Allocator, C: Allocator>(
-    alloc: A,
-    case: &Case<'_, D, Certificate<C>>,
-    at: Word,
-) -> Result<bool, AllocError> {
-    let mut rooms = ReasonWorkspace::boxed(alloc)?;
-    let found = why_stuck(case.image, case.declaration, case.claims, at, &mut rooms);
-    let Some((refusal, _)) = &found else {
-        return Ok(true);
-    };
-    Ok(match refusal.condition {
-        Condition::V5 | Condition::V6 | Condition::V7 | Condition::V14 | Condition::V15 => true,
-        Condition::V4 =>
-            matches!(case.image.get(at), Some(word) if Operation::of(word) == Operation::Jmp),
-        _ => false,
-    })
 }
 
 /// Where the bound of a pointer was lost: behind an instruction, on the way to an address, and why.
@@ -133,8 +113,8 @@ fn lost_before<A: Allocator + Copy, D: Allocator, C: Allocator>(
 }
 
 /// Adds what is said about the pointer of the instruction at which a search is stuck, by the draft of what it found:
-/// the words that it may hold there, and where its bound was lost. If the instruction uses no variable, if the condition that fails is
-/// not about the cells to which it refers, or if the draft has no fact there, nothing is added.
+/// the words that it may hold there, and where its bound was lost. If the instruction uses no variable, or the draft
+/// has no fact there, nothing is added.
 ///
 /// # Errors
 ///
@@ -150,21 +130,18 @@ pub fn push_bound<A: Allocator + Copy, L: MessageWriter, D: Allocator, C: Alloca
     ensures { OnOk result (SaysBound image.now (meaning declaration.now) at
         (L.text text.old) (L.text text.new)) }
 {
+    let Some(pointer) = pointer_at(image, declaration, at) else {
+        return Ok(());
+    };
+    let mut known = DraftFacts::of(image, draft);
+    if !known.has_fact(at) {
+        return Ok(());
+    }
     let case = Case {
         image,
         declaration,
         claims: draft,
     };
-    let Some(pointer) = pointer_at(image, declaration, at) else {
-        return Ok(());
-    };
-    if !fails_by_cells(alloc, &case, at)? {
-        return Ok(());
-    }
-    let mut known = DraftFacts::of(image, draft);
-    if !known.has_fact(at) {
-        return Ok(());
-    }
     push_around(text, b"the pointer ", pointer, b" may hold ")?;
     let held = known.words_at(at, &Location::Cell(pointer));
     push_set(text, &held)?;

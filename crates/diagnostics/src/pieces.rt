@@ -1,6 +1,7 @@
 //! Texts for people, piece by piece.
 
 ghost use Rattle.std.specs.Prelude.{◌≡◌, ◌++◌, decimal, OnOk};
+ghost use Rattle.command_parts.specs.LinkText.{link_text};
 ghost use Rattle.diagnostics.specs.Pieces.{around, offset_text, piece_text, pieces_text};
 
 use command_parts::message::MessageWriter;
@@ -45,6 +46,13 @@ fn push_offset<L: MessageWriter>(text: &mut L, offset: usize) -> Result<(), Allo
     push_number(text, offset % 8)
 }
 
+/// A link as a digit.
+fn digit(link: Link) -> &'static [u8]
+    ensures { result.now ≡ link_text link }
+{
+    if link.is_set() { b"1" } else { b"0" }
+}
+
 /// Adds a piece.
 fn push_piece<L: MessageWriter>(text: &mut L, piece: &Piece<'_>) -> Result<(), AllocError>
     ensures { OnOk result (L.text text.new ≡ L.text text.old ++ piece_text piece.now) }
@@ -54,7 +62,7 @@ fn push_piece<L: MessageWriter>(text: &mut L, piece: &Piece<'_>) -> Result<(), A
         Piece::Address(at) => text.push_address(*at),
         Piece::Advised(at) => text.push_advised_address(*at),
         Piece::Octal(word) => text.push_text(&word.to_octal()),
-        Piece::Digit(link) => text.push_text(if link.is_set() { b"1" } else { b"0" }),
+        Piece::Digit(link) => text.push_text(digit(*link)),
         Piece::Decimal(number) => push_number(text, *number),
         Piece::Offset(offset) => push_offset(text, *offset),
     }
@@ -74,11 +82,11 @@ pub(crate) fn push_pieces<L: MessageWriter>(
 }
 
 /// Adds a text, an address and a text.
-pub(crate) fn push_around<L: MessageWriter>(
+pub(crate) fn push_around<'a, L: MessageWriter>(
     text: &mut L,
-    before: &[u8],
+    before: &'a [u8],
     at: Word,
-    after: &[u8],
+    after: &'a [u8],
 ) -> Result<(), AllocError>
     ensures { OnOk result
         (L.text text.new ≡ L.text text.old ++ around before.now at after.now) }

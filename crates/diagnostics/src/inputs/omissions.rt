@@ -316,11 +316,11 @@ fn omitted_at<D: Allocator>(
 }
 
 /// Adds an address within a line of a declaration that is advised, with what comes before it and after it.
-fn push_advice<L: MessageWriter>(
+fn push_advice<'a, L: MessageWriter>(
     text: &mut L,
-    before: &[u8],
+    before: &'a [u8],
     place: Word,
-    after: &[u8],
+    after: &'a [u8],
 ) -> Result<(), AllocError>
     ensures { OnOk result
         (L.text text.new ≡ L.text text.old ++ around before.now place after.now) }
@@ -393,7 +393,7 @@ fn push_remedy<L: MessageWriter>(
         Omission::Unsupported => text.push_text(b"if this word is data, remove it from the body"),
         Omission::OfThe8e => text.push_text(b"add `profile 8e` if the program is for a PDP-8/E"),
         Omission::Stores(cell) | Omission::Steps(cell) => {
-            push_advice(text, b"if this is intended, add `var ", *cell, b"`")
+            push_advice(text, b"add `var ", *cell, b"`")
         }
         Omission::StoresInEntry(_) => text.push_text(
             b"only a JMS that calls the routine, an ISZ in the routine and, with a `moves` line, a DCA in the routine may write there",
@@ -401,18 +401,18 @@ fn push_remedy<L: MessageWriter>(
         Omission::StoresInOwn(entry) => push_advice(text, b"add `moves ", *entry, b"`"),
         Omission::Calls(entry) => push_advice(
             text,
-            b"if this is intended, add `sub ",
+            b"add `sub ",
             *entry,
             b" body .. returns ..`",
         ),
         Omission::CallsIntoBody(entry) => push_advice(
             text,
-            b"if this is intended, add `sub ",
+            b"add `sub ",
             *entry,
             b" body .. returns ..`, and remove the entry from the body and the variables",
         ),
         Omission::CallsAutoIndex(_) => text.push_text(b"no routine can begin at 0010 to 0017"),
-        Omission::Jumps(_) => text.push_text(b"if this is intended, add that address to the body"),
+        Omission::Jumps(_) => text.push_text(b"add that address to the body"),
         Omission::JumpsAcross(_) => {
             text.push_text(b"call a routine with a JMS, and leave it with a return")
         },
@@ -435,7 +435,7 @@ fn push_remedy<L: MessageWriter>(
         Omission::GoesOn(_) => push_pieces(
             text,
             &[
-                Text(b"if this is intended, add that address to the body, or declare `stop "),
+                Text(b"add that address to the body, or declare `stop "),
                 Advised(at),
                 Text(b"` in place of `pause "),
                 Advised(at),
@@ -493,21 +493,21 @@ fn push_stuck<L: MessageWriter>(
     match omission {
         Omission::NoWord | Omission::OfThe8e => push_omission(text, at, omission),
         Omission::StoresInOwn(_) | Omission::JumpsToMain(_) => Ok(()),
-        Omission::Halts => {
-            text.push_text(b"if this is intended, ")?;
-            push_remedy_line(text, at, omission)
-        }
         Omission::Unsupported
-        | Omission::Stores(_)
         | Omission::StoresInEntry(_)
+        | Omission::CallsAutoIndex(_)
+        | Omission::JumpsAcross(_)
+        | Omission::GoesAcross(_) => push_remedy_line(text, at, omission),
+        Omission::Stores(_)
         | Omission::Steps(_)
         | Omission::Calls(_)
         | Omission::CallsIntoBody(_)
-        | Omission::CallsAutoIndex(_)
         | Omission::Jumps(_)
-        | Omission::JumpsAcross(_)
-        | Omission::GoesOn(_)
-        | Omission::GoesAcross(_) => push_remedy_line(text, at, omission),
+        | Omission::Halts
+        | Omission::GoesOn(_) => {
+            text.push_text(b"if this is intended, ")?;
+            push_remedy_line(text, at, omission)
+        }
     }
 }
 

@@ -209,7 +209,12 @@ pub data SaysOmissions (image : List (Option ℕ)) (d : Declaration) : List ℕ 
       → SaysOmissions image d old (new ++ omission_lines image d at o)
   others : (old new : List ℕ) → SaysOmissions image d old new → SaysOmissions image d old (new ++ codes "and other instructions\n")
 
--- A text became this one by what is said of the instruction at an address at which a search is stuck, which is so; or by nothing, and
--- when nothing is said is only tested.
+-- The tape has a word at an address, if that is a cell of a body and no variable.
+abbrev pub IsOnTape : List (Option ℕ) → Declaration → ℕ → Type 0
+IsOnTape image d at = (r : Routine) → d.body r at ≡ true → d.variable at ≡ false → word_at image at ≡ None → ⊥
+
+-- A text became this one by what is said of the instruction at an address at which a search is stuck, which is so; or by nothing, but
+-- not where the tape lacks the word of a body. When else nothing is said is only tested.
 abbrev pub SaysRemedy : List (Option ℕ) → Declaration → ℕ → List ℕ → List ℕ → Type 0
-SaysRemedy image d at old new = (new ≡ old) ⊎ ((o : Omission) × IsOmitted image d at o × (new ≡ old ++ stuck_line at o))
+SaysRemedy image d at old new =
+    ((new ≡ old) × IsOnTape image d at) ⊎ ((o : Omission) × IsOmitted image d at o × (new ≡ old ++ stuck_line at o))

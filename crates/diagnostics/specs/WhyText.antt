@@ -1,6 +1,6 @@
 -- What `check --why` writes after the verdict: the word that violates the condition, what the condition requires, and why it
 -- fails. Of the rules of equations, by which certificates of versions 1 and 2 are judged, some of it reads otherwise.
-use Rattle.std.specs.Prelude.{ℕ, ◌≡◌, ◌+◌, ◌==◌, nat_lt, ◌&&◌, if◌then◌else◌, Bool, ◌++◌, codes, decimal, true, List, [], ◌∷◌, flat_map, length, min, false, Option, Some, None, is_some, IfSome, Result, Ok, Err}
+use Rattle.std.specs.Prelude.{ℕ, ◌≡◌, ◌+◌, ◌<◌, ◌==◌, nat_lt, ◌&&◌, if◌then◌else◌, Bool, ◌++◌, codes, decimal, true, List, [], ◌∷◌, flat_map, length, min, false, Option, Some, None, is_some, IfSome, Result, Ok, Err}
 use Rattle.word12.specs.Words.{octal_text}
 use Rattle.wordset.specs.Words.{minus}
 use Rattle.instruct.specs.declared.Profile.{Profile}
@@ -272,6 +272,12 @@ abbrev pub counting_text : Rules → List ℕ
 counting_text OfEquations = codes ", the routine's own entry, past offset 7"
 counting_text OfSums = codes ", the routine's own entry, past offset 77 or past 7777"
 
+-- That a DCA may store a word in its routine's own entry that is out of reach of a return address.
+abbrev pub moving_text : ℕ → ℕ → ℕ → List ℕ
+moving_text e w s =
+    codes "it may store the word " ++ octal_text w ++ codes " in " ++ octal_text e ++
+    codes ", but the word there must be the return address of the call at " ++ octal_text s ++ codes " plus 0 to 77"
+
 -- An address, and after it that a line with it is to be added, up to its end.
 abbrev pub advised_text : List ℕ → ℕ → List ℕ → List ℕ
 advised_text before at line = before ++ octal_text at ++ line ++ octal_text at ++ codes "`"
@@ -283,9 +289,7 @@ breach_text rules (breach.WritesUndeclared c) = around (codes "it may write ") c
 breach_text rules (breach.WritesEntry c) = around (codes "it may write ") c (codes ", which is an entry")
 breach_text rules (breach.CountsTooFar c) = around (codes "it may increment ") c (counting_text rules)
 breach_text rules (breach.StoresInOwn c) = advised_text (codes "it may write ") c (codes ", the routine's own entry: add `moves ")
-breach_text rules (breach.MovesTooFar e w s) =
-    codes "it may store the word " ++ octal_text w ++ codes " in " ++ octal_text e ++
-    codes ", but the word there must be the return address of the call at " ++ octal_text s ++ codes " plus 0 to 77"
+breach_text rules (breach.MovesTooFar e w s) = moving_text e w s
 breach_text rules (breach.WritesUnlisted c) = around (codes "it may write ") c (codes ", which is not in the routine's written set")
 breach_text rules breach.HaltsUndeclared = codes "it halts, and no halt is declared there"
 breach_text rules breach.CallsThroughIndex = codes "it calls through an auto-index cell"
@@ -378,10 +382,10 @@ abbrev pub IsReason : Case → Result (Unit {0}) Refusal → Option Reason → T
 IsReason j (Ok _) reason = reason ≡ None
 IsReason j (Err r) reason = IsReasonFor j r reason
 
--- Behind a no nothing more is told.
-abbrev pub IsOnlyAfterYes : Result (Unit {0}) Refusal → List ℕ → Type 0
-IsOnlyAfterYes (Ok _) more = Unit {0}
-IsOnlyAfterYes (Err r) more = more ≡ []
+-- Behind a yes more is told, and behind a no nothing.
+abbrev pub IsSaidAfterYes : Result (Unit {0}) Refusal → List ℕ → Type 0
+IsSaidAfterYes (Ok _) more = 0 < length more
+IsSaidAfterYes (Err r) more = more ≡ []
 
 -- The text is the line of the verdict on an image, a declaration and the lines of a certificate, why it is, and the fact there; and
 -- the status is that of the verdict.
@@ -393,7 +397,7 @@ pub record IsExplanationOf (image : List (Option ℕ)) (declaration : Declaratio
   pub telling : ReasonContext
   pub told : IsTellingOf (certificate_of lines) verdict reason telling
   pub more : List ℕ
-  pub only : IsOnlyAfterYes verdict more
+  pub only : IsSaidAfterYes verdict more
   pub text_is : text ≡ ((verdict_text declaration verdict ++ why_text declaration.profile image verdict reason telling) ++ fact_shown lines verdict reason) ++ more
   pub status_is : status ≡ verdict_status verdict
 

@@ -52,19 +52,12 @@ pub(crate) fn push_declaration<A: Allocator>(
             push_formed(text, file, number, form)
         }
         DeclarationFault::TwoStarts(number) | DeclarationFault::TwoProfiles(number) => push_formed(
-            text,
-            file,
-            number,
-            said,
+            text, file, number, said,
         ),
         DeclarationFault::NoStart | DeclarationFault::StartNotInMain | DeclarationFault::TooMany =>
             push_said(text, file, said),
         DeclarationFault::Overlap(at) | DeclarationFault::Misplaced(at) => push_address(
-            text,
-            file,
-            "",
-            at,
-            said,
+            text, file, "", at, said,
         ),
         DeclarationFault::EntryInAutoIndex(at) => push_address(text, file, "the entry ", at, said),
         DeclarationFault::HaltNotInBody(at) => push_address(

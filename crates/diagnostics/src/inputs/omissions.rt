@@ -1,14 +1,14 @@
 //! What a declaration leaves out, as far as that is seen by the tape and the declaration alone: no
 //! certificate can fix it, if a run comes there.
 
-ghost use Rattle.std.specs.Prelude.{◌≡◌, ◌++◌, ℕ, List, Option, Some, IfSome, OnOk, false, true};
+ghost use Rattle.std.specs.Prelude.{◌≡◌, ◌++◌, ℕ, List, Option, Some, IfSome, IfNone, OnOk, false, true};
 ghost use Rattle.instruct.specs.Bits.{is_indirect};
 ghost use Rattle.instruct.specs.Instructions.{Dca, Jms, Jmp, instruction_of, kind_of, meaning_of, reference};
 ghost use Rattle.instruct.specs.declared.Instruction.TheVariants.{Memory, Unsupported};
 ghost use Rattle.bin_tape.specs.Image.{word_at};
 ghost use Rattle.declaration.specs.Declaration.{Declaration as Promise, Routine};
 ghost use Rattle.declaration.specs.DeclarationInCode.{meaning, routine_of};
-ghost use Rattle.diagnostics.specs.OmissionText.{IsHalt, IsOmitted, IsViolation, Means, SaysOmissions, SaysRemedy, Stores, act_text, lack_text, omission_line, remedy_line, remedy_text, stuck_line};
+ghost use Rattle.diagnostics.specs.OmissionText.{IsHalt, IsOmitted, IsOnTape, IsViolation, Means, SaysOmissions, SaysRemedy, Stores, act_text, lack_text, omission_line, remedy_line, remedy_text, stop_for_pause, stuck_line};
 ghost use Rattle.diagnostics.specs.Pieces.{around};
 
 use crate::pieces::Piece::{Advised, Text};
@@ -289,8 +289,9 @@ fn omitted_in_body<D: Allocator>(
     owner: Owner,
     at: Word,
 ) -> Option<Omission>
-    ensures { IfSome result
+    ensures found { IfSome result
         (IsViolation image.now (meaning declaration.now) (routine_of owner) at) }
+    ensures none { IfNone result (word_at image.now at ≡ None → ⊥) }
 {
     match image.get(at) {
         None => Some(Omission::NoWord),
@@ -304,7 +305,8 @@ fn omitted_at<D: Allocator>(
     declaration: &Declaration<D>,
     at: Word,
 ) -> Option<Omission>
-    ensures { IfSome result (IsOmitted image.now (meaning declaration.now) at) }
+    ensures found { IfSome result (IsOmitted image.now (meaning declaration.now) at) }
+    ensures none { IfNone result (IsOnTape image.now (meaning declaration.now) at) }
 {
     let Some(owner) = declaration.owner_of(at) else {
         return None;
@@ -378,6 +380,42 @@ fn lack_of(omission: &Omission) -> &'static [u8]
     }
 }
 
+/// Adds that a stop may be declared at an address, or a pause.
+fn push_halt_remedy<L: MessageWriter>(text: &mut L, at: Word) -> Result<(), AllocError>
+    ensures { OnOk result (L.text text.new ≡ L.text text.old ++ remedy_text at Omission.Halts) }
+{
+    push_pieces(
+        text,
+        &[
+            Text(b"add `stop "),
+            Advised(at),
+            Text(b"`, or `pause "),
+            Advised(at),
+            Text(b"` if the operator may continue"),
+        ],
+    )
+}
+
+/// Adds that a stop is declared at an address in place of a pause.
+fn push_stop_for_pause<L: MessageWriter>(
+    text: &mut L,
+    before: &[u8],
+    at: Word,
+) -> Result<(), AllocError>
+    ensures { OnOk result (L.text text.new ≡ L.text text.old ++ stop_for_pause before.now at) }
+{
+    push_pieces(
+        text,
+        &[
+            Text(before),
+            Advised(at),
+            Text(b"` in place of `pause "),
+            Advised(at),
+            Text(b"`"),
+        ],
+    )
+}
+
 /// Adds what to do about what is omitted at an address.
 fn push_remedy<L: MessageWriter>(
     text: &mut L,
@@ -399,12 +437,7 @@ fn push_remedy<L: MessageWriter>(
             b"only a JMS that calls the routine, an ISZ in the routine and, with a `moves` line, a DCA in the routine may write there",
         ),
         Omission::StoresInOwn(entry) => push_advice(text, b"add `moves ", *entry, b"`"),
-        Omission::Calls(entry) => push_advice(
-            text,
-            b"add `sub ",
-            *entry,
-            b" body .. returns ..`",
-        ),
+        Omission::Calls(entry) => push_advice(text, b"add `sub ", *entry, b" body .. returns ..`"),
         Omission::CallsIntoBody(entry) => push_advice(
             text,
             b"add `sub ",
@@ -422,36 +455,11 @@ fn push_remedy<L: MessageWriter>(
             *place,
             b"`",
         ),
-        Omission::Halts => push_pieces(
-            text,
-            &[
-                Text(b"add `stop "),
-                Advised(at),
-                Text(b"`, or `pause "),
-                Advised(at),
-                Text(b"` if the operator may continue"),
-            ],
-        ),
-        Omission::GoesOn(_) => push_pieces(
-            text,
-            &[
-                Text(b"add that address to the body, or declare `stop "),
-                Advised(at),
-                Text(b"` in place of `pause "),
-                Advised(at),
-                Text(b"`"),
-            ],
-        ),
-        Omission::GoesAcross(_) => push_pieces(
-            text,
-            &[
-                Text(b"declare `stop "),
-                Advised(at),
-                Text(b"` in place of `pause "),
-                Advised(at),
-                Text(b"`"),
-            ],
-        ),
+        Omission::Halts => push_halt_remedy(text, at),
+        Omission::GoesOn(_) => {
+            push_stop_for_pause(text, b"add that address to the body, or declare `stop ", at)
+        }
+        Omission::GoesAcross(_) => push_stop_for_pause(text, b"declare `stop ", at),
     }
 }
 

@@ -46,10 +46,7 @@ pub(crate) fn push_tape<A: Allocator>(
     let said = said_of(&fault);
     match fault {
         TapeFault::BadFrame(place) | TapeFault::WrongField(place) => push_frame(
-            text,
-            file,
-            place,
-            said,
+            text, file, place, said,
         ),
         TapeFault::Checksum(read, counted) => push_checksum(text, file, read, counted, said),
         TapeFault::ReadFault => Ok(()),

@@ -1,8 +1,8 @@
 //! What is said below a yes: what of the declaration is wider than the certificate needs, and what routines return with.
 
-ghost use Rattle.std.specs.Prelude.{◌<◌, IfOk};
+ghost use Rattle.std.specs.Prelude.{◌<◌, length, IfOk};
 ghost use Rattle.command_parts.specs.Messages.{plain};
-ghost use Rattle.diagnostics.specs.WhyText.{IsOnlyAfterYes};
+ghost use Rattle.diagnostics.specs.WhyText.{IsSaidAfterYes};
 
 use crate::pieces::Piece::{Address, Octal, Offset, Text};
 use crate::pieces::{Piece, push_pieces};
@@ -296,6 +296,29 @@ fn push_returns<L: MessageWriter, D: Allocator, C: Allocator>(
     Ok(())
 }
 
+/// What the declaration lists and the certificate does not need, or that it needs all.
+fn unneeded_message<A: Allocator + Copy, D: Allocator, C: Allocator>(
+    alloc: A,
+    shown: &Shown<'_, D, C>,
+) -> Result<Message<A>, AllocError>
+    ensures { IfOk result (λ message. 0 < length (plain message)) }
+{
+    let surplus = surplus_of(shown.image, shown.declaration, shown.certificate);
+    let mut text = Message::new(alloc);
+    push_unused(&mut text, shown, &surplus)?;
+    push_idle_offsets(&mut text, shown, &surplus)?;
+    push_cells(
+        &mut text,
+        b"Routines in `returns` lines that never return",
+        &shown.asserted_in_vain(),
+    )?;
+    if !text.as_bytes().is_empty() {
+        return Ok(text);
+    }
+    text.push_text(b"The certificate needs all that the declaration lists.\n")?;
+    Ok(text)
+}
+
 /// What is said below a yes: what the declaration lists and the certificate does not need, or that it needs all; and with what
 /// routines return.
 ///
@@ -308,27 +331,21 @@ pub fn surplus_message<A: Allocator + Copy, D: Allocator, C: Allocator>(
     image: &Image,
     declaration: &Declaration<D>,
     certificate: &Certificate<C>,
-) -> Result<Message<A>, AllocError> {
+) -> Result<Message<A>, AllocError>
+    // Something is always said.
+    ensures { IfOk result (λ message. 0 < length (plain message)) }
+{
     let shown = Shown {
         image,
         declaration,
         certificate,
     };
-    let surplus = surplus_of(image, declaration, certificate);
-    let mut text = Message::new(alloc);
-    push_unused(&mut text, &shown, &surplus)?;
-    push_idle_offsets(&mut text, &shown, &surplus)?;
-    push_cells(
-        &mut text,
-        b"Routines in `returns` lines that never return",
-        &shown.asserted_in_vain(),
-    )?;
-    if text.is_empty() {
-        text.push_text(b"The certificate needs all that the declaration lists.\n")?;
-    }
+    let mut text = unneeded_message(alloc, &shown)?;
+    let mut returns = Message::new(alloc);
     for routine in declaration.routines() {
-        push_returns(&mut text, &shown, routine.entry())?;
+        push_returns(&mut returns, &shown, routine.entry())?;
     }
+    text.push_message(&returns)?;
     Ok(text)
 }
 
@@ -344,7 +361,7 @@ pub fn surplus_after<A: Allocator + Copy, D: Allocator, C: Allocator>(
     certificate: &Certificate<C>,
     verdict: &Result<(), Refusal>,
 ) -> Result<Message<A>, AllocError>
-    ensures { IfOk result (λ message. IsOnlyAfterYes verdict.now (plain message)) }
+    ensures { IfOk result (λ message. IsSaidAfterYes verdict.now (plain message)) }
 {
     match verdict {
         Ok(()) => surplus_message(alloc, image, declaration, certificate),

@@ -2,7 +2,7 @@
 
 ghost use Rattle.std.specs.Prelude.{◌≡◌, ◌++◌, codes, OnOk};
 ghost use Rattle.diagnostics.specs.Pieces.{around};
-ghost use Rattle.diagnostics.specs.WhyText.{breach_text, call_text, counting_text, denied_text, exit_line, return_text, subject_text, subject_word, too_high_text, undeclared_text};
+ghost use Rattle.diagnostics.specs.WhyText.{advised_text, breach_text, call_text, counting_text, denied_text, exit_line, landing_text, moving_text, return_text, subject_text, subject_word, too_high_text, undeclared_text};
 
 use crate::pieces::Piece::{Address, Advised, Decimal, Octal, Offset, Text};
 use crate::pieces::{push_around, push_pieces};
@@ -10,7 +10,7 @@ use crate::verdicts::reason_text::landing::{push_exit, push_landing};
 use command_parts::message::{MessageWriter, push_text_and_address};
 use declaration::Subject;
 use domain::Rules;
-use reasons::{CallViolation, ReturnViolation, Violation};
+use reasons::{CallViolation, LandingFailure, ReturnViolation, Violation};
 use std::alloc::AllocError;
 use word12::Word;
 
@@ -149,6 +149,19 @@ fn push_write<L: MessageWriter>(text: &mut L, cell: Word, wrong: &[u8]) -> Resul
     push_around(text, b"it may write ", cell, wrong)
 }
 
+/// Adds a cell that may be read, though it is not on the list of reads.
+fn push_read<L: MessageWriter>(text: &mut L, cell: Word) -> Result<(), AllocError>
+    ensures { OnOk result (L.text text.new ≡ L.text text.old
+        ++ around (codes "it may read ") cell (codes ", which is not on the list of reads")) }
+{
+    push_around(
+        text,
+        b"it may read ",
+        cell,
+        b", which is not on the list of reads",
+    )
+}
+
 /// Adds of what an assertion speaks.
 fn push_subject<L: MessageWriter>(text: &mut L, subject: &Subject) -> Result<(), AllocError>
     ensures { OnOk result (L.text text.new ≡ L.text text.old ++ subject_text subject.now) }
@@ -204,6 +217,64 @@ fn counting(rules: &Rules) -> &'static [u8]
     }
 }
 
+/// Adds an address, and after it that a line with it is to be added.
+fn push_advised<'a, L: MessageWriter>(
+    text: &mut L,
+    before: &'a [u8],
+    at: Word,
+    line: &'a [u8],
+) -> Result<(), AllocError>
+    ensures { OnOk result
+        (L.text text.new ≡ L.text text.old ++ advised_text before.now at line.now) }
+{
+    push_pieces(
+        text,
+        &[
+            Text(before),
+            Address(at),
+            Text(line),
+            Advised(at),
+            Text(b"`"),
+        ],
+    )
+}
+
+/// Adds that a DCA may store a word in its routine's own entry that is out of reach of a return address.
+fn push_moving<L: MessageWriter>(
+    text: &mut L,
+    entry: Word,
+    word: Word,
+    site: Word,
+) -> Result<(), AllocError>
+    ensures { OnOk result (L.text text.new ≡ L.text text.old ++ moving_text entry word site) }
+{
+    push_pieces(
+        text,
+        &[
+            Text(b"it may store the word "),
+            Octal(word),
+            Text(b" in "),
+            Address(entry),
+            Text(b", but the word there must be the return address of the call at "),
+            Address(site),
+            Text(b" plus 0 to 77"),
+        ],
+    )
+}
+
+/// Adds where a run goes on, and why it does not land there.
+fn push_going_on<L: MessageWriter>(
+    text: &mut L,
+    at: Word,
+    landing: &LandingFailure,
+) -> Result<(), AllocError>
+    ensures { OnOk result (L.text text.new ≡ L.text text.old
+        ++ (around (codes "the run may continue at ") at (codes ", and ") ++ landing_text landing.now)) }
+{
+    push_around(text, b"the run may continue at ", at, b", and ")?;
+    push_landing(text, landing)
+}
+
 /// Adds what a word violates.
 pub fn push_violation<L: MessageWriter>(
     text: &mut L,
@@ -221,28 +292,13 @@ pub fn push_violation<L: MessageWriter>(
         Violation::CountsTooFar(entry) => {
             push_around(text, b"it may increment ", *entry, counting(rules))
         }
-        Violation::StoresInOwn(entry) => push_pieces(
+        Violation::StoresInOwn(entry) => push_advised(
             text,
-            &[
-                Text(b"it may write "),
-                Address(*entry),
-                Text(b", the routine's own entry: add `moves "),
-                Advised(*entry),
-                Text(b"`"),
-            ],
+            b"it may write ",
+            *entry,
+            b", the routine's own entry: add `moves ",
         ),
-        Violation::MovesTooFar(entry, word, site) => push_pieces(
-            text,
-            &[
-                Text(b"it may store the word "),
-                Octal(*word),
-                Text(b" in "),
-                Address(*entry),
-                Text(b", but the word there must be the return address of the call at "),
-                Address(*site),
-                Text(b" plus 0 to 77"),
-            ],
-        ),
+        Violation::MovesTooFar(entry, word, site) => push_moving(text, *entry, *word, *site),
         Violation::WritesUnlisted(cell) => {
             push_write(text, *cell, b", which is not in the routine's written set")
         }
@@ -256,26 +312,14 @@ pub fn push_violation<L: MessageWriter>(
             push_text_and_address(text, b"it returns through ", *entry)?;
             push_return(text, *entry, back)
         }
-        Violation::GoesOn(at, landing) => {
-            push_around(text, b"the run may continue at ", *at, b", and ")?;
-            push_landing(text, landing)
-        }
-        Violation::JumpsToMain(at) => push_pieces(
+        Violation::GoesOn(at, landing) => push_going_on(text, *at, landing),
+        Violation::JumpsToMain(at) => push_advised(
             text,
-            &[
-                Text(b"the run may continue at "),
-                Address(*at),
-                Text(b", which is in main's body: add `abandon "),
-                Advised(*at),
-                Text(b"`"),
-            ],
+            b"the run may continue at ",
+            *at,
+            b", which is in main's body: add `abandon ",
         ),
-        Violation::ReadsUnlisted(cell) => push_around(
-            text,
-            b"it may read ",
-            *cell,
-            b", which is not on the list of reads",
-        ),
+        Violation::ReadsUnlisted(cell) => push_read(text, *cell),
         Violation::DeniesAssertion(subject, word) => push_denied(text, subject, *word, b"holds"),
     }
 }

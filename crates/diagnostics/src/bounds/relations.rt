@@ -133,8 +133,8 @@ impl<A: Allocator, D: Allocator, C: Allocator> LoopTraversal<'_, A, D, C> {
     }
 
     /// What is known behind an instruction, by the distance there.
-    fn behind(&self, from: &LoopState, distance: Option<Word>, to: Word) -> LoopState {
-        let holds = distance == Some(self.relation.more);
+    fn behind(&self, from: &LoopState, distance: &Option<Word>, to: Word) -> LoopState {
+        let holds = *distance == Some(self.relation.more);
         let lost_at = match (holds, from.lost_at) {
             (true, _) => None,
             (false, None) => Some(from.at),
@@ -142,7 +142,7 @@ impl<A: Allocator, D: Allocator, C: Allocator> LoopTraversal<'_, A, D, C> {
         };
         LoopState {
             at: to,
-            distance,
+            distance: *distance,
             lost_at,
             restored: from.restored || (holds && from.lost_at.is_some()),
         }
@@ -190,12 +190,12 @@ impl<A: Allocator, D: Allocator, C: Allocator> LoopTraversal<'_, A, D, C> {
         outcome.targets.put(&mut targets);
         match outcome.kind {
             OutcomeKind::Goes if stores_through_pointer(word) => {
-                self.spread(from, from.distance, &targets)
+                self.spread(from, &from.distance, &targets)
             }
             OutcomeKind::Goes => {
                 let (pointer, cell) = (self.relation.pointer, self.relation.cell);
                 let distance = distance_in(self.case.image, &outcome.fact, pointer, cell);
-                self.spread(from, distance, &targets)
+                self.spread(from, &distance, &targets)
             }
             OutcomeKind::Calls => self.call(from, &targets),
             OutcomeKind::Returns | OutcomeKind::Nothing => Ok(()),
@@ -206,7 +206,7 @@ impl<A: Allocator, D: Allocator, C: Allocator> LoopTraversal<'_, A, D, C> {
     fn spread(
         &mut self,
         from: &LoopState,
-        distance: Option<Word>,
+        distance: &Option<Word>,
         targets: &WordSet,
     ) -> Result<(), AllocError> {
         for to in targets.iter() {
@@ -226,7 +226,7 @@ impl<A: Allocator, D: Allocator, C: Allocator> LoopTraversal<'_, A, D, C> {
                 || routine.writes.contains(self.relation.cell);
             let distance = if is_written { None } else { from.distance };
             let places = successors_of_call(self.case.declaration, entry, from.at);
-            self.spread(from, distance, &places)?;
+            self.spread(from, &distance, &places)?;
         }
         Ok(())
     }

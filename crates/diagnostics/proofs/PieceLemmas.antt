@@ -1,5 +1,5 @@
 -- A text that grows by one piece after another.
-use Rattle.std.proofs.Common.{ℕ, ◌≡◌, ◌<◌, ◌≤◌, ◌+◌, ◌++◌, List, [], ◌∷◌, length, map, take, get_or, append_assoc, append-nil, ap, ◌∙◌, refl, sym}
+use Rattle.std.proofs.Common.{ℕ, ◌≡◌, ◌<◌, ◌≤◌, ◌+◌, ◌++◌, List, [], ◌∷◌, length, map, take, get_or, append_assoc, append-nil, length-append, arith, ap, ◌∙◌, refl, sym}
 use Rattle.std.specs.Prelude.{flat_map}
 use Rattle.std.proofs.lemmas.List.{take_all, take_more}
 use Rattle.std.proofs.lemmas.List.Concat.{flat_map-append}
@@ -21,6 +21,14 @@ known_joined old mid new piece a b known first second = joined old mid new a b (
 -- A piece behind nothing
 pub behind_nothing : (start new a : List ℕ) → start ≡ [] → new ≡ start ++ a → new ≡ a
 behind_nothing start new a none is = is ∙ ap (λ (t : List ℕ). t ++ a) none
+
+-- A text behind which more was put still has something.
+pub still_told : (old more new : List ℕ) → new ≡ old ++ more → 0 < length old → 0 < length new
+still_told old more new is told = omega (arith, ap length is, length-append old more)
+
+-- A text behind which something was put has something.
+pub now_told : (old rest new : List ℕ) (first : ℕ) → new ≡ old ++ first ∷ rest → 0 < length new
+now_told old rest new first is = omega (arith, ap length is, length-append old (first ∷ rest))
 
 -- No piece was added.
 pub none_pushed : (old : List ℕ) → old ≡ old ++ []

@@ -12,7 +12,6 @@ use Rattle.instruct.specs.declared.Operation.TheVariants as operation
 use Rattle.bin_tape.specs.Image.{word_at}
 use Rattle.processor.specs.Machine.{is_auto_index}
 use Rattle.declaration.specs.Declaration.{Declaration, IsListed, Routine}
-use Rattle.domain.specs.Facts.{Fact}
 
 -- The word is a memory reference.
 abbrev pub is_reference : ℕ → Bool
@@ -182,12 +181,7 @@ pub record SaysPointer (image : List (Option ℕ)) (d : Declaration) (at : ℕ) 
   pub enough_is : SaysSufficient image d at cell known (told ++ codes " there\n") enough
   pub lost_is : SaysLost image d cell enough new
 
--- Nothing is said of the pointer of the instruction at an address, since there is none or the draft has no fact there.
-pub record SaysNoBound (image : List (Option ℕ)) (d : Declaration) (facts : List Fact) (at : ℕ) (old new : List ℕ) : Type 0 where
-  pub same : new ≡ old
-  pub none : (cell : ℕ) → IsPointer image d at cell → facts ≡ []
-
--- A text became this one by the lines on the pointer of the instruction at an address, where it has one and the draft has these facts,
--- or by nothing. That the words that are named are those that the draft leaves to the pointer is tested.
-abbrev pub SaysBound : List (Option ℕ) → Declaration → List Fact → ℕ → List ℕ → List ℕ → Type 0
-SaysBound image d facts at old new = SaysNoBound image d facts at old new ⊎ SaysPointer image d at old new
+-- A text became this one by nothing, or by the lines on the pointer of the instruction at an address. That the words that are named
+-- are those that the draft leaves to the pointer is tested.
+abbrev pub SaysBound : List (Option ℕ) → Declaration → ℕ → List ℕ → List ℕ → Type 0
+SaysBound image d at old new = (new ≡ old) ⊎ SaysPointer image d at old new

@@ -2,10 +2,9 @@
 //! enough, and the last place where fewer were known. That the draft leaves these words to it, and that fewer were known there, is tested,
 //! not proved.
 
-ghost use Rattle.std.specs.Prelude.{ℕ, ◌≡◌, ◌++◌, OnOk, IfSome, IfNone};
+ghost use Rattle.std.specs.Prelude.{◌≡◌, ◌++◌, OnOk, IfSome};
 ghost use Rattle.wordset.specs.Lanes.{words};
 ghost use Rattle.declaration.specs.DeclarationInCode.{meaning};
-ghost use Rattle.certificate_lines.specs.CertificateInCode.{claims};
 ghost use Rattle.diagnostics.specs.BoundText.{IsPointer, LosesBound, SaysBound, SaysLost, SaysSufficient, SaysTest, place_text, relation_line};
 
 mod draft_facts;
@@ -27,7 +26,7 @@ use command_parts::message::{MessageWriter, push_text_and_address};
 use declaration::Declaration;
 use domain::Location;
 use instruct::{name, refers_indirectly, target};
-use judge::{Case, Claims};
+use judge::Case;
 use std::alloc::{AllocError, Allocator};
 use word12::Word;
 use wordset::WordSet;
@@ -38,8 +37,7 @@ const ADDRESSES: usize = 4096;
 /// The variable by which the instruction at an address refers to memory, if it does, except for a
 /// return.
 fn pointer_at<D: Allocator>(image: &Image, declaration: &Declaration<D>, at: Word) -> Option<Word>
-    ensures found { IfSome result (λ cell. IsPointer image.now (meaning declaration.now) at cell) }
-    ensures none { IfNone result ((cell : ℕ) → IsPointer image.now (meaning declaration.now) at cell → ⊥) }
+    ensures { IfSome result (λ cell. IsPointer image.now (meaning declaration.now) at cell) }
 {
     let word = image.get(at)?;
     let named = target(word, at);
@@ -129,16 +127,16 @@ pub fn push_bound<A: Allocator + Copy, L: MessageWriter, D: Allocator, C: Alloca
     draft: &Certificate<C>,
     at: Word,
 ) -> Result<(), AllocError>
-    ensures { OnOk result (SaysBound image.now (meaning declaration.now)
-        ((claims draft.now).facts at) at (L.text text.old) (L.text text.new)) }
+    ensures { OnOk result (SaysBound image.now (meaning declaration.now) at
+        (L.text text.old) (L.text text.new)) }
 {
     let Some(pointer) = pointer_at(image, declaration, at) else {
         return Ok(());
     };
-    if draft.count_facts(at, 0) == 0 {
+    let mut known = DraftFacts::of(image, draft);
+    if !known.has_fact(at) {
         return Ok(());
     }
-    let mut known = DraftFacts::of(image, draft);
     let case = Case {
         image,
         declaration,

@@ -51,22 +51,17 @@ pub(crate) fn push_declaration<A: Allocator>(
             let form = declaration_form(line_of(file.bytes, number));
             push_formed(text, file, number, form)
         }
-        DeclarationFault::TwoStarts(number) | DeclarationFault::TwoProfiles(number) => push_formed(
-            text, file, number, said,
-        ),
-        DeclarationFault::NoStart | DeclarationFault::StartNotInMain | DeclarationFault::TooMany =>
-            push_said(text, file, said),
-        DeclarationFault::Overlap(at) | DeclarationFault::Misplaced(at) => push_address(
-            text, file, "", at, said,
-        ),
+        DeclarationFault::TwoStarts(number) => push_formed(text, file, number, said),
+        DeclarationFault::TwoProfiles(number) => push_formed(text, file, number, said),
+        DeclarationFault::NoStart => push_said(text, file, said),
+        DeclarationFault::Overlap(at) => push_address(text, file, "", at, said),
         DeclarationFault::EntryInAutoIndex(at) => push_address(text, file, "the entry ", at, said),
-        DeclarationFault::HaltNotInBody(at) => push_address(
-            text,
-            file,
-            "the stop or pause ",
-            at,
-            said,
-        ),
+        DeclarationFault::StartNotInMain => push_said(text, file, said),
+        DeclarationFault::HaltNotInBody(at) => {
+            push_address(text, file, "the stop or pause ", at, said)
+        }
+        DeclarationFault::Misplaced(at) => push_address(text, file, "", at, said),
+        DeclarationFault::TooMany => push_said(text, file, said),
         DeclarationFault::NoMemory => Ok(()),
     }
 }

@@ -1,7 +1,7 @@
 //! What a declaration leaves out, as far as that is seen by the tape and the declaration alone: no
 //! certificate can fix it, if a run comes there.
 
-ghost use Rattle.std.specs.Prelude.{◌≡◌, ◌++◌, ℕ, List, Option, Some, IfSome, IfNone, OnOk, false, true};
+ghost use Rattle.std.specs.Prelude.{◌≡◌, ◌++◌, ℕ, List, Option, Some, IfSome, IfNone, OnOk, codes, false, true};
 ghost use Rattle.instruct.specs.Bits.{is_indirect};
 ghost use Rattle.instruct.specs.Instructions.{Dca, Jms, Jmp, instruction_of, kind_of, meaning_of, reference};
 ghost use Rattle.instruct.specs.declared.Instruction.TheVariants.{Memory, Unsupported};
@@ -489,6 +489,19 @@ fn push_omission<L: MessageWriter>(
     push_remedy_line(text, at, omission)
 }
 
+/// Adds the line of what to do about what is omitted at an address, if the instruction is intended.
+fn push_intended<L: MessageWriter>(
+    text: &mut L,
+    at: Word,
+    omission: &Omission,
+) -> Result<(), AllocError>
+    ensures { OnOk result (L.text text.new ≡
+        L.text text.old ++ (codes "if this is intended, " ++ remedy_line at omission.now)) }
+{
+    text.push_text(b"if this is intended, ")?;
+    push_remedy_line(text, at, omission)
+}
+
 /// Adds what is said of the instruction at which a search is stuck, where this is omitted. Where the reason already names a line
 /// that would allow the instruction, nothing is added.
 fn push_stuck<L: MessageWriter>(
@@ -506,16 +519,13 @@ fn push_stuck<L: MessageWriter>(
         | Omission::CallsAutoIndex(_)
         | Omission::JumpsAcross(_)
         | Omission::GoesAcross(_) => push_remedy_line(text, at, omission),
-        Omission::Stores(_)
-        | Omission::Steps(_)
-        | Omission::Calls(_)
-        | Omission::CallsIntoBody(_)
-        | Omission::Jumps(_)
-        | Omission::Halts
-        | Omission::GoesOn(_) => {
-            text.push_text(b"if this is intended, ")?;
-            push_remedy_line(text, at, omission)
+        Omission::Stores(_) | Omission::Steps(_) | Omission::Calls(_) => {
+            push_intended(text, at, omission)
         }
+        Omission::CallsIntoBody(_) => push_intended(text, at, omission),
+        Omission::Jumps(_) => push_intended(text, at, omission),
+        Omission::GoesOn(_) => push_intended(text, at, omission),
+        Omission::Halts => push_intended(text, at, omission),
     }
 }
 

@@ -45,16 +45,15 @@ pub(crate) fn push_tape<A: Allocator>(
 {
     let said = said_of(&fault);
     match fault {
-        TapeFault::BadFrame(place) | TapeFault::WrongField(place) => push_frame(
-            text, file, place, said,
-        ),
+        TapeFault::TooLong => push_said(text, file, said),
+        TapeFault::NoWord => push_said(text, file, said),
+        TapeFault::NoOrigin => push_said(text, file, said),
+        TapeFault::BadFrame(place) => push_frame(text, file, place, said),
+        TapeFault::WrongField(place) => push_frame(text, file, place, said),
+        TapeFault::Truncated => push_said(text, file, said),
+        TapeFault::NoChecksum => push_said(text, file, said),
         TapeFault::Checksum(read, counted) => push_checksum(text, file, read, counted, said),
         TapeFault::ReadFault => Ok(()),
-        TapeFault::TooLong
-        | TapeFault::NoWord
-        | TapeFault::NoOrigin
-        | TapeFault::Truncated
-        | TapeFault::NoChecksum => push_said(text, file, said),
     }
 }
 

@@ -1,7 +1,7 @@
 //! Which fact it is, where several stand at an address, and what tells it from the others.
 
-ghost use Rattle.std.specs.Prelude.{◌≡◌, ◌++◌, OnOk};
-ghost use Rattle.diagnostics.specs.WhyText.{mark_text, marks_text, told_mark, which_text};
+ghost use Rattle.std.specs.Prelude.{◌≡◌, ◌++◌, codes, decimal, OnOk};
+ghost use Rattle.diagnostics.specs.WhyText.{from_one, mark_text, marks_text, told_mark, which_text};
 
 use crate::pieces::Piece::{Address, Decimal, Octal, Text};
 use crate::pieces::push_pieces;
@@ -53,6 +53,38 @@ fn push_marks<L: MessageWriter>(text: &mut L, telling: &ReasonContext) -> Result
     Ok(())
 }
 
+/// Adds the place of a fact, counted from 1, among so many at an address.
+fn push_place<L: MessageWriter>(text: &mut L, index: usize, count: usize) -> Result<(), AllocError>
+    ensures { OnOk result (L.text text.new ≡ L.text text.old ++ (codes "fact "
+        ++ decimal (from_one index) ++ codes " of " ++ decimal count ++ codes " at this address")) }
+{
+    push_pieces(
+        text,
+        &[
+            Text(b"fact "),
+            Decimal(index.saturating_add(1)),
+            Text(b" of "),
+            Decimal(count),
+            Text(b" at this address"),
+        ],
+    )
+}
+
+/// Adds which fact it is of several at an address.
+fn push_several<L: MessageWriter>(
+    text: &mut L,
+    telling: &ReasonContext,
+    index: usize,
+) -> Result<(), AllocError>
+    ensures { OnOk result (L.text text.new ≡ L.text text.old ++ (codes "fact "
+        ++ decimal (from_one index) ++ codes " of " ++ decimal telling.now.count
+        ++ codes " at this address" ++ marks_text telling.now ++ codes ": ")) }
+{
+    push_place(text, index, telling.count)?;
+    push_marks(text, telling)?;
+    text.push_text(b": ")
+}
+
 /// Adds which fact it is, where several stand at the address.
 pub fn push_which<L: MessageWriter>(
     text: &mut L,
@@ -68,16 +100,5 @@ pub fn push_which<L: MessageWriter>(
     if telling.count < 2 {
         return text.push_text(b"");
     }
-    push_pieces(
-        text,
-        &[
-            Text(b"fact "),
-            Decimal(index.saturating_add(1)),
-            Text(b" of "),
-            Decimal(telling.count),
-            Text(b" at this address"),
-        ],
-    )?;
-    push_marks(text, telling)?;
-    text.push_text(b": ")
+    push_several(text, telling, *index)
 }

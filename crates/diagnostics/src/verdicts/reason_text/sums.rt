@@ -1,6 +1,8 @@
 //! Sums and differences in words.
 
 ghost use Rattle.std.specs.Prelude.{◌≡◌, ◌++◌, codes, if◌then◌else◌, [], map, OnOk};
+ghost use Rattle.word12.specs.Words.{octal_text};
+ghost use Rattle.wordset.specs.Words.{minus};
 ghost use Rattle.domain.specs.LocationsInCode.{location_of};
 ghost use Rattle.domain.specs.InCode.{sum_of, summand_of, term_of};
 ghost use Rattle.diagnostics.specs.WhyText.{added_text, coefficient_text, difference_may_be, equation_text, further_text, is_minus, more_text, name_text, sum_is, sum_may_be, sum_text, summand_text, term_text, word_told};
@@ -122,6 +124,21 @@ fn is_difference(sum: &Sum) -> bool
     sum.get(0).coefficient.index() == 1 && sum.get(1).coefficient.index() == 4095
 }
 
+/// Adds that one word may be so much less than another as this one takes back.
+fn push_less<L: MessageWriter>(text: &mut L, word: Word) -> Result<(), AllocError>
+    ensures { OnOk result (L.text text.new ≡ L.text text.old
+        ++ (codes " may be " ++ octal_text (minus 0 word) ++ codes " less than ")) }
+{
+    push_pieces(
+        text,
+        &[
+            Text(b" may be "),
+            Octal(negated(word)),
+            Text(b" less than "),
+        ],
+    )
+}
+
 /// Adds that one word may be more or less than another, or equal it.
 fn push_more<L: MessageWriter>(text: &mut L, word: Word) -> Result<(), AllocError>
     ensures { OnOk result (L.text text.new ≡ L.text text.old ++ more_text word) }
@@ -135,14 +152,7 @@ fn push_more<L: MessageWriter>(text: &mut L, word: Word) -> Result<(), AllocErro
             &[Text(b" may be "), Octal(word), Text(b" more than ")],
         );
     }
-    push_pieces(
-        text,
-        &[
-            Text(b" may be "),
-            Octal(negated(word)),
-            Text(b" less than "),
-        ],
-    )
+    push_less(text, word)
 }
 
 /// Adds that a term may be a word more than another one.

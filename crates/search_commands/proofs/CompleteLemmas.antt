@@ -1,5 +1,5 @@
 -- What `complete` writes.
-use Rattle.std.proofs.Common.{ℕ, ◌≡◌, ◌||◌, Bool, true, List, Option, refl, inl, inr, sym, subst, take, arith}
+use Rattle.std.proofs.Common.{ℕ, ◌≡◌, ◌||◌, Bool, true, false, List, Option, refl, inl, inr, sym, subst, take, arith}
 use Rattle.std.specs.Prelude.{Some, None, IfSome}
 use Rattle.wordset.specs.Words.{Words}
 use Rattle.peripherals.specs.Loading.{image_of}
@@ -26,12 +26,14 @@ extends_own d = record {
   start_is = refl;
   profile_is = refl;
   cells = λ a small. record { body = λ r inside. inside; entry = λ is. is; offset = λ o low is. is };
-  variables = λ v small is. is;
-  stops = λ v small is. is;
-  pauses = λ v small is. is;
+  sets = record {
+    variables = λ v small is. is;
+    stops = λ v small is. is;
+    pauses = λ v small is. is;
+    moves = λ v small is. is;
+    abandon = λ v small is. is;
+  };
   reads = keeps_own d.reads;
-  moves = λ v small is. is;
-  abandon = λ v small is. is;
 }
 
 so_left : (a b : Bool) → a ≡ true → (a || b) ≡ true
@@ -65,10 +67,11 @@ own_extension given proposed text declares = (
 )
 
 -- with a certificate for the declaration itself
-pub own_completes : (image : List (Option ℕ)) (d : Declaration) (text : List ℕ) → Declares text d → IsSafe (image_of image) d →
-    Completes (Some text) image d Done text
-own_completes image d text declares safe = record {
+pub own_completes : (reads : Bool) (image : List (Option ℕ)) (d : Declaration) (text : List ℕ) → Declares text d → IsSafe (image_of image) d →
+    Completes (Some text) reads image d Done text
+own_completes reads image d text declares safe = record {
   is = record { declaration = d; declares = declares; extends = extends_own d; keeps = unchanged text };
+  unlisted = λ off a small listed. listed;
   ends = inl refl;
   safe = λ done. safe;
 }
@@ -83,11 +86,17 @@ pub lacking_completes : (image : List (Option ℕ)) (bytes : List ℕ) (given pr
     CompletesBy bytes image given proposed Refused text
 lacking_completes image bytes given proposed text is = record { is = is; ends = inr refl; safe = λ done. refused_not_done done }
 
--- what completes a declaration by what is proposed completes it
-pub completes_by : (image : List (Option ℕ)) (bytes : List ℕ) (given proposed : Declaration) (status : Status) (text : List ℕ) → CompletesBy bytes image given proposed status text →
-    Completes (Some bytes) image given status text
-completes_by image bytes given proposed status text by = record {
+listed_before : (given : Bool) (proposed : Option Words) (a : ℕ) → proposed ≡ None → (given || lists proposed a) ≡ true → given ≡ true
+listed_before true proposed a none listed = refl
+listed_before false proposed a none listed = let P : Option Words → Type 0 = λ p. lists p a ≡ true in subst P none listed
+
+-- what completes a declaration by what is proposed completes it; reads are listed in what is proposed only if that is
+-- requested
+pub completes_by : (reads : Bool) (image : List (Option ℕ)) (bytes : List ℕ) (given proposed : Declaration) (status : Status) (text : List ℕ) →
+    (reads ≡ false → proposed.reads ≡ None) → CompletesBy bytes image given proposed status text → Completes (Some bytes) reads image given status text
+completes_by reads image bytes given proposed status text off by = record {
   is = record { declaration = by.is.0; declares = by.is.1.declares; extends = by.is.1.extends; keeps = by.is.1.keeps };
+  unlisted = λ is a small listed. listed_before (lists given.reads a) proposed.reads a (off is) ((by.is.1.adds a small).read listed);
   ends = by.ends;
   safe = by.safe;
 }
@@ -103,10 +112,11 @@ keeps_source None bytes text is keeps = tt
 keeps_source (Some all) bytes text is keeps = let P : List ℕ → Type 0 = λ t. KeepsLines t text in subst P (sym is) keeps
 
 -- so it completes the declaration of the source
-pub completes_source : (source : Option (List ℕ)) (bytes : List ℕ) (image : List (Option ℕ)) (given : Declaration) (status : Status) (text : List ℕ)
-    → IfSome source (λ all. all ≡ bytes) → Completes (Some bytes) image given status text → Completes source image given status text
-completes_source source bytes image given status text all is = record {
+pub completes_source : (source : Option (List ℕ)) (bytes : List ℕ) (reads : Bool) (image : List (Option ℕ)) (given : Declaration) (status : Status) (text : List ℕ)
+    → IfSome source (λ all. all ≡ bytes) → Completes (Some bytes) reads image given status text → Completes source reads image given status text
+completes_source source bytes reads image given status text all is = record {
   is = record { declaration = is.is.declaration; declares = is.is.declares; extends = is.is.extends; keeps = keeps_source source bytes text all is.is.keeps };
+  unlisted = is.unlisted;
   ends = is.ends;
   safe = is.safe;
 }

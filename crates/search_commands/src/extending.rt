@@ -1,11 +1,10 @@
 //! Whether one declaration extends another.
 
-ghost use Rattle.std.specs.Prelude.{◌≡◌, true};
+ghost use Rattle.std.specs.Prelude.{◌≡◌, ◌↔◌, IsTrue};
 ghost use Rattle.std.specs.Option.{option_map};
 ghost use Rattle.declaration.specs.DeclarationInCode.{meaning};
 ghost use Rattle.wordset.specs.Lanes.{words};
-ghost use Rattle.wordset.specs.Words.{IsWithin};
-ghost use Rattle.search_commands.specs.Extending.{Extends, KeepsReads};
+ghost use Rattle.search_commands.specs.Extending.{Extends, KeepsReads, KeepsSets};
 
 use declaration::Declaration;
 use proposer::{is_alike, keeps_cells};
@@ -14,7 +13,7 @@ use wordset::WordSet;
 
 /// Whether each listed read is still listed, if reads are listed, and reads are still not listed otherwise.
 fn keeps_reads(given: Option<&WordSet>, more: Option<&WordSet>) -> bool
-    ensures { result ≡ true → KeepsReads
+    ensures { IsTrue result ↔ KeepsReads
         (option_map (λ set. words set.now) given.entry)
         (option_map (λ set. words set.now) more.entry) }
 {
@@ -30,13 +29,7 @@ fn keeps_reads(given: Option<&WordSet>, more: Option<&WordSet>) -> bool
 /// Whether all variables and halts are kept, and routines may still move their return words, and calls may still be
 /// abandoned, wherever that was allowed.
 fn keeps_sets<A: Allocator, B: Allocator>(given: &Declaration<A>, more: &Declaration<B>) -> bool
-    ensures variables { result ≡ true →
-        IsWithin (meaning given.now).variable (meaning more.now).variable }
-    ensures stops { result ≡ true → IsWithin (meaning given.now).stop (meaning more.now).stop }
-    ensures pauses { result ≡ true → IsWithin (meaning given.now).pause (meaning more.now).pause }
-    ensures moves { result ≡ true → IsWithin (meaning given.now).moves (meaning more.now).moves }
-    ensures abandon { result ≡ true →
-        IsWithin (meaning given.now).abandon (meaning more.now).abandon }
+    ensures { IsTrue result ↔ KeepsSets (meaning given.now) (meaning more.now) }
 {
     given.variables().is_subset(more.variables())
         && given.stops().is_subset(more.stops())
@@ -47,7 +40,7 @@ fn keeps_sets<A: Allocator, B: Allocator>(given: &Declaration<A>, more: &Declara
 
 /// Whether the second declaration extends the first.
 pub fn extends<A: Allocator, B: Allocator>(given: &Declaration<A>, more: &Declaration<B>) -> bool
-    ensures { result ≡ true → Extends (meaning given.now) (meaning more.now) }
+    ensures { IsTrue result ↔ Extends (meaning given.now) (meaning more.now) }
 {
     if !is_alike(given, more) {
         return false;

@@ -7,6 +7,7 @@ ghost use Rattle.declaration.specs.DeclarationInCode.{meaning};
 ghost use Rattle.declaration.specs.Text.{Declares};
 ghost use Rattle.search_commands.specs.Keeping.{KeepsLines};
 ghost use Rattle.search_commands.specs.Refining.{IsNoWider, IsRefined};
+ghost use Rattle.search_commands.specs.SearchFaults.{IsRefineFault};
 
 use crate::adding::adds_only;
 use crate::completing::end_text;
@@ -225,7 +226,8 @@ pub fn tightened<A: Allocator + Copy>(
     image: &Image,
     text: &[u8],
 ) -> Result<Refinement<A>, Fault>
-    ensures { IfOk result (λ refined. IsRefined image.now text.now refined.text.items) }
+    ensures refined { IfOk result (λ refined. IsRefined image.now text.now refined.text.items) }
+    ensures faults { IfErr result (IsRefineFault text.now) }
 {
     let given = Declaration::parse(alloc, text)?;
     let Ok(certificate) = certificate_for(alloc, image, &given)? else {
@@ -270,6 +272,7 @@ pub fn with_returns<A: Allocator + Copy>(
 ) -> Result<Refinement<A>, Fault>
     ensures refined { IfOk result (λ refined. IsRefined image.now text.now refined.text.items) }
     ensures keeps { IfOk result (λ refined. KeepsLines text.now refined.text.items) }
+    ensures faults { IfErr result (IsRefineFault text.now) }
 {
     let given = Declaration::parse(alloc, text)?;
     let Ok(certificate) = certificate_for(alloc, image, &given)? else {

@@ -1,7 +1,6 @@
 -- A declaration that is as wide as one that is as wide as a third is as wide as that.
-use Rattle.std.proofs.Common.{ℕ, ◌≡◌, ◌∙◌, Bool, false, List, Option, inl, inr, sym}
-use Rattle.std.specs.Prelude.{◌↔◌, IsTrue}
-use Rattle.std.proofs.lemmas.Bool.{or_cases, false≢true, true≢false}
+use Rattle.std.proofs.Common.{ℕ, ◌∙◌, List, Option, inl, inr}
+use Rattle.std.proofs.lemmas.Bool.{or_cases}
 use Rattle.wordset.specs.Words.{IsWithin, Words, union}
 use Rattle.declaration.specs.Declaration.{Declaration}
 use Rattle.declaration.specs.DeclarationInCode.{Kept, meaning}
@@ -49,7 +48,3 @@ supersedes_on image given mid more first second = record {
   wide = as_wide_on (meaning given) (meaning mid.declaration) (meaning more.declaration) first.wide second.wide;
   shown = second.shown;
 }
-
--- What follows from something is refuted where the latter is.
-pub fails_with : {P Q : Type 0} (test : Bool) → test ≡ false → (P → IsTrue test) → (Q → P) → IsTrue false ↔ Q
-fails_with test fails told weaker = (λ q. absurd (false≢true q), λ each. absurd (true≢false (sym (told (weaker each)) ∙ fails)))

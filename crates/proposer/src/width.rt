@@ -1,6 +1,6 @@
 //! Whether one declaration is as wide as another one.
 
-ghost use Rattle.std.specs.Prelude.{ℕ, ◌≡◌, ◌<◌, ◌↔◌, IsTrue, true};
+ghost use Rattle.std.specs.Prelude.{ℕ, ◌≡◌, ◌<◌, true};
 ghost use Rattle.declaration.specs.Declaration.{Routine};
 ghost use Rattle.declaration.specs.DeclarationInCode.{meaning};
 ghost use Rattle.wordset.specs.Words.{IsWithin, union};
@@ -10,21 +10,14 @@ use declaration::{Declaration, Owner};
 use std::alloc::Allocator;
 use word12::Word;
 
-/// Whether what one declaration says is said by another one too.
-fn is_kept(given: bool, more: bool) -> bool
-    ensures { IsTrue result ↔ (given ≡ true → more ≡ true) }
-{
-    !given || more
-}
-
 /// Whether the body that has a cell still has it.
 fn keeps_body<A: Allocator, B: Allocator>(
     given: &Declaration<A>,
     more: &Declaration<B>,
     at: Word,
 ) -> bool
-    ensures { IsTrue result ↔ ((r : Routine) →
-        (meaning given.now).body r at ≡ true → (meaning more.now).body r at ≡ true) }
+    ensures { result ≡ true → (r : Routine) →
+        (meaning given.now).body r at ≡ true → (meaning more.now).body r at ≡ true }
 {
     let Some(owner) = given.owner_of(at) else {
         return true;
@@ -41,15 +34,12 @@ fn keeps_offsets<A: Allocator, B: Allocator>(
     more: &Declaration<B>,
     entry: Word,
 ) -> bool
-    ensures { IsTrue result ↔ ((o : ℕ) → o < 64 →
-        (meaning given.now).offset entry o ≡ true → (meaning more.now).offset entry o ≡ true) }
+    ensures { result ≡ true → (o : ℕ) → o < 64 →
+        (meaning given.now).offset entry o ≡ true → (meaning more.now).offset entry o ≡ true }
 {
     for index in 0..64usize {
         let offset = Word::from_index(index);
-        if !is_kept(
-            given.has_offset(entry, offset),
-            more.has_offset(entry, offset),
-        ) {
+        if given.has_offset(entry, offset) && !more.has_offset(entry, offset) {
             return false;
         }
     }
@@ -62,9 +52,9 @@ fn keeps_cell<A: Allocator, B: Allocator>(
     more: &Declaration<B>,
     at: Word,
 ) -> bool
-    ensures { IsTrue result ↔ KeepsCell (meaning given.now) (meaning more.now) at }
+    ensures { result ≡ true → KeepsCell (meaning given.now) (meaning more.now) at }
 {
-    if !is_kept(given.is_entry(at), more.is_entry(at)) {
+    if given.is_entry(at) && !more.is_entry(at) {
         return false;
     }
     if !keeps_body(given, more, at) {
@@ -79,8 +69,8 @@ pub fn keeps_cells<A: Allocator, B: Allocator>(
     given: &Declaration<A>,
     more: &Declaration<B>,
 ) -> bool
-    ensures { IsTrue result ↔ ((a : ℕ) → a < 4096 →
-        KeepsCell (meaning given.now) (meaning more.now) a) }
+    ensures { result ≡ true → (a : ℕ) → a < 4096 →
+        KeepsCell (meaning given.now) (meaning more.now) a }
 {
     for index in 0..4096usize {
         if !keeps_cell(given, more, Word::from_index(index)) {
@@ -92,8 +82,8 @@ pub fn keeps_cells<A: Allocator, B: Allocator>(
 
 /// Whether two declarations have the same start and are for the same machine.
 pub fn is_alike<A: Allocator, B: Allocator>(given: &Declaration<A>, more: &Declaration<B>) -> bool
-    ensures { IsTrue result ↔ (((meaning more.now).start ≡ (meaning given.now).start) ×
-        ((meaning more.now).profile ≡ (meaning given.now).profile)) }
+    ensures start { result ≡ true → (meaning more.now).start ≡ (meaning given.now).start }
+    ensures profile { result ≡ true → (meaning more.now).profile ≡ (meaning given.now).profile }
 {
     more.start() == given.start() && more.profile() == given.profile()
 }

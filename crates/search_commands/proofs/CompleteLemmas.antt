@@ -10,60 +10,42 @@ use Rattle.command_parts.specs.declared.status.Status.{Status}
 use Rattle.command_parts.specs.declared.status.Status.TheVariants.{Done, Refused}
 use Rattle.command_parts.proofs.InputLemmas.{all_or_more}
 use Rattle.search_commands.proofs.DeclareLemmas.{refused_not_done}
-use Rattle.search_commands.specs.Extending.{Extends, KeepsReads}
-use Rattle.search_commands.specs.Adding.{lists}
+use Rattle.search_commands.specs.Adding.{AddsOnly, IsNoWider, lists}
 use Rattle.search_commands.specs.CompleteText.{Completes, CompletesBy, IsExtensionBy, IsFit}
 use Rattle.search_commands.specs.Keeping.{KeepsLines}
 use Rattle.search_commands.specs.Keeping.KeepsLines.{unchanged}
 
-keeps_own : (reads : Option Words) → KeepsReads reads reads
-keeps_own None = refl
-keeps_own (Some cells) = λ v small listed. listed
-
--- a declaration extends itself
-extends_own : (d : Declaration) → Extends d d
-extends_own d = record {
-  start_is = refl;
-  profile_is = refl;
-  cells = λ a small. record { body = λ r inside. inside; entry = λ is. is; offset = λ o low is. is };
-  sets = record {
-    variables = λ v small is. is;
-    stops = λ v small is. is;
-    pauses = λ v small is. is;
-    moves = λ v small is. is;
-    abandon = λ v small is. is;
-  };
-  reads = keeps_own d.reads;
-}
-
 so_left : (a b : Bool) → a ≡ true → (a || b) ≡ true
 so_left a b is = rw is refl
+
+-- a declaration allows nothing that it does not allow, whatever is proposed
+adds_nothing : (d proposed : Declaration) → AddsOnly d proposed d
+adds_nothing d proposed = λ a small. record {
+  body = λ r is. so_left (d.body r a) (proposed.body r a) is;
+  offset = λ o low is. so_left (d.offset a o) (proposed.offset a o) is;
+  entry = λ is. so_left (d.entry a) (proposed.entry a) is;
+  variable = λ is. so_left (d.variable a) (proposed.variable a) is;
+  stop = λ is. so_left (d.stop a) (proposed.stop a) is;
+  pause = λ is. so_left (d.pause a) (proposed.pause a) is;
+  read = λ is. so_left (lists d.reads a) (lists proposed.reads a) is;
+  moves = λ is. so_left (d.moves a) (proposed.moves a) is;
+  abandon = λ is. so_left (d.abandon a) (proposed.abandon a) is;
+}
+
+-- so it extends itself
+extends_own : (d : Declaration) → IsNoWider d d
+extends_own d = record { start_is = refl; profile_is = refl; adds = adds_nothing d d; listed = refl }
 
 -- what is found to be such an extension shows that the text is fit
 pub fit_if : {D : Type 0} (declared : D → Declaration) (bytes : List ℕ) (given proposed : Declaration) (text : List ℕ) (found : Option D) (d : D) → found ≡ Some d →
     IfSome found (λ more. IsExtensionBy bytes given proposed (declared more) text) → IsFit bytes given proposed text
 fit_if declared bytes given proposed text found d is extends = (declared d, rw is at extends)
 
--- so its text is that of an extension of it, in which nothing is added
+-- and its text is that of an extension of it, in which nothing is added
 pub own_extension : (given proposed : Declaration) (text : List ℕ) → Declares text given → IsFit text given proposed text
 own_extension given proposed text declares = (
   given,
-  record {
-    declares = declares;
-    extends = extends_own given;
-    adds = λ a small. record {
-      body = λ r is. so_left (given.body r a) (proposed.body r a) is;
-      offset = λ o low is. so_left (given.offset a o) (proposed.offset a o) is;
-      entry = λ is. so_left (given.entry a) (proposed.entry a) is;
-      variable = λ is. so_left (given.variable a) (proposed.variable a) is;
-      stop = λ is. so_left (given.stop a) (proposed.stop a) is;
-      pause = λ is. so_left (given.pause a) (proposed.pause a) is;
-      read = λ is. so_left (lists given.reads a) (lists proposed.reads a) is;
-      moves = λ is. so_left (given.moves a) (proposed.moves a) is;
-      abandon = λ is. so_left (given.abandon a) (proposed.abandon a) is;
-    };
-    keeps = unchanged text;
-  },
+  record { declares = declares; extends = extends_own given; adds = adds_nothing given proposed; keeps = unchanged text },
 )
 
 -- with a certificate for the declaration itself

@@ -9,7 +9,8 @@ use Rattle.command_parts.specs.Faults.{fault_of_declaration}
 use Rattle.policy.specs.Runs.{IsSafe}
 use Rattle.search_commands.specs.Keeping.{KeepsLines}
 use Rattle.search_commands.specs.Keeping.KeepsLines.{unchanged}
-use Rattle.search_commands.specs.Refining.{IsNoWider, IsRefined}
+use Rattle.search_commands.specs.Adding.{IsNoWider}
+use Rattle.search_commands.specs.Refining.{IsRefined}
 use Rattle.search_commands.specs.SearchFaults.{IsRefineFault}
 
 -- a text that declares something no wider, for which a certificate is found

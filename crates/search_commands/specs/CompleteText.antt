@@ -6,16 +6,17 @@ use Rattle.declaration.specs.Text.{Declares}
 use Rattle.policy.specs.Runs.{IsSafe}
 use Rattle.command_parts.specs.declared.status.Status.{Status}
 use Rattle.command_parts.specs.declared.status.Status.TheVariants.{Done, Refused}
-use Rattle.search_commands.specs.Adding.{AddsOnly, lists}
-use Rattle.search_commands.specs.Extending.{Extends}
+use Rattle.search_commands.specs.Adding.{AddsOnly, IsNoWider, lists}
 use Rattle.search_commands.specs.Keeping.{KeepsLines}
 
--- The text declares a program, and its declaration extends the given one. It keeps the lines of the given text, as far
--- as the bytes of its source are known.
+-- The text declares a program, and its declaration extends the given one: everything that the given one allows is still
+-- allowed, and more may be. Since no cell is in two bodies, no entry is in a body or is a variable, and no stop is a
+-- pause, a cell that has one of these roles keeps it. What is to hold at places and at returns is in lines of its own: the
+-- text keeps the lines of the given text, as far as the bytes of its source are known.
 pub record IsExtension (source : Option (List ℕ)) (given : Declaration) (text : List ℕ) : Type 0 where
   pub declaration : Declaration
   pub declares : Declares text declaration
-  pub extends : Extends given declaration
+  pub extends : IsNoWider declaration given
   pub keeps : IfSome source (λ bytes. KeepsLines bytes text)
 
 -- The second declaration lists no reads that the first does not list.
@@ -35,7 +36,7 @@ pub record Completes (source : Option (List ℕ)) (reads : Bool) (image : List (
 -- the given text.
 pub record IsExtensionBy (bytes : List ℕ) (given proposed more : Declaration) (text : List ℕ) : Type 0 where
   pub declares : Declares text more
-  pub extends : Extends given more
+  pub extends : IsNoWider more given
   pub adds : AddsOnly given proposed more
   pub keeps : KeepsLines bytes text
 

@@ -9,9 +9,8 @@ ghost use Rattle.search_commands.specs.SearchFaults.{IsProposeFault};
 ghost use Rattle.declaration.specs.DeclarationInCode.{meaning};
 ghost use Rattle.declaration.specs.Text.{Declares};
 
-use crate::adding::adds_only;
+use crate::adding::{adds_only, is_no_wider};
 use crate::declaring::{MOST_TURNS, copy_of, proposal_for, push_remarks};
-use crate::extending::extends;
 use crate::keeping::keeps_lines;
 use crate::merging::merged;
 use crate::verifying::{InconclusiveReason, certificate_for};
@@ -112,7 +111,7 @@ fn extension<A: Allocator + Copy, D: Allocator>(
     }
     match Declaration::parse(alloc, text) {
         Ok(more) => {
-            if !extends(given, &more) {
+            if !is_no_wider(&more, given) {
                 return Ok(None);
             }
             if !adds_only(given, proposed, &more) {

@@ -7,9 +7,9 @@ pub returns : goal.returns
 returns g c =
     let unlisted : (meaning c.args.more.now).reads ≡ None = search rules in
     λ yes. record {
-      start_is = (c.is_alike.ensures.0 c.if-not-is_alike.false).0;
-      profile_is = (c.is_alike.ensures.0 c.if-not-is_alike.false).1;
-      cells = c.keeps_cells.ensures.0 yes;
+      start_is = c.is_alike.ensures.start c.if-not-is_alike.false;
+      profile_is = c.is_alike.ensures.profile c.if-not-is_alike.false;
+      cells = c.keeps_cells.ensures yes;
       variables = c.keeps_sets.ensures.variables c.if-not-keeps_sets.false;
       stops = c.keeps_sets.ensures.stops c.if-not-keeps_sets.false;
       pauses = c.keeps_sets.ensures.pauses c.if-not-keeps_sets.false;

@@ -1,18 +1,9 @@
-use Rattle.std.proofs.Common.{arith, refl}
 use Rattle.declaration.specs.DeclarationInCode.{meaning}
 use Rattle.analyser.proofs.DraftLemmas.{one_more}
 use Rattle.proposer.specs.Widths.{KeepsCell}
-use Rattle.proposer.proofs.WidthLemmas.{fails_with}
 use Rattle.proposer.proofs.width.keeps_cells.Goals as goal
 
 pub loop-index-preserved : goal.loop-index-preserved
 loop-index-preserved g c =
     one_more (KeepsCell (meaning c.args.given.now) (meaning c.args.more.now)) c.loop-index.index c.from_index.result c.loop-index.invariant c.from_index.ensures
-    (c.keeps_cell.ensures.0 c.if-not-keeps_cell.false)
-
-pub returns-then-not-keeps_cell : goal.returns-then-not-keeps_cell
-returns-then-not-keeps_cell g c =
-    fails_with _ c.if-not-keeps_cell.true c.keeps_cell.ensures.1 (λ each. each c.from_index.result (omega (arith, c.loop-index-test.true, c.from_index.ensures)))
-
-pub returns : goal.returns
-returns g c = (λ q a small. c.loop-index.invariant a (omega (arith, small, c.loop-index-test.false)), λ each. refl)
+    (c.keeps_cell.ensures c.if-not-keeps_cell.false)

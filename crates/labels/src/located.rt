@@ -1,6 +1,7 @@
 //! Lines of a declaration beside a statement of a source, which may leave out its address.
 
 ghost use Rattle.std.specs.Prelude.{◌≡◌, ◌++◌, ◌∷◌, OnOk, Some, None};
+ghost use Rattle.std.specs.List.{list_all, list_any};
 ghost use Rattle.declaration.specs.Lines.{is_dash, is_subject};
 ghost use Rattle.streams.specs.Text.{words_of};
 ghost use Rattle.streams.specs.TextLeft.{words_left};
@@ -30,6 +31,13 @@ fn is_offset(word: &[u8]) -> bool
     word.len() < 3 && word.iter().all(|byte| is_digit(*byte))
 }
 
+/// Whether a word has a dash.
+fn has_dash(word: &[u8]) -> bool
+    ensures { result ≡ list_any is_dash word.now }
+{
+    word.iter().any(|byte| is_dash(*byte))
+}
+
 /// Whether a byte is a digit or a dash.
 fn is_of_range(byte: u8) -> bool
     ensures { result ≡ is_of_range byte }
@@ -37,12 +45,18 @@ fn is_of_range(byte: u8) -> bool
     is_digit(byte) || is_dash(byte)
 }
 
+/// Whether a word is digits and dashes.
+fn is_range(word: &[u8]) -> bool
+    ensures { result ≡ list_all is_of_range word.now }
+{
+    word.iter().all(|byte| is_of_range(*byte))
+}
+
 /// Whether a word is one offset, or a range of them.
 fn are_offsets(word: &[u8]) -> bool
     ensures { result ≡ are_offsets word.now }
 {
-    is_offset(word)
-        || (word.iter().any(|byte| is_dash(*byte)) && word.iter().all(|byte| is_of_range(*byte)))
+    is_offset(word) || (has_dash(word) && is_range(word))
 }
 
 /// Whether a word names the subject of an assertion.

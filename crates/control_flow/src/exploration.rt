@@ -9,7 +9,6 @@ use crate::ObservedRuns;
 use crate::map::Map;
 use crate::tape::{SeenReturn, Tape, Visit, Visits};
 use crate::variables::VariableSelection;
-use crate::walk::ProgramPoint;
 use bin_tape::Image;
 use declaration::{Declaration, DeclarationFault, Owner};
 use instruct::{Instruction, Operation, decode, halts, refers_indirectly, target};
@@ -18,6 +17,7 @@ use policy::Watcher;
 use processor::{effective_address, is_auto_index};
 use run_search::{ActiveRun, DeclaredProgram, Record, RunSearch, StepRecord};
 use std::alloc::Allocator;
+use tape_walk::ProgramPoint;
 use turns::Turns;
 use word12::Word;
 use wordset::WordSet;
@@ -141,14 +141,6 @@ pub fn explore_runs<A: Allocator + Copy>(
         survey.run(image, &mut search, &mut turns)?;
     }
     survey.finish(image, &search)
-}
-
-/// The entry of a routine; main has none.
-fn entry_of(owner: &Owner) -> Option<Word> {
-    match owner {
-        Owner::Main => None,
-        Owner::Routine(entry) => Some(*entry),
-    }
 }
 
 /// The runs of a record.
@@ -304,7 +296,7 @@ impl<A: Allocator + Copy> Exploration<A> {
     {
         for at in places.iter() {
             if let Some(owner) = record.owner(at) {
-                let entry = entry_of(&owner);
+                let entry = owner.entry();
                 if let Some(called) = entry {
                     self.called.insert(called);
                 }
@@ -330,8 +322,8 @@ impl<A: Allocator + Copy> Exploration<A> {
         let map = &mut self.map;
         map.banned = map.banned.union(&ran).union(&record.written);
         map.banned = map.banned.minus(&self.called);
-        map.entries = map.entries.union(&self.called).minus(&map.banned);
-        map.stored = map.stored.union(&record.written);
+        map.known.entries = map.known.entries.union(&self.called).minus(&map.banned);
+        map.known.stored = map.known.stored.union(&record.written);
         let tape = Tape {
             image,
             visits: Some(Visits {
@@ -464,7 +456,7 @@ impl<A: Allocator + Copy> Exploration<A> {
             }
             self.map.banned.insert(cell);
         }
-        self.map.stored.insert(cell);
+        self.map.known.stored.insert(cell);
         Refinement::New
     }
 
@@ -534,7 +526,11 @@ impl<A: Allocator + Copy> Exploration<A> {
             places,
             owners,
             returns,
-            variables: map.stored.union(&record.written).minus(&map.entries),
+            variables: map
+                .known
+                .stored
+                .union(&record.written)
+                .minus(&map.known.entries),
             seen: seen_in(record),
         }))
     }

@@ -3,6 +3,7 @@
 //! who reads the text judges it.
 #![tactic(auto)]
 
+mod body;
 mod exploration;
 mod map;
 mod steps;
@@ -10,12 +11,14 @@ mod tape;
 mod text;
 mod trials;
 mod variables;
-mod walk;
 
 pub use exploration::{Findings, explore_runs};
 pub use map::Map;
 pub use tape::Tape;
-pub use text::{above_seven, push_cells, push_further, push_range, push_reads, push_skips};
+pub use text::{
+    CommentedTape, above_seven, push_cells, push_cells_ending, push_low_offsets, push_reads,
+    push_skips,
+};
 pub use variables::VariableSelection;
 
 /// The runs in which it was seen what a program does.

@@ -2,9 +2,11 @@
 
 ghost use Rattle.std.specs.Prelude.{◌≡◌};
 
+use crate::body::BodyTraversal;
 use crate::tape::{Tape, Visit};
-use crate::walk::{ProgramPoint, Traversal};
+use declaration::Owner;
 use instruct::Profile;
+use tape_walk::{KnownCells, ProgramPoint};
 use word12::Word;
 use wordset::WordSet;
 
@@ -22,12 +24,9 @@ pub struct Map {
     pub profile: Profile,
     /// The halts after which it goes on.
     pub(crate) pauses: WordSet,
-    /// The cells that JMS goes to.
-    pub(crate) entries: WordSet,
-    /// By offset the entries whose routines may return so by their words.
-    pub(crate) returns: [WordSet; 8],
-    /// The cells that ISZ or DCA name, and pointers that are stepped.
-    pub(crate) stored: WordSet,
+    /// The entries, the offsets by which their routines may return by their words, and the cells that ISZ or DCA name, with
+    /// pointers that are stepped.
+    pub(crate) known: KnownCells,
     /// The words of tables that a JMS whose target is not known is taken to reach; and those that a JMP is.
     pub(crate) called: WordSet,
     pub(crate) jumped: WordSet,
@@ -92,9 +91,7 @@ impl Map {
             start,
             profile,
             pauses: WordSet::empty(),
-            entries: WordSet::empty(),
-            returns: [WordSet::empty(); 8],
-            stored: WordSet::empty(),
+            known: KnownCells::none(),
             called: WordSet::empty(),
             jumped: WordSet::empty(),
             halted: WordSet::empty(),
@@ -131,18 +128,13 @@ impl Map {
 
     /// Whether some code may be changed.
     pub fn changes_code(&self) -> bool {
-        !self.round.code.meet(&self.stored).is_empty()
+        !self.round.code.meet(&self.known.stored).is_empty()
     }
 
     /// The offsets by which the routine of an entry may return: those that its words tell, and those by which runs were seen to.
     pub(crate) fn offsets(&self, tape: &Tape<'_>, entry: Word) -> WordSet {
-        let mut offsets = tape.offsets(entry);
-        for index in 0..8usize {
-            if self.returns[index].contains(entry) {
-                offsets.insert(Word::from_index(index));
-            }
-        }
-        offsets
+        tape.offsets(entry)
+            .union(&self.known.returns.offsets_of(entry))
     }
 
     /// Goes through all bodies until nothing new is found.
@@ -161,7 +153,7 @@ impl Map {
         self.forget();
         self.follow_main(tape);
         let mut next = 0usize;
-        while let Some(entry) = self.entries.first_from(next) {
+        while let Some(entry) = self.known.entries.first_from(next) {
             self.follow_routine(tape, entry);
             next = entry.index() + 1;
         }
@@ -174,8 +166,8 @@ impl Map {
 
     /// Follows main's body, and gives its cells.
     pub(crate) fn follow_main(&mut self, tape: &Tape<'_>) -> WordSet {
-        let mut walk = Traversal::new(None);
-        walk.meet(ProgramPoint {
+        let mut walk = BodyTraversal::new(Owner::Main);
+        walk.meet(&ProgramPoint {
             at: self.start,
             offset: 0,
         });
@@ -188,7 +180,7 @@ impl Map {
     /// Follows the body of an entry, and gives its cells. Those of bodies that were followed before
     /// cannot be in it.
     pub(crate) fn follow_routine(&mut self, tape: &Tape<'_>, entry: Word) -> WordSet {
-        let mut walk = Traversal::new(Some(entry));
+        let mut walk = BodyTraversal::new(Owner::Routine(entry));
         let here = ProgramPoint {
             at: entry,
             offset: 0,
@@ -197,36 +189,29 @@ impl Map {
         self.meet_visits(tape, &mut walk);
         let cells = self.follow(tape, &mut walk);
         if walk.is_open {
-            self.forget_returns(entry);
+            self.known.returns.remove_cell(entry);
         }
         cells
     }
 
-    /// Forgets by which offsets a routine may return by its words.
-    fn forget_returns(&mut self, entry: Word) {
-        for entries in self.returns.iter_mut() {
-            entries.remove(entry);
-        }
-    }
-
     /// Meets the cells of a body from which runs were seen to make steps.
-    fn meet_visits(&self, tape: &Tape<'_>, walk: &mut Traversal) {
+    fn meet_visits(&self, tape: &Tape<'_>, walk: &mut BodyTraversal) {
         if let Some(visits) = tape.visits {
             self.meet_all(visits.places, walk);
         }
     }
 
     /// Meets the cells of these visits that the running routine's body may have.
-    fn meet_all(&self, visits: &[Visit], walk: &mut Traversal) {
+    fn meet_all(&self, visits: &[Visit], walk: &mut BodyTraversal) {
         for visit in visits {
-            if visit.entry == walk.entry && !self.entries.contains(visit.spot.at) {
-                walk.meet(visit.spot);
+            if visit.entry == walk.owner.entry() && !self.known.entries.contains(visit.spot.at) {
+                walk.meet(&visit.spot);
             }
         }
     }
 
     /// Goes on from all cells that are met, and gives them.
-    fn follow(&mut self, tape: &Tape<'_>, walk: &mut Traversal) -> WordSet {
+    fn follow(&mut self, tape: &Tape<'_>, walk: &mut BodyTraversal) -> WordSet {
         for _step in 0..MOST_STEPS {
             let Some(here) = walk.next() else {
                 break;

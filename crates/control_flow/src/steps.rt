@@ -1,10 +1,16 @@
 //! How control goes on from a cell.
+//!
+//! What a word alone tells is said by [`ControlEffect`]. The declaration that is sought needs more than which cells are reached, so
+//! the walk here goes through one body at a time: only the running routine's own entry has its return word, code is in one body
+//! alone, and a cell that is stored in may hold any word.
 
+use crate::body::BodyTraversal;
 use crate::map::Map;
 use crate::tape::Tape;
-use crate::walk::{ProgramPoint, Traversal};
-use instruct::{DeviceOperation, Instruction, Operation, decode, halts, refers_indirectly, target};
+use declaration::Owner;
+use instruct::{Operation, SkipCondition};
 use processor::is_auto_index;
+use tape_walk::{ControlEffect, MemoryReference, ProgramPoint};
 use word12::Word;
 
 impl Map {
@@ -13,45 +19,55 @@ impl Map {
     pub(crate) fn go(
         &mut self,
         tape: &Tape<'_>,
-        walk: &mut Traversal,
+        walk: &mut BodyTraversal,
         here: &ProgramPoint,
         to: Word,
     ) {
-        let is_there = tape.get(to).is_some() || (self.stored.contains(to) && tape.may_be_code(to));
-        let is_free = !self.entries.contains(to) && !self.round.code.contains(to);
-        if is_there && is_free && tape.may_be_in(walk.owner(), to) {
-            walk.meet(here.to(to));
+        let is_there = tape.get(to).is_some()
+            || (self.known.stored.contains(to) && tape.may_be_code(to));
+        let is_free = !self.known.entries.contains(to) && !self.round.code.contains(to);
+        if is_there && is_free && tape.may_be_in(walk.owner, to) {
+            walk.meet(&here.to(to));
         } else {
             self.round.astray.insert(here.at);
         }
     }
 
-    /// Goes on at the next cell.
-    fn go_on(&mut self, tape: &Tape<'_>, walk: &mut Traversal, here: &ProgramPoint) {
-        self.go(tape, walk, here, here.at.increment());
-    }
-
-    /// Goes on at the cell past the next one.
-    fn skip(&mut self, tape: &Tape<'_>, walk: &mut Traversal, here: &ProgramPoint) {
-        self.go(tape, walk, here, here.at.increment().increment());
+    /// Goes on behind a cell whose word skips under this condition.
+    fn go_on(
+        &mut self,
+        tape: &Tape<'_>,
+        walk: &mut BodyTraversal,
+        here: &ProgramPoint,
+        condition: SkipCondition,
+    ) {
+        if condition.may_go_on() {
+            self.go(tape, walk, here, here.next().at);
+        }
+        if condition.may_skip() {
+            self.go(tape, walk, here, here.past_next().at);
+        }
     }
 
     /// Goes on from a cell. Where it is stored in, other words may stand there, and control may go on
     /// to the next cell.
-    pub(crate) fn visit(&mut self, tape: &Tape<'_>, walk: &mut Traversal, here: &ProgramPoint) {
-        let changes = self.stored.contains(here.at);
+    pub(crate) fn visit(&mut self, tape: &Tape<'_>, walk: &mut BodyTraversal, here: &ProgramPoint) {
+        let changes = self.known.stored.contains(here.at);
         if changes {
-            self.go_on(tape, walk, here);
+            self.go_on(tape, walk, here, SkipCondition::Never);
         }
         let Some(word) = tape.get(here.at) else {
             return;
         };
-        match decode(word, self.profile) {
-            Instruction::Memory => self.refer(tape, walk, here, word),
-            Instruction::Operate1 | Instruction::Operate3 => self.go_on(tape, walk, here),
-            Instruction::Operate2 => self.operate(tape, walk, here, word),
-            Instruction::Iot => self.ask(tape, walk, here, word),
-            Instruction::Unsupported => {
+        match ControlEffect::of(word, here.at, self.profile) {
+            ControlEffect::Refers(reference) => self.refer(tape, walk, here, &reference),
+            ControlEffect::Halts(condition) if !changes => {
+                self.halt(tape, walk, here, condition);
+            }
+            ControlEffect::GoesOn(condition) | ControlEffect::Halts(condition) => {
+                self.go_on(tape, walk, here, condition);
+            }
+            ControlEffect::Unsupported => {
                 if !changes {
                     self.round.astray.insert(here.at);
                 }
@@ -59,72 +75,48 @@ impl Map {
         }
     }
 
-    /// Goes on from a word of group 2.
-    fn operate(&mut self, tape: &Tape<'_>, walk: &mut Traversal, here: &ProgramPoint, word: Word) {
-        if halts(word) && !self.stored.contains(here.at) {
-            self.round.halts.insert(here.at);
-            if !self.pauses.contains(here.at) {
-                return;
-            }
-        }
-        // The bit that turns the tests round, and those of SNL, SZA and SMA.
-        let tests = word.index() / 8 % 16;
-        if tests != 1 {
-            self.go_on(tape, walk, here);
-        }
-        if tests != 0 {
-            self.skip(tape, walk, here);
-        }
-    }
-
-    /// Goes on from a device word.
-    fn ask(&mut self, tape: &Tape<'_>, walk: &mut Traversal, here: &ProgramPoint, word: Word) {
-        self.go_on(tape, walk, here);
-        if let Some(operation) = DeviceOperation::of(word, self.profile) {
-            match operation {
-                DeviceOperation::SkipOnReaderFlag
-                | DeviceOperation::SkipOnPunchFlag
-                | DeviceOperation::SkipOnKeyboardFlag
-                | DeviceOperation::SkipOnPrinterFlag => self.skip(tape, walk, here),
-                _ => {}
-            }
+    /// Goes on from a HLT, if it is a pause.
+    fn halt(
+        &mut self,
+        tape: &Tape<'_>,
+        walk: &mut BodyTraversal,
+        here: &ProgramPoint,
+        condition: SkipCondition,
+    ) {
+        self.round.halts.insert(here.at);
+        if self.pauses.contains(here.at) {
+            self.go_on(tape, walk, here, condition);
         }
     }
 
     /// Goes on from a memory reference.
-    fn refer(&mut self, tape: &Tape<'_>, walk: &mut Traversal, here: &ProgramPoint, word: Word) {
-        let address = &self.address(tape, here.at, word);
-        match Operation::of(word) {
-            Operation::And | Operation::Tad => {
-                self.name(address);
-                self.go_on(tape, walk, here);
-            }
-            Operation::Dca => {
-                self.deposit(walk, word, address);
-                self.go_on(tape, walk, here);
-            }
-            Operation::Isz => self.count(tape, walk, here, address),
-            Operation::Jms => self.call(tape, walk, here, address),
-            Operation::Jmp => self.jump(tape, walk, here, word, address),
+    fn refer(
+        &mut self,
+        tape: &Tape<'_>,
+        walk: &mut BodyTraversal,
+        here: &ProgramPoint,
+        reference: &MemoryReference,
+    ) {
+        let address = &self.address(tape, reference);
+        match reference.operation {
+            Operation::And | Operation::Tad => self.name(address),
+            Operation::Dca => self.deposit(walk, reference, address),
+            Operation::Isz => return self.count(tape, walk, here, reference, address),
+            Operation::Jms => return self.call(tape, walk, here, address),
+            Operation::Jmp => return self.jump(tape, walk, here, reference, address),
         }
+        self.go_on(tape, walk, here, reference.skip_condition());
     }
 
-    /// The address that a memory reference refers to, if the words tell: the cell that it names, or
-    /// the word of a pointer that nothing stores in.
-    fn address(&mut self, tape: &Tape<'_>, at: Word, word: Word) -> Option<Word> {
-        let named = target(word, at);
-        if !refers_indirectly(word) {
-            return Some(named);
+    /// The address that a memory reference refers to, if the words tell. A pointer is named, and stored in if the reference steps it.
+    fn address(&mut self, tape: &Tape<'_>, reference: &MemoryReference) -> Option<Word> {
+        if reference.is_indirect {
+            self.round.named.insert(reference.named);
         }
-        self.round.named.insert(named);
-        if is_auto_index(named) {
-            self.stored.insert(named);
-            return None;
+        if reference.steps_pointer() {
+            self.known.stored.insert(reference.named);
         }
-        if self.stored.contains(named) || self.entries.contains(named) {
-            return None;
-        }
-        tape.get(named)
+        self.known.address(tape.image, reference)
     }
 
     /// A cell is named as a datum.
@@ -140,15 +132,20 @@ impl Map {
             None => self.round.stores_anywhere = true,
             Some(cell) => {
                 self.round.named.insert(*cell);
-                self.stored.insert(*cell);
+                self.known.stored.insert(*cell);
             }
         }
     }
 
     /// A DCA stores. One that names the routine's own entry stores its return word, and no word tells which that is.
-    fn deposit(&mut self, walk: &mut Traversal, word: Word, address: &Option<Word>) {
+    fn deposit(
+        &mut self,
+        walk: &mut BodyTraversal,
+        reference: &MemoryReference,
+        address: &Option<Word>,
+    ) {
         match address {
-            Some(cell) if walk.is_own(*cell) && !refers_indirectly(word) => {
+            Some(cell) if walk.is_own(*cell) && !reference.is_indirect => {
                 self.round.moves.insert(*cell);
                 walk.is_open = true;
             }
@@ -161,30 +158,25 @@ impl Map {
     fn count(
         &mut self,
         tape: &Tape<'_>,
-        walk: &mut Traversal,
+        walk: &mut BodyTraversal,
         here: &ProgramPoint,
+        reference: &MemoryReference,
         address: &Option<Word>,
     ) {
         if let Some(cell) = address {
             if walk.is_own(*cell) {
-                let later = ProgramPoint {
-                    at: here.at,
-                    offset: here.offset.saturating_add(1),
-                };
-                self.go_on(tape, walk, &later);
-                return;
+                return self.go_on(tape, walk, &here.incremented(), SkipCondition::Never);
             }
         }
         self.store(address);
-        self.go_on(tape, walk, here);
-        self.skip(tape, walk, here);
+        self.go_on(tape, walk, here, reference.skip_condition());
     }
 
     /// Goes on from JMS.
     fn call(
         &mut self,
         tape: &Tape<'_>,
-        walk: &mut Traversal,
+        walk: &mut BodyTraversal,
         here: &ProgramPoint,
         address: &Option<Word>,
     ) {
@@ -200,15 +192,21 @@ impl Map {
     }
 
     /// Goes on after a call of an entry, as far as it is known how the routine returns.
-    fn enter(&mut self, tape: &Tape<'_>, walk: &mut Traversal, here: &ProgramPoint, entry: Word) {
+    fn enter(
+        &mut self,
+        tape: &Tape<'_>,
+        walk: &mut BodyTraversal,
+        here: &ProgramPoint,
+        entry: Word,
+    ) {
         if is_auto_index(entry) || entry == self.start || self.banned.contains(entry) {
             self.round.astray.insert(here.at);
             return;
         }
-        self.entries.insert(entry);
+        self.known.entries.insert(entry);
         let offsets = self.offsets(tape, entry);
         for offset in offsets.iter() {
-            self.go(tape, walk, here, here.at.increment().add(offset));
+            self.go(tape, walk, here, here.next().at.add(offset));
         }
     }
 
@@ -216,16 +214,13 @@ impl Map {
     fn jump(
         &mut self,
         tape: &Tape<'_>,
-        walk: &mut Traversal,
+        walk: &mut BodyTraversal,
         here: &ProgramPoint,
-        word: Word,
+        reference: &MemoryReference,
         address: &Option<Word>,
     ) {
-        let named = target(word, here.at);
-        if refers_indirectly(word) && walk.is_own(named) {
-            if let Some(entries) = self.returns.get_mut(here.offset) {
-                entries.insert(named);
-            }
+        if reference.is_indirect && walk.is_own(reference.named) {
+            self.known.note_return(reference.named, here);
             return;
         }
         match address {
@@ -235,8 +230,14 @@ impl Map {
     }
 
     /// Goes on at the target of a JMP. From a routine's body a JMP to a cell of main's abandons all open calls.
-    fn jump_to(&mut self, tape: &Tape<'_>, walk: &mut Traversal, here: &ProgramPoint, to: Word) {
-        if walk.entry.is_some() && self.round.main.contains(to) {
+    fn jump_to(
+        &mut self,
+        tape: &Tape<'_>,
+        walk: &mut BodyTraversal,
+        here: &ProgramPoint,
+        to: Word,
+    ) {
+        if walk.owner != Owner::Main && self.round.main.contains(to) {
             self.round.abandons.insert(to);
         } else {
             self.go(tape, walk, here, to);
@@ -244,7 +245,7 @@ impl Map {
     }
 
     /// Goes on from JMP where it is not known where it goes.
-    fn jump_by_table(&mut self, tape: &Tape<'_>, walk: &mut Traversal, here: &ProgramPoint) {
+    fn jump_by_table(&mut self, tape: &Tape<'_>, walk: &mut BodyTraversal, here: &ProgramPoint) {
         self.round.jumps.insert(here.at);
         let jumped = self.jumped;
         for to in jumped.iter() {

@@ -3,9 +3,9 @@
 ghost use Rattle.std.specs.Prelude.{◌≡◌};
 
 use crate::ObservedRuns;
-use crate::walk::ProgramPoint;
 use bin_tape::Image;
 use declaration::Owner;
+use tape_walk::ProgramPoint;
 use word12::Word;
 use wordset::WordSet;
 

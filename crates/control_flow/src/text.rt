@@ -1,13 +1,15 @@
 //! The text of a declaration.
 
 ghost use Rattle.std.specs.Prelude.{◌≡◌, ◌++◌, ◌∷◌, OnOk};
-ghost use Rattle.word12.specs.Words.{octal_text};
-ghost use Rattle.control_flow.specs.Texts.{StaysInFront, offset_text, offsets_text, range_text};
+ghost use Rattle.control_flow.specs.Texts.{offset_text, offsets_text};
+ghost use Rattle.declaration.specs.Written.{StaysInFront};
 ghost use Rattle.wordset.specs.Lanes.{words};
 ghost use Rattle.wordset.specs.Words.{between, meet};
 
 use crate::map::Map;
 use crate::tape::Tape;
+use bin_tape::Image;
+use declaration::writing::{push_address, push_range, push_ranges};
 use instruct::{Profile, name};
 use std::alloc::{AllocError, Allocator};
 use word12::Word;
@@ -17,43 +19,12 @@ use wordset::WordSet;
 /// letters it has 75 columns then.
 const MOST_RANGES: usize = 7;
 
-/// Adds a word in octal, after a space.
-fn push_word<A: Allocator>(text: &mut Vec<u8, A>, word: Word) -> Result<(), AllocError>
-    ensures { OnOk result (text.new.items ≡ text.old.items ++ 32 ∷ octal_text word) }
-{
-    text.extend_from_slice(b" ")?;
-    text.extend_from_slice(&word.to_octal())
-}
-
-/// Adds a range of words, after a space: its first word, and the last where it is another one.
-pub fn push_range<A: Allocator>(
-    text: &mut Vec<u8, A>,
-    first: Word,
-    last: Word,
-) -> Result<(), AllocError>
-    ensures { OnOk result (text.new.items ≡ text.old.items ++ 32 ∷ range_text first last) }
-{
-    push_word(text, first)?;
-    if first == last {
-        return Ok(());
-    }
-    text.extend_from_slice(b"-")?;
-    text.extend_from_slice(&last.to_octal())
-}
-
-/// Adds the ranges of a set.
-fn push_ranges<A: Allocator>(text: &mut Vec<u8, A>, set: &WordSet) -> Result<(), AllocError> {
-    for (first, last) in set.ranges() {
-        push_range(text, first, last)?;
-    }
-    Ok(())
-}
-
-/// Begins a line after so many ranges, if there is none yet or the last is full.
+/// Begins a line after so many ranges, if there is none yet or the last is full, which then gets this end.
 fn push_line_break<A: Allocator>(
     text: &mut Vec<u8, A>,
     kind: &[u8],
     ranges: usize,
+    end: &[u8],
 ) -> Result<(), AllocError>
     ensures { OnOk result (StaysInFront text.old.items text.new.items) }
 {
@@ -61,7 +32,7 @@ fn push_line_break<A: Allocator>(
         return Ok(());
     }
     if ranges != 0 {
-        text.extend_from_slice(b"\n")?;
+        text.extend_from_slice(end)?;
     }
     text.extend_from_slice(kind)
 }
@@ -74,14 +45,26 @@ pub fn push_cells<A: Allocator>(
 ) -> Result<(), AllocError>
     ensures { OnOk result (StaysInFront text.old.items text.new.items) }
 {
+    push_cells_ending(text, kind, set, b"\n")
+}
+
+/// The same, where each line has this end.
+pub fn push_cells_ending<A: Allocator>(
+    text: &mut Vec<u8, A>,
+    kind: &[u8],
+    set: &WordSet,
+    end: &[u8],
+) -> Result<(), AllocError>
+    ensures { OnOk result (StaysInFront text.old.items text.new.items) }
+{
     let mut ranges = 0usize;
     for (first, last) in set.ranges() {
-        push_line_break(text, kind, ranges)?;
+        push_line_break(text, kind, ranges, end)?;
         push_range(text, first, last)?;
         ranges = ranges.saturating_add(1);
     }
     if ranges != 0 {
-        text.extend_from_slice(b"\n")?;
+        text.extend_from_slice(end)?;
     }
     Ok(())
 }
@@ -92,6 +75,20 @@ pub fn push_reads<A: Allocator>(text: &mut Vec<u8, A>, cells: &WordSet) -> Resul
         return text.extend_from_slice(b"read\n");
     }
     push_cells(text, b"read", cells)
+}
+
+/// Adds the offsets of a set that are below 8, each after a space.
+pub fn push_low_offsets<A: Allocator>(
+    text: &mut Vec<u8, A>,
+    offsets: &WordSet,
+) -> Result<(), AllocError> {
+    for offset in 0..8usize {
+        if offsets.contains(Word::from_index(offset)) {
+            text.extend_from_slice(b" ")?;
+            text.push(b'0' + offset as u8)?;
+        }
+    }
+    Ok(())
 }
 
 /// Adds an offset in two octal digits, after a space.
@@ -144,7 +141,7 @@ pub fn above_seven(offsets: &WordSet) -> WordSet
 }
 
 /// Adds a line with those offsets of a routine that are above 7, if there are any.
-pub fn push_further<A: Allocator>(
+fn push_further<A: Allocator>(
     text: &mut Vec<u8, A>,
     entry: Word,
     offsets: &WordSet,
@@ -157,6 +154,63 @@ pub fn push_further<A: Allocator>(
     }
     push_skips(text, entry, &further)?;
     text.extend_from_slice(b"\n")
+}
+
+/// A tape, and the machine for which comments name its words.
+#[derive(Clone, Copy)]
+pub struct CommentedTape<'a> {
+    pub image: &'a Image,
+    pub profile: Profile,
+}
+
+impl CommentedTape<'_> {
+    /// Adds a line for each halt of a set, with the name of its word.
+    pub fn push_halts<A: Allocator>(
+        &self,
+        text: &mut Vec<u8, A>,
+        kind: &[u8],
+        halts: &WordSet,
+    ) -> Result<(), AllocError> {
+        for at in halts.iter() {
+            text.extend_from_slice(kind)?;
+            push_address(text, at)?;
+            self.push_remark(text, b" / ", at)?;
+        }
+        Ok(())
+    }
+
+    /// Adds the line of a routine, with the name of its first word, and a line with those of its offsets that are above 7, if
+    /// there are any.
+    pub fn push_routine<A: Allocator>(
+        &self,
+        text: &mut Vec<u8, A>,
+        entry: Word,
+        body: &WordSet,
+        offsets: &WordSet,
+    ) -> Result<(), AllocError> {
+        text.extend_from_slice(b"sub")?;
+        push_address(text, entry)?;
+        text.extend_from_slice(b" body")?;
+        push_ranges(text, body)?;
+        text.extend_from_slice(b" returns")?;
+        push_low_offsets(text, offsets)?;
+        self.push_remark(text, b" / begins with ", entry.increment())?;
+        push_further(text, entry, offsets)
+    }
+
+    /// Ends a line with a comment that names the word at an address, if the tape has one.
+    fn push_remark<A: Allocator>(
+        &self,
+        text: &mut Vec<u8, A>,
+        before: &[u8],
+        at: Word,
+    ) -> Result<(), AllocError> {
+        if let Some(word) = self.image.get(at) {
+            text.extend_from_slice(before)?;
+            text.extend_from_slice(name(word, self.profile).as_bytes())?;
+        }
+        text.extend_from_slice(b"\n")
+    }
 }
 
 impl Map {
@@ -183,41 +237,19 @@ impl Map {
         push_cells(&mut text, b"var", variables)?;
         let halts = self.round.halts.union(&self.halted);
         let stops = halts.minus(&self.pauses);
-        self.push_halts(&mut text, tape, b"stop", &stops)?;
+        let commented = self.commented(tape);
+        commented.push_halts(&mut text, b"stop", &stops)?;
         let pauses = halts.meet(&self.pauses);
-        self.push_halts(&mut text, tape, b"pause", &pauses)?;
+        commented.push_halts(&mut text, b"pause", &pauses)?;
         Ok(text)
     }
 
-    /// Adds a line for each halt of a set, with the name of its word.
-    fn push_halts<A: Allocator>(
-        &self,
-        text: &mut Vec<u8, A>,
-        tape: &Tape<'_>,
-        kind: &[u8],
-        halts: &WordSet,
-    ) -> Result<(), AllocError> {
-        for at in halts.iter() {
-            text.extend_from_slice(kind)?;
-            push_word(text, at)?;
-            self.push_remark(text, tape, b" / ", at)?;
+    /// The tape, with the words of this machine.
+    fn commented<'a>(&self, tape: &Tape<'a>) -> CommentedTape<'a> {
+        CommentedTape {
+            image: tape.image,
+            profile: self.profile,
         }
-        Ok(())
-    }
-
-    /// Ends a line with a comment that names the word at an address, if the tape has one.
-    fn push_remark<A: Allocator>(
-        &self,
-        text: &mut Vec<u8, A>,
-        tape: &Tape<'_>,
-        before: &[u8],
-        at: Word,
-    ) -> Result<(), AllocError> {
-        if let Some(word) = tape.get(at) {
-            text.extend_from_slice(before)?;
-            text.extend_from_slice(name(word, self.profile).as_bytes())?;
-        }
-        text.extend_from_slice(b"\n")
     }
 
     /// Adds the lines of each routine, whose bodies are followed again, and gives their entries.
@@ -226,40 +258,17 @@ impl Map {
         text: &mut Vec<u8, A>,
         tape: &Tape<'_>,
     ) -> Result<WordSet, AllocError> {
+        let commented = self.commented(tape);
         let mut entries = WordSet::empty();
         let mut next = 0usize;
-        while let Some(entry) = self.entries.first_from(next) {
+        while let Some(entry) = self.known.entries.first_from(next) {
             let body = self.follow_routine(tape, entry);
             if !body.is_empty() {
-                self.push_routine(text, tape, entry, &body)?;
-                push_further(text, entry, &self.offsets(tape, entry))?;
+                commented.push_routine(text, entry, &body, &self.offsets(tape, entry))?;
                 entries.insert(entry);
             }
             next = entry.index() + 1;
         }
         Ok(entries)
-    }
-
-    /// Adds the line of a routine, with the name of its first word.
-    fn push_routine<A: Allocator>(
-        &self,
-        text: &mut Vec<u8, A>,
-        tape: &Tape<'_>,
-        entry: Word,
-        body: &WordSet,
-    ) -> Result<(), AllocError> {
-        let offsets = self.offsets(tape, entry);
-        text.extend_from_slice(b"sub")?;
-        push_word(text, entry)?;
-        text.extend_from_slice(b" body")?;
-        push_ranges(text, body)?;
-        text.extend_from_slice(b" returns")?;
-        for offset in 0..8usize {
-            if offsets.contains(Word::from_index(offset)) {
-                text.extend_from_slice(b" ")?;
-                text.push(b'0' + offset as u8)?;
-            }
-        }
-        self.push_remark(text, tape, b" / begins with ", entry.increment())
     }
 }

@@ -82,7 +82,7 @@ impl Map {
         let cells = all
             .minus(&self.round.code)
             .minus(&self.round.named)
-            .minus(&self.entries);
+            .minus(&self.known.entries);
         let mut words = WordSet::empty();
         for cell in cells.iter() {
             if let Some(word) = tape.get(cell) {

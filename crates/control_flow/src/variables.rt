@@ -25,6 +25,6 @@ impl Map {
             VariableSelection::Tables => data.minus(&loaded(image).meet(&self.round.named)),
             VariableSelection::Data => data,
         };
-        self.stored.union(&more).minus(&self.entries)
+        self.known.stored.union(&more).minus(&self.known.entries)
     }
 }

@@ -77,6 +77,14 @@ entries routines e = list_any (λ r. r.entry == e) routines
 abbrev pub bodies : List KeptRoutine → ℕ → Words
 bodies routines e a = list_any (λ r. r.entry == e && words r.body a) routines
 
+-- Some routine has this cell in its body.
+abbrev pub in_routines : List KeptRoutine → Words
+in_routines routines a = list_any (λ r. words r.body a) routines
+
+-- The body of main or of a routine has this cell.
+abbrev pub in_some_body : Kept → Words
+in_some_body d a = words d.main a || in_routines d.routines a
+
 -- Some routine of this entry may return at this offset.
 abbrev pub offsets : List KeptRoutine → ℕ → Words
 offsets routines e o = list_any (λ r. r.entry == e && offsets_of r.offsets o) routines

@@ -3,4 +3,5 @@ pub mod DeclarationInCode
 pub mod Lines
 pub mod Text
 pub mod Drafts
+pub mod Written
 pub mod Laws

@@ -1,7 +1,7 @@
 //! Declarations: as a text gives them, as they are kept, and their readers.
 #![tactic(auto)]
 
-ghost use Rattle.std.specs.Prelude.{ℕ, ◌≡◌, ◌≢◌, ◌⊎◌, ◌<◌, ◌≤◌, ◌↔◌, ◌==◌, length, map, IsTrue, true, false, IfSome, IfNone, IfOk, IfErr, IsErrOf, None, Some, is_some};
+ghost use Rattle.std.specs.Prelude.{ℕ, ◌≡◌, ◌≢◌, ◌⊎◌, ◌<◌, ◌≤◌, ◌↔◌, ◌==◌, ◌||◌, length, map, IsTrue, true, false, IfSome, IfNone, IfOk, IfErr, IsErrOf, None, Some, is_some};
 ghost use Rattle.std.specs.List.{find};
 ghost use Rattle.std.specs.Option.{option_map};
 ghost use Rattle.declaration.specs.Declaration.{Declaration as Declared, Routine as MainOrEntry, IsDeclared, IsListed};
@@ -10,7 +10,8 @@ ghost use Rattle.declaration.specs.Drafts.{gathered, HasLines};
 ghost use Rattle.declaration.specs.declared.DeclarationFault.{DeclarationFault};
 ghost use Rattle.declaration.specs.declared.DeclarationFault.TheVariants.{NoMemory};
 ghost use Rattle.wordset.specs.Lanes.{words};
-ghost use Rattle.declaration.specs.DeclarationInCode.{offsets, offsets_of, subroutine_of, routine_of, routines_of, further_of, assertion_of, place_assertion_of, return_assertion_of, skips_of, further_offsets, meaning};
+ghost use Rattle.wordset.specs.Words.{SameWords};
+ghost use Rattle.declaration.specs.DeclarationInCode.{offsets, offsets_of, subroutine_of, routine_of, routines_of, entries, in_routines, in_some_body, further_of, assertion_of, place_assertion_of, return_assertion_of, skips_of, further_offsets, meaning};
 
 use crate::drafts::Draft;
 use instruct::Profile;
@@ -25,6 +26,7 @@ mod coverage;
 mod drafts;
 pub mod laws;
 mod lines;
+pub mod writing;
 
 /// The most bytes of a declaration.
 const MOST_BYTES: usize = 16_384;
@@ -143,6 +145,18 @@ pub enum Owner {
     Main,
     /// That of the routine of this entry.
     Routine(Word),
+}
+
+impl Owner {
+    /// The entry of the routine whose body it is, if it is not main's.
+    pub fn entry(self) -> Option<Word>
+        ensures { result ≡ routine_of self }
+    {
+        match self {
+            Owner::Main => None,
+            Owner::Routine(entry) => Some(entry),
+        }
+    }
 }
 
 /// What the author of a program promises of its runs: the start, the bodies of main and of the
@@ -484,6 +498,30 @@ impl<A: Allocator> Declaration<A> {
         routine_with(&self.routines, at)
     }
 
+    /// Whether a cell is in the body of main or of a routine.
+    pub fn in_body_of(&self, owner: Owner, at: Word) -> bool
+        ensures { result ≡ (meaning self.now).body (routine_of owner) at }
+    {
+        match owner {
+            Owner::Main => self.in_main(at),
+            Owner::Routine(entry) => self.in_body(entry, at),
+        }
+    }
+
+    /// The cells of all bodies, main's and the routines'.
+    pub fn bodies(&self) -> WordSet
+        ensures { SameWords (words result) (in_some_body self.now) }
+    {
+        bodies_of(&self.main, &self.routines)
+    }
+
+    /// The entries of all routines.
+    pub fn entries(&self) -> WordSet
+        ensures { SameWords (words result) (meaning self.now).entry }
+    {
+        entries_of(&self.routines)
+    }
+
     /// Whether the routine of an entry may return at an offset.
     pub fn has_offset(&self, entry: Word, offset: Word) -> bool
         ensures { result ≡ (meaning self.now).offset entry offset }
@@ -557,6 +595,28 @@ impl<A: Allocator> Declaration<A> {
             Some(cells) => cells.contains(at),
         }
     }
+}
+
+/// The cells of main's body and of those of some routines.
+fn bodies_of(main: &WordSet, routines: &[Routine]) -> WordSet
+    ensures { SameWords (words result) (λ a. words main.now a || in_routines routines.now a) }
+{
+    let mut cells = *main;
+    for routine in routines {
+        cells = cells.union(&routine.body);
+    }
+    cells
+}
+
+/// The entries of some routines.
+fn entries_of(routines: &[Routine]) -> WordSet
+    ensures { SameWords (words result) (entries routines.now) }
+{
+    let mut cells = WordSet::empty();
+    for routine in routines {
+        cells.insert(routine.entry);
+    }
+    cells
 }
 
 /// The first routine whose body has a cell.

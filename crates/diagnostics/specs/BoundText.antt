@@ -1,11 +1,12 @@
 -- What is said about a pointer where a search for a certificate is stuck: the cell that is named is that of the instruction, the words
 -- that would be enough are permitted ones, and the skip that could show it follows an instruction of the same body that adds the pointer.
-use Rattle.std.specs.Prelude.{ℕ, ◌≡◌, ◌+◌, ◌%◌, ◌<◌, ◌==◌, ◌&&◌, not, nat_lt, ◌⊎◌, ◌++◌, Bool, true, false, bit_and, codes, if◌then◌else◌, List, [], Option, Some, None}
+use Rattle.std.specs.Prelude.{ℕ, ◌≡◌, ◌+◌, ◌%◌, ◌<◌, ◌==◌, ◌&&◌, ◌⊎◌, ◌++◌, Bool, true, false, codes, if◌then◌else◌, List, [], Option, Some, None}
 use Rattle.word12.specs.Words.{octal_text}
 use Rattle.wordset.specs.Words.{Words, HasNoneFrom, IsFirstFrom}
 use Rattle.wordset.specs.Ranging.{IsLastFrom}
-use Rattle.instruct.specs.Bits.{is_indirect, named_cell}
-use Rattle.instruct.specs.Instructions.{operation_of}
+use Rattle.instruct.specs.Bits.{has_bit, is_indirect, named_cell}
+use Rattle.instruct.specs.Instructions.{format_of, is_group2, is_operate, operation_of, refers_to_memory}
+use Rattle.instruct.specs.Skips.{may_skip, skip_condition_of}
 use Rattle.instruct.specs.Names.{name_of}
 use Rattle.instruct.specs.declared.Operation.{Operation}
 use Rattle.instruct.specs.declared.Operation.TheVariants as operation
@@ -15,11 +16,11 @@ use Rattle.declaration.specs.Declaration.{Declaration, IsListed, Routine}
 
 -- The word is a memory reference.
 abbrev pub is_reference : ℕ → Bool
-is_reference word = nat_lt word 3072
+is_reference word = refers_to_memory word
 
 -- The word is of group 2, with a test.
 abbrev pub is_test : ℕ → Bool
-is_test word = bit_and word 3841 == 3840 && not (bit_and word 120 == 0)
+is_test word = is_group2 (format_of word) && may_skip (skip_condition_of word)
 
 -- The instruction at an address refers to memory through this cell, which is a variable.
 pub record IsPointer (image : List (Option ℕ)) (d : Declaration) (at cell : ℕ) : Type 0 where
@@ -69,7 +70,7 @@ ends_sum other = false
 
 -- A word that ends a computation in AC: it stores AC, clears it or goes elsewhere.
 abbrev pub ends_computation : ℕ → Bool
-ends_computation word = if is_reference word then ends_sum (operation_of word) else bit_and word 3712 == 3712
+ends_computation word = if is_reference word then ends_sum (operation_of word) else is_operate (format_of word) && has_bit 7 word
 
 -- The address behind another one.
 abbrev pub behind : ℕ → ℕ

@@ -15,7 +15,7 @@ mod sets;
 mod sufficient;
 
 use crate::bounds::draft_facts::DraftFacts;
-use crate::bounds::losses::{PrecisionLoss, loss_at, may_go_on, refers_to_memory};
+use crate::bounds::losses::{PrecisionLoss, loss_at, may_go_on};
 use crate::bounds::relations::{Relation, lost_relation};
 use crate::bounds::sets::push_set;
 use crate::bounds::sufficient::{sufficient_words, test_of_pointer};
@@ -24,7 +24,7 @@ use certificate::Certificate;
 use command_parts::message::{MessageWriter, push_text_and_address, push_text_and_word};
 use declaration::Declaration;
 use domain::Location;
-use instruct::{name, refers_indirectly, target};
+use instruct::{name, refers_indirectly, refers_to_memory, target};
 use std::alloc::{AllocError, Allocator};
 use word12::Word;
 use wordset::WordSet;

@@ -2,9 +2,10 @@
 //! are written, and those of which something is declared to hold there. Only of these a quick search keeps what is known.
 
 use crate::fault::SearchFault;
-use crate::program::{AnalysedProgram, is_reference};
+use crate::program::AnalysedProgram;
 use declaration::{Assertion, Subject};
-use instruct::{Operation, refers_indirectly, target};
+use instruct::{Format, Operation, refers_indirectly, refers_to_memory, target};
+use processor::is_auto_index;
 use std::alloc::Allocator;
 use std::collections::BTreeMap;
 use word12::Word;
@@ -78,9 +79,13 @@ fn with_partners(after: &WordSet, cells: &WordSet, partners: &WordSet) -> WordSe
     }
 }
 
-/// Whether a word that refers to no memory may skip.
-fn may_skip(word: Word) -> bool {
-    word.index() < 0o7000 || word.index() >= 0o7400
+/// Whether some words in the format of a word skip by tests: those of devices and of groups 2 and 3. More cells than needed are
+/// kept where the word itself does not skip.
+fn has_skip_format(word: Word) -> bool {
+    matches!(
+        Format::of(word),
+        Format::Device | Format::Group2 | Format::Group3
+    )
 }
 
 /// The cells that a word names to write, and that the routine writes that it calls.
@@ -100,7 +105,7 @@ fn written_by<A: Allocator, D: Allocator>(
         },
         _ => WordSet::empty(),
     };
-    if refers_indirectly(word) && named.index() / 8 == 1 {
+    if refers_indirectly(word) && is_auto_index(named) {
         with(&cells, Some(named))
     } else {
         cells
@@ -242,9 +247,9 @@ impl<A: Allocator + Copy> Needs<A> {
         let Some(word) = program.fixed_word(at) else {
             return Ok(program.named);
         };
-        if is_reference(word) {
+        if refers_to_memory(word) {
             self.before_reference(program, at, word)
-        } else if may_skip(word) {
+        } else if has_skip_format(word) {
             Ok(self.after_skip(at))
         } else {
             Ok(self.at(at.increment()))
@@ -313,7 +318,7 @@ impl<A: Allocator> Needs<A> {
             let at = Word::from_index(index);
             if body.contains(at) {
                 if let Some(word) = program.fixed_word(at) {
-                    if is_reference(word) {
+                    if refers_to_memory(word) {
                         cells = cells.union(&written_by(program, at, word, &self.writes));
                     }
                 }

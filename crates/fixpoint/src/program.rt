@@ -9,7 +9,10 @@ use bin_tape::Image;
 use declaration::{Declaration, Owner, Subject};
 use domain::Rules;
 use facts::{Fact, Place};
-use instruct::{Instruction, decode, halts, refers_indirectly, target};
+use instruct::{
+    Format, Instruction, Operation, decode, halts, refers_indirectly, refers_to_memory, target,
+};
+use processor::is_auto_index;
 use std::alloc::Allocator;
 use transfer::Outcomes;
 use word12::Word;
@@ -33,20 +36,13 @@ pub struct AnalysedProgram<'a, D: Allocator> {
     pub(crate) rules: Rules,
 }
 
-/// The body that has an address: main's, or that of the routine of an entry.
-#[derive(Clone, Copy)]
-pub(crate) enum Body {
-    Main,
-    Of(Word),
-}
-
 /// A fact at an address of a body, with the sites that are known of the routine whose body it is. It is
 /// large, so the same one serves all visits.
 #[derive(Drop)]
 pub(crate) struct AbstractState {
     pub(crate) at: Word,
     pub(crate) fact: Fact,
-    pub(crate) body: Body,
+    pub(crate) body: Owner,
 }
 
 impl AbstractState {
@@ -55,34 +51,16 @@ impl AbstractState {
         AbstractState {
             at: Word::ZERO,
             fact: Fact::any(),
-            body: Body::Main,
+            body: Owner::Main,
         }
     }
 }
 
-impl Body {
-    /// The entry of the routine, if it is not main's.
-    fn routine(&self) -> Option<Word> {
-        match self {
-            Body::Main => None,
-            Body::Of(entry) => Some(*entry),
-        }
-    }
-}
-
-/// Whether a word is a memory reference.
-pub(crate) fn is_reference(word: Word) -> bool {
-    word.index() < 0o6000
-}
-
-/// Whether a memory reference, which names a cell, increments a pointer in it first.
-fn steps_pointer(word: Word, named: Word) -> bool {
-    refers_indirectly(word) && named.index() / 8 == 1
-}
-
-/// Whether a word is a JMS.
-fn is_call(word: Word) -> bool {
-    word.index() / 0o1000 == 4
+/// Whether a word calls through a pointer that it increments first.
+fn calls_stepped(word: Word, at: Word) -> bool {
+    matches!(Format::of(word), Format::Reference(Operation::Jms))
+        && refers_indirectly(word)
+        && is_auto_index(target(word, at))
 }
 
 /// Adds a cell to the tracked ones, if there is room.
@@ -104,7 +82,7 @@ impl<'a, D: Allocator> AnalysedProgram<'a, D> {
         ensures image { result.image.now ≡ image.now }
         ensures declaration { result.declaration.now ≡ declaration.now }
     {
-        let bodies = bodies_of(declaration);
+        let bodies = declaration.bodies();
         let mut named = WordSet::empty();
         add_asserted(&mut named, declaration);
         add_named(&mut named, image, declaration, &bodies);
@@ -126,15 +104,6 @@ impl<'a, D: Allocator> AnalysedProgram<'a, D> {
             rules: Rules::OfEquations,
         }
     }
-}
-
-/// The addresses of all bodies.
-fn bodies_of<D: Allocator>(declaration: &Declaration<D>) -> WordSet {
-    let mut bodies = *declaration.main();
-    for routine in declaration.routines() {
-        bodies = bodies.union(routine.body());
-    }
-    bodies
 }
 
 /// Adds a subject, if it is a variable.
@@ -167,7 +136,7 @@ fn add_named<D: Allocator>(
         let at = Word::from_index(index);
         if let Some(word) = code_at(image, bodies, at) {
             let named = target(word, at);
-            if is_reference(word) && declaration.is_variable(named) {
+            if refers_to_memory(word) && declaration.is_variable(named) {
                 add_cell(cells, named);
             }
         }
@@ -201,7 +170,7 @@ fn lookers<D: Allocator>(image: &Image, declaration: &Declaration<D>, bodies: &W
     for index in 0..4096usize {
         let at = Word::from_index(index);
         if let Some(word) = code_at(image, bodies, at) {
-            if is_reference(word)
+            if refers_to_memory(word)
                 && (refers_indirectly(word) || declaration.is_entry(target(word, at)))
             {
                 addresses.insert(at);
@@ -217,7 +186,7 @@ fn counted(image: &Image, bodies: &WordSet) -> WordSet {
     for index in 0..4096usize {
         let at = Word::from_index(index);
         if let Some(word) = code_at(image, bodies, at) {
-            if word.index() / 0o1000 == 2 && !refers_indirectly(word) {
+            if Format::of(word) == Format::Reference(Operation::Isz) && !refers_indirectly(word) {
                 cells.insert(target(word, at));
             }
         }
@@ -266,7 +235,7 @@ fn referred<D: Allocator>(
     for index in 0..4096usize {
         let at = Word::from_index(index);
         if let Some(word) = code_at(image, bodies, at) {
-            if is_reference(word) {
+            if refers_to_memory(word) {
                 let named = target(word, at);
                 cells.insert(named);
                 if let Some(cell) = fixed_target(image, declaration, word, named) {
@@ -313,14 +282,6 @@ fn code_at(image: &Image, bodies: &WordSet, at: Word) -> Option<Word> {
 }
 
 impl<D: Allocator> AnalysedProgram<'_, D> {
-    /// Whether an address is in a body.
-    pub(crate) fn has(&self, body: &Body, at: Word) -> bool {
-        match body {
-            Body::Main => self.declaration.in_main(at),
-            Body::Of(entry) => self.declaration.in_body(*entry, at),
-        }
-    }
-
     /// The tape's word at an address of a body, if it cannot be written.
     pub(crate) fn fixed_word(&self, at: Word) -> Option<Word> {
         if self.declaration.is_variable(at) {
@@ -353,11 +314,11 @@ impl<D: Allocator> AnalysedProgram<'_, D> {
     }
 
     /// Where a fact of a body stands.
-    pub(crate) fn place(&self, body: &Body) -> Place<'_, D> {
+    pub(crate) fn place(&self, body: &Owner) -> Place<'_, D> {
         Place {
             image: self.image,
             declaration: self.declaration,
-            routine: body.routine(),
+            routine: body.entry(),
             rules: self.rules,
         }
     }
@@ -372,7 +333,7 @@ impl<D: Allocator> AnalysedProgram<'_, D> {
 
     /// Whether a word's reads are listed, and it calls through no auto-index cell.
     pub(crate) fn may_stand(&self, visit: &AbstractState, word: Word) -> bool {
-        if is_call(word) && steps_pointer(word, target(word, visit.at)) {
+        if calls_stepped(word, visit.at) {
             return false;
         }
         self.place(&visit.body)
@@ -425,16 +386,17 @@ impl<D: Allocator> AnalysedProgram<'_, D> {
     /// The addresses for which a routine abandons all open calls by a word: where it is not main and the word is a JMP they
     /// are the declared ones, and else there are none.
     pub(crate) fn abandoned_by(&self, visit: &AbstractState, word: Word) -> WordSet {
-        match &visit.body {
-            Body::Main => WordSet::empty(),
-            Body::Of(_) if word.index() / 0o1000 == 5 => *self.declaration.abandons(),
-            Body::Of(_) => WordSet::empty(),
+        let is_jump = Format::of(word) == Format::Reference(Operation::Jmp);
+        match visit.body {
+            Owner::Routine(_) if is_jump => *self.declaration.abandons(),
+            _ => WordSet::empty(),
         }
     }
 
     /// The entry through which a word returns: that of a JMP I through one.
     pub(crate) fn returned_entry(&self, visit: &AbstractState, word: Word) -> Option<Word> {
-        if word.index() / 0o1000 != 5 || !refers_indirectly(word) {
+        let is_jump = Format::of(word) == Format::Reference(Operation::Jmp);
+        if !is_jump || !refers_indirectly(word) {
             return None;
         }
         let named = target(word, visit.at);

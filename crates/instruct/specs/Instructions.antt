@@ -1,5 +1,5 @@
 -- The instruction table: what each word of twelve bits means at its address, on a machine of each profile.
-use Rattle.std.specs.Prelude.{ℕ, ◌/◌, Bool, true, false, not, ◌||◌, ◌==◌, if◌then◌else◌, Option, Some, None}
+use Rattle.std.specs.Prelude.{ℕ, ◌/◌, nat_lt, Bool, true, false, not, ◌||◌, ◌==◌, if◌then◌else◌, Option, Some, None}
 use Rattle.std.specs.Option.{option_map}
 use Rattle.instruct.specs.declared.Profile.{Profile}
 use Rattle.instruct.specs.declared.Profile.TheVariants.{Pdp8I, Pdp8E}
@@ -7,6 +7,8 @@ use Rattle.instruct.specs.declared.Instruction.{Instruction}
 use Rattle.instruct.specs.declared.Instruction.TheVariants.{Memory, Operate1, Operate2, Operate3, Iot, Unsupported}
 use Rattle.instruct.specs.declared.Operation.{Operation}
 use Rattle.instruct.specs.declared.Operation.TheVariants as operation
+use Rattle.instruct.specs.declared.Format.{Format}
+use Rattle.instruct.specs.declared.Format.TheVariants as format
 use Rattle.instruct.specs.declared.devices.DeviceOperation.{DeviceOperation}
 use Rattle.instruct.specs.declared.devices.DeviceOperation.TheVariants.{DisableInterrupts, SkipOnReaderFlag, ReadReaderBuffer, FetchReaderFrame, ReadReaderBufferAndFetchFrame, SkipOnPunchFlag, ClearPunchFlag, Punch, ClearPunchFlagAndPunch, SkipOnKeyboardFlag, ClearKeyboardFlagAndAccumulator, ReadKeyboardBuffer, TakeKeyboardByte, SkipOnPrinterFlag, ClearPrinterFlag, Print, ClearPrinterFlagAndPrint, ClearKeyboardFlag, SetPrinterFlag}
 use Rattle.instruct.specs.Bits.{has_bit, named_cell, is_indirect}
@@ -123,6 +125,34 @@ operation_of word =
     else (if word / 512 == 3 then operation.Dca
     else (if word / 512 == 4 then operation.Jms
     else operation.Jmp))))
+
+-- The words below 6000 are memory references.
+abbrev pub refers_to_memory : ℕ → Bool
+refers_to_memory word = nat_lt word 0o6000
+
+-- The format of a word: bits 0 to 2 say whether it is a memory reference (0 to 5), a device word (6) or an operate word
+-- (7). An operate word without 0400 is of group 1, one with 0400 of group 2, and one with 0400 and 0001 of group 3.
+abbrev pub format_of : ℕ → Format
+format_of word =
+    if nat_lt (word / 512) 6 then format.Reference (operation_of word)
+    else (if word / 512 == 6 then format.Device
+    else (if has_bit 8 word then (if has_bit 0 word then format.Group3 else format.Group2) else format.Group1))
+
+-- The format is that of group 2.
+abbrev pub is_group2 : Format → Bool
+is_group2 (format.Reference _) = false
+is_group2 format.Device = false
+is_group2 format.Group1 = false
+is_group2 format.Group2 = true
+is_group2 format.Group3 = false
+
+-- The words of the three groups are operate words.
+abbrev pub is_operate : Format → Bool
+is_operate (format.Reference _) = false
+is_operate format.Device = false
+is_operate format.Group1 = true
+is_operate format.Group2 = true
+is_operate format.Group3 = true
 
 -- The meaning of a memory reference by its operation, its indirect bit and its named cell.
 abbrev pub reference : Operation → Bool → ℕ → Meaning

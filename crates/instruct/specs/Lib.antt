@@ -3,5 +3,6 @@ pub mod Operates
 pub mod Group3
 pub mod Devices
 pub mod Instructions
+pub mod Skips
 pub mod Names
 pub mod Laws

@@ -1,8 +1,10 @@
 //! The device words: those of the teletype, of the high-speed reader and punch, and IOF.
 
-ghost use Rattle.std.specs.Prelude.{◌≡◌, ◌≤◌, length, IfSome};
+ghost use Rattle.std.specs.Prelude.{◌≡◌, ◌≤◌, length, IfSome, Some};
 ghost use Rattle.instruct.specs.Devices.{device_operation, word_of};
+ghost use Rattle.instruct.specs.Instructions.{device_action, processor_action};
 ghost use Rattle.instruct.specs.Names.{device_name};
+ghost use Rattle.instruct.specs.Skips.{is_skip};
 
 use crate::Profile;
 use word12::Word;
@@ -81,6 +83,19 @@ impl DeviceOperation {
         }
     }
 
+    /// Whether the operation skips where a flag is set.
+    pub fn skips_on_flag(self) -> bool
+        ensures { result ≡ is_skip (Some (processor_action self)) }
+    {
+        matches!(
+            self,
+            DeviceOperation::SkipOnReaderFlag
+                | DeviceOperation::SkipOnPunchFlag
+                | DeviceOperation::SkipOnKeyboardFlag
+                | DeviceOperation::SkipOnPrinterFlag
+        )
+    }
+
     /// The handbook's name of the word, of at most 7 characters.
     pub fn mnemonic(self) -> &'static str
         ensures name { result.now ≡ device_name self }
@@ -107,5 +122,15 @@ impl DeviceOperation {
             DeviceOperation::ClearKeyboardFlag => "KCF",
             DeviceOperation::SetPrinterFlag => "TFL",
         }
+    }
+}
+
+/// Whether a word skips where a flag is set, as a device word on a machine of a profile.
+pub fn skips_on_flag(word: Word, profile: Profile) -> bool
+    ensures { result ≡ is_skip (device_action profile word) }
+{
+    match DeviceOperation::of(word, profile) {
+        Some(operation) => operation.skips_on_flag(),
+        None => false,
     }
 }

@@ -8,19 +8,24 @@
 mod bits;
 mod devices;
 pub mod laws;
+mod microinstructions;
 mod naming;
 mod operate;
 
 ghost use Rattle.std.specs.Prelude.{ℕ, ◌≡◌, ◌/◌};
 ghost use Rattle.instruct.specs.declared.Profile.{Profile};
 ghost use Rattle.instruct.specs.declared.Instruction.TheVariants.{Memory};
-ghost use Rattle.instruct.specs.Bits.{named_cell, is_indirect};
-ghost use Rattle.instruct.specs.Instructions.{instruction_of, kind_of, meaning_of, operation_of, reference_at, device_action, device_meaning, operate_meaning, group3_meaning, is_group1};
+ghost use Rattle.instruct.specs.Bits.{has_bit, named_cell, is_indirect};
+ghost use Rattle.instruct.specs.Instructions.{format_of, instruction_of, is_operate, kind_of, meaning_of, operation_of, reference_at, refers_to_memory, device_action, device_meaning, operate_meaning, group3_meaning, is_group1};
 
 use crate::bits::{Group1, Group2, ReferenceBits};
 use crate::operate::MqOperation;
 use bitflags::Flags;
-pub use devices::DeviceOperation;
+pub use devices::{DeviceOperation, skips_on_flag};
+pub use microinstructions::{
+    SkipCondition, clears, clears_link, complements, increments, is_reversed, moves_bits,
+    reads_switches, rotates, tests_link, tests_sign, tests_zero,
+};
 pub use naming::name;
 pub use operate::{halts, operate1, operate2, operate3, skips};
 use word12::Word;
@@ -49,6 +54,46 @@ pub enum Instruction {
     Iot,
     /// A word that the machine of this profile does not have here.
     Unsupported,
+}
+
+/// The formats of words, which say what the bits of a word stand for. They are the same on each machine; which words of a format
+/// have a meaning is another question, which [`decode`] answers.
+#[derive(Clone, Copy, PartialEq, Eq, Debug)]
+pub enum Format {
+    /// A memory reference.
+    Reference(Operation),
+    /// A device word.
+    Device,
+    /// An operate word of group 1.
+    Group1,
+    /// An operate word of group 2.
+    Group2,
+    /// An operate word of group 3.
+    Group3,
+}
+
+impl Format {
+    /// The format of a word.
+    #[tactic(auto, using(crate::proofs::Tests::bit_tests))]
+    pub fn of(word: Word) -> Format
+        ensures { result ≡ format_of word }
+    {
+        let bits = Group2(word.value());
+        match operation_code(word) {
+            0..=5 => Format::Reference(Operation::of(word)),
+            6 => Format::Device,
+            _ if !bits.contains(Group2::NOT_GROUP1) => Format::Group1,
+            _ if !bits.contains(Group2::GROUP3) => Format::Group2,
+            _ => Format::Group3,
+        }
+    }
+
+    /// Whether words of this format are operate words.
+    pub fn is_operate(self) -> bool
+        ensures { result ≡ is_operate self }
+    {
+        matches!(self, Format::Group1 | Format::Group2 | Format::Group3)
+    }
 }
 
 /// The operations of memory references.
@@ -165,17 +210,31 @@ fn is_group_1(bits: Group1, profile: Profile) -> bool
     }
 }
 
+/// Whether a word is a memory reference, on each machine.
+pub fn refers_to_memory(word: Word) -> bool
+    ensures { result ≡ refers_to_memory word }
+{
+    word.value() < 0o6000
+}
+
 /// The cell that a memory reference at an address names, before any indirection: the low seven
 /// bits of the word, on the word's own page where 0200 is set, else on page zero.
-#[tactic(auto, using(crate::proofs::Tests::bit_tests))]
 pub fn target(word: Word, at: Word) -> Word
     ensures { result ≡ named_cell word at }
 {
-    if ReferenceBits(word.value()).contains(ReferenceBits::CURRENT_PAGE) {
+    if names_own_page(word) {
         word.in_page_of(at)
     } else {
         word.place()
     }
+}
+
+/// Whether a memory reference names a cell of its own page: 0200 is set. Otherwise it names one of page zero.
+#[tactic(auto, using(crate::proofs::Tests::bit_tests))]
+pub fn names_own_page(word: Word) -> bool
+    ensures { result ≡ has_bit 7 word }
+{
+    ReferenceBits(word.value()).contains(ReferenceBits::CURRENT_PAGE)
 }
 
 /// Whether a memory reference is indirect: it takes its address from the cell that it names.

@@ -10,9 +10,11 @@ ghost use Rattle.instruct.specs.Operates.{mq_operate_of};
 ghost use Rattle.instruct.specs.Instructions.{instruction_of};
 ghost use Rattle.instruct.specs.Names.{name_of, mnemonic, memory_name, named_if, spaced, rotate_names, group1_names, test_names, group2_names, group3_name_if, device_name_if, IsSpaced, Adds};
 
-use crate::bits::{Group1, Group2, ReferenceBits};
+use crate::bits::{Group1, Group2};
 use crate::operate::MqOperation;
-use crate::{DeviceOperation, Instruction, Operation, Profile, decode, refers_indirectly};
+use crate::{
+    DeviceOperation, Instruction, Operation, Profile, decode, names_own_page, refers_indirectly,
+};
 use arrayvec::ArrayString;
 use bitflags::Flags;
 use word12::Word;
@@ -78,16 +80,11 @@ fn name_memory(word: Word) -> ArrayString<32>
     text
 }
 
-#[tactic(auto, using(crate::proofs::Tests::bit_tests))]
 fn name_page(word: Word) -> &'static str
     ensures name { result.now ≡ (if has_bit 7 word then codes " C" else codes " Z") }
     ensures short { length result.now ≡ 2 }
 {
-    if ReferenceBits(word.value()).contains(ReferenceBits::CURRENT_PAGE) {
-        " C"
-    } else {
-        " Z"
-    }
+    if names_own_page(word) { " C" } else { " Z" }
 }
 
 /// Adds a name, with a space before it where it is not the first.

@@ -13,15 +13,12 @@ use bin_tape::Image;
 use command_parts::options::{RunOptions, Stops};
 use command_parts::status::{Fault, Status};
 use command_parts::text::{push_place, push_word};
-use instruct::{Operation, Profile, name, target};
+use instruct::{Operation, Profile, name, refers_to_memory, target};
 use peripherals::{Seen, Start, World};
 use processor::{Cpu, DecodedInstruction, Reference};
 use std::alloc::{AllocError, Allocator};
 use streams::{ByteSink, put};
 use word12::Word;
-
-/// The words from this one on are no memory references.
-const NO_REFERENCE: usize = 0o6000;
 
 /// How many characters of a memory reference's name say where its cell is.
 const PLACE_LENGTH: usize = 4;
@@ -50,7 +47,7 @@ pub fn push_full_name<A: Allocator>(
 ) -> Result<(), AllocError> {
     let found = name(word, profile);
     let spelled = found.as_str().as_bytes();
-    if word.index() >= NO_REFERENCE {
+    if !refers_to_memory(word) {
         return text.extend_from_slice(spelled);
     }
     let front = spelled.len().saturating_sub(PLACE_LENGTH);

@@ -4,7 +4,7 @@ use crate::declared_run::{is_continue, waits};
 use bin_tape::Image;
 use command_parts::message::{Message, MessageWriter, push_text_and_address};
 use declaration::Declaration;
-use instruct::target;
+use instruct::{DeviceOperation, Format, Operation, Profile, refers_indirectly, target};
 use itoa::Buffer;
 use peripherals::{Event, NoMemory, Panel, Seen, Start, World};
 use processor::Cpu;
@@ -64,20 +64,17 @@ pub(crate) fn offered_by(events: &[Event]) -> AvailableInput {
 /// Where the word at an address jumps to, if it is a direct JMP.
 fn jump_from(cpu: &Cpu, at: Word) -> Option<Word> {
     let word = cpu.memory.get(at);
-    if word.value() >> 8 == 0o12 {
-        Some(target(word, at))
-    } else {
-        None
-    }
+    let is_jump = Format::of(word) == Format::Reference(Operation::Jmp);
+    (is_jump && !refers_indirectly(word)).then_some(target(word, at))
 }
 
-/// The device whose flag a word asks for, where that is clear; else nothing.
+/// The device whose flag a word asks for, where that is clear; else nothing. These words are the same on both machines.
 fn awaited(panel: &Panel, word: Word) -> &'static [u8] {
-    match word.value() {
-        0o6011 if !panel.reader.flag => b"reader",
-        0o6021 if !panel.punch.flag => b"punch",
-        0o6031 if !panel.keyboard.flag => b"keyboard",
-        0o6041 if !panel.printer.flag => b"printer",
+    match DeviceOperation::of(word, Profile::Pdp8I) {
+        Some(DeviceOperation::SkipOnReaderFlag) if !panel.reader.flag => b"reader",
+        Some(DeviceOperation::SkipOnPunchFlag) if !panel.punch.flag => b"punch",
+        Some(DeviceOperation::SkipOnKeyboardFlag) if !panel.keyboard.flag => b"keyboard",
+        Some(DeviceOperation::SkipOnPrinterFlag) if !panel.printer.flag => b"printer",
         _ => b"",
     }
 }

@@ -1,9 +1,9 @@
 //! The parts of a declaration while it is widened, and their text.
 
 use bin_tape::Image;
-use control_flow::{push_cells, push_further, push_range};
+use control_flow::{CommentedTape, push_cells};
 use declaration::{Declaration, Owner};
-use instruct::{Profile, name};
+use instruct::Profile;
 use peripherals::NoMemory;
 use std::alloc::{AllocError, Allocator};
 use word12::Word;
@@ -131,6 +131,10 @@ impl<A: Allocator + Copy> Sketch<A> {
 
     /// The text of what there is.
     pub(crate) fn text(&self, alloc: A, image: &Image) -> Result<Vec<u8, A>, AllocError> {
+        let commented = CommentedTape {
+            image,
+            profile: self.profile,
+        };
         let mut text = Vec::new(alloc);
         if self.profile == Profile::Pdp8E {
             text.extend_from_slice(b"profile 8e\n")?;
@@ -138,69 +142,13 @@ impl<A: Allocator + Copy> Sketch<A> {
         push_cells(&mut text, b"start", &WordSet::one(self.start))?;
         push_cells(&mut text, b"main", &self.main)?;
         for routine in &self.routines {
-            self.push_routine(&mut text, image, routine)?;
-            push_further(&mut text, routine.entry, &routine.returns)?;
+            commented.push_routine(&mut text, routine.entry, &routine.body, &routine.returns)?;
         }
         push_cells(&mut text, b"moves", &self.moves)?;
         push_cells(&mut text, b"abandon", &self.abandons)?;
         push_cells(&mut text, b"var", &self.variables)?;
-        self.push_halts(&mut text, image, b"stop", &self.stops)?;
-        self.push_halts(&mut text, image, b"pause", &self.pauses)?;
+        commented.push_halts(&mut text, b"stop", &self.stops)?;
+        commented.push_halts(&mut text, b"pause", &self.pauses)?;
         Ok(text)
-    }
-
-    /// Adds the line of a routine, with the name of its first word.
-    fn push_routine(
-        &self,
-        text: &mut Vec<u8, A>,
-        image: &Image,
-        routine: &SketchedRoutine,
-    ) -> Result<(), AllocError> {
-        text.extend_from_slice(b"sub")?;
-        push_range(text, routine.entry, routine.entry)?;
-        text.extend_from_slice(b" body")?;
-        for (first, last) in routine.body.ranges() {
-            push_range(text, first, last)?;
-        }
-        text.extend_from_slice(b" returns")?;
-        for offset in 0..8usize {
-            if routine.returns.contains(Word::from_index(offset)) {
-                text.extend_from_slice(b" ")?;
-                text.push(b'0' + offset as u8)?;
-            }
-        }
-        let first = routine.entry.increment();
-        self.push_remark(text, image, b" / begins with ", first)
-    }
-
-    /// Adds a line for each halt of a set, with the name of its word.
-    fn push_halts(
-        &self,
-        text: &mut Vec<u8, A>,
-        image: &Image,
-        kind: &[u8],
-        halts: &WordSet,
-    ) -> Result<(), AllocError> {
-        for at in halts.iter() {
-            text.extend_from_slice(kind)?;
-            push_range(text, at, at)?;
-            self.push_remark(text, image, b" / ", at)?;
-        }
-        Ok(())
-    }
-
-    /// Ends a line with a comment that names the word at an address, if the tape has one.
-    fn push_remark(
-        &self,
-        text: &mut Vec<u8, A>,
-        image: &Image,
-        before: &[u8],
-        at: Word,
-    ) -> Result<(), AllocError> {
-        if let Some(word) = image.get(at) {
-            text.extend_from_slice(before)?;
-            text.extend_from_slice(name(word, self.profile).as_bytes())?;
-        }
-        text.extend_from_slice(b"\n")
     }
 }

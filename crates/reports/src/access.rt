@@ -9,6 +9,7 @@ use crate::writer::ReportWriter;
 use declaration::Declaration;
 use facts::Place;
 use instruct::{Instruction, Operation, decode, refers_indirectly, target};
+use processor::is_auto_index;
 use std::alloc::Allocator;
 use word12::Word;
 use wordset::WordSet;
@@ -99,7 +100,7 @@ impl<D: Allocator> Spot<'_, '_, D> {
     fn jumped(&self, word: Word) -> WordSet {
         let named = target(word, self.at);
         let words = self.words_in(named);
-        if 0o10 <= named.value() && named.value() <= 0o17 {
+        if is_auto_index(named) {
             words.shift(Word::from_index(1))
         } else {
             words

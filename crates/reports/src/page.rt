@@ -90,24 +90,6 @@ if it is then 0000. <code>JMS</code> stores the address after it in the cell tha
 and continues after that cell; <code>JMP I</code> through the entry continues at the address that is stored there: \
 it returns.</p>\n<table>\n";
 
-/// The cells of all bodies.
-fn bodies_of<D: Allocator>(declaration: &Declaration<D>) -> WordSet {
-    let mut cells = *declaration.main();
-    for routine in declaration.routines() {
-        cells = cells.union(routine.body());
-    }
-    cells
-}
-
-/// The entries of all routines.
-fn entries_of<D: Allocator>(declaration: &Declaration<D>) -> WordSet {
-    let mut cells = WordSet::empty();
-    for routine in declaration.routines() {
-        cells.insert(routine.entry());
-    }
-    cells
-}
-
 /// Writes a point of a list: a text and cells.
 fn write_point<A: Allocator>(writer: &mut ReportWriter<'_, A>, text: &[u8], cells: &WordSet) {
     writer.put(b"<li>");
@@ -128,7 +110,7 @@ fn write_points<A: Allocator, D: Allocator>(
     write_point(
         writer,
         b"only these cells are executed: ",
-        &bodies_of(declaration),
+        &declaration.bodies(),
     );
     write_point(
         writer,
@@ -138,7 +120,7 @@ fn write_points<A: Allocator, D: Allocator>(
     write_point(
         writer,
         b"and these entries, by the JMS that calls the routine or by an ISZ of the routine that skips an argument: ",
-        &entries_of(declaration),
+        &declaration.entries(),
     );
     write_moves(writer, declaration);
     match declaration.reads() {

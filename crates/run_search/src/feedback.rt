@@ -1,7 +1,9 @@
 //! What is worth a look before a step, by the word that is carried out.
 
 use crate::input_request::InputRequest;
-use instruct::{Instruction, Operation, Profile, decode, refers_indirectly};
+use instruct::{
+    Instruction, Operation, Profile, decode, refers_indirectly, tests_sign, tests_zero,
+};
 use word12::Word;
 
 /// What is worth a look.
@@ -22,11 +24,6 @@ pub(crate) enum Feedback {
     /// How far the accumulator is from 0 at a test of its sign.
     Sign,
 }
-
-/// The bits of group 2 that test the accumulator for 0 and its sign.
-const ZERO_BIT: u16 = 0o40;
-
-const SIGN_BIT: u16 = 0o100;
 
 impl Feedback {
     /// Whether a DCA or an ISZ is carried out.
@@ -60,9 +57,9 @@ fn look_at_reference(word: Word) -> Feedback {
 
 /// What is worth a look at a word of group 2.
 fn look_at_test(word: Word) -> Feedback {
-    if word.value() & ZERO_BIT != 0 {
+    if tests_zero(word) {
         Feedback::Zero
-    } else if word.value() & SIGN_BIT != 0 {
+    } else if tests_sign(word) {
         Feedback::Sign
     } else {
         Feedback::Nothing

@@ -1,6 +1,6 @@
 //! What a program asks the operator for.
 
-use instruct::{DeviceOperation, Instruction, Profile, decode};
+use instruct::{DeviceOperation, Instruction, Profile, decode, reads_switches};
 use peripherals::Panel;
 use word12::Word;
 
@@ -15,15 +15,12 @@ pub(crate) enum InputRequest {
     Switches,
 }
 
-/// The bit of group 2 that takes the switches in.
-const OSR: u16 = 0o4;
-
 impl InputRequest {
     /// The input that a word asks for, if it asks for one.
     pub(crate) fn by(word: Word, profile: Profile) -> Option<InputRequest> {
         match decode(word, profile) {
             Instruction::Iot => asked_of_device(word, profile),
-            Instruction::Operate2 if word.value() & OSR != 0 => Some(InputRequest::Switches),
+            Instruction::Operate2 if reads_switches(word) => Some(InputRequest::Switches),
             _ => None,
         }
     }

@@ -1,15 +1,16 @@
 //! The text of a declaration, with what it lacks of another declaration added.
 
 use crate::completing::end_text;
-use control_flow::{above_seven, push_range, push_skips};
+use control_flow::{above_seven, push_cells_ending, push_low_offsets, push_skips};
+use declaration::writing::{push_range, push_ranges};
 use declaration::{Declaration, Offsets, Routine};
 use std::alloc::{AllocError, Allocator};
 use streams::text::{self, Words};
 use word12::Word;
 use wordset::WordSet;
 
-/// The maximum number of ranges in an added line, if there may be several lines of its kind.
-const MOST_RANGES: usize = 7;
+/// The end of an added line.
+const END_OF_ADDED: &[u8] = b" / added\n";
 
 /// A declaration, and another one from which it gets what it lacks.
 #[derive(Drop)]
@@ -27,24 +28,6 @@ struct Merging<'a, A: Allocator> {
 struct Addition {
     body: WordSet,
     offsets: WordSet,
-}
-
-/// The cells of all bodies of a declaration.
-pub(crate) fn bodies_of<A: Allocator>(declaration: &Declaration<A>) -> WordSet {
-    let mut cells = *declaration.main();
-    for routine in declaration.routines() {
-        cells = cells.union(routine.body());
-    }
-    cells
-}
-
-/// The entries of all routines of a declaration.
-pub(crate) fn entries_of<A: Allocator>(declaration: &Declaration<A>) -> WordSet {
-    let mut entries = WordSet::empty();
-    for routine in declaration.routines() {
-        entries.insert(routine.entry());
-    }
-    entries
 }
 
 /// The routine of an entry, if there is one.
@@ -88,49 +71,9 @@ fn entry_on(line: &[u8]) -> Option<Word> {
     }
 }
 
-/// Adds the ranges of a set, each after a space.
-pub(crate) fn push_ranges<A: Allocator>(
-    text: &mut Vec<u8, A>,
-    set: &WordSet,
-) -> Result<(), AllocError> {
-    for (first, last) in set.ranges() {
-        push_range(text, first, last)?;
-    }
-    Ok(())
-}
-
-/// Adds the offsets of a set, each after a space.
-pub(crate) fn push_offsets<A: Allocator>(
-    text: &mut Vec<u8, A>,
-    set: &WordSet,
-) -> Result<(), AllocError> {
-    for offset in 0..8usize {
-        if set.contains(Word::from_index(offset)) {
-            text.extend_from_slice(b" ")?;
-            text.push(b'0' + offset as u8)?;
-        }
-    }
-    Ok(())
-}
-
 /// Ends an added line.
 pub(crate) fn end_line<A: Allocator>(text: &mut Vec<u8, A>) -> Result<(), AllocError> {
-    text.extend_from_slice(b" / added\n")
-}
-
-/// Begins an added line if there is none yet, or if the last one is full; `ranges` is the number of ranges so far.
-fn push_line_break<A: Allocator>(
-    text: &mut Vec<u8, A>,
-    kind: &[u8],
-    ranges: usize,
-) -> Result<(), AllocError> {
-    if ranges % MOST_RANGES != 0 {
-        return Ok(());
-    }
-    if ranges != 0 {
-        end_line(text)?;
-    }
-    text.extend_from_slice(kind)
+    text.extend_from_slice(END_OF_ADDED)
 }
 
 /// Adds lines of a kind with the ranges of a set, if the set is not empty.
@@ -139,16 +82,7 @@ fn push_cells<A: Allocator>(
     kind: &[u8],
     set: &WordSet,
 ) -> Result<(), AllocError> {
-    let mut ranges = 0usize;
-    for (first, last) in set.ranges() {
-        push_line_break(text, kind, ranges)?;
-        push_range(text, first, last)?;
-        ranges = ranges.saturating_add(1);
-    }
-    if ranges != 0 {
-        end_line(text)?;
-    }
-    Ok(())
+    push_cells_ending(text, kind, set, END_OF_ADDED)
 }
 
 /// Adds a line of a kind for each cell of a set.
@@ -177,7 +111,7 @@ pub(crate) fn push_sub<A: Allocator>(
     text.extend_from_slice(b" body")?;
     push_ranges(text, body)?;
     text.extend_from_slice(b" returns")?;
-    push_offsets(text, offsets)
+    push_low_offsets(text, offsets)
 }
 
 /// The words of a part of a line, without its comment, and what comes after them.
@@ -201,7 +135,7 @@ fn push_end<A: Allocator>(
 ) -> Result<(), AllocError> {
     let (words, rest) = parted(end);
     text.extend_from_slice(words)?;
-    push_offsets(text, &addition.offsets)?;
+    push_low_offsets(text, &addition.offsets)?;
     text.extend_from_slice(rest)?;
     text.extend_from_slice(b" / added")?;
     push_ranges(text, &addition.body)?;
@@ -209,7 +143,7 @@ fn push_end<A: Allocator>(
         return Ok(());
     }
     text.extend_from_slice(b" returns")?;
-    push_offsets(text, &addition.offsets)
+    push_low_offsets(text, &addition.offsets)
 }
 
 /// Adds a routine's line with what is added to it. The first letter `r` in the line is that of `returns`.
@@ -252,8 +186,8 @@ impl<'a, B: Allocator> Merging<'a, B> {
         Merging {
             given,
             proposed,
-            bodies: bodies_of(given),
-            entries: entries_of(given),
+            bodies: given.bodies(),
+            entries: given.entries(),
         }
     }
 
@@ -298,7 +232,7 @@ impl<'a, B: Allocator> Merging<'a, B> {
     fn added_variables(&self) -> WordSet {
         let kept = self
             .bodies
-            .minus(&bodies_of(self.proposed))
+            .minus(&self.proposed.bodies())
             .union(&self.entries);
         let variables = self.proposed.variables();
         variables.minus(self.given.variables()).minus(&kept)

@@ -1,8 +1,8 @@
 //! The text of a declaration without what a certificate shows to be unnecessary.
 
-use crate::merging::{parted, push_ranges, push_sub, routine_of, set_of};
+use crate::merging::{parted, push_sub, routine_of, set_of};
 use crate::returning::{OFFSETS, Shown, push_spaced_digits};
-use control_flow::push_range;
+use declaration::writing::{push_range, push_ranges};
 use declaration::{Declaration, Routine};
 use std::alloc::{AllocError, Allocator};
 use streams::text::{Words, is, octal_word};

@@ -12,7 +12,7 @@ use crate::adding::adds_only;
 use crate::completing::end_text;
 use crate::declaring::copy_of;
 use crate::keeping::keeps_lines;
-use crate::merging::{bodies_of, entries_of, offsets_of};
+use crate::merging::offsets_of;
 use crate::narrowing::narrowed;
 use crate::returning::{Shown, push_all_returns};
 use crate::verifying::certificate_for;
@@ -178,12 +178,12 @@ fn push_lost<L: MessageWriter, A: Allocator, B: Allocator>(
     push_cells(
         told,
         b"--tight leaves out body cells that no run reaches",
-        &bodies_of(given).minus(&bodies_of(less)),
+        &given.bodies().minus(&less.bodies()),
     )?;
     push_cells(
         told,
         b"--tight leaves out routines that are never called",
-        &entries_of(given).minus(&entries_of(less)),
+        &given.entries().minus(&less.entries()),
     )?;
     push_lost_offsets(told, given, less)?;
     push_cells(

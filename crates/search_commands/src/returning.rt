@@ -5,7 +5,7 @@ ghost use Rattle.std.specs.Prelude.{◌<◌};
 use crate::merging::end_line;
 use bin_tape::Image;
 use certificate::Certificate;
-use control_flow::push_range;
+use declaration::writing::push_range;
 use declaration::{Declaration, ReturnAssertion, Subject};
 use std::alloc::{AllocError, Allocator};
 use usage::{Register, returned};

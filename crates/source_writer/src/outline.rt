@@ -3,10 +3,14 @@
 ghost use Rattle.std.specs.Prelude.{◌≡◌};
 ghost use Rattle.declaration.specs.DeclarationInCode.{meaning};
 
-use crate::reach::{Reach, is_auto_index, skips_on_flag};
+use crate::reach::Reach;
 use bin_tape::Image;
 use declaration::Declaration;
-use instruct::{Instruction, Operation, Profile, decode, refers_indirectly, target};
+use instruct::{
+    Instruction, Operation, Profile, decode, names_own_page, refers_indirectly, skips_on_flag,
+    target,
+};
+use processor::is_auto_index;
 use std::alloc::Allocator;
 use word12::Word;
 use wordset::WordSet;
@@ -105,11 +109,8 @@ impl Outline {
         ensures { result.profile ≡ (meaning declaration.now).profile }
     {
         let mut outline = Outline::new(declaration.start(), declaration.profile());
-        outline.code = *declaration.main();
-        for routine in declaration.routines() {
-            outline.code = outline.code.union(routine.body());
-            outline.entries.insert(routine.entry());
-        }
+        outline.code = declaration.bodies();
+        outline.entries = declaration.entries();
         outline.declared = Some(DeclaredCells {
             main: *declaration.main(),
             variables: *declaration.variables(),
@@ -307,5 +308,5 @@ pub(crate) fn previous(at: Word) -> Word {
 /// Whether the assembler makes a reference at a cell this word: on page zero it sets no bit for the own
 /// page.
 fn is_spelled(word: Word, at: Word) -> bool {
-    target(word, at).index() >= 0o200 || word.index() / 0o200 % 2 == 0
+    target(word, at).page() != Word::ZERO || !names_own_page(word)
 }

@@ -1,9 +1,9 @@
 //! A source as a reader wants to see it.
 
 use crate::outline::{Outline, previous};
-use crate::reach::is_auto_index;
 use bin_tape::Image;
 use instruct::{Instruction, Operation, Profile, decode, halts};
+use processor::is_auto_index;
 use std::alloc::{AllocError, Allocator};
 use word12::Word;
 

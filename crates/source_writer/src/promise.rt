@@ -1,5 +1,6 @@
 //! A declaration as the lines of comments in a source.
 
+use declaration::writing::{push_address, push_ranges};
 use declaration::{Assertion, Declaration, PlaceAssertion, ReturnAssertion, Routine, Subject};
 use instruct::Profile;
 use std::alloc::{AllocError, Allocator};
@@ -18,12 +19,6 @@ fn begin_line<A: Allocator>(text: &mut Vec<u8, A>, name: &[u8]) -> Result<(), Al
 /// Ends a line.
 fn end_line<A: Allocator>(text: &mut Vec<u8, A>) -> Result<(), AllocError> {
     text.extend_from_slice(b"\n")
-}
-
-/// Adds an address after a space.
-fn push_address<A: Allocator>(text: &mut Vec<u8, A>, at: Word) -> Result<(), AllocError> {
-    text.extend_from_slice(b" ")?;
-    text.extend_from_slice(&at.to_octal())
 }
 
 /// Adds an offset after a space, in one digit or two.
@@ -48,18 +43,6 @@ fn push_addresses<A: Allocator>(text: &mut Vec<u8, A>, set: &WordSet) -> Result<
 fn push_offsets<A: Allocator>(text: &mut Vec<u8, A>, set: &WordSet) -> Result<(), AllocError> {
     for offset in set.iter() {
         push_offset(text, offset)?;
-    }
-    Ok(())
-}
-
-/// Adds the ranges of a set, each after a space.
-fn push_ranges<A: Allocator>(text: &mut Vec<u8, A>, set: &WordSet) -> Result<(), AllocError> {
-    for (first, last) in set.ranges() {
-        push_address(text, first)?;
-        if first != last {
-            text.extend_from_slice(b"-")?;
-            text.extend_from_slice(&last.to_octal())?;
-        }
     }
     Ok(())
 }

@@ -1,9 +1,12 @@
 //! Which cells control reaches, as far as the words of a tape tell.
+//!
+//! What a word alone tells is said by [`ControlEffect`]. A source shows which words are code and leaves open whose body they are
+//! in, so all bodies are followed at once: every entry is taken for the one whose return word an instruction uses. Cells in which
+//! the program stores are taken for data, and control goes on behind halts and texts where that looks right.
 
 use bin_tape::Image;
-use instruct::{
-    DeviceOperation, Instruction, Operation, Profile, decode, halts, refers_indirectly, target,
-};
+use instruct::{Instruction, Operation, Profile, SkipCondition, decode};
+use tape_walk::{ControlEffect, KnownCells, MemoryReference, PointSet, ProgramPoint, Traversal};
 use word12::Word;
 use wordset::WordSet;
 
@@ -13,32 +16,19 @@ const MOST_VISITS: usize = 16_384;
 /// Behind how many halts control is followed at most.
 const MOST_HALTS: usize = 256;
 
-/// The least word after a HLT that is taken for an instruction. Below are those of AND, as which most
-/// characters, small numbers and empty cells read.
-const LEAST_INSTRUCTION: usize = 0o1000;
-
 /// How many characters a text behind a call has at most.
 const MOST_TEXT: usize = 256;
 
-/// A cell that control reaches, and by how far the return address of its routine was incremented
-/// before.
-#[derive(Clone, Copy)]
-struct ReachedCell {
-    at: Word,
-    offset: usize,
-}
+/// By which offset a routine returns that increments its return word again and again.
+const TEXT_OFFSET: usize = 7;
 
-/// Where control was found to go. The cells are kept by their offsets: by how far ISZ counted the return
-/// address of the routine up on the way there.
+/// Where control was found to go.
 #[derive(Clone, Copy)]
 pub(crate) struct Reach {
     profile: Profile,
-    met: [WordSet; 8],
-    waiting: [WordSet; 8],
-    calls: [WordSet; 8],
-    returns: [WordSet; 8],
-    entries: WordSet,
-    stored: WordSet,
+    known: KnownCells,
+    points: Traversal,
+    calls: PointSet,
     data: WordSet,
     halts: WordSet,
     /// Entries of routines that take a text from behind their call.
@@ -49,12 +39,9 @@ impl Reach {
     fn new(profile: Profile, texts: WordSet) -> Reach {
         Reach {
             profile,
-            met: [WordSet::empty(); 8],
-            waiting: [WordSet::empty(); 8],
-            calls: [WordSet::empty(); 8],
-            returns: [WordSet::empty(); 8],
-            entries: WordSet::empty(),
-            stored: WordSet::empty(),
+            known: KnownCells::none(),
+            points: Traversal::new(),
+            calls: PointSet::empty(),
             data: WordSet::empty(),
             halts: WordSet::empty(),
             texts,
@@ -66,7 +53,7 @@ impl Reach {
     /// increments its return address again and again is taken to read a text behind its call.
     pub(crate) fn of(image: &Image, start: Word, profile: Profile) -> Reach {
         let reach = Reach::with_texts(image, start, profile, WordSet::empty());
-        let texts = reach.returns[7];
+        let texts = reach.known.returns.cells_with(TEXT_OFFSET);
         if texts.is_empty() {
             return reach;
         }
@@ -76,7 +63,7 @@ impl Reach {
     /// The same, for routines of which these read a text.
     fn with_texts(image: &Image, start: Word, profile: Profile, texts: WordSet) -> Reach {
         let mut reach = Reach::new(profile, texts);
-        reach.meet(image, start, 0);
+        reach.begin_at(image, start);
         reach.settle(image);
         reach.go_past_halts(image);
         reach
@@ -84,16 +71,12 @@ impl Reach {
 
     /// The cells that control reaches.
     pub(crate) fn cells(&self) -> WordSet {
-        let mut cells = WordSet::empty();
-        for met in &self.met {
-            cells = cells.union(met);
-        }
-        cells
+        self.points.cells()
     }
 
     /// The cells that a JMS goes to.
     pub(crate) fn entries(&self) -> WordSet {
-        self.entries
+        self.known.entries
     }
 
     /// Goes on behind halts, one after another.
@@ -106,20 +89,20 @@ impl Reach {
             tried.insert(halt);
             let next = halt.increment();
             if self.is_likely(image, next) {
-                self.meet(image, next, 0);
+                self.begin_at(image, next);
                 self.settle(image);
             }
         }
     }
 
-    /// Whether a cell looks like an instruction.
+    /// Whether a cell looks like an instruction. An AND is none: as this most characters, small numbers and empty cells read.
     fn is_likely(&self, image: &Image, at: Word) -> bool {
         match image.get(at) {
             None => false,
             Some(word) => {
-                word.index() >= LEAST_INSTRUCTION
+                Operation::of(word) != Operation::And
                     && !self.data.contains(at)
-                    && !self.entries.contains(at)
+                    && !self.known.entries.contains(at)
                     && decode(word, self.profile) != Instruction::Unsupported
             }
         }
@@ -128,13 +111,10 @@ impl Reach {
     /// Goes on until nothing waits, also behind calls of routines of which no return is found.
     fn settle(&mut self, image: &Image) {
         self.go_on(image);
-        let mut lost = self.entries;
-        for returns in &self.returns {
-            lost = lost.minus(returns);
-        }
+        let lost = self.known.entries.minus(&self.known.returns.cells());
         if !lost.is_empty() {
-            self.returns[0] = self.returns[0].union(&lost);
-            self.call_again();
+            self.known.returns.insert_cells(&lost);
+            self.points.wait(&self.calls);
             self.go_on(image);
         }
     }
@@ -142,177 +122,108 @@ impl Reach {
     /// Visits what waits, and what it leads to.
     fn go_on(&mut self, image: &Image) {
         for _visit in 0..MOST_VISITS {
-            let Some(cell) = self.next() else {
+            let Some(here) = self.points.next() else {
                 return;
             };
-            self.visit(image, &cell);
+            self.visit(image, &here);
         }
     }
 
-    /// The next cell that waits.
-    fn next(&mut self) -> Option<ReachedCell> {
-        for offset in 0..8usize {
-            let cells = &mut self.waiting[offset];
-            if let Some(at) = cells.least() {
-                cells.remove(at);
-                return Some(ReachedCell { at, offset });
-            }
-        }
-        None
+    /// Begins at a cell, where no return word has been incremented.
+    fn begin_at(&mut self, image: &Image, at: Word) {
+        self.meet(image, &ProgramPoint { at, offset: 0 });
     }
 
-    /// Lets all calls wait, since a routine was found to return in a new way.
-    fn call_again(&mut self) {
-        for offset in 0..8usize {
-            let calls = self.calls[offset];
-            let waiting = self.waiting[offset].union(&calls);
-            self.waiting[offset] = waiting;
+    /// Meets a point, if the tape has a word for its cell.
+    fn meet(&mut self, image: &Image, point: &ProgramPoint) {
+        if image.get(point.at).is_some() {
+            self.points.meet(point);
         }
     }
 
-    /// Meets a cell, if the tape has a word for it.
-    fn meet(&mut self, image: &Image, at: Word, offset: usize) {
-        if image.get(at).is_none() {
-            return;
+    /// Goes on behind a cell whose word skips under this condition.
+    fn advance(&mut self, image: &Image, here: &ProgramPoint, condition: SkipCondition) {
+        if condition.may_go_on() {
+            self.meet(image, &here.next());
         }
-        if let Some(met) = self.met.get_mut(offset) {
-            if met.contains(at) {
-                return;
-            }
-            met.insert(at);
-        }
-        if let Some(waiting) = self.waiting.get_mut(offset) {
-            waiting.insert(at);
+        if condition.may_skip() {
+            self.meet(image, &here.past_next());
         }
     }
 
-    /// Goes on so many cells later.
-    fn advance(&mut self, image: &Image, cell: &ReachedCell, by: usize) {
-        let to = cell.at.add(Word::from_index(by % 4096));
-        self.meet(image, to, cell.offset);
-    }
-
-    fn visit(&mut self, image: &Image, cell: &ReachedCell) {
-        let Some(word) = image.get(cell.at) else {
+    fn visit(&mut self, image: &Image, here: &ProgramPoint) {
+        let Some(word) = image.get(here.at) else {
             return;
         };
-        match decode(word, self.profile) {
-            Instruction::Memory => self.refer(image, cell, word),
-            Instruction::Operate1 | Instruction::Operate3 => self.advance(image, cell, 1),
-            Instruction::Operate2 => self.test(image, cell, word),
-            Instruction::Iot => {
-                self.advance(image, cell, 1);
-                if skips_on_flag(word, self.profile) {
-                    self.advance(image, cell, 2);
-                }
-            }
-            Instruction::Unsupported => {}
+        match ControlEffect::of(word, here.at, self.profile) {
+            ControlEffect::GoesOn(condition) => self.advance(image, here, condition),
+            ControlEffect::Halts(_) => self.halts.insert(here.at),
+            ControlEffect::Refers(reference) => self.refer(image, here, &reference),
+            ControlEffect::Unsupported => {}
         }
-    }
-
-    /// Goes on from a word of group 2. Its bits 0010 to 0100 say when it skips: 0010 alone always.
-    fn test(&mut self, image: &Image, cell: &ReachedCell, word: Word) {
-        if halts(word) {
-            self.halts.insert(cell.at);
-            return;
-        }
-        let tests = word.index() / 8 % 16;
-        if tests != 1 {
-            self.advance(image, cell, 1);
-        }
-        if tests != 0 {
-            self.advance(image, cell, 2);
-        }
-    }
-
-    /// The address that a memory reference goes to, if the words of the tape tell.
-    fn address(&self, image: &Image, at: Word, word: Word) -> Option<Word> {
-        let named = target(word, at);
-        if !refers_indirectly(word) {
-            return Some(named);
-        }
-        if is_auto_index(named) || self.stored.contains(named) || self.entries.contains(named) {
-            return None;
-        }
-        image.get(named)
     }
 
     /// Goes on from a memory reference.
-    fn refer(&mut self, image: &Image, cell: &ReachedCell, word: Word) {
-        let named = target(word, cell.at);
-        match Operation::of(word) {
-            Operation::Jms => self.call(image, cell, word),
-            Operation::Jmp => self.jump(image, cell, word),
-            Operation::Isz if self.entries.contains(named) && !refers_indirectly(word) => {
-                self.meet(image, cell.at.increment(), cell.offset.saturating_add(1));
+    fn refer(&mut self, image: &Image, here: &ProgramPoint, reference: &MemoryReference) {
+        match reference.operation {
+            Operation::Jms => self.call(image, here, reference),
+            Operation::Jmp => self.jump(image, here, reference),
+            Operation::Isz if self.is_return_word(reference) => {
+                self.meet(image, &here.next().incremented());
             }
-            operation => {
-                self.note_operand(operation, named, refers_indirectly(word));
-                self.advance(image, cell, 1);
-                if operation == Operation::Isz {
-                    self.advance(image, cell, 2);
-                }
+            _ => {
+                self.note_operand(reference);
+                self.advance(image, here, reference.skip_condition());
             }
         }
     }
 
+    /// Whether a memory reference goes to the return word of a routine, which it names.
+    fn is_return_word(&self, reference: &MemoryReference) -> bool {
+        !reference.is_indirect && self.known.entries.contains(reference.named)
+    }
+
     /// Notes that a cell is named as an operand or as the pointer to one.
-    fn note_operand(&mut self, operation: Operation, named: Word, is_pointer: bool) {
-        self.data.insert(named);
-        let is_read = operation == Operation::And || operation == Operation::Tad;
-        if !is_read && !is_pointer {
-            self.stored.insert(named);
+    fn note_operand(&mut self, reference: &MemoryReference) {
+        self.data.insert(reference.named);
+        let is_read = matches!(reference.operation, Operation::And | Operation::Tad);
+        if !is_read && !reference.is_indirect {
+            self.known.stored.insert(reference.named);
         }
     }
 
     /// Goes on from a call: at the routine, and where it is known to return.
-    fn call(&mut self, image: &Image, cell: &ReachedCell, word: Word) {
-        let entry = match self.address(image, cell.at, word) {
+    fn call(&mut self, image: &Image, here: &ProgramPoint, reference: &MemoryReference) {
+        let entry = match self.known.address(image, reference) {
             Some(entry) if image.get(entry).is_some() => entry,
-            _ => {
-                self.advance(image, cell, 1);
-                return;
-            }
+            _ => return self.meet(image, &here.next()),
         };
-        self.entries.insert(entry);
-        self.meet(image, entry.increment(), 0);
-        if let Some(calls) = self.calls.get_mut(cell.offset) {
-            calls.insert(cell.at);
-        }
+        self.known.entries.insert(entry);
+        self.begin_at(image, entry.increment());
+        self.calls.insert(here);
         if self.texts.contains(entry) {
-            if let Some(end) = text_end(image, cell.at) {
-                self.meet(image, end.increment(), cell.offset);
+            if let Some(end) = text_end(image, here.at) {
+                self.meet(image, &here.to(end.increment()));
                 return;
             }
         }
-        for by in 0..8usize {
-            if self.returns[by].contains(entry) {
-                self.advance(image, cell, by + 1);
-            }
+        let offsets = self.known.returns.offsets_of(entry);
+        for offset in offsets.iter() {
+            self.meet(image, &here.to(here.next().at.add(offset)));
         }
     }
 
-    /// Goes on from a jump. One through the entry of a routine is its return.
-    fn jump(&mut self, image: &Image, cell: &ReachedCell, word: Word) {
-        let named = target(word, cell.at);
-        if refers_indirectly(word) && self.entries.contains(named) {
-            self.note_return(named, cell.offset);
+    /// Goes on from a jump. One through the entry of a routine is its return, behind each of its calls.
+    fn jump(&mut self, image: &Image, here: &ProgramPoint, reference: &MemoryReference) {
+        if reference.is_indirect && self.known.entries.contains(reference.named) {
+            if self.known.note_return(reference.named, here) {
+                self.points.wait(&self.calls);
+            }
             return;
         }
-        if let Some(to) = self.address(image, cell.at, word) {
-            self.meet(image, to, cell.offset);
+        if let Some(to) = self.known.address(image, reference) {
+            self.meet(image, &here.to(to));
         }
-    }
-
-    /// Notes that a routine returns so far behind its calls.
-    fn note_return(&mut self, entry: Word, offset: usize) {
-        if let Some(returns) = self.returns.get_mut(offset) {
-            if returns.contains(entry) {
-                return;
-            }
-            returns.insert(entry);
-        }
-        self.call_again();
     }
 }
 
@@ -326,22 +237,4 @@ fn text_end(image: &Image, call: Word) -> Option<Word> {
         }
     }
     None
-}
-
-/// Whether a cell is one of 0010 to 0017, which an indirect reference steps.
-pub(crate) fn is_auto_index(cell: Word) -> bool {
-    cell.index() / 8 == 1
-}
-
-/// Whether a device word skips where a flag is set.
-pub(crate) fn skips_on_flag(word: Word, profile: Profile) -> bool {
-    matches!(
-        DeviceOperation::of(word, profile),
-        Some(
-            DeviceOperation::SkipOnReaderFlag
-                | DeviceOperation::SkipOnPunchFlag
-                | DeviceOperation::SkipOnKeyboardFlag
-                | DeviceOperation::SkipOnPrinterFlag
-        )
-    )
 }

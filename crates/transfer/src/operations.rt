@@ -28,45 +28,9 @@ use crate::skipping::put_part;
 use crate::stores::put_begun_longer;
 use bin_tape::Image;
 use domain::{Location, Names, Relation, Rules, Step, SumFact, Term};
-use instruct::operate1;
+use instruct::{clears, complements, increments, moves_bits, operate1, reads_switches};
 use word12::{Link, Word};
 use wordset::{Links, WordSet};
-
-/// Whether a word of group 1 or 2 has CLA.
-fn clears(word: Word) -> bool
-    ensures { result ≡ has_bit 7 word }
-{
-    word.value() >> 7 & 1 == 1
-}
-
-/// Whether a word of group 1 has CMA.
-fn complements(word: Word) -> bool
-    ensures { result ≡ has_bit 5 word }
-{
-    word.value() >> 5 & 1 == 1
-}
-
-/// Whether a word of group 1 has IAC.
-fn increments(word: Word) -> bool
-    ensures { result ≡ has_bit 0 word }
-{
-    word.value() & 1 == 1
-}
-
-/// Whether a word of group 1 has a rotation or BSW, by which the bits of the accumulator change their places.
-fn moves_bits(word: Word) -> bool
-    ensures { result ≡ moves_bits word }
-{
-    let bits = word.value();
-    bits >> 3 & 1 == 1 || bits >> 2 & 1 == 1 || bits >> 1 & 1 == 1
-}
-
-/// Whether a word of group 2 has OSR.
-fn reads_switches(word: Word) -> bool
-    ensures { result ≡ has_bit 2 word }
-{
-    word.value() >> 2 & 1 == 1
-}
 
 /// Whether a word of group 2 has CLA or OSR, by which the accumulator changes.
 fn changes_accumulator(word: Word) -> bool

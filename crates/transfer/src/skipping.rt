@@ -6,35 +6,15 @@ ghost use Rattle.instruct.specs.Bits.{has_bit};
 ghost use Rattle.instruct.specs.Operates.{any_test_holds, skips_of};
 
 use crate::sets::union_if;
+use instruct::{is_reversed, tests_link, tests_sign, tests_zero};
 use word12::{Link, Word};
 use wordset::WordSet;
-
-/// Whether a word has SMA, the test for a negative accumulator.
-fn tests_sign(word: Word) -> bool
-    ensures { result ≡ has_bit 6 word }
-{
-    word.value() >> 6 & 1 == 1
-}
-
-/// Whether a word has SZA, the test for 0000.
-fn tests_zero(word: Word) -> bool
-    ensures { result ≡ has_bit 5 word }
-{
-    word.value() >> 5 & 1 == 1
-}
 
 /// Whether a word has SNL and the link is 1.
 fn passes_by_link(word: Word, link: Link) -> bool
     ensures { result ≡ (has_bit 4 word && (link == 1)) }
 {
-    word.value() >> 4 & 1 == 1 && link.is_set()
-}
-
-/// Whether a word skips where none of its tests holds.
-fn is_reversed(word: Word) -> bool
-    ensures { result ≡ has_bit 3 word }
-{
-    word.value() >> 3 & 1 == 1
+    tests_link(word) && link.is_set()
 }
 
 /// The words of the accumulator for which some test of a word holds.

@@ -3,7 +3,6 @@
 ghost use Rattle.std.specs.Prelude.{◌≡◌, ◌==◌, ◌&&◌, ℕ};
 ghost use Rattle.instruct.specs.declared.Profile.TheVariants.{Pdp8E};
 ghost use Rattle.instruct.specs.declared.Instruction.TheVariants.{Operate1};
-ghost use Rattle.instruct.specs.Bits.{has_bit};
 ghost use Rattle.instruct.specs.Instructions.{instruction_of};
 ghost use Rattle.wordset.specs.Words.{images, images_at};
 ghost use Rattle.wordset.specs.Lanes.{words};
@@ -11,15 +10,8 @@ ghost use Rattle.wordset.specs.Links.{links_of};
 ghost use Rattle.wordset.specs.Operate.{accumulator_after, link_after};
 
 use crate::{Links, WordSet};
-use instruct::operate1;
+use instruct::{clears, operate1};
 use word12::{Link, Word};
-
-/// Whether a word of group 1 has CLA: what it makes of an accumulator is then the same for all of them.
-fn clears(word: Word) -> bool
-    ensures { result ≡ has_bit 7 word }
-{
-    word.value() >> 7 & 1 == 1
-}
 
 impl WordSet {
     /// What a word of group 1, with a rotate or BSW or none, makes of each accumulator in the set
@@ -31,6 +23,7 @@ impl WordSet {
         ensures links { links_of result.1 ≡
             images (link_after word) (words self.now) (links_of links) }
     {
+        // With CLA it makes the same of each accumulator.
         if clears(word) && !self.is_empty() {
             return WordSet::one(Word::ZERO).map_each(word, links);
         }

@@ -1,12 +1,17 @@
 //! Why less is known about a pointer after an instruction than before it.
 
-ghost use Rattle.std.specs.Prelude.{◌≡◌, ◌==◌, bit_and};
-ghost use Rattle.diagnostics.specs.BoundText.{is_reference, is_test};
+ghost use Rattle.std.specs.Prelude.{◌≡◌, ◌&&◌};
+ghost use Rattle.instruct.specs.Bits.{has_bit};
+ghost use Rattle.instruct.specs.Instructions.{format_of, is_group2, is_operate};
+ghost use Rattle.diagnostics.specs.BoundText.{is_test};
 
 use crate::bounds::draft_facts::DraftFacts;
 use declaration::Declaration;
 use domain::Location;
-use instruct::{Operation, halts, refers_indirectly, target};
+use instruct::{
+    Format, Operation, SkipCondition, clears, complements, halts, refers_indirectly,
+    refers_to_memory, target,
+};
 use std::alloc::Allocator;
 use word12::Word;
 use wordset::WordSet;
@@ -42,13 +47,6 @@ impl PrecisionLoss {
     }
 }
 
-/// Whether a word is a memory reference.
-pub(crate) fn refers_to_memory(word: Word) -> bool
-    ensures { result ≡ is_reference word }
-{
-    word.value() < 0o6000
-}
-
 /// The operation of a word, if it is a memory reference.
 fn operation(word: Word) -> Option<Operation> {
     refers_to_memory(word).then_some(Operation::of(word))
@@ -56,28 +54,28 @@ fn operation(word: Word) -> Option<Operation> {
 
 /// Whether a word is of group 2.
 fn is_group2(word: Word) -> bool
-    ensures { result ≡ (bit_and word 3841 == 3840) }
+    ensures { result ≡ is_group2 (format_of word) }
 {
-    word.value() & 0o7401 == 0o7400
+    Format::of(word) == Format::Group2
 }
 
 /// Whether a word is an operate instruction that clears the accumulator.
-pub(crate) fn clears(word: Word) -> bool
-    ensures { result ≡ (bit_and word 3712 == 3712) }
+pub(crate) fn clears_accumulator(word: Word) -> bool
+    ensures { result ≡ (is_operate (format_of word) && has_bit 7 word) }
 {
-    word.value() & 0o7200 == 0o7200
+    Format::of(word).is_operate() && clears(word)
 }
 
 /// Whether a word is of group 2, with a test.
 pub(crate) fn is_test(word: Word) -> bool
     ensures { result ≡ is_test word }
 {
-    is_group2(word) && word.value() & 0o170 != 0
+    is_group2(word) && SkipCondition::of_tests(word).may_skip()
 }
 
-/// Whether a word that is not a memory reference may skip: one of group 2 with a test, or of a device.
-fn may_skip(word: Word) -> bool {
-    is_test(word) || word.value() < 0o7000
+/// Whether a word that is not a memory reference may skip by its tests, or is of a device.
+fn tests_or_asks_device(word: Word) -> bool {
+    is_test(word) || Format::of(word) == Format::Device
 }
 
 /// Whether a call at this address may return to that one.
@@ -136,7 +134,7 @@ pub(crate) fn may_go_on<D: Allocator>(
         Some(Operation::Isz) => to == next || to == next.increment(),
         Some(_) => to == next,
         None if is_group2(word) && halts(word) => declaration.is_pause(at) && to == next,
-        None if may_skip(word) => to == next || to == next.increment(),
+        None if tests_or_asks_device(word) => to == next || to == next.increment(),
         None => to == next,
     }
 }
@@ -158,11 +156,13 @@ fn words_behind<C: Allocator>(
 /// Why it is no longer known behind an instruction how far the accumulator is from a pointer, if the instruction is a test or a
 /// complement.
 fn loss_of_tie(word: Word) -> Option<PrecisionLoss> {
-    let bits = word.value();
-    if is_test(word) && bits & 0o200 != 0 {
+    if is_test(word) && clears(word) {
         return Some(PrecisionLoss::ClearingSkip);
     }
-    (bits & 0o7640 == 0o7040).then_some(PrecisionLoss::Complement)
+    let complements_alone = Format::of(word) == Format::Group1
+        && complements(word)
+        && !clears(word);
+    complements_alone.then_some(PrecisionLoss::Complement)
 }
 
 /// Why less is known about a pointer at the place where a run goes on from an instruction, if it is so.

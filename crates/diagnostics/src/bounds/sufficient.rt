@@ -6,11 +6,11 @@ ghost use Rattle.instruct.specs.declared.Operation.TheVariants.{Jmp};
 ghost use Rattle.declaration.specs.DeclarationInCode.{meaning};
 ghost use Rattle.diagnostics.specs.BoundText.{AddsCell, AreEnough, AreInOneBody, IsNextTest, IsTestOf, MayReferTo, ends_computation, referred_to};
 
-use crate::bounds::losses::{clears, is_test, refers_to_memory};
+use crate::bounds::losses::{clears_accumulator, is_test};
 use crate::inputs::is_in_body;
 use bin_tape::Image;
 use declaration::Declaration;
-use instruct::{Operation, refers_indirectly, target};
+use instruct::{Operation, refers_indirectly, refers_to_memory, target};
 use processor::is_auto_index;
 use std::alloc::Allocator;
 use word12::Word;
@@ -107,7 +107,7 @@ fn ends_computation(word: Word) -> bool
             Operation::Jmp | Operation::Jms | Operation::Dca
         );
     }
-    clears(word)
+    clears_accumulator(word)
 }
 
 /// The first test that follows an address, before the accumulator is stored or cleared and before control goes elsewhere.

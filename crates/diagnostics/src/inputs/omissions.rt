@@ -13,7 +13,9 @@ ghost use Rattle.diagnostics.specs.OmissionText.{IsHalt, IsOmitted, IsViolation,
 use bin_tape::Image;
 use command_parts::message::{MessageWriter, push_text_and_address, push_text_and_advised};
 use declaration::{Declaration, Owner};
-use instruct::{Instruction, Operation, Profile, decode, halts, refers_indirectly, target};
+use instruct::{
+    Instruction, Operation, Profile, SkipCondition, decode, halts, refers_indirectly, target,
+};
 use processor::is_auto_index;
 use std::alloc::{AllocError, Allocator};
 use word12::Word;
@@ -57,9 +59,6 @@ enum Omission {
     /// It halts at a pause, and this address, at which the operator goes on, is in another body, or an entry.
     GoesAcross(Word),
 }
-
-/// The bits by which a HLT skips.
-const TESTS: u16 = 0o170;
 
 /// What a memory reference that stores into the cell which it names would violate, where that is not its routine's own entry.
 fn omitted_by_store<D: Allocator>(declaration: &Declaration<D>, cell: Word) -> Option<Omission>
@@ -220,7 +219,7 @@ fn omitted_by_pause<D: Allocator>(
         IfSome result (IsViolation image (meaning declaration.now) (routine_of owner) at) }
 {
     let next = at.increment();
-    if word.value() & TESTS != 0 || is_in_body(declaration, owner, next) {
+    if SkipCondition::of_tests(word).may_skip() || is_in_body(declaration, owner, next) {
         None
     } else if is_elsewhere(declaration, next) {
         Some(Omission::GoesAcross(next))

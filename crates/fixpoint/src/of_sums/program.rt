@@ -6,13 +6,14 @@ ghost use Rattle.wordset.specs.Lanes.{words};
 ghost use Rattle.declaration.specs.DeclarationInCode.{meaning};
 
 use crate::of_sums::tested_links::tested_links;
-use crate::program::{AnalysedProgram, add_asserted, is_reference};
+use crate::program::{AnalysedProgram, add_asserted};
 use crate::widening::{Limits, MANY_RUNS};
 use bin_tape::Image;
 use declaration::{Declaration, Owner};
 use domain::Rules;
 use facts::{Place, SumFact};
-use instruct::{Operation, refers_indirectly, target};
+use instruct::{Format, Operation, refers_indirectly, refers_to_memory, target};
+use processor::is_auto_index;
 use std::alloc::Allocator;
 use word12::Word;
 use wordset::WordSet;
@@ -92,7 +93,7 @@ fn uses_of<D: Allocator>(base: &AnalysedProgram<'_, D>) -> Uses {
     for index in 0..4096usize {
         let at = Word::from_index(index);
         if let Some(word) = base.fixed_word(at) {
-            if is_reference(word) {
+            if refers_to_memory(word) {
                 uses.add(base.declaration, at, word);
                 uses.add_reached(base, at, word);
             }
@@ -225,10 +226,7 @@ impl<'a, D: Allocator> SumProgram<'a, D> {
     /// The entry that the word at an address calls, if it calls one.
     fn entry_called_at(&self, at: Word) -> Option<Word> {
         let word = self.base.fixed_word(at)?;
-        if !is_reference(word) {
-            return None;
-        }
-        let Operation::Jms = Operation::of(word) else {
+        let Format::Reference(Operation::Jms) = Format::of(word) else {
             return None;
         };
         self.base.place_named(word, target(word, at))
@@ -303,7 +301,7 @@ impl<'a, D: Allocator> SumProgram<'a, D> {
                 cells = cells.meet(&with_own(listed, routine));
             }
         }
-        if target(word, at).index() / 8 == 1 {
+        if is_auto_index(target(word, at)) {
             cells.shift(Word::from_index(0o7777))
         } else {
             cells

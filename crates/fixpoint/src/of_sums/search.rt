@@ -14,9 +14,8 @@ use crate::of_sums::steps::MergeTarget;
 use crate::of_sums::table::{InvariantMap, Table};
 use crate::of_sums::widening::WideningDelays;
 use crate::of_sums::workspace::SumWorkspace;
-use crate::program::is_reference;
 use facts::Fact;
-use instruct::Operation;
+use instruct::{Format, Operation};
 use std::alloc::Allocator;
 use std::mem::replace;
 use turns::{GuessFault, Turns};
@@ -413,5 +412,8 @@ fn leads_back<D: Allocator>(program: &SumProgram<'_, D>, at: Word) -> bool {
     let Some(word) = program.base.fixed_word(at) else {
         return true;
     };
-    is_reference(word) && matches!(Operation::of(word), Operation::Jms | Operation::Jmp)
+    matches!(
+        Format::of(word),
+        Format::Reference(Operation::Jms | Operation::Jmp)
+    )
 }

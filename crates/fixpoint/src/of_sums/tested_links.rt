@@ -1,7 +1,7 @@
 //! Where it matters what the link is: where a skip may test it before a word sets or rotates it.
 
-use crate::program::{AnalysedProgram, is_reference};
-use instruct::{Operation, target};
+use crate::program::AnalysedProgram;
+use instruct::{Format, Operation, clears_link, rotates, target, tests_link};
 use std::alloc::Allocator;
 use word12::Word;
 use wordset::WordSet;
@@ -47,20 +47,16 @@ fn is_tested_from<D: Allocator>(
     word: Word,
     tested: &WordSet,
 ) -> bool {
-    if is_reference(word) {
-        return is_tested_from_reference(program, at, word, tested);
-    }
     let next = at.increment();
-    if word.index() < 0o7000 {
-        return is_tested_behind_skip(next, tested);
+    match Format::of(word) {
+        Format::Reference(operation) => {
+            is_tested_from_reference(program, at, word, operation, tested)
+        }
+        Format::Device => is_tested_behind_skip(next, tested),
+        Format::Group1 => !clears_link(word) && !rotates(word) && tested.contains(next),
+        Format::Group2 => tests_link(word) || is_tested_behind_skip(next, tested),
+        Format::Group3 => tested.contains(next),
     }
-    if word.index() < 0o7400 {
-        return keeps_link(word) && tested.contains(next);
-    }
-    if word.index() % 2 == 1 {
-        return tested.contains(next);
-    }
-    tests_link(word) || is_tested_behind_skip(next, tested)
 }
 
 /// The same for a memory reference.
@@ -68,11 +64,12 @@ fn is_tested_from_reference<D: Allocator>(
     program: &AnalysedProgram<'_, D>,
     at: Word,
     word: Word,
+    operation: Operation,
     tested: &WordSet,
 ) -> bool {
     let next = at.increment();
     let named = target(word, at);
-    match Operation::of(word) {
+    match operation {
         Operation::And | Operation::Tad | Operation::Dca => tested.contains(next),
         Operation::Isz => is_tested_behind_skip(next, tested),
         Operation::Jms => match program.place_named(word, named) {
@@ -91,16 +88,6 @@ fn is_tested_behind_skip(next: Word, tested: &WordSet) -> bool {
     tested.contains(next) || tested.contains(next.increment())
 }
 
-/// Whether a word of group 1 neither clears the link nor rotates.
-fn keeps_link(word: Word) -> bool {
-    word.index() / 0o100 % 2 == 0 && word.index() / 4 % 4 == 0
-}
-
-/// Whether a word of group 2 tests the link.
-fn tests_link(word: Word) -> bool {
-    word.index() / 0o20 % 2 == 1
-}
-
 /// The entry that a word calls, if the link is tested behind the call.
 fn tested_return<D: Allocator>(
     program: &AnalysedProgram<'_, D>,
@@ -108,10 +95,7 @@ fn tested_return<D: Allocator>(
     word: Word,
     tested: &WordSet,
 ) -> Option<Word> {
-    if !is_reference(word) {
-        return None;
-    }
-    let Operation::Jms = Operation::of(word) else {
+    let Format::Reference(Operation::Jms) = Format::of(word) else {
         return None;
     };
     let entry = program.place_named(word, target(word, at))?;

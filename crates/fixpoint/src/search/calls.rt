@@ -2,9 +2,10 @@
 
 use crate::fault::SearchFault;
 use crate::invariant::Invariant;
-use crate::program::{AbstractState, AnalysedProgram, Body};
+use crate::program::{AbstractState, AnalysedProgram};
 use crate::search::{Search, known_of};
 use crate::workspace::ReturnWorkspace;
+use declaration::Owner;
 use domain::ReturnOffsets;
 use facts::Fact;
 use std::alloc::Allocator;
@@ -91,7 +92,7 @@ impl<A: Allocator + Copy> Search<A> {
         for offset in 0..8usize {
             if self.exit_into(entry, offset, &written, &mut returns.exit)? {
                 let to = visit.at.increment().add(Word::from_index(offset));
-                if !program.has(&visit.body, to) {
+                if !program.declaration.in_body_of(visit.body, to) {
                     return Err(SearchFault::Stuck(visit.at));
                 }
                 returns.join(&program.rules, &visit.fact, &written);
@@ -127,7 +128,7 @@ impl<A: Allocator + Copy> Search<A> {
         visit: &AbstractState,
         word: Word,
     ) -> Result<(), SearchFault> {
-        let Body::Of(entry) = &visit.body else {
+        let Owner::Routine(entry) = &visit.body else {
             return Err(SearchFault::Stuck(visit.at));
         };
         if program.returned_entry(visit, word) != Some(*entry) {

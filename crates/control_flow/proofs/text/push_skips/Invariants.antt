@@ -1,4 +1,4 @@
-use Rattle.control_flow.specs.Texts.{StaysInFront}
+use Rattle.declaration.specs.Written.{StaysInFront}
 use Rattle.control_flow.proofs.text.push_skips.Given as goal
 
 abbrev pub invariant-loop-first : goal.invariant-loop-first

@@ -6,7 +6,7 @@ use Rattle.std.proofs.lemmas.Bool.{le-ltb}
 use Rattle.pal_text.specs.declared.names.Name.{Name}
 use Rattle.labels.specs.declared.fault.PlaceFault.{PlaceFault}
 use Rattle.labels.specs.declared.fault.PlaceFault.TheVariants.{BadLine, NoSymbol, PastMemory, Backwards, TooMany, NoMemory}
-use Rattle.labels.specs.Lines.{Placed, joined, prefixed, followed, first_then, is_feed, lines_behind, length_behind, placed_by, placed_word, placed_words, placed_line, placed_lines, placed_all, placed_text, spaced, IsPlaceFault}
+use Rattle.labels.specs.Lines.{Placed, joined, prefixed, first_then, is_feed, lines_behind, length_behind, placed_word, placed_words, placed_line, placed_lines, placed_all, placed_text, IsPlaceFault}
 
 regroup : (out : List ℕ) (c : ℕ) (p r : List ℕ) → ((out ++ (c ∷ [])) ++ p) ++ r ≡ out ++ (c ∷ (p ++ r))
 regroup out c p r = simp append_assoc
@@ -44,9 +44,6 @@ module _ (own : List (Name × ℕ)) (n : ℕ) (out start word : List ℕ) (left 
 
   pub words_go_on : (behind new : List ℕ) → behind ≡ out ++ (32 ∷ []) → prefixed behind (placed_word own n word) ≡ Ok new → prefixed new (placed_words own n more) ≡ prefixed start all
   words_go_on behind new b e = goes_on 32 out behind new start (placed_word own n word) (placed_words own n more) all b e word_first
-
-  pub words_stop : (fault : PlaceFault) → IsPlaceFault (placed_word own n word) fault → IsPlaceFault all fault
-  words_stop fault f = stops 32 out start (placed_word own n word) (placed_words own n more) all fault f word_first
 
 -- lines behind a line feed, of which there is one more
 module _ (own : List (Name × ℕ)) (n : ℕ) (out start line : List ℕ) (left more : Option (Bor (List ℕ))) (text : Bor (List ℕ)) (all : Placed) (is : left ≡ Some text) (split : slice_split is_feed text.now ≡ line ∷ lines_behind more)
@@ -116,36 +113,3 @@ module _ (own : List (Name × ℕ)) (text : List ℕ) (short : length text ≤ 1
 
   pub short_stops : (fault : PlaceFault) → IsPlaceFault (placed_all own (slice_split is_feed text)) fault → IsPlaceFault (placed_text own text) fault
   short_stops fault is = subst (λ (p : Placed). IsPlaceFault p fault) short_text is
-
--- a line with what stays at its end
-pub end_placed : (old mid new after : List ℕ) (p : Placed) → prefixed old p ≡ Ok mid → new ≡ mid ++ after → prefixed old (followed p after) ≡ Ok new
-end_placed old mid new after (Ok x) b w =
-    let r : (old ++ x) ++ after ≡ old ++ (x ++ after) = append_assoc old x after in cc
-end_placed old mid new after (Err f) b w = cc
-
-pub end_stops : (after : List ℕ) (p : Placed) (fault : PlaceFault) → IsPlaceFault p fault → IsPlaceFault (followed p after) fault
-end_stops after p fault is = passes p (followed p after) fault (λ f e. ap (λ (q : Placed). followed q after) e) is
-
--- a line by its first word, the others and its comment
-module _ (own : List (Name × ℕ)) (n : ℕ) (old name comment : List ℕ) (left more : List (List ℕ)) (is : left ≡ name ∷ more) where
-  put : (behind mid new after : List ℕ) (p : Placed) → behind ≡ old ++ name → prefixed behind p ≡ Ok mid → new ≡ mid ++ after → prefixed old (followed (prefixed name p) after) ≡ Ok new
-  put behind mid new after (Ok x) b e w =
-      let r : ((old ++ name) ++ x) ++ after ≡ old ++ ((name ++ x) ++ after) = simp append_assoc in cc
-  put behind mid new after (Err f) b e w = cc
-
-  pub line_placed : (behind mid new : List ℕ) → behind ≡ old ++ name → prefixed behind (placed_words own n more) ≡ Ok mid → new ≡ mid ++ spaced comment → prefixed old (placed_by own n left comment) ≡ Ok new
-  line_placed behind mid new b e w =
-      subst (λ (words : List (List ℕ)). prefixed old (placed_by own n words comment) ≡ Ok new) (sym is) (put behind mid new (spaced comment) (placed_words own n more) b e w)
-
-  words_told : (f : PlaceFault) → placed_words own n more ≡ Err f → placed_by own n left comment ≡ Err f
-  words_told f e =
-      let by : placed_by own n (name ∷ more) comment ≡ Err f = ap (λ (p : Placed). followed (prefixed name p) (spaced comment)) e in
-      subst (λ (words : List (List ℕ)). placed_by own n words comment ≡ Err f) (sym is) by
-
-  pub line_stops : (fault : PlaceFault) → IsPlaceFault (placed_words own n more) fault → IsPlaceFault (placed_by own n left comment) fault
-  line_stops fault e = passes (placed_words own n more) (placed_by own n left comment) fault words_told e
-
-pub no_words_placed : (own : List (Name × ℕ)) (n : ℕ) (old new comment : List ℕ) (left : List (List ℕ)) → left ≡ [] → new ≡ old ++ spaced comment → prefixed old (placed_by own n left comment) ≡ Ok new
-no_words_placed own n old new comment left is w =
-    let by : prefixed old (placed_by own n [] comment) ≡ Ok new = ap (λ (x : List ℕ). prefixed [] (Ok x)) (sym w) in
-    subst (λ (words : List (List ℕ)). prefixed old (placed_by own n words comment) ≡ Ok new) (sym is) by

@@ -24,18 +24,11 @@ fn is_dash(byte: u8) -> bool
     byte == b'-'
 }
 
-/// Whether a text is digits alone.
-fn are_digits(text: &[u8]) -> bool
-    ensures { result ≡ list_all is_digit text.now }
-{
-    text.iter().all(|byte| is_digit(*byte))
-}
-
 /// Whether a word is an offset, and no entry: one digit or two.
 fn is_offset(word: &[u8]) -> bool
     ensures { result ≡ is_offset word.now }
 {
-    word.len() < 3 && are_digits(word)
+    word.len() < 3 && word.iter().all(|byte| is_digit(*byte))
 }
 
 /// Whether a word has a dash.

@@ -8,10 +8,7 @@ ghost use Rattle.labels.specs.Programs.{IsSourceFault};
 
 use crate::address::{Cells, cells_of};
 use crate::fault::PlaceFault;
-use crate::placing::{
-    FirstLine, comment_of, place, push_comment, return_of, said_of, split_first_line,
-    without_return,
-};
+use crate::placing::{comment_of, place, push_comment, return_of, said_of, without_return};
 use crate::program::{NumberingFault, translation_of};
 use crate::within::{machine_of, reads_on, reads_on_after};
 use pal_acts::SymbolTable;
@@ -37,12 +34,11 @@ pub(crate) struct Spelling {
     behind: usize,
 }
 
-/// The bytes between two places; none if they are not within.
-fn bytes_between(bytes: &[u8], start: usize, end: usize) -> &[u8] {
-    match bytes.get(start..end) {
-        Some(found) => found,
-        None => &[],
-    }
+/// The symbols of a source, and its tags.
+#[derive(Clone, Copy)]
+struct SourceNames<'t, S: Allocator + Copy> {
+    own: &'t SymbolTable<S>,
+    tags: &'t [Tag],
 }
 
 /// Adds the tag that these bytes spell, if they are a symbol of the source.
@@ -71,7 +67,7 @@ fn push_tags<A: Allocator, S: Allocator + Copy>(
         if token.kind == TokenKind::Comma {
             push_tag(own, before, tags)?;
         }
-        before = bytes_between(source, token.start, token.end);
+        before = source.get(token.start..token.end).unwrap_or(b"");
     }
     Ok(())
 }
@@ -140,18 +136,6 @@ fn by_value<S: Allocator + Copy>(own: &SymbolTable<S>, at: usize) -> Option<Spel
     None
 }
 
-/// An address by a tag, or else by another symbol that has it as its value.
-fn spelling_of<S: Allocator + Copy>(
-    own: &SymbolTable<S>,
-    tags: &[Tag],
-    at: Word,
-) -> Option<Spelling> {
-    match by_tag(tags, at.index()) {
-        Some(found) => Some(found),
-        None => by_value(own, at.index()),
-    }
-}
-
 /// Adds `+` and a number below 100 in octal digits.
 fn push_behind<A: Allocator>(behind: usize, text: &mut Vec<u8, A>) -> Result<(), AllocError> {
     let number = if behind < 4096 { behind } else { 0 };
@@ -187,55 +171,6 @@ fn push_address<A: Allocator>(
     match spelling {
         Some(spelling) => push_spelling(spelling, with_zero, text),
         None => text.extend_from_slice(&at.to_octal()),
-    }
-}
-
-/// Adds a range. Before the digits of its last address its first one ends with a number, since `-` would
-/// subtract behind a symbol.
-fn push_range<A: Allocator, S: Allocator + Copy>(
-    own: &SymbolTable<S>,
-    tags: &[Tag],
-    low: Word,
-    high: Word,
-    text: &mut Vec<u8, A>,
-) -> Result<(), AllocError> {
-    let last = spelling_of(own, tags, high);
-    push_address(&spelling_of(own, tags, low), low, last.is_none(), text)?;
-    text.push(b'-')?;
-    push_address(&last, high, false, text)
-}
-
-/// Adds cells.
-fn push_cells<A: Allocator, S: Allocator + Copy>(
-    own: &SymbolTable<S>,
-    tags: &[Tag],
-    cells: &Cells,
-    text: &mut Vec<u8, A>,
-) -> Result<(), AllocError> {
-    match cells {
-        Cells::One(at) => push_address(&spelling_of(own, tags, *at), *at, false, text),
-        Cells::Range(low, high) => push_range(own, tags, *low, *high, text),
-    }
-}
-
-/// Whether a word is as long as an address of four digits, or as a range of two.
-fn is_long_enough(word: &[u8]) -> bool {
-    matches!(word.len(), 4 | 9)
-}
-
-/// Adds a word, an address or a range with symbols.
-fn name_word<A: Allocator, S: Allocator + Copy>(
-    own: &SymbolTable<S>,
-    tags: &[Tag],
-    word: &[u8],
-    text: &mut Vec<u8, A>,
-) -> Result<(), AllocError> {
-    if !is_long_enough(word) {
-        return text.extend_from_slice(word);
-    }
-    match cells_of(own, word) {
-        Ok(cells) => push_cells(own, tags, &cells, text),
-        Err(_) => text.extend_from_slice(word),
     }
 }
 
@@ -278,43 +213,123 @@ fn addresses_behind(word: &[u8], before: Addresses) -> Addresses {
     }
 }
 
-/// Adds the words of a line behind its first one, of which these are addresses.
-fn name_words<A: Allocator, S: Allocator + Copy>(
-    own: &SymbolTable<S>,
-    tags: &[Tag],
-    words: Words<'_>,
-    addresses: Addresses,
-    text: &mut Vec<u8, A>,
-) -> Result<(), AllocError> {
-    let mut rest = words;
-    let mut addresses = addresses;
-    while let Some(word) = rest.next() {
-        text.push(b' ')?;
-        if addresses == Addresses::None {
-            text.extend_from_slice(word)?;
-        } else {
-            name_word(own, tags, word, text)?;
+impl<S: Allocator + Copy> SourceNames<'_, S> {
+    /// An address by a tag, or else by another symbol that has it as its value.
+    fn spelling_of(&self, at: Word) -> Option<Spelling> {
+        match by_tag(self.tags, at.index()) {
+            Some(found) => Some(found),
+            None => by_value(self.own, at.index()),
         }
-        addresses = addresses_behind(word, addresses);
     }
-    Ok(())
-}
 
-/// Adds a line with symbols in place of its addresses.
-fn name_line<A: Allocator, S: Allocator + Copy>(
-    own: &SymbolTable<S>,
-    tags: &[Tag],
-    line: &[u8],
-    text: &mut Vec<u8, A>,
-) -> Result<(), AllocError> {
-    let body = without_return(line);
-    let mut rest = Words::of(said_of(body));
-    if let Some(name) = rest.next() {
-        text.extend_from_slice(name)?;
-        name_words(own, tags, rest, addresses_behind_name(name), text)?;
+    /// Adds cells. Before the digits of the last address of a range its first one ends with a number, since `-` would
+    /// subtract behind a symbol.
+    fn push_cells<A: Allocator>(
+        &self,
+        cells: &Cells,
+        text: &mut Vec<u8, A>,
+    ) -> Result<(), AllocError> {
+        match cells {
+            Cells::One(at) => push_address(&self.spelling_of(*at), *at, false, text),
+            Cells::Range(low, high) => {
+                let last = self.spelling_of(*high);
+                push_address(&self.spelling_of(*low), *low, last.is_none(), text)?;
+                text.push(b'-')?;
+                push_address(&last, *high, false, text)
+            }
+        }
     }
-    push_comment(comment_of(body), text)?;
-    text.extend_from_slice(return_of(line))
+
+    /// Adds a word; one that is as long as an address of four digits or as a range of two, and is one, with symbols.
+    fn name_word<A: Allocator>(
+        &self,
+        word: &[u8],
+        text: &mut Vec<u8, A>,
+    ) -> Result<(), AllocError> {
+        if !matches!(word.len(), 4 | 9) {
+            return text.extend_from_slice(word);
+        }
+        match cells_of(self.own, word) {
+            Ok(cells) => self.push_cells(&cells, text),
+            Err(_) => text.extend_from_slice(word),
+        }
+    }
+
+    /// Adds the words of a line behind its first one, of which these are addresses.
+    fn name_words<A: Allocator>(
+        &self,
+        words: Words<'_>,
+        addresses: Addresses,
+        text: &mut Vec<u8, A>,
+    ) -> Result<(), AllocError> {
+        let mut rest = words;
+        let mut addresses = addresses;
+        while let Some(word) = rest.next() {
+            text.push(b' ')?;
+            if addresses == Addresses::None {
+                text.extend_from_slice(word)?;
+            } else {
+                self.name_word(word, text)?;
+            }
+            addresses = addresses_behind(word, addresses);
+        }
+        Ok(())
+    }
+
+    /// Adds a line with symbols in place of its addresses.
+    fn name_line<A: Allocator>(
+        &self,
+        line: &[u8],
+        text: &mut Vec<u8, A>,
+    ) -> Result<(), AllocError> {
+        let body = without_return(line);
+        let mut rest = Words::of(said_of(body));
+        if let Some(name) = rest.next() {
+            text.extend_from_slice(name)?;
+            self.name_words(rest, addresses_behind_name(name), text)?;
+        }
+        push_comment(comment_of(body), text)?;
+        text.extend_from_slice(return_of(line))
+    }
+
+    /// Adds a line as somebody wrote it, if that is read back as this one; else with symbols; or in numbers where
+    /// the one with symbols is not read back either.
+    fn push_line<A: Allocator + Copy>(
+        &self,
+        alloc: A,
+        line: &[u8],
+        written: &[u8],
+        text: &mut Vec<u8, A>,
+    ) -> Result<(), AllocError> {
+        if reads_back(alloc, self.own, written, line)? {
+            return text.extend_from_slice(written);
+        }
+        let mut named = Vec::new(alloc);
+        self.name_line(line, &mut named)?;
+        if reads_back(alloc, self.own, &named, line)? {
+            text.extend_from_slice(&named)
+        } else {
+            text.extend_from_slice(line)
+        }
+    }
+
+    /// A declaration in numbers with symbols, line by line; a line that was written with symbols stays so.
+    fn name_lines<A: Allocator + Copy>(
+        &self,
+        alloc: A,
+        numbers: &[u8],
+        written: &[u8],
+    ) -> Result<Vec<u8, A>, AllocError> {
+        let mut text = Vec::new(alloc);
+        let mut written_lines = written.split(|byte| *byte == b'\n');
+        for line in numbers.split(|byte| *byte == b'\n') {
+            self.push_line(alloc, line, written_lines.next().unwrap_or(b""), &mut text)?;
+            text.push(b'\n')?;
+        }
+        // There is no line after the last line feed.
+        let _ = text.pop();
+        Ok(text)
+    }
 }
 
 /// Whether two texts are the same.
@@ -341,78 +356,6 @@ fn reads_back<A: Allocator + Copy, S: Allocator + Copy>(
     }
 }
 
-/// Adds a line as somebody wrote it, if that is read back as this one; else with symbols; or in numbers where
-/// the one with symbols is not read back either.
-fn push_line<A: Allocator + Copy, S: Allocator + Copy>(
-    alloc: A,
-    own: &SymbolTable<S>,
-    tags: &[Tag],
-    line: &[u8],
-    written: &[u8],
-    text: &mut Vec<u8, A>,
-) -> Result<(), AllocError> {
-    if reads_back(alloc, own, written, line)? {
-        return text.extend_from_slice(written);
-    }
-    let mut named = Vec::new(alloc);
-    name_line(own, tags, line, &mut named)?;
-    if reads_back(alloc, own, &named, line)? {
-        text.extend_from_slice(&named)
-    } else {
-        text.extend_from_slice(line)
-    }
-}
-
-/// The first line of what is left of a text, and what is left after it; no line is an empty one.
-fn split_if_any<'t>(left: Option<&'t [u8]>) -> FirstLine<'t> {
-    match left {
-        Some(text) => split_first_line(text),
-        None => FirstLine {
-            line: &[],
-            rest: None,
-        },
-    }
-}
-
-/// Adds the lines after the first one, each after a line feed.
-fn push_lines<A: Allocator + Copy, S: Allocator + Copy>(
-    alloc: A,
-    own: &SymbolTable<S>,
-    tags: &[Tag],
-    behind: Option<&[u8]>,
-    written_behind: Option<&[u8]>,
-    text: &mut Vec<u8, A>,
-) -> Result<(), AllocError> {
-    let mut rest = behind;
-    let mut written = written_behind;
-    while let Some(left) = rest {
-        let cut = split_first_line(left);
-        let kept = split_if_any(written);
-        text.push(b'\n')?;
-        push_line(alloc, own, tags, cut.line, kept.line, text)?;
-        rest = cut.rest;
-        written = kept.rest;
-    }
-    Ok(())
-}
-
-/// A declaration in numbers with symbols, line by line; a line that was written with symbols stays so.
-fn name_lines<A: Allocator + Copy, S: Allocator + Copy>(
-    alloc: A,
-    parts: &[&[u8]],
-    own: &SymbolTable<S>,
-    numbers: &[u8],
-    written: &[u8],
-) -> Result<Vec<u8, A>, AllocError> {
-    let tags = tags_of(alloc, own, parts)?;
-    let mut text = Vec::new(alloc);
-    let cut = split_first_line(numbers);
-    let kept = split_first_line(written);
-    push_line(alloc, own, &tags, cut.line, kept.line, &mut text)?;
-    push_lines(alloc, own, &tags, cut.rest, kept.rest, &mut text)?;
-    Ok(text)
-}
-
 /// The same bytes once more.
 fn copy_of<A: Allocator>(alloc: A, bytes: &[u8]) -> Result<Vec<u8, A>, AllocError>
     ensures { IfOk result (λ text. text.items ≡ bytes.now) }
@@ -433,7 +376,9 @@ fn named_by<A: Allocator + Copy, S: Allocator + Copy>(
     ensures { IfOk result (λ text. (text.items ≡ numbers.now) ⊎
         IsReadBack own.now.entries numbers.now text.items) }
 {
-    let text = name_lines(alloc, parts, own, numbers, written)?;
+    let tags = tags_of(alloc, own, parts)?;
+    let names = SourceNames { own, tags: &tags };
+    let text = names.name_lines(alloc, numbers, written)?;
     if reads_back(alloc, own, &text, numbers)? {
         return Ok(text);
     }

@@ -203,13 +203,13 @@ fn place_of_feed(text: &[u8]) -> Option<usize>
 
 /// A line, and what stands behind its line feed, if it has one.
 #[derive(Clone, Copy)]
-pub(crate) struct FirstLine<'a> {
-    pub(crate) line: &'a [u8],
-    pub(crate) rest: Option<&'a [u8]>,
+struct FirstLine<'a> {
+    line: &'a [u8],
+    rest: Option<&'a [u8]>,
 }
 
 /// The first line of a text, and the text after it.
-pub(crate) fn split_first_line(text: &[u8]) -> FirstLine<'_>
+fn split_first_line(text: &[u8]) -> FirstLine<'_>
     ensures lines { slice_split is_feed text.now ≡
         result.line.now ∷ lines_behind result.rest }
     ensures shorter { length_behind result.rest ≤ length text.now }

@@ -9,7 +9,7 @@ ghost use Rattle.certificate_lines.specs.declared.Version.TheVariants.{Three};
 ghost use Rattle.judge.specs.Judged.{judged};
 ghost use Rattle.turns.specs.Counts.{IsSpentUp};
 ghost use Rattle.turns.specs.declared.GuessFault.TheVariants.{TurnsSpent};
-ghost use Rattle.analyser.specs.Accepted.{IsAccepted};
+ghost use Rattle.analyser.specs.Accepted.{Finds, IsAccepted};
 ghost use Rattle.analyser.specs.Attempts.{HasVersion, HasVersionFor, IsAcceptedIfFound, IsDraftIfStuck, claimed_by, is_found};
 ghost use Rattle.analyser.specs.Halts.{IsRefused};
 ghost use Rattle.analyser.specs.Versions.{IsVersionFor, version_of};
@@ -95,14 +95,8 @@ fn found_with<A: Allocator + Copy, D: Allocator>(
     patience: Patience,
     turns: &mut Turns,
 ) -> Result<Certificate<A>, GuessFault>
-    ensures lines { IfOk result (λ c. AreLines (meaning c)) }
-    ensures version { IfOk result (λ c. (meaning c).version ≡ version) }
-    ensures accepted { IfOk result
-        (IsAccepted program.now.image.now program.now.declaration.now) }
-    ensures limit { turns.new.limit ≡ turns.old.limit }
-    ensures rises { turns.old.spent ≤ turns.new.spent }
-    ensures within { turns.new.spent ≤ turns.new.limit }
-    ensures spent { IfErr result (IsSpentUp turns.new) }
+    ensures { Finds program.now.image.now program.now.declaration.now version turns.old turns.new
+        result }
 {
     search.run_with(program, patience, turns)?;
     match search.finish(program, version) {
@@ -120,14 +114,8 @@ fn found_by<A: Allocator + Copy, D: Allocator>(
     version: Version,
     turns: &mut Turns,
 ) -> Result<Certificate<A>, GuessFault>
-    ensures lines { IfOk result (λ c. AreLines (meaning c)) }
-    ensures version { IfOk result (λ c. (meaning c).version ≡ version) }
-    ensures accepted { IfOk result
-        (IsAccepted program.now.image.now program.now.declaration.now) }
-    ensures limit { turns.new.limit ≡ turns.old.limit }
-    ensures rises { turns.old.spent ≤ turns.new.spent }
-    ensures within { turns.new.spent ≤ turns.new.limit }
-    ensures spent { IfErr result (IsSpentUp turns.new) }
+    ensures { Finds program.now.image.now program.now.declaration.now version turns.old turns.new
+        result }
 {
     turns.are_within();
     let found = found_with(alloc, search, program, version, Patience::Soon, turns);
@@ -154,14 +142,8 @@ fn found_within<A: Allocator + Copy, D: Allocator>(
     version: Version,
     turns: &mut Turns,
 ) -> Result<Certificate<A>, GuessFault>
-    ensures lines { IfOk result (λ c. AreLines (meaning c)) }
-    ensures version { IfOk result (λ c. (meaning c).version ≡ version) }
-    ensures accepted { IfOk result
-        (IsAccepted program.now.image.now program.now.declaration.now) }
-    ensures limit { turns.new.limit ≡ turns.old.limit }
-    ensures rises { turns.old.spent ≤ turns.new.spent }
-    ensures within { turns.new.spent ≤ turns.new.limit }
-    ensures spent { IfErr result (IsSpentUp turns.new) }
+    ensures { Finds program.now.image.now program.now.declaration.now version turns.old turns.new
+        result }
 {
     let certificate = found_by(alloc, search, program, version, turns)?;
     if is_short(&certificate) {

@@ -1,11 +1,7 @@
 //! Certificates of version 3: facts with relations of sums, distinguished in one way after another.
 
-ghost use Rattle.std.specs.Prelude.{◌≡◌, ◌≤◌, IfErr, IfOk};
-ghost use Rattle.certificate_lines.specs.CertificateInCode.{meaning};
-ghost use Rattle.certificate.specs.Exact.{AreLines};
 ghost use Rattle.certificate_lines.specs.declared.Version.TheVariants.{Three};
-ghost use Rattle.turns.specs.Counts.{IsSpentUp};
-ghost use Rattle.analyser.specs.Accepted.{IsAccepted};
+ghost use Rattle.analyser.specs.Accepted.{Finds};
 
 use crate::accepted;
 use bin_tape::Image;
@@ -34,13 +30,8 @@ fn tried<A: Allocator + Copy, D: Allocator>(
     split: &Split,
     turns: &mut Turns,
 ) -> Result<Certificate<A>, GuessFault>
-    ensures lines { IfOk result (λ c. AreLines (meaning c)) }
-    ensures version { IfOk result (λ c. (meaning c).version ≡ Three) }
-    ensures accepted { IfOk result (IsAccepted program.now.base.image.now program.now.base.declaration.now) }
-    ensures limit { turns.new.limit ≡ turns.old.limit }
-    ensures rises { turns.old.spent ≤ turns.new.spent }
-    ensures within { turns.new.spent ≤ turns.new.limit }
-    ensures spent { IfErr result (IsSpentUp turns.new) }
+    ensures { Finds program.now.base.image.now program.now.base.declaration.now Three turns.old
+        turns.new result }
 {
     search.run(program, split, MOST_TURNS, turns)?;
     match search.finish(program) {
@@ -79,13 +70,8 @@ fn tried_by_calls<A: Allocator + Copy, D: Allocator>(
     split: &mut Split,
     turns: &mut Turns,
 ) -> Result<Certificate<A>, GuessFault>
-    ensures lines { IfOk result (λ c. AreLines (meaning c)) }
-    ensures version { IfOk result (λ c. (meaning c).version ≡ Three) }
-    ensures accepted { IfOk result (IsAccepted program.now.base.image.now program.now.base.declaration.now) }
-    ensures limit { turns.new.limit ≡ turns.old.limit }
-    ensures rises { turns.old.spent ≤ turns.new.spent }
-    ensures within { turns.new.spent ≤ turns.new.limit }
-    ensures spent { IfErr result (IsSpentUp turns.new) }
+    ensures { Finds program.now.base.image.now program.now.base.declaration.now Three turns.old
+        turns.new result }
 {
     turns.are_within();
     let mut stuck = program.base.declaration.start();
@@ -112,13 +98,8 @@ fn tried_by_cells<A: Allocator + Copy, D: Allocator>(
     stuck: Word,
     turns: &mut Turns,
 ) -> Result<Certificate<A>, GuessFault>
-    ensures lines { IfOk result (λ c. AreLines (meaning c)) }
-    ensures version { IfOk result (λ c. (meaning c).version ≡ Three) }
-    ensures accepted { IfOk result (IsAccepted program.now.base.image.now program.now.base.declaration.now) }
-    ensures limit { turns.new.limit ≡ turns.old.limit }
-    ensures rises { turns.old.spent ≤ turns.new.spent }
-    ensures within { turns.new.spent ≤ turns.new.limit }
-    ensures spent { IfErr result (IsSpentUp turns.new) }
+    ensures { Finds program.now.base.image.now program.now.base.declaration.now Three turns.old
+        turns.new result }
 {
     turns.are_within();
     let mut count = 0usize;
@@ -143,13 +124,8 @@ fn tried_by_inner_calls<A: Allocator + Copy, D: Allocator>(
     stuck: Word,
     turns: &mut Turns,
 ) -> Result<Certificate<A>, GuessFault>
-    ensures lines { IfOk result (λ c. AreLines (meaning c)) }
-    ensures version { IfOk result (λ c. (meaning c).version ≡ Three) }
-    ensures accepted { IfOk result (IsAccepted program.now.base.image.now program.now.base.declaration.now) }
-    ensures limit { turns.new.limit ≡ turns.old.limit }
-    ensures rises { turns.old.spent ≤ turns.new.spent }
-    ensures within { turns.new.spent ≤ turns.new.limit }
-    ensures spent { IfErr result (IsSpentUp turns.new) }
+    ensures { Finds program.now.base.image.now program.now.base.declaration.now Three turns.old
+        turns.new result }
 {
     turns.are_within();
     let called = program.called_in(&program.owner(stuck));
@@ -169,13 +145,8 @@ fn tried_apart<A: Allocator + Copy, D: Allocator>(
     stuck: Word,
     turns: &mut Turns,
 ) -> Result<Certificate<A>, GuessFault>
-    ensures lines { IfOk result (λ c. AreLines (meaning c)) }
-    ensures version { IfOk result (λ c. (meaning c).version ≡ Three) }
-    ensures accepted { IfOk result (IsAccepted program.now.base.image.now program.now.base.declaration.now) }
-    ensures limit { turns.new.limit ≡ turns.old.limit }
-    ensures rises { turns.old.spent ≤ turns.new.spent }
-    ensures within { turns.new.spent ≤ turns.new.limit }
-    ensures spent { IfErr result (IsSpentUp turns.new) }
+    ensures { Finds program.now.base.image.now program.now.base.declaration.now Three turns.old
+        turns.new result }
 {
     turns.are_within();
     let cells = search.distinguishing_variables(program);
@@ -199,13 +170,7 @@ pub(crate) fn found_by_sums<A: Allocator + Copy, D: Allocator>(
     declaration: &Declaration<D>,
     turns: &mut Turns,
 ) -> Result<Certificate<A>, GuessFault>
-    ensures lines { IfOk result (λ c. AreLines (meaning c)) }
-    ensures version { IfOk result (λ c. (meaning c).version ≡ Three) }
-    ensures accepted { IfOk result (IsAccepted image.now declaration.now) }
-    ensures limit { turns.new.limit ≡ turns.old.limit }
-    ensures rises { turns.old.spent ≤ turns.new.spent }
-    ensures within { turns.new.spent ≤ turns.new.limit }
-    ensures spent { IfErr result (IsSpentUp turns.new) }
+    ensures { Finds image.now declaration.now Three turns.old turns.new result }
 {
     turns.are_within();
     let program = SumProgram::of(image, declaration);

@@ -1,7 +1,6 @@
 -- What `check` reads and counts.
 use Rattle.std.proofs.Common.{ℕ, suc, ◌+◌, length, map, arith, ◌≡◌, ◌<◌, ◌==◌, ◌&&◌, ◌||◌, ◌⊎◌, ◌∷◌, [], Bool, true, false, List, Option, Some, None, refl, sym, ◌∙◌, ap, inl, inr}
 use Rattle.std.specs.Prelude.{IfSome, OnOk, MatchResult, Result, Ok, Err}
-use Rattle.std.specs.List.{list_any}
 use Rattle.std.proofs.lemmas.Bool.{true≢false, eq-eqb}
 use Rattle.wordset.specs.Words.{Words, SameWords, some_below}
 use Rattle.policy.specs.Runs.{IsSafe}
@@ -13,7 +12,7 @@ use Rattle.wordset.specs.Lanes.{words}
 use Rattle.wordset.proofs.Counts.{how_many_same}
 use Rattle.wordset.proofs.Tests.{some_from, some_to}
 use Rattle.declaration.specs.declared.Routine.{Routine}
-use Rattle.declaration.specs.DeclarationInCode.{bodies, entries}
+use Rattle.declaration.specs.DeclarationInCode.{bodies, entries, in_routines}
 use Rattle.certificate_lines.specs.declared.CertificateFault.{CertificateFault}
 use Rattle.certificate_lines.specs.declared.CertificateFault.TheVariants as faults
 use Rattle.certificate_lines.specs.CertificateInCode.{Kept, meaning}
@@ -50,10 +49,6 @@ certificate_fault_is (faults.BadLine n) failed had left h wanted read = told_of 
 certificate_fault_is (faults.Order n) failed had left h wanted read = told_of had (faults.Order n) (λ e. cc) (λ e. cc) h
 certificate_fault_is faults.TooMany failed had left h wanted read = told_of had faults.TooMany (λ e. cc) (λ e. cc) h
 
--- some body has the cell
-abbrev pub any_body : List Routine → ℕ → Bool
-any_body rs a = list_any (λ r. words r.body a) rs
-
 or_left : (a b : Bool) → a ≡ true → (a || b) ≡ true
 or_left true b e = refl
 or_left false b e = absurd (true≢false (sym e))
@@ -79,8 +74,8 @@ pub record HasBody (rs : List Routine) (a : ℕ) : Type 0 where
   pub is_entry : entries rs entry ≡ true
   pub in_body : bodies rs entry a ≡ true
 
-body_here : (r : Routine) (rs : List Routine) (a : ℕ) (here : Bool) → words r.body a ≡ here → (any_body rs a ≡ true → HasBody rs a) →
-    (here || any_body rs a) ≡ true → HasBody (r ∷ rs) a
+body_here : (r : Routine) (rs : List Routine) (a : ℕ) (here : Bool) → words r.body a ≡ here → (in_routines rs a ≡ true → HasBody rs a) →
+    (here || in_routines rs a) ≡ true → HasBody (r ∷ rs) a
 body_here r rs a true is rest h = record {
   entry = r.entry;
   is_entry = or_left (r.entry == r.entry) _ (self_eq r.entry);
@@ -94,7 +89,7 @@ body_here r rs a false is rest h =
       in_body = or_right (r.entry == more.entry && words r.body a) _ more.in_body;
     }
 
-body_of_any : (rs : List Routine) (a : ℕ) → any_body rs a ≡ true → HasBody rs a
+body_of_any : (rs : List Routine) (a : ℕ) → in_routines rs a ≡ true → HasBody rs a
 body_of_any [] a h = absurd (true≢false (sym h))
 body_of_any (r ∷ rs) a h = body_here r rs a (words r.body a) refl (λ more. body_of_any rs a more) h
 
@@ -103,18 +98,18 @@ any_here e true rest any more h = refl
 any_here true false rest any more h = more h
 any_here false false rest any more h = more h
 
-any_of_body : (rs : List Routine) (e a : ℕ) → bodies rs e a ≡ true → any_body rs a ≡ true
+any_of_body : (rs : List Routine) (e a : ℕ) → bodies rs e a ≡ true → in_routines rs a ≡ true
 any_of_body [] e a h = absurd (true≢false (sym h))
-any_of_body (r ∷ rs) e a h = any_here (r.entry == e) (words r.body a) (bodies rs e a) (any_body rs a) (λ more. any_of_body rs e a more) h
+any_of_body (r ∷ rs) e a h = any_here (r.entry == e) (words r.body a) (bodies rs e a) (in_routines rs a) (λ more. any_of_body rs e a more) h
 
 one_truth : (a b : Bool) → (a ≡ true → b ≡ true) → (b ≡ true → a ≡ true) → a ≡ b
 one_truth true b f g = sym (f refl)
 one_truth false true f g = g refl
 one_truth false false f g = refl
 
-pub any_body_is : (rs : List Routine) (a : ℕ) → ((e : ℕ) → entries rs e ≡ true → e < 4096) → any_body rs a ≡ some_below 4096 (λ e. bodies rs e a)
+pub any_body_is : (rs : List Routine) (a : ℕ) → ((e : ℕ) → entries rs e ≡ true → e < 4096) → in_routines rs a ≡ some_below 4096 (λ e. bodies rs e a)
 any_body_is rs a small =
-    one_truth (any_body rs a) (some_below 4096 (λ e. bodies rs e a))
+    one_truth (in_routines rs a) (some_below 4096 (λ e. bodies rs e a))
     (λ h. let found = body_of_any rs a h in some_from 4096 (λ e. bodies rs e a) found.entry (small found.entry found.is_entry) found.in_body)
     (λ h. let found = some_to 4096 (λ e. bodies rs e a) h in any_of_body rs found.at a found.holds)
 
@@ -122,17 +117,12 @@ any_body_is rs a small =
 pub counted_same : (s t : Words) (name : List ℕ) → SameWords s t → counted s name ≡ counted t name
 counted_same s t name same = rw (how_many_same 4096 s t same) refl
 
-pub all_bodies : (main : List ℕ) (rs : List Routine) (cells : List ℕ) (n : ℕ) (left : List Routine) → ((e : ℕ) → entries rs e ≡ true → e < 4096) → left ≡ [] →
-    ((a : ℕ) → a < 4096 → (words cells a || any_body left a) ≡ (words main a || any_body rs a)) →
+-- a set that has the cells of all bodies, said of what is declared
+pub all_bodies : (main : List ℕ) (rs : List Routine) (cells : List ℕ) → ((e : ℕ) → entries rs e ≡ true → e < 4096) →
+    ((a : ℕ) → a < 4096 → words cells a ≡ (words main a || in_routines rs a)) →
     (a : ℕ) → a < 4096 → words cells a ≡ (words main a || some_below 4096 (λ e. bodies rs e a))
-all_bodies main rs cells n left small none kept a less =
-    let is : (words cells a || any_body left a) ≡ (words main a || any_body rs a) = kept a less in
-    let bare : (words cells a || false) ≡ (words main a || any_body rs a) = rw none at is in
-    sym (or_false (words cells a)) ∙ bare ∙ ap (λ (b : Bool). words main a || b) (any_body_is rs a small)
-  where
-    or_false : (b : Bool) → (b || false) ≡ b
-    or_false true = refl
-    or_false false = refl
+all_bodies main rs cells small same a less =
+    same a less ∙ ap (λ (b : Bool). words main a || b) (any_body_is rs a small)
 
 -- what the judge answers is the verdict
 pub verdict_is : (j : Case) (verdict : Result (Unit {0}) Refusal) → MatchResult verdict (λ _. IsValid j) (λ r. IsFirst j r.condition r.address) →

@@ -56,22 +56,7 @@ fn cells_of_bodies<D: Allocator>(declaration: &Declaration<D>) -> WordSet
     ensures { SameWords (words result) (in_bodies (meaning declaration.now)) }
 {
     declaration.is_declared();
-    let mut cells = *declaration.main();
-    for routine in declaration.routines() {
-        cells = cells.union(routine.body());
-    }
-    cells
-}
-
-/// The entries of all routines.
-fn entries_of<D: Allocator>(declaration: &Declaration<D>) -> WordSet
-    ensures { SameWords (words result) (meaning declaration.now).entry }
-{
-    let mut cells = WordSet::empty();
-    for routine in declaration.routines() {
-        cells.insert(routine.entry());
-    }
-    cells
+    declaration.bodies()
 }
 
 /// The declared halts.
@@ -125,7 +110,7 @@ fn push_entries<A: Allocator, D: Allocator>(
     ensures { OnOk result (text.new.items ≡ text.old.items
         ++ counted (meaning declaration.now).entry (codes " entries, ")) }
 {
-    push_count(text, &entries_of(declaration), b" entries, ")
+    push_count(text, &declaration.entries(), b" entries, ")
 }
 
 /// Adds how many declared halts there are.

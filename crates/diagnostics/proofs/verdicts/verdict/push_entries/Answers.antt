@@ -5,4 +5,4 @@ use Rattle.diagnostics.proofs.verdicts.verdict.push_entries.Goals as goal
 
 pub returns : goal.returns
 returns g c =
-    on_ok_weaker c.push_count.result (λ is. is ∙ ap (λ (t : List ℕ). c.args.text.now.items ++ t) (counted_same _ _ _ c.entries_of.ensures)) c.push_count.ensures
+    on_ok_weaker c.push_count.result (λ is. is ∙ ap (λ (t : List ℕ). c.args.text.now.items ++ t) (counted_same _ _ _ c.entries.ensures)) c.push_count.ensures

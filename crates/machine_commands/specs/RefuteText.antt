@@ -11,8 +11,7 @@ use Rattle.command_parts.specs.declared.options.RefuteOptions.{RefuteOptions}
 use Rattle.command_parts.specs.declared.status.Status.{Status}
 use Rattle.command_parts.specs.declared.status.Status.TheVariants.{Done, Refused}
 use Rattle.machine_commands.specs.Running.{fresh}
-use Rattle.machine_commands.specs.ViolationText.{IsWhy}
-use Rattle.machine_commands.specs.WatchText.{broken_text}
+use Rattle.machine_commands.specs.ViolationText.{IsTold}
 
 -- The line where nothing was found in so many steps.
 abbrev pub unbroken_text : ℕ → List ℕ
@@ -28,9 +27,7 @@ pub record IsWitnessOf (explained : Bool) (image : List (Option ℕ)) (declarati
   pub rule : Rule
   pub breaks : BreaksAt (image_of image) declaration events (fresh image declaration.start) event rule
   pub last : event + 1 ≡ length events
-  pub why : List ℕ
-  pub why_is : IsWhy explained image declaration events (Broken event rule) why
-  pub told_is : told ≡ broken_text event rule ++ why
+  pub is : IsTold explained image declaration events (Broken event rule) told
 
 -- What is found in search of a run that violates the declaration: the command is refused, and the list spells such a run of
 -- which this is told; or it is done, there is no list, and what is told says in how many steps none was found.

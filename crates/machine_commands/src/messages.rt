@@ -8,7 +8,7 @@ ghost use Rattle.refuter.specs.Witnesses.{Breaks, IsLast, IsSpelled};
 ghost use Rattle.command_parts.specs.Answers.{IsMemoryFault};
 ghost use Rattle.command_parts.specs.Messages.{plain};
 ghost use Rattle.machine_commands.specs.RefuteText.{IsRefutationOf, unbroken_text};
-ghost use Rattle.machine_commands.specs.ViolationText.{IsWhy};
+ghost use Rattle.machine_commands.specs.ViolationText.{IsTold, IsWhy};
 ghost use Rattle.machine_commands.specs.WatchText.{IsSeen, broken_text, watched_status, watched_text};
 
 use crate::progress::{AvailableInput, offered_by, progress_lines};
@@ -124,6 +124,35 @@ pub(crate) fn why_of<A: Allocator + Copy, D: Allocator>(
     }
 }
 
+/// What is told of a watched run: the line that says what was seen, and below it, if it is to be explained, how far the
+/// run came, or what the step is about to do that violates a rule.
+fn seen_message<A: Allocator + Copy, D: Allocator>(
+    alloc: A,
+    image: &Image,
+    declaration: &Declaration<D>,
+    events: &[Event],
+    offered: AvailableInput,
+    watched: Watched,
+    explained: bool,
+) -> Result<Message<A>, NoMemory>
+    requires { IsSeen image.now (meaning declaration.now) events.now watched }
+    ensures { IfOk result (λ text. IsTold explained image.now (meaning declaration.now) events.now watched
+        (plain text)) }
+{
+    let mut text = Message::of(alloc, watched_line(alloc, watched)?);
+    let why = why_of(
+        alloc,
+        image,
+        declaration,
+        events,
+        offered,
+        watched,
+        explained,
+    )?;
+    text.push_message(&why)?;
+    Ok(text)
+}
+
 /// What `refute` tells of a run that violates the declaration.
 fn witness_message<A: Allocator + Copy, D: Allocator>(
     alloc: A,
@@ -145,18 +174,17 @@ fn witness_message<A: Allocator + Copy, D: Allocator>(
         event,
         rule,
     } = found;
-    let line = broken_line(alloc, event, rule)?;
-    let mut told = Message::of(alloc, line);
-    let why = why_of(
+    let watched = Watched::Broken { event, rule };
+    let offered = offered_by(&events);
+    let told = seen_message(
         alloc,
         image,
         declaration,
         &events,
-        offered_by(&events),
-        Watched::Broken { event, rule },
+        offered,
+        watched,
         options.explained,
     )?;
-    told.push_message(&why)?;
     Ok(RefutationMessage {
         events: text,
         told,

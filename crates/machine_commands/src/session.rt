@@ -15,7 +15,7 @@ ghost use Rattle.machine_commands.specs.StoppedParts.{OperatedToStop, Passes, un
 
 use crate::follow::{End, RunOutcome, advance, end_of};
 use crate::interrupted::OperatorPresence;
-use crate::last_session::{LastLines, behind, lines_of};
+use crate::last_session::run_with_last;
 use crate::running::status_of;
 use crate::schedule::Scheduler;
 use crate::stops::{stops_before, visits_with};
@@ -206,6 +206,62 @@ pub(crate) fn leaving<A: Allocator>(left: bool, ran: RunOutcome, world: &World<A
 }
 
 /// Runs an image by a schedule up to where it is stopped, and writes what was punched in the end, even if the run
+/// broke off, and the summary in this form.
+fn run_reported<
+    A: Allocator + Copy,
+    S: Scheduler + OperatorPresence,
+    W: ByteSink,
+    T: ByteSink,
+    P: ByteSink,
+>(
+    alloc: A,
+    image: &Image,
+    schedule: &mut S,
+    stops: &Stops,
+    options: RunOptions,
+    form: SummaryForm<'_>,
+    out: &mut Outputs<W, T, P>,
+) -> Result<Status, Fault>
+    requires writable { W.mark out.old.report ≡ false }
+    requires typable { T.mark out.old.teletype ≡ false }
+    requires punchable { P.mark out.old.punch ≡ false }
+    requires readable { S.unread schedule.old ≡ false }
+    requires few { S.steps_to_come schedule.old < 18446744073709551616 }
+    ensures run { IfOk result (λ status.
+        WritesAll (λ text printed punched.
+        IsHeldToStop (S.brings schedule.old) options stops.now None form.entry Whole (S.left schedule.new) image.now
+        text printed punched status)
+        (taken (W.taken out.old.report) (T.taken out.old.teletype) (P.taken out.old.punch))
+        (taken (W.taken out.new.report) (T.taken out.new.teletype) (P.taken out.new.punch))) }
+    ensures front { OnErr result (FrontsOf
+        (IsPartToStop (S.brings schedule.old) options stops.now form.entry (S.left schedule.new) (W.mark out.new.report)
+        (T.mark out.new.teletype) (S.unread schedule.new) image.now)
+        (failures (W.mark out.new.report) (T.mark out.new.teletype) (P.mark out.new.punch))
+        (taken (W.taken out.old.report) (T.taken out.old.teletype) (P.taken out.old.punch))
+        (taken (W.taken out.new.report) (T.taken out.new.teletype) (P.taken out.new.punch))) }
+    ensures faults { IfErr result IsHeldFault }
+    ensures marks { (W.mark out.new.report || T.mark out.new.teletype) || P.mark out.new.punch
+        ≡ fails_to_write result }
+    ensures reads { fails_to_read result ≡ true → S.unread schedule.new ≡ true }
+    ensures read_told { S.unread schedule.new ≡ true →
+        (fails_to_read result ≡ true) ⊎ (P.mark out.new.punch ≡ true) }
+{
+    let mut world = World::load(alloc, image, options.start, &Start::zero(), options.profile);
+    let Outputs {
+        report,
+        teletype,
+        punch,
+    } = out;
+    let ran = operate(&mut world, schedule, stops, options.trace, report, teletype);
+    put(punch, world.punched())?;
+    let came = ran?;
+    let outcome = leaving(schedule.has_left(), came, &world);
+    let text = closing_of(alloc, &outcome, &world, &form, &options.show)?;
+    put(report, &text)?;
+    Ok(status_of(outcome.end))
+}
+
+/// Runs an image by a schedule up to where it is stopped, and writes what was punched in the end, even if the run
 /// broke off, the lines of the last instructions, if so many or all are requested, and the summary in this form.
 pub(crate) fn run_scheduled<
     A: Allocator + Copy,
@@ -247,34 +303,9 @@ pub(crate) fn run_scheduled<
     ensures read_told { S.unread schedule.new ≡ true →
         (fails_to_read result ≡ true) ⊎ (P.mark out.new.punch ≡ true) }
 {
-    let mut world = World::load(alloc, image, options.start, &Start::zero(), options.profile);
-    let Outputs {
-        report,
-        teletype,
-        punch,
-    } = out;
     match last {
-        None => {
-            let ran = operate(&mut world, schedule, stops, options.trace, report, teletype);
-            put(punch, world.punched())?;
-            let came = ran?;
-            let outcome = leaving(schedule.has_left(), came, &world);
-            let text = closing_of(alloc, &outcome, &world, &form, &options.show)?;
-            put(report, &text)?;
-            Ok(status_of(outcome.end))
-        }
-        Some(most) => {
-            let mut kept = LastLines::new(alloc, most);
-            let ran = operate(&mut world, schedule, stops, true, &mut kept, teletype);
-            put(punch, world.punched())?;
-            let came = ran?;
-            let outcome = leaving(schedule.has_left(), came, &world);
-            let lines = lines_of(alloc, &kept, &form, &world)?;
-            let text = closing_of(alloc, &outcome, &world, &behind(&form), &options.show)?;
-            put(report, &lines)?;
-            put(report, &text)?;
-            Ok(status_of(outcome.end))
-        }
+        None => run_reported(alloc, image, schedule, stops, options, form, out),
+        Some(most) => run_with_last(alloc, image, schedule, stops, most, options, form, out),
     }
 }
 

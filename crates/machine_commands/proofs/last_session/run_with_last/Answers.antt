@@ -1,0 +1,44 @@
+use Rattle.std.proofs.Common.{rules, Some, ◌≡◌, ◌∙◌, sym, true, true≢false, inl, inr}
+use Rattle.std.proofs.lemmas.Result.{err_from_is_err_and}
+use Rattle.std.specs.Io.KnownBytes.{Appends}
+use Rattle.peripherals.specs.World.{view, profile_of}
+use Rattle.wordset.specs.Lanes.{words}
+use Rattle.machine_commands.specs.Running.{fresh}
+use Rattle.machine_commands.specs.Schedule.{Whole}
+use Rattle.machine_commands.specs.Session.{summary_where}
+use Rattle.machine_commands.specs.StoppedSession.{form_behind}
+use Rattle.machine_commands.proofs.StoppedLemmas.{attended_to_stop, left_so}
+use Rattle.machine_commands.proofs.last_session.run_with_last.Goals as goal
+
+pub returns-clause-run : goal.returns-clause-run
+returns-clause-run g c =
+    let profile : profile_of c.load-world.result ≡ c.args.options.profile = c.load-world.ensures.profile in
+    let begins : view c.load-world.result ≡ fresh c.args.image.now c.args.options.start = search rules in
+    let punched : Appends (g.P.ByteSink.taken c.args.out.now.punch) (g.P.ByteSink.taken c.put.new.sink) (view c.operate-ran.new.world).devices.punch.output = search rules in
+    let before : Appends (g.W.ByteSink.taken c.args.out.now.report) (g.W.ByteSink.taken c.put-2.new.sink) c.in_ok-lines.lines.items = search rules in
+    let written : Appends (g.W.ByteSink.taken c.put-2.new.sink) (g.W.ByteSink.taken c.put-3.new.sink) (summary_where (words c.args.options.show) (form_behind (Some c.args.most) c.args.form) Whole c.leaving-outcome.result.end (view c.operate-ran.new.world) c.leaving-outcome.result.steps) = search rules in
+    let done = left_so (g.S.Scheduler.brings c.args.schedule.now (profile_of c.load-world.result) (view c.load-world.result)) (g.S.OperatorPresence.left c.operate-ran.new.schedule) c.args.stops.now (profile_of c.load-world.result) true (view c.load-world.result) c.in_ok-came.came c.leaving-outcome.result (view c.operate-ran.new.world) _ _ _ _ c.in_ok-came.ensures.ran c.leaving-outcome.ensures.steps (rw c.has_left.ensures at c.leaving-outcome.ensures.end) in
+    attended_to_stop (g.S.Scheduler.brings c.args.schedule.now) c.args.options c.args.stops.now (Some c.args.most) c.args.form (g.S.OperatorPresence.left c.operate-ran.new.schedule) true c.args.image.now _ (view c.load-world.result) (view c.operate-ran.new.world) c.leaving-outcome.result c.status_of.result c.in_ok-lines.lines.items _ _ _ _ _ _ _ _ _ profile begins done tt punched before written c.status_of.ensures
+
+pub returns-in_err-put-clause-read_told : goal.returns-in_err-put-clause-read_told
+returns-in_err-put-clause-read_told g c = λ yes. let failed : g.P.ByteSink.mark c.put.new.sink ≡ true = search rules in inr failed
+
+pub returns-in_err-text-clause-read_told : goal.returns-in_err-text-clause-read_told
+returns-in_err-text-clause-read_told g c = λ yes. absurd (true≢false (sym yes ∙ c.in_ok-came.ensures.reads))
+
+pub returns-in_err-put-2-clause-read_told : goal.returns-in_err-put-2-clause-read_told
+returns-in_err-put-2-clause-read_told g c = λ yes. absurd (true≢false (sym yes ∙ c.in_ok-came.ensures.reads))
+
+pub returns-clause-read_told : goal.returns-clause-read_told
+returns-clause-read_told g c = λ yes. absurd (true≢false (sym yes ∙ c.in_ok-came.ensures.reads))
+
+pub returns-in_err-came-clause-read_told : goal.returns-in_err-came-clause-read_told
+returns-in_err-came-clause-read_told g c = λ yes.
+    let p = err_from_is_err_and c.from_residual-in_err-came.result c.from_residual-in_err-came.ensures.1 in
+    inl (rw (p.1, p.2) (sym c.in_err-came.ensures.reads ∙ yes))
+
+pub returns-in_err-put-3-clause-read_told : goal.returns-in_err-put-3-clause-read_told
+returns-in_err-put-3-clause-read_told g c = λ yes. absurd (true≢false (sym yes ∙ c.in_ok-came.ensures.reads))
+
+pub returns-in_err-lines-clause-read_told : goal.returns-in_err-lines-clause-read_told
+returns-in_err-lines-clause-read_told g c = λ yes. absurd (true≢false (sym yes ∙ c.in_ok-came.ensures.reads))

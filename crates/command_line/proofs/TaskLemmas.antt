@@ -10,8 +10,8 @@ use Rattle.command_line.specs.declared.program_command.ProgramCommand.{ProgramCo
 use Rattle.command_line.specs.declared.program_command.ProgramCommand.TheVariants.{Verify, Watch, Guess, Refute, Declare, Report, Check}
 use Rattle.command_line.specs.declared.programs.Task.TheVariants as task
 use Rattle.command_line.specs.declared.programs.WatchedRunOptions.{WatchedRunOptions}
-use Rattle.command_line.specs.declared.requests.Request.{Request}
 use Rattle.command_line.specs.declared.requests.Request.TheVariants as request
+use Rattle.command_line.specs.declared.source_programs.MachineTask.{MachineTask}
 use Rattle.command_line.specs.declared.source_programs.SourceProgramRequest.{SourceProgramRequest}
 use Rattle.command_line.specs.Options.{sources_given}
 use Rattle.command_line.specs.Requests.{IsOperated, IsTaskGiven, IsWatchedRunGiven, last_of}
@@ -37,8 +37,9 @@ listed called found operands followed events e is given =
     (subst (λ k. IsOperated k found false) e is, record { given = given; shown = refl; stopped = refl })
 
 -- What is done with a tape is requested where no source is given.
-pub on_tape : (called : MachineCommand) (found : ArgMatches) (requested : Request) → sources_given found ≡ None → IsOnTape called found requested → IsMachineGiven called found requested
-on_tape called found requested e given = subst (λ sources. IsDoneWith sources called found requested) (sym e) given
+pub on_tape : (called : MachineCommand) (found : ArgMatches) (done : MachineTask) → sources_given found ≡ None → IsOnTape called found done
+    → IsMachineGiven called found (request.Tape done)
+on_tape called found done e given = subst (λ sources. IsDoneWith sources called found (request.Tape done)) (sym e) given
 
 -- What is done with a source is requested where one is given.
 pub with_source : (called : MachineCommand) (found : ArgMatches) (asked : SourceProgramRequest) (parts : List (List ℕ)) → sources_given found ≡ Some parts → IsSourcedGiven called found asked

@@ -1,3 +1,4 @@
+use Rattle.std.proofs.Common.{refl}
 use Rattle.command_line.proofs.operator.has_operator.Goals as goal
 
 pub returns : goal.returns
@@ -6,5 +7,5 @@ returns c = record {
   mark_is = c.is_given-mark.ensures;
   teletype = c.is_given-teletype.result;
   teletype_is = c.is_given-teletype.ensures;
-  any = rw (c.has_value-reader.ensures, c.has_value-punch.ensures, c.has_value-keys.ensures, c.has_value-switches.ensures) at c.is_any.ensures;
+  any = rw c.has_any-named.ensures refl;
 }

@@ -85,11 +85,18 @@ fn ends_in(name: &str, ending: &str) -> bool
     name.as_bytes().ends_with(ending.as_bytes())
 }
 
+/// Whether a name ends in one of these.
+fn ends_in_any(name: &str, endings: &[&str]) -> bool
+    ensures { result ≡ list_any (λ ending. ends_in name.now ending.now) endings.now }
+{
+    endings.iter().any(|ending| ends_in(name, ending))
+}
+
 /// Whether a name ends as that of a source does.
 pub fn is_source_name(name: &str) -> bool
     ensures { result ≡ is_source_name name.now }
 {
-    SOURCE_ENDINGS.iter().any(|ending| ends_in(name, ending))
+    ends_in_any(name, &SOURCE_ENDINGS)
 }
 
 /// Where the report of a search that is stuck goes, if it is requested: it is neither an input nor the

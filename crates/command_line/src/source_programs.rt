@@ -4,7 +4,7 @@ ghost use Rattle.std.specs.Prelude.{◌≡◌, IfErr, MatchResult, Some, map, op
 ghost use Rattle.command_line.specs.Machines.{tape_given};
 ghost use Rattle.command_line.specs.Options.{ArePlacesGiven, sources_given};
 ghost use Rattle.command_line.specs.Refusals.{IsRefused, IsRefusedByAny};
-ghost use Rattle.command_line.specs.Sources.{IsMachineGiven, IsMachineTaskGiven, IsSourcedGiven};
+ghost use Rattle.command_line.specs.Sources.{IsMachineGiven, IsMachineTaskGiven};
 ghost use Rattle.command_line.specs.declared.command_name.CommandName.TheVariants.{Machine};
 ghost use Rattle.command_line.specs.declared.command_name.MachineCommand.TheVariants.{Run};
 
@@ -136,8 +136,13 @@ pub(crate) fn machine_request<'a>(
     match found.get_strs("source") {
         None => Ok(Request::Tape(task)),
         Some(names) => {
-            let asked = sourced_request(alloc, called, found, names, places, &task)?;
-            Ok(Request::Sourced(asked))
+            let parts = source_parts(alloc, called, found, names)?;
+            Ok(Request::Sourced(SourceProgramRequest {
+                parts,
+                places,
+                task,
+                explained: is_given(found, "why"),
+            }))
         }
     }
 }
@@ -164,28 +169,19 @@ fn check_inputs(
     Ok(())
 }
 
-/// The request to do this with a source that has these parts.
-fn sourced_request<'a>(
+/// The names of the files of a source's parts, in a list of its own.
+fn source_parts<'a>(
     alloc: Global,
     called: MachineCommand,
     found: &ArgMatches<'a>,
     names: &[&'a str],
-    places: PlaceOptions<'a>,
-    task: &MachineTask<'a>,
-) -> Result<SourceProgramRequest<'a>, CommandLineFault>
-    requires sources { sources_given found.now ≡ Some (map (λ name. name.now) names.now) }
-    requires places { ArePlacesGiven found.now places }
-    requires task { IsMachineTaskGiven called found.now places task.now }
-    ensures { MatchResult result (IsSourcedGiven called found.now)
+) -> Result<Vec<&'a str>, CommandLineFault>
+    requires { sources_given found.now ≡ Some (map (λ name. name.now) names.now) }
+    ensures { MatchResult result
+        (λ parts. sources_given found.now ≡ Some (map (λ name. name.now) parts.items))
         (IsRefused (Machine called) found.now) }
 {
     check_inputs(alloc, called, found)?;
     let parts = copied(alloc, names)?;
-    let explained = is_given(found, "why");
-    Ok(SourceProgramRequest {
-        parts,
-        places,
-        task: *task,
-        explained,
-    })
+    Ok(parts)
 }

@@ -14,5 +14,5 @@ returns c = record {
   stopping = c.in_ok-stopping.ensures;
 }
 
-pub punch_of-punch-requires : goal.punch_of-punch-requires
-punch_of-punch-requires c = rw c.deref.ensures.value c.in_ok-inputs.ensures.are
+pub punch_of-requires : goal.punch_of-requires
+punch_of-requires c = rw c.deref.ensures.value c.in_ok-inputs.ensures.are

@@ -6,12 +6,12 @@ use Rattle.command_line.proofs.programs.place_request.Goals as goal
 pub returns : goal.returns
 returns c = record {
   program = c.in_ok-names.ensures.given;
-  declaration = c.get_str-declaration.ensures;
+  declaration = c.get_str.ensures;
   task = c.in_ok-out.ensures.given;
   places = c.in_ok-places.ensures;
   named = refl;
   explained = c.is_given.ensures;
 }
 
-pub result_of-out-requires : goal.result_of-out-requires
-result_of-out-requires c = rw c.deref.ensures.value (beside_out kind.Place c.args.found.now _ refl c.in_ok-inputs.ensures.are)
+pub result_of-requires : goal.result_of-requires
+result_of-requires c = rw c.deref.ensures.value (beside_out kind.Place c.args.found.now _ refl c.in_ok-inputs.ensures.are)

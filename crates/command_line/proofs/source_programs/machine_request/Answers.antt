@@ -1,3 +1,4 @@
+use Rattle.std.proofs.Common.{map, rules}
 use Rattle.command_line.proofs.TaskLemmas.{on_tape, with_source}
 use Rattle.command_line.proofs.source_programs.machine_request.Goals as goal
 
@@ -9,4 +10,9 @@ returns-in-None c = on_tape c.args.called c.args.found.now c.in_ok-task.task (se
 })
 
 pub returns-in-Some : goal.returns-in-Some
-returns-in-Some c = with_source c.args.called c.args.found.now _ _ (search rules) c.in_ok-asked.ensures
+returns-in-Some c = with_source c.args.called c.args.found.now _ (map (λ name. name.now) c.in_ok-parts.parts.items) c.in_ok-parts.ensures (record {
+  parts = c.in_ok-parts.ensures;
+  places = c.in_ok-places.ensures;
+  task = c.in_ok-task.ensures;
+  explained = c.is_given.ensures;
+})

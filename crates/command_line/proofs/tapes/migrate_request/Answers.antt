@@ -11,5 +11,5 @@ returns c = record {
   out = c.in_ok-out.ensures.given;
 }
 
-pub result_of-out-requires : goal.result_of-out-requires
-result_of-out-requires c = rw c.deref.ensures.value (beside_out kind.Migrate c.args.found.now _ refl c.in_ok-inputs.ensures.are)
+pub result_of-requires : goal.result_of-requires
+result_of-requires c = rw c.deref.ensures.value (beside_out kind.Migrate c.args.found.now _ refl c.in_ok-inputs.ensures.are)

@@ -13,5 +13,5 @@ returns c = record {
   forced = c.is_given.ensures;
 }
 
-pub result_of-out-requires : goal.result_of-out-requires
-result_of-out-requires c = rw c.deref.ensures.value (beside_out kind.Source c.args.found.now _ refl c.in_ok-inputs.ensures.are)
+pub result_of-requires : goal.result_of-requires
+result_of-requires c = rw c.deref.ensures.value (beside_out kind.Source c.args.found.now _ refl c.in_ok-inputs.ensures.are)

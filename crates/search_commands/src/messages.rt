@@ -29,7 +29,7 @@ use diagnostics::verdicts::surplus_text::surplus_message;
 use diagnostics::verdicts::verdict::verdict_line;
 use itoa::Buffer;
 use machine_commands::violations::violation_lines;
-use policy::{Rule, Watched};
+use policy::Rule;
 use proposer::propose;
 use refuter::refute_within;
 use std::alloc::{AllocError, Allocator};
@@ -258,9 +258,8 @@ fn why_message<A: Allocator + Copy, D: Allocator>(
         }
         Answer::No(found) => {
             let (event, rule) = (found.event, found.rule);
-            let watched = Watched::Broken { event, rule };
             let events = &found.events;
-            Ok(violation_lines(alloc, image, declaration, events, watched, true)?)
+            Ok(violation_lines(alloc, image, declaration, events, event, rule)?)
         }
     }
 }

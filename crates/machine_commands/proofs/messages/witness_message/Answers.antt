@@ -8,5 +8,5 @@ returns-clause-told g c = record {
   rule = c.args.found.rule;
   breaks = c.requires.broken;
   last = c.requires.last;
-  is = c.in_ok-told.ensures;
+  is = rw c.deref-2.ensures.value at c.in_ok-told.ensures;
 }

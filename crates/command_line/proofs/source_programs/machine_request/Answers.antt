@@ -9,9 +9,9 @@ returns-in-None c = on_tape c.args.called c.args.found.now c.in_ok-task.task (se
   given = c.in_ok-task.ensures;
 })
 
-pub returns-in-Some : goal.returns-in-Some
-returns-in-Some c = with_source c.args.called c.args.found.now _ (map (λ name. name.now) c.in_ok-parts.parts.items) c.in_ok-parts.ensures (record {
-  parts = c.in_ok-parts.ensures;
+pub returns : goal.returns
+returns c = with_source c.args.called c.args.found.now _ (map (λ name. name.now) c.in_ok-parts-in-Some.parts.items) c.in_ok-parts-in-Some.ensures (record {
+  parts = c.in_ok-parts-in-Some.ensures;
   places = c.in_ok-places.ensures;
   task = c.in_ok-task.ensures;
   explained = c.is_given.ensures;

@@ -32,5 +32,5 @@ returns-in_err-request g c =
       named = c.in-Some.ensures.name;
       found = c.in-Some.found.now;
       rows = c.in-Some.ensures.rows;
-      why = subst (λ called. IsRefused called c.in-Some.found.now _) c.called_of.ensures c.in_err-request.ensures;
+      why = subst (λ called. IsRefused called c.in-Some.found.now c.in_err-request.field-0.0) c.called_of.ensures c.in_err-request.ensures;
     }))

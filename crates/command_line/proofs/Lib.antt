@@ -1,2 +1,3 @@
 mod CellLemmas
+mod RefusalLemmas
 mod TaskLemmas

@@ -8,3 +8,4 @@ pub mod OctalPlaces
 pub mod Places
 pub mod Requests
 pub mod Sources
+pub mod Refusals

@@ -6,6 +6,7 @@ use Rattle.certificate_lines.specs.declared.Version.{Version}
 use Rattle.certificate_lines.specs.declared.Version.TheVariants.{Two, Three}
 use Rattle.streams.specs.Text.{octal_byte}
 use Rattle.command_parts.specs.declared.options.SummaryForm.{SummaryForm}
+use Rattle.command_line.specs.declared.command_name.CommandName.TheVariants as kind
 use Rattle.command_line.specs.declared.operator.Interrupt.{Interrupt}
 use Rattle.command_line.specs.declared.operator.Interrupt.TheVariants.{Usual, Key, Off}
 use Rattle.command_line.specs.declared.operator.Session.{Session}
@@ -15,9 +16,9 @@ use Rattle.command_line.specs.declared.tapes.DumpRequest.{DumpRequest}
 use Rattle.command_line.specs.declared.tapes.MigrateRequest.{MigrateRequest}
 use Rattle.command_line.specs.declared.tapes.RunRequest.{RunRequest}
 use Rattle.command_line.specs.declared.tapes.SourceRequest.{SourceRequest}
-use Rattle.command_line.specs.Outputs.{IsEmptiedGiven, IsKeptGiven}
+use Rattle.command_line.specs.Outputs.{IsResultGiven}
 use Rattle.command_line.specs.Places.{AreShownOn, IsStoppedOn}
-use Rattle.command_line.specs.Options.{AreRunOptions, AreSessionOptions, AreTeletypeOptions, IsFlagGiven, machine_given, operand, sources_given, start_given, value}
+use Rattle.command_line.specs.Options.{AreRunOptions, AreSessionOptions, AreTeletypeOptions, IsFlagGiven, machine_given, operand, sources_given, start_given, value, value_or}
 
 -- The tape that is given, unless a source takes its place.
 abbrev pub tape_unless : Option (List (List ℕ)) → List ℕ → Option (List ℕ)
@@ -91,23 +92,21 @@ pub record IsSourceGiven (found : ArgMatches) (source : SourceRequest) : Type 0 
   pub declaration : option_map (λ name. name.now) source.declaration ≡ value found (codes "declaration")
   pub start : start_given found ≡ Ok source.start
   pub machine : machine_given found ≡ Some source.profile
-  pub out : IsKeptGiven (value found (codes "output")) (operand found (codes "OUT")) source.out
+  pub out : IsResultGiven kind.Source found source.out
   pub forced : IsFlagGiven found (codes "force") source.forced
 
--- The version that `migrate` is asked for: version 2, unless `--certificate` asks for version 3. Other texts ask for none.
-abbrev pub migrated_version : Option (List ℕ) → Option Version
-migrated_version None = Some Two
-migrated_version (Some text) =
-    if bytes_eq text (codes "2") then Some Two else if bytes_eq text (codes "3") then Some Three else None
+-- The version that `migrate` is asked for by a text. Texts other than 2 and 3 ask for none.
+abbrev pub migrated_version : List ℕ → Option Version
+migrated_version text = if bytes_eq text (codes "2") then Some Two else if bytes_eq text (codes "3") then Some Three else None
 
 -- The version of a certificate that is migrated with a declaration or without one.
 abbrev pub version_with : Bool → Version
 version_with declared = if declared then Three else Two
 
 -- The certificate that is migrated and the declaration are those that are given, and the result goes where it is said. There is a
--- declaration exactly if version 3 is requested.
+-- declaration exactly if version 3 is requested; without `--certificate` version 2 is.
 pub record IsMigrateGiven (found : ArgMatches) (migrate : MigrateRequest) : Type 0 where
   pub certificate : migrate.certificate.now ≡ operand found (codes "CERTIFICATE")
   pub declaration : option_map (λ name. name.now) migrate.declaration ≡ value found (codes "declaration")
-  pub version : migrated_version (value found (codes "certificate")) ≡ Some (version_with (is_some migrate.declaration))
-  pub out : IsEmptiedGiven (value found (codes "output")) (operand found (codes "OUT")) migrate.out
+  pub version : migrated_version (value_or found (codes "certificate") (codes "2")) ≡ Some (version_with (is_some migrate.declaration))
+  pub out : IsResultGiven kind.Migrate found migrate.out

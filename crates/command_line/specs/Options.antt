@@ -1,5 +1,6 @@
 -- What options ask for: the numbers, machines and flags that their words spell, and what holds where they are left out.
-use Rattle.std.specs.Prelude.{ℕ, ◌≡◌, ◌||◌, Bool, true, false, is_some, List, [], Option, None, Some, Result, Ok, codes, if◌then◌else◌, map, option_map, unwrap_or}
+use Rattle.std.specs.Prelude.{ℕ, ◌≡◌, ◌||◌, Bool, true, false, is_some, List, [], ◌∷◌, Option, None, Some, Result, Ok, codes, flat_map, if◌then◌else◌, map, option_map, unwrap_or}
+use Rattle.std.specs.List.{list_any}
 use Rattle.std.specs.Str.{bytes_eq}
 use Rattle.clap.specs.Matches.{first_value, found_of, matched_of, one_text, raw_values}
 use Rattle.clap.specs.declared.parser.matches.ArgMatches.{ArgMatches}
@@ -30,6 +31,10 @@ values found name = unwrap_or (option_map raw_values (matched_of (found_of found
 -- The files of a source's parts, if the program is given by its source.
 abbrev pub sources_given : ArgMatches → Option (List (List ℕ))
 sources_given found = option_map raw_values (matched_of (found_of found) (codes "source"))
+
+-- The values of these operands and options, in this order.
+abbrev pub named : ArgMatches → List (List ℕ) → List (List ℕ)
+named found names = flat_map (values found) names
 
 -- An operand or an option has a value.
 abbrev pub has_value : ArgMatches → List ℕ → Bool
@@ -140,8 +145,7 @@ pub record IsRunWithOperator (found : ArgMatches) (is : Bool) : Type 0 where
   pub mark_is : IsFlagGiven found (codes "mark") mark
   pub teletype : Bool
   pub teletype_is : IsFlagGiven found (codes "teletype") teletype
-  pub any : is ≡ (has_value found (codes "reader") || has_value found (codes "punch") || has_value found (codes "keys") || has_value found (codes "switches")
-      || mark || teletype)
+  pub any : is ≡ (list_any (has_value found) (codes "reader" ∷ codes "punch" ∷ codes "keys" ∷ codes "switches" ∷ []) || mark || teletype)
 
 -- A start or a machine is named.
 abbrev pub is_start_named : ArgMatches → Bool
@@ -151,8 +155,7 @@ is_start_named found = has_value found (codes "start") || has_value found (codes
 pub record IsWatchedWithOperator (found : ArgMatches) (is : Bool) : Type 0 where
   pub mark : Bool
   pub flag : IsFlagGiven found (codes "mark") mark
-  pub any : is ≡ (has_value found (codes "reader") || has_value found (codes "keys") || has_value found (codes "switches") || has_value found (codes "steps")
-      || has_value found (codes "continue") || mark)
+  pub any : is ≡ (list_any (has_value found) (codes "reader" ∷ codes "keys" ∷ codes "switches" ∷ codes "steps" ∷ codes "continue" ∷ []) || mark)
 
 -- The cells and the places that options of a run name are the words that were given, and so is the number of last instructions.
 pub record ArePlacesGiven (found : ArgMatches) (places : PlaceOptions) : Type 0 where

@@ -1,11 +1,17 @@
 -- Where results go, and when an output is an input, as far as the names tell.
-use Rattle.std.specs.Prelude.{ℕ, ◌≡◌, Bool, ◌||◌, if◌then◌else◌, not, codes, drop, take, List, Option, None, Some}
+use Rattle.std.specs.Prelude.{ℕ, ◌≡◌, Bool, true, false, ◌&&◌, ◌||◌, if◌then◌else◌, is_some, not, codes, drop, length, take, List, [], ◌∷◌, ◌-◌, Option, None, Some, unwrap_or}
+use Rattle.std.specs.Borrow.{Bor}
+use Rattle.std.specs.List.{list_any}
 use Rattle.std.specs.Str.{bytes_eq}
 use Rattle.clap.specs.declared.parser.matches.ArgMatches.{ArgMatches}
+use Rattle.command_line.specs.declared.command_name.CommandName.{CommandName}
+use Rattle.command_line.specs.declared.command_name.CommandName.TheVariants as kind
 use Rattle.command_line.specs.declared.outputs.Destination.{Destination}
 use Rattle.command_line.specs.declared.outputs.Destination.TheVariants.{EmptiedFirst, CheckedFirst, MadeLast}
 use Rattle.command_line.specs.declared.outputs.SaveOptions.{SaveOptions}
-use Rattle.command_line.specs.Options.{IsFlagGiven, operand, value}
+use Rattle.command_line.specs.declared.program_command.ProgramCommand.{ProgramCommand}
+use Rattle.command_line.specs.declared.program_command.ProgramCommand.TheVariants as command
+use Rattle.command_line.specs.Options.{IsFlagGiven, operand, sources_given, value}
 
 -- A name without `./` at its front.
 abbrev pub without_here : List ℕ → List ℕ
@@ -25,30 +31,61 @@ file_of (EmptiedFirst name) = name.now
 file_of (CheckedFirst name) = name.now
 file_of (MadeLast name) = name.now
 
--- A result goes to the operand if it is given, whose file is checked first; otherwise to the value of `-o`, whose file is made last, and
--- without it to standard output.
-abbrev pub IsResultGiven : ArgMatches → Option (List ℕ) → Destination → Type 0
-IsResultGiven found (Some name) (CheckedFirst file) = file.now ≡ name
-IsResultGiven found None (MadeLast file) = file.now ≡ operand found (codes "output")
-IsResultGiven found _ _ = ⊥
+-- The file that an output goes to is one of these, as far as the names tell; standard output is none.
+abbrev pub is_taken : List ℕ → List (Bor (List ℕ)) → Bool
+is_taken name others = not (bytes_eq name (codes "-")) && list_any (λ other. is_same_file other.now name) others
 
--- A certificate goes to the operand if it is given, whose file is emptied first; otherwise as other results.
-abbrev pub IsCertificateResultGiven : ArgMatches → Option (List ℕ) → Destination → Type 0
-IsCertificateResultGiven found (Some name) (EmptiedFirst file) = file.now ≡ name
-IsCertificateResultGiven found None (MadeLast file) = file.now ≡ operand found (codes "output")
-IsCertificateResultGiven found _ _ = ⊥
+-- What the name of a source ends in.
+abbrev pub source_endings : List (List ℕ)
+source_endings =
+    codes ".pal" ∷ codes ".PAL" ∷ codes ".pa" ∷ codes ".PA" ∷ codes ".pal8" ∷ codes ".PAL8" ∷ codes ".asm" ∷ codes ".ASM" ∷ codes ".src" ∷ codes ".SRC" ∷ []
 
--- A result goes to the value of `-o` if it is given, whose file is made last; otherwise to the operand, whose file is emptied first.
-abbrev pub IsEmptiedGiven : Option (List ℕ) → List ℕ → Destination → Type 0
-IsEmptiedGiven (Some name) operand (MadeLast file) = file.now ≡ name
-IsEmptiedGiven None operand (EmptiedFirst file) = file.now ≡ operand
-IsEmptiedGiven _ operand _ = ⊥
+-- A name ends in this.
+abbrev pub ends_in : List ℕ → List ℕ → Bool
+ends_in name ending = bytes_eq ending (drop (length name - length ending) name)
 
--- The same of an operand whose file is checked first.
-abbrev pub IsKeptGiven : Option (List ℕ) → List ℕ → Destination → Type 0
-IsKeptGiven (Some name) operand (MadeLast file) = file.now ≡ name
-IsKeptGiven None operand (CheckedFirst file) = file.now ≡ operand
-IsKeptGiven _ operand _ = ⊥
+-- A name ends as that of a source does.
+abbrev pub is_source_name : List ℕ → Bool
+is_source_name name = list_any (ends_in name) source_endings
+
+-- The command searches for its result: for a certificate, for a run, or for a declaration.
+abbrev pub is_search : ProgramCommand → Bool
+is_search command.Guess = true
+is_search command.Refute = true
+is_search command.Declare = true
+is_search _ = false
+
+-- The operand that the result goes to without `-o`, with a source or with a tape: OUT, or the second operand of a search after a source.
+abbrev pub result_name : CommandName → Bool → List ℕ
+result_name (kind.Program called) sourced = if is_search called && sourced then codes "DECLARATION" else codes "OUT"
+result_name _ sourced = codes "OUT"
+
+-- The same for what is found behind the name of a command.
+abbrev pub result_operand : CommandName → ArgMatches → List ℕ
+result_operand called found = result_name called (is_some (sources_given found))
+
+-- The name of the file that the result goes to: the value of `-o`, and without it the operand.
+abbrev pub result_file : CommandName → ArgMatches → List ℕ
+result_file called found = unwrap_or (value found (codes "output")) (operand found (result_operand called found))
+
+-- The file of the operand is emptied before an input is read: that is so of tapes and of certificates.
+abbrev pub is_emptied : CommandName → Bool
+is_emptied kind.Assemble = true
+is_emptied kind.Migrate = true
+is_emptied (kind.Program command.Guess) = true
+is_emptied _ = false
+
+-- A result goes to the value of `-o` if it is given, whose file is made last; otherwise to the operand, whose file is emptied first or is
+-- only checked first.
+abbrev pub IsSentTo : Option (List ℕ) → Bool → List ℕ → Destination → Type 0
+IsSentTo (Some name) emptied operand (MadeLast file) = file.now ≡ name
+IsSentTo None true operand (EmptiedFirst file) = file.now ≡ operand
+IsSentTo None false operand (CheckedFirst file) = file.now ≡ operand
+IsSentTo _ emptied operand _ = ⊥
+
+-- The result of a command goes where it is said.
+abbrev pub IsResultGiven : CommandName → ArgMatches → Destination → Type 0
+IsResultGiven called found out = IsSentTo (value found (codes "output")) (is_emptied called) (operand found (result_operand called found)) out
 
 -- What the names of saved files begin with is the value of `--save`, a declaration may be one of them unless one is given, and they
 -- replace other files only where `--force` is given.

@@ -1,11 +1,11 @@
 -- What requests on a program and its declaration have of the words that were given.
-use Rattle.std.specs.Prelude.{ℕ, ◌≡◌, Bool, true, false, not, is_some, List, [], Option, None, Some, codes, if◌then◌else◌, map, option_map, unwrap_or}
+use Rattle.std.specs.Prelude.{ℕ, ◌≡◌, Bool, true, false, is_some, List, [], ◌∷◌, Option, None, Some, codes, if◌then◌else◌, map, option_map, unwrap_or}
 use Rattle.std.specs.Borrow.{Bor}
 use Rattle.clap.specs.declared.parser.matches.ArgMatches.{ArgMatches}
+use Rattle.command_line.specs.declared.command_name.CommandName.TheVariants as kind
 use Rattle.command_line.specs.declared.program_command.ProgramCommand.{ProgramCommand}
 use Rattle.command_line.specs.declared.program_command.ProgramCommand.TheVariants as command
 use Rattle.command_line.specs.declared.operands.Operands.{Operands}
-use Rattle.command_line.specs.declared.operands.OperandsAfterSource.{OperandsAfterSource}
 use Rattle.command_line.specs.declared.operator.WatchedSession.{WatchedSession}
 use Rattle.command_line.specs.declared.programs.ProgramNames.{ProgramNames}
 use Rattle.command_line.specs.declared.programs.ProgramNames.TheVariants.{Tape, Source}
@@ -17,14 +17,9 @@ use Rattle.command_line.specs.declared.programs.WatchedRunOptions.{WatchedRunOpt
 use Rattle.command_line.specs.declared.programs.Task.TheVariants.{Verify, Check, Report, Watch, WatchSession, Guess, Refute, Declare}
 use Rattle.command_line.specs.declared.outputs.Destination.{Destination}
 use Rattle.certificate_lines.specs.declared.Version.{Version}
-use Rattle.command_line.specs.Outputs.{IsCertificateResultGiven, IsResultGiven, IsSaveGiven}
-use Rattle.command_line.specs.Options.{AreDeclareOptions, ArePlacesGiven, AreRefinements, AreRefuteOptions, AreSessionOptions, AreVerifyOptions, IsFlagGiven, IsNumberNamed, IsVersionNamed, IsWatchedWithOperator, has_value, is_start_named, operand, sources_given, value}
+use Rattle.command_line.specs.Outputs.{IsResultGiven, IsSaveGiven}
+use Rattle.command_line.specs.Options.{AreDeclareOptions, ArePlacesGiven, AreRefinements, AreRefuteOptions, AreSessionOptions, AreVerifyOptions, IsFlagGiven, IsNumberNamed, IsVersionNamed, IsWatchedWithOperator, is_start_named, operand, sources_given, value}
 use Rattle.command_line.specs.Places.{AreShownOn, IsStoppedOn}
-
--- The files of a program are those that were given: that of its tape, or those of the parts of its source, in order.
-abbrev pub IsProgramGiven : ArgMatches → ProgramNames → Type 0
-IsProgramGiven found (Tape name) = name.now ≡ operand found (codes "TAPE")
-IsProgramGiven found (Source names) = sources_given found ≡ Some (map (λ name. name.now) names.items)
 
 -- The declaration that a command on a tape is given. Where `verify` and `declare` are given none, there is none, and so one is
 -- proposed there and nowhere else.
@@ -33,12 +28,12 @@ declaration_given command.Verify found = value found (codes "DECLARATION")
 declaration_given command.Declare found = value found (codes "from")
 declaration_given _ found = Some (operand found (codes "DECLARATION"))
 
--- The last operand of a command on a tape.
+-- The last input of a command on a tape, where it needs one after the declaration.
 abbrev pub last_with_tape : ProgramCommand → ArgMatches → Option (List ℕ)
 last_with_tape command.Check found = value found (codes "CERTIFICATE")
 last_with_tape command.Report found = value found (codes "CERTIFICATE")
 last_with_tape command.Watch found = value found (codes "EVENTS")
-last_with_tape _ found = value found (codes "OUT")
+last_with_tape _ found = None
 
 -- The declaration among the two words after a source: the first of two, where the command needs its last word; otherwise the first.
 abbrev pub declaration_behind : Bool → Option (List ℕ) → Option (List ℕ) → Option (List ℕ)
@@ -50,61 +45,58 @@ abbrev pub last_behind : Bool → Option (List ℕ) → Option (List ℕ) → Op
 last_behind true first second = if is_some second then second else first
 last_behind false first second = None
 
--- The operands after a source are the words that stand there, where another one than the declaration is needed or not.
-pub record AreBehind (is_needed : Bool) (found : ArgMatches) (operands : OperandsAfterSource) : Type 0 where
-  pub declaration : option_map (λ name. name.now) operands.declaration ≡ declaration_behind is_needed (value found (codes "TAPE")) (value found (codes "DECLARATION"))
-  pub last : option_map (λ name. name.now) operands.last ≡ last_behind is_needed (value found (codes "TAPE")) (value found (codes "DECLARATION"))
+-- The input that a command needs after the declaration, where it needs one: a certificate, or the events of a run without an operator.
+abbrev pub last_name : Bool → ProgramCommand → Option (List ℕ)
+last_name operated command.Check = Some (codes "CERTIFICATE")
+last_name operated command.Report = Some (codes "CERTIFICATE")
+last_name operated command.Watch = if operated then None else Some (codes "EVENTS")
+last_name operated _ = None
 
--- A search needs the operand OUT, unless `-o` is given.
-abbrev pub needs_out : ArgMatches → Bool
-needs_out found = not (has_value found (codes "output"))
+-- The operands and options that give a program, its declaration and a certificate.
+abbrev pub with_certificate : Bool → List (List ℕ)
+with_certificate sourced =
+    if sourced then codes "source" ∷ codes "TAPE" ∷ codes "DECLARATION" ∷ [] else codes "TAPE" ∷ codes "DECLARATION" ∷ codes "CERTIFICATE" ∷ []
 
--- The declaration of `declare` is the value of `--from`; its last operand stands after the source.
-pub record AreOfDeclare (found : ArgMatches) (operands : OperandsAfterSource) : Type 0 where
-  pub declaration : option_map (λ name. name.now) operands.declaration ≡ value found (codes "from")
-  pub last : option_map (λ name. name.now) operands.last ≡ last_behind (needs_out found) (value found (codes "TAPE")) (value found (codes "DECLARATION"))
+-- The operands and options that give the inputs of a command, with a source or with a tape. After a source, clap takes the declaration and
+-- the last input for the operands that a tape and its declaration have.
+abbrev pub input_names : ProgramCommand → Bool → List (List ℕ)
+input_names command.Declare sourced = (if sourced then codes "source" else codes "TAPE") ∷ codes "from" ∷ []
+input_names command.Watch sourced =
+    if sourced then codes "source" ∷ codes "TAPE" ∷ codes "DECLARATION" ∷ codes "reader" ∷ codes "keys" ∷ []
+    else codes "TAPE" ∷ codes "DECLARATION" ∷ codes "EVENTS" ∷ codes "reader" ∷ codes "keys" ∷ []
+input_names command.Check sourced = with_certificate sourced
+input_names command.Report sourced = with_certificate sourced
+input_names _ sourced = if sourced then codes "source" ∷ codes "TAPE" ∷ [] else codes "TAPE" ∷ codes "DECLARATION" ∷ []
 
--- The operands of a command on a source are the words that stand after it. `verify` needs none but the declaration, `watch` needs
--- events unless it has an operator, a search needs OUT unless `-o` is given, and the others need a certificate.
-abbrev pub AreWithSource : Bool → ProgramCommand → ArgMatches → OperandsAfterSource → Type 0
-AreWithSource operated command.Verify found operands = AreBehind false found operands
-AreWithSource operated command.Watch found operands = AreBehind (not operated) found operands
-AreWithSource operated command.Guess found operands = AreBehind (needs_out found) found operands
-AreWithSource operated command.Refute found operands = AreBehind (needs_out found) found operands
-AreWithSource operated command.Declare found operands = AreOfDeclare found operands
-AreWithSource operated command.Report found operands = AreBehind true found operands
-AreWithSource operated command.Check found operands = AreBehind true found operands
+-- The declaration of a command on a source, where this word stands for it after the source: that of `declare` is the value of `--from`.
+abbrev pub declaration_of_source : ProgramCommand → ArgMatches → Option (List ℕ) → Option (List ℕ)
+declaration_of_source command.Declare found behind = value found (codes "from")
+declaration_of_source _ found behind = behind
 
--- There are such operands of a command on a source that have this declaration.
-pub record IsDeclarationBehind (called : ProgramCommand) (found : ArgMatches) (declaration : Option (List ℕ)) : Type 0 where
+-- The declaration and the last input of a command on a source are the words that stand after it, as far as the command needs them.
+pub record AreAfterSource (called : ProgramCommand) (found : ArgMatches) (declaration : Option (List ℕ)) (last : Option (List ℕ)) : Type 0 where
   pub operated : Bool
   pub watched : IsWatchedWithOperator found operated
-  pub operands : OperandsAfterSource
-  pub are : AreWithSource operated called found operands
-  pub is : declaration ≡ option_map (λ name. name.now) operands.declaration
+  pub declaration_is : declaration ≡ declaration_of_source called found (declaration_behind (is_some (last_name operated called)) (value found (codes "TAPE"))
+      (value found (codes "DECLARATION")))
+  pub last_is : last ≡ last_behind (is_some (last_name operated called)) (value found (codes "TAPE")) (value found (codes "DECLARATION"))
 
--- There are such operands of a command on a source that have this last one.
-pub record IsLastBehind (called : ProgramCommand) (found : ArgMatches) (last : Option (List ℕ)) : Type 0 where
-  pub operated : Bool
-  pub watched : IsWatchedWithOperator found operated
-  pub operands : OperandsAfterSource
-  pub are : AreWithSource operated called found operands
-  pub is : last ≡ option_map (λ name. name.now) operands.last
-
--- The declaration of a command is the one that is given. Without one the lines of a source are the declaration, and for a tape one
--- is proposed.
-abbrev pub IsDeclarationGiven : ProgramCommand → ArgMatches → ProgramNames → Option (List ℕ) → Type 0
-IsDeclarationGiven called found (Tape name) declaration = declaration ≡ declaration_given called found
-IsDeclarationGiven called found (Source names) declaration = IsDeclarationBehind called found declaration
-
--- The last operand of a command is the one that is given.
-abbrev pub IsLastGiven : ProgramCommand → ArgMatches → ProgramNames → Option (List ℕ) → Type 0
-IsLastGiven called found (Tape name) last = last ≡ last_with_tape called found
-IsLastGiven called found (Source names) last = IsLastBehind called found last
+-- The program, the declaration and the last input of a command are those that are given: the files of a program are that of its tape, or
+-- those of the parts of its source, in order. Without a declaration the lines of a source are the declaration, and for a tape one is
+-- proposed.
+abbrev pub AreInputsGiven : ProgramCommand → ArgMatches → ProgramNames → Option (List ℕ) → Option (List ℕ) → Type 0
+AreInputsGiven called found (Tape name) declaration last =
+    (name.now ≡ operand found (codes "TAPE")) × (declaration ≡ declaration_given called found) × (last ≡ last_with_tape called found)
+AreInputsGiven called found (Source names) declaration last =
+    (sources_given found ≡ Some (map (λ name. name.now) names.items)) × AreAfterSource called found declaration last
 
 -- The last operand, if there is one.
 abbrev pub last_of : Operands → Option (List ℕ)
 last_of operands = option_map (λ name. name.now) operands.last
+
+-- The operands of a command are its inputs that are given.
+abbrev pub AreOperandsGiven : ProgramCommand → ArgMatches → Operands → Type 0
+AreOperandsGiven called found operands = AreInputsGiven called found operands.program (option_map (λ name. name.now) operands.declaration) (last_of operands)
 
 -- The names of the files of a source's parts, if the program is given by its source.
 abbrev pub part_names : ProgramNames → List (Bor (List ℕ))
@@ -126,14 +118,6 @@ abbrev pub watched_declaration : ProgramNames → Option (List ℕ) → List ℕ
 watched_declaration (Tape name) declaration = unwrap_or declaration (codes "-")
 watched_declaration (Source names) declaration = []
 
--- A watched run with an operator is the one that the options ask for.
-pub record IsSessionGiven (found : ArgMatches) (session : WatchedSession) : Type 0 where
-  pub options : AreSessionOptions found session.options
-  pub reader : option_map (λ name. name.now) session.reader ≡ value found (codes "reader")
-  pub keys : option_map (λ name. name.now) session.keys ≡ value found (codes "keys")
-  pub continues : IsNumberNamed 1 1000000 (value found (codes "continue")) session.continues
-  pub explained : IsFlagGiven found (codes "why") session.explained
-
 -- The search for an answer is made and what is found is saved as the options ask. A declaration may be saved exactly if none is given.
 abbrev pub IsVerifyGiven : ArgMatches → Operands → Task → Type 0
 IsVerifyGiven found operands (Verify save options) = IsSaveGiven found (is_some operands.declaration) save × AreVerifyOptions found options
@@ -151,7 +135,11 @@ pub record IsFollowedOn (program : ProgramNames) (places : PlaceOptions) (follow
 
 -- A watched run with an operator is the one that the operands and the options ask for, shows these cells and is followed so.
 pub record IsWatchedRunGiven (found : ArgMatches) (operands : Operands) (followed : WatchedRunOptions) (session : WatchedSession) : Type 0 where
-  pub given : IsSessionGiven found session
+  pub options : AreSessionOptions found session.options
+  pub reader : option_map (λ name. name.now) session.reader ≡ value found (codes "reader")
+  pub keys : option_map (λ name. name.now) session.keys ≡ value found (codes "keys")
+  pub continues : IsNumberNamed 1 1000000 (value found (codes "continue")) session.continues
+  pub explained : IsFlagGiven found (codes "why") session.explained
   pub tape : session.tape.now ≡ watched_tape operands.program
   pub declaration : session.declaration.now ≡ watched_declaration operands.program (option_map (λ name. name.now) operands.declaration)
   pub shown : session.options.run.show ≡ followed.show
@@ -172,35 +160,27 @@ IsWatchGiven found operands followed _ = ⊥
 
 -- The search for a certificate is for the version that is requested, and the certificate and the report of a search that is stuck go
 -- where it is said.
-pub record IsGuessOf (found : ArgMatches) (last : Option (List ℕ)) (out : Destination) (report : Option (List ℕ)) (version : Option Version) : Type 0 where
-  pub out_is : IsCertificateResultGiven found last out
-  pub report_is : report ≡ value found (codes "report")
-  pub version_is : IsVersionNamed (value found (codes "certificate")) version
-
--- A search for a certificate is such a one.
-abbrev pub IsGuessGiven : ArgMatches → Option (List ℕ) → Task → Type 0
-IsGuessGiven found last (Guess out report version) = IsGuessOf found last out (option_map (λ name. name.now) report) version
-IsGuessGiven found last _ = ⊥
+abbrev pub IsGuessGiven : ArgMatches → Task → Type 0
+IsGuessGiven found (Guess out report version) =
+    IsResultGiven (kind.Program command.Guess) found out × (option_map (λ name. name.now) report ≡ value found (codes "report"))
+    × IsVersionNamed (value found (codes "certificate")) version
+IsGuessGiven found _ = ⊥
 
 -- The search for a run is made as the options ask, and the run goes where it is said.
-abbrev pub IsRefuteGiven : ArgMatches → Option (List ℕ) → Task → Type 0
-IsRefuteGiven found last (Refute out options) = IsResultGiven found last out × AreRefuteOptions found options
-IsRefuteGiven found last _ = ⊥
+abbrev pub IsRefuteGiven : ArgMatches → Task → Type 0
+IsRefuteGiven found (Refute out options) = IsResultGiven (kind.Program command.Refute) found out × AreRefuteOptions found options
+IsRefuteGiven found _ = ⊥
 
 -- A declaration is proposed as the options ask, and goes where it is said.
-abbrev pub IsDeclareGiven : ArgMatches → Option (List ℕ) → Task → Type 0
-IsDeclareGiven found last (Declare out options refinements) = IsResultGiven found last out × AreDeclareOptions found options × AreRefinements found refinements
-IsDeclareGiven found last _ = ⊥
+abbrev pub IsDeclareGiven : ArgMatches → Task → Type 0
+IsDeclareGiven found (Declare out options refinements) =
+    IsResultGiven (kind.Program command.Declare) found out × AreDeclareOptions found options × AreRefinements found refinements
+IsDeclareGiven found _ = ⊥
 
 -- The report is of the certificate that is given last, as text or as a page as the option asks, and goes where it is said.
-pub record IsReportOf (found : ArgMatches) (last : Option (List ℕ)) (certificate : List ℕ) (out : Destination) (text : Bool) : Type 0 where
-  pub certificate_is : certificate ≡ unwrap_or last (codes "-")
-  pub out_is : IsResultGiven found (value found (codes "OUT")) out
-  pub text_is : IsFlagGiven found (codes "text") text
-
--- A report is such a one.
 abbrev pub IsReportGiven : ArgMatches → Option (List ℕ) → Task → Type 0
-IsReportGiven found last (Report certificate out text) = IsReportOf found last certificate.now out text
+IsReportGiven found last (Report certificate out text) =
+    (certificate.now ≡ unwrap_or last (codes "-")) × IsResultGiven (kind.Program command.Report) found out × IsFlagGiven found (codes "text") text
 IsReportGiven found last _ = ⊥
 
 -- The certificate that is checked is the one that is given last.
@@ -212,9 +192,9 @@ IsCheckGiven last _ = ⊥
 abbrev pub IsTaskGiven : ProgramCommand → ArgMatches → Operands → WatchedRunOptions → Task → Type 0
 IsTaskGiven command.Verify found operands followed task = IsVerifyGiven found operands task
 IsTaskGiven command.Watch found operands followed task = IsWatchGiven found operands followed task
-IsTaskGiven command.Guess found operands followed task = IsGuessGiven found (last_of operands) task
-IsTaskGiven command.Refute found operands followed task = IsRefuteGiven found (last_of operands) task
-IsTaskGiven command.Declare found operands followed task = IsDeclareGiven found (last_of operands) task
+IsTaskGiven command.Guess found operands followed task = IsGuessGiven found task
+IsTaskGiven command.Refute found operands followed task = IsRefuteGiven found task
+IsTaskGiven command.Declare found operands followed task = IsDeclareGiven found task
 IsTaskGiven command.Report found operands followed task = IsReportGiven found (last_of operands) task
 IsTaskGiven command.Check found operands followed task = IsCheckGiven (last_of operands) task
 
@@ -224,9 +204,7 @@ pub record IsProgramRequestGiven (called : ProgramCommand) (found : ArgMatches) 
   pub operands : Operands
   pub program_is : asked.program ≡ operands.program
   pub declaration_is : asked.declaration ≡ operands.declaration
-  pub program : IsProgramGiven found operands.program
-  pub declaration : IsDeclarationGiven called found operands.program (option_map (λ name. name.now) operands.declaration)
-  pub last : IsLastGiven called found operands.program (last_of operands)
+  pub given : AreOperandsGiven called found operands
   pub followed : WatchedRunOptions
   pub followed_is : IsFollowedOn operands.program asked.places followed
   pub task : IsTaskGiven called found operands followed asked.task

@@ -1,6 +1,7 @@
 -- What requests for a source, and requests to run a program, have of the words that were given.
-use Rattle.std.specs.Prelude.{ℕ, ◌≡◌, ◌++◌, true, false, List, [], Option, None, Some, codes, if◌then◌else◌, map, option_map}
+use Rattle.std.specs.Prelude.{ℕ, ◌≡◌, ◌∷◌, true, false, List, [], Option, None, Some, codes, if◌then◌else◌, map, option_map}
 use Rattle.clap.specs.declared.parser.matches.ArgMatches.{ArgMatches}
+use Rattle.command_line.specs.declared.command_name.CommandName.TheVariants as kind
 use Rattle.command_line.specs.declared.command_name.MachineCommand.{MachineCommand}
 use Rattle.command_line.specs.declared.command_name.MachineCommand.TheVariants as command
 use Rattle.command_line.specs.declared.place_options.PlaceOptions.{PlaceOptions}
@@ -17,17 +18,26 @@ use Rattle.command_line.specs.declared.source_programs.SourceProgramRequest.{Sou
 use Rattle.command_line.specs.declared.sources.AssembleRequest.{AssembleRequest}
 use Rattle.command_line.specs.declared.sources.ListRequest.{ListRequest}
 use Rattle.command_line.specs.Machines.{IsDumpGiven, IsOperatedRunGiven, IsRunGiven, IsTeletypeGiven}
-use Rattle.command_line.specs.Options.{ArePlacesGiven, IsFlagGiven, IsRunWithOperator, has_value, machine_given, operand, sources_given, value, values}
-use Rattle.command_line.specs.Outputs.{IsEmptiedGiven, IsKeptGiven}
+use Rattle.command_line.specs.Options.{ArePlacesGiven, IsFlagGiven, IsRunWithOperator, has_value, machine_given, named, sources_given, value}
+use Rattle.command_line.specs.Outputs.{IsResultGiven}
 
--- The parts of the source that `assemble`, `list` and `place` are given: with `-o` the first operand is one of them too.
+-- The operands that are parts of the source of `assemble`, `list` and `place`: with `-o` the first operand is one of them too.
+abbrev pub part_operands : ArgMatches → List (List ℕ)
+part_operands found = if has_value found (codes "output") then codes "OUT" ∷ codes "SOURCE" ∷ [] else codes "SOURCE" ∷ []
+
+-- The operands and the option that give the inputs of `place`.
+abbrev pub placed_operands : ArgMatches → List (List ℕ)
+placed_operands found =
+    if has_value found (codes "output") then codes "OUT" ∷ codes "SOURCE" ∷ codes "declaration" ∷ [] else codes "SOURCE" ∷ codes "declaration" ∷ []
+
+-- The parts of the source that `assemble`, `list` and `place` are given.
 abbrev pub source_operands : ArgMatches → List (List ℕ)
-source_operands found = (if has_value found (codes "output") then values found (codes "OUT") else []) ++ values found (codes "SOURCE")
+source_operands found = named found (part_operands found)
 
 -- The source that is assembled has the parts that are given, in their order, for the machine that is requested, and the tape goes where it
 -- is said.
 pub record IsAssembleGiven (found : ArgMatches) (assemble : AssembleRequest) : Type 0 where
-  pub out : IsEmptiedGiven (value found (codes "output")) (operand found (codes "OUT")) assemble.out
+  pub out : IsResultGiven kind.Assemble found assemble.out
   pub sources : map (λ name. name.now) assemble.sources.items ≡ source_operands found
   pub machine : machine_given found ≡ Some assemble.profile
   pub explained : IsFlagGiven found (codes "why") assemble.explained
@@ -49,19 +59,11 @@ IsMachineTaskGiven command.Teletype found places (task.Teletype session) = IsTel
 IsMachineTaskGiven command.Dump found places (task.Dump dump) = IsDumpGiven found dump
 IsMachineTaskGiven _ found places _ = ⊥
 
--- The same for a request to do it with a tape.
-abbrev pub IsTapeTaskGiven : MachineCommand → ArgMatches → PlaceOptions → Request → Type 0
-IsTapeTaskGiven command.Run found places (request.Run run) = IsRunWithOperator found false × IsRunGiven found places run
-IsTapeTaskGiven command.Run found places (request.Session session) = IsRunWithOperator found true × IsOperatedRunGiven found places session
-IsTapeTaskGiven command.Teletype found places (request.Teletype session) = IsTeletypeGiven found places session
-IsTapeTaskGiven command.Dump found places (request.Dump dump) = IsDumpGiven found dump
-IsTapeTaskGiven _ found places _ = ⊥
-
 -- A request is done with a tape as its operands and options ask, and as words do that name cells and places as the options say.
-pub record IsOnTape (called : MachineCommand) (found : ArgMatches) (requested : Request) : Type 0 where
+pub record IsOnTape (called : MachineCommand) (found : ArgMatches) (task : MachineTask) : Type 0 where
   pub places : PlaceOptions
   pub places_are : ArePlacesGiven found places
-  pub given : IsTapeTaskGiven called found places requested
+  pub given : IsMachineTaskGiven called found places task
 
 -- The parts of the source are those that are given, in their order, and so are the words that name cells and places of a run.
 pub record IsSourcedGiven (called : MachineCommand) (found : ArgMatches) (asked : SourceProgramRequest) : Type 0 where
@@ -72,9 +74,9 @@ pub record IsSourcedGiven (called : MachineCommand) (found : ArgMatches) (asked 
 
 -- With a source, what is requested is done with that, and otherwise with a tape.
 abbrev pub IsDoneWith : Option (List (List ℕ)) → MachineCommand → ArgMatches → Request → Type 0
-IsDoneWith None called found requested = IsOnTape called found requested
+IsDoneWith None called found (request.Tape task) = IsOnTape called found task
 IsDoneWith (Some parts) called found (request.Sourced asked) = IsSourcedGiven called found asked
-IsDoneWith (Some parts) called found _ = ⊥
+IsDoneWith _ called found _ = ⊥
 
 -- What `run`, `teletype` or `dump` does is what its operands and options ask for.
 abbrev pub IsMachineGiven : MachineCommand → ArgMatches → Request → Type 0
@@ -87,7 +89,7 @@ ArePartsGiven found (Tape name) = ⊥
 
 -- A declaration is written in numbers, and goes where it is said.
 abbrev pub IsPlaceTask : ArgMatches → Task → Type 0
-IsPlaceTask found (Place out) = IsKeptGiven (value found (codes "output")) (operand found (codes "OUT")) out
+IsPlaceTask found (Place out) = IsResultGiven kind.Place found out
 IsPlaceTask found _ = ⊥
 
 -- The declaration that is written in numbers is the one that is given, for the source whose parts are given.

@@ -1,5 +1,9 @@
 //! Why a command line is not carried out.
 
+ghost use Rattle.std.specs.Prelude.{◌≡◌};
+ghost use Rattle.command_line.specs.Refusals.{IsOfParser};
+ghost use Rattle.command_line.specs.declared.fault.CommandLineFault.TheVariants.{Memory};
+
 use clap::Error;
 use clap::error::ErrorKind;
 use std::alloc::AllocError;
@@ -24,28 +28,28 @@ pub enum CommandLineFault {
     Memory,
 }
 
+/// An option whose value names cells or a place.
+#[derive(Clone, Copy)]
+pub enum PlaceOption {
+    /// `--show`.
+    Show,
+    /// `--until`.
+    Until,
+    /// `--until-write`.
+    UntilWrite,
+    /// `--until-read`.
+    UntilRead,
+}
+
 /// What is wrong with the arguments of a command line.
 #[derive(Clone, Copy)]
 pub enum Misuse {
     /// An argument is not text.
     NotText,
-    /// The value of `--show` has no cell, or something else than addresses and ranges.
-    Show,
-    /// The value of `--until` is not an address, or not an address and a number.
-    Until,
-    /// The value of `--until-write` has no cell, or something else than addresses and ranges.
-    UntilWrite,
-    /// The value of `--until-read` has no cell, or something else than addresses and ranges.
-    UntilRead,
-    /// The value of `--show` has no cell, or something that the source of the program does not name.
-    ShowOfSource,
-    /// The value of `--until` is not an address that the source of the program names, or not one and a
-    /// number.
-    UntilOfSource,
-    /// The value of `--until-write` has no cell, or something that the source of the program does not name.
-    UntilWriteOfSource,
-    /// The value of `--until-read` has no cell, or something that the source of the program does not name.
-    UntilReadOfSource,
+    /// The value of this option names no cell or no place in octal digits.
+    Place(PlaceOption),
+    /// The value of this option names no cell or no place with the symbols of the source.
+    PlaceOfSource(PlaceOption),
     /// The value of `--last` is not a number from 1 to 1,000,000.
     Last,
     /// The last instructions are to be shown, and all of them too.
@@ -112,10 +116,7 @@ impl Misuse {
     /// What is wrong where a value may have the symbols of a source.
     pub fn with_symbols(self) -> Misuse {
         match self {
-            Misuse::Show => Misuse::ShowOfSource,
-            Misuse::Until => Misuse::UntilOfSource,
-            Misuse::UntilWrite => Misuse::UntilWriteOfSource,
-            Misuse::UntilRead => Misuse::UntilReadOfSource,
+            Misuse::Place(option) => Misuse::PlaceOfSource(option),
             other => other,
         }
     }
@@ -125,21 +126,21 @@ impl Misuse {
         Some(match self {
             Misuse::NotText =>
                 "an argument is not text in UTF-8: rename the file, or give it on standard input",
-            Misuse::Show =>
+            Misuse::Place(PlaceOption::Show) =>
                 "bad value for '--show': expected octal addresses and ranges, such as 0324 0400-0417",
-            Misuse::Until =>
+            Misuse::Place(PlaceOption::Until) =>
                 "bad value for '--until': expected an octal address such as 0233; a comma and a number from 1 to 1000000 may follow it, as in 0233,4",
-            Misuse::UntilWrite =>
+            Misuse::Place(PlaceOption::UntilWrite) =>
                 "bad value for '--until-write': expected octal addresses and ranges, such as 0324 0400-0417",
-            Misuse::UntilRead =>
+            Misuse::Place(PlaceOption::UntilRead) =>
                 "bad value for '--until-read': expected octal addresses and ranges, such as 0324 0400-0417",
-            Misuse::ShowOfSource =>
+            Misuse::PlaceOfSource(PlaceOption::Show) =>
                 "bad value for '--show': expected addresses and ranges, in octal or by symbols that the source defines, such as COUNT LIST-LIST+17",
-            Misuse::UntilOfSource =>
+            Misuse::PlaceOfSource(PlaceOption::Until) =>
                 "bad value for '--until': expected an address, in octal or by a symbol that the source defines, such as LOOP+2; a comma and a number from 1 to 1000000 may follow it, as in LOOP+2,4",
-            Misuse::UntilWriteOfSource =>
+            Misuse::PlaceOfSource(PlaceOption::UntilWrite) =>
                 "bad value for '--until-write': expected addresses and ranges, in octal or by symbols that the source defines, such as COUNT LIST-LIST+17",
-            Misuse::UntilReadOfSource =>
+            Misuse::PlaceOfSource(PlaceOption::UntilRead) =>
                 "bad value for '--until-read': expected addresses and ranges, in octal or by symbols that the source defines, such as COUNT LIST-LIST+17",
             Misuse::Last => "bad value for '--last': expected a number from 1 to 1000000",
             Misuse::Interrupt =>
@@ -226,6 +227,8 @@ impl Misuse {
 }
 
 impl From<Error> for CommandLineFault {
+    ghost from_gives = { λ _ result. IsOfParser result };
+
     fn from(error: Error) -> CommandLineFault {
         if error.kind() == ErrorKind::OutOfMemory {
             CommandLineFault::Memory
@@ -235,20 +238,10 @@ impl From<Error> for CommandLineFault {
     }
 }
 
-impl From<Misuse> for CommandLineFault {
-    fn from(misuse: Misuse) -> CommandLineFault {
-        CommandLineFault::Misuse(misuse)
-    }
-}
-
 impl From<AllocError> for CommandLineFault {
+    ghost from_gives = { λ _ result. result ≡ Memory };
+
     fn from(_: AllocError) -> CommandLineFault {
         CommandLineFault::Memory
-    }
-}
-
-impl From<OctalFault> for CommandLineFault {
-    fn from(fault: OctalFault) -> CommandLineFault {
-        CommandLineFault::Start(fault)
     }
 }

@@ -20,7 +20,7 @@ mod tapes;
 pub mod tips;
 mod values;
 
-pub use fault::{CommandLineFault, Misuse};
+pub use fault::{CommandLineFault, Misuse, PlaceOption};
 pub use names::FileNames;
 pub use operator::{DeviceConnections, Interrupt, Session, TeletypeSession, WatchedSession};
 pub use outputs::{

@@ -54,9 +54,7 @@ impl<'a> Request<'a> {
     /// The name of its command.
     pub fn command(&self) -> &'static str {
         match self {
-            Request::Run(_) | Request::Session(_) => "run",
-            Request::Teletype(_) => "teletype",
-            Request::Dump(_) => "dump",
+            Request::Tape(task) => task.command(),
             Request::Sourced(asked) => asked.task.command(),
             Request::Assemble(_) => "assemble",
             Request::Source(_) => "source",
@@ -81,10 +79,7 @@ impl<'a> Request<'a> {
     /// The names of its inputs and of its outputs, apart from the parts of a source.
     pub fn names(&self) -> FileNames<'a> {
         match self {
-            Request::Run(run) => run.names(),
-            Request::Session(session) => session.names(),
-            Request::Teletype(session) => session.names(),
-            Request::Dump(dump) => dump.names(),
+            Request::Tape(task) => task.names(),
             Request::Sourced(asked) => asked.task.names(),
             Request::Assemble(assemble) => assemble.names(),
             Request::Source(source) => source.names(),

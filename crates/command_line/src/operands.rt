@@ -1,21 +1,24 @@
 //! The operands of commands on a program and its declaration: those of a tape, or those that stand after a source. It is
 //! proved that they are the words that were given.
 
-ghost use Rattle.std.specs.Prelude.{◌≡◌, IfOk, Some, codes, false, map, not, option_map, true};
-ghost use Rattle.command_line.specs.Options.{sources_given, value};
-ghost use Rattle.command_line.specs.Requests.{AreBehind, AreOfDeclare, AreWithSource, IsDeclarationGiven, IsLastGiven, IsProgramGiven, declaration_behind, declaration_given, last_behind, last_with_tape, needs_out};
+ghost use Rattle.std.specs.Prelude.{◌≡◌, ◌++◌, IfErr, MatchResult, None, Some, codes, false, is_some, map, option_map, true};
+ghost use Rattle.std.specs.List.{list_any};
+ghost use Rattle.std.specs.Str.{bytes_eq};
+ghost use Rattle.command_line.specs.Options.{IsWatchedWithOperator, has_value, sources_given, value};
+ghost use Rattle.command_line.specs.Refusals.{IsRefused, are_distinct, has_more_operands, needs_output, result_options, takes_declaration, takes_second};
+ghost use Rattle.command_line.specs.Requests.{AreOperandsGiven, declaration_behind, declaration_given, declaration_of_source, input_names, last_behind, last_name, last_with_tape};
+ghost use Rattle.command_line.specs.declared.command_name.CommandName.TheVariants.{Program};
 
 use crate::fault::{CommandLineFault, Misuse};
 use crate::operator::is_watched_with_operator;
-use crate::outputs::has_output;
-use crate::program_command::ProgramCommand;
+use crate::program_command::{ProgramCommand, is_search};
 use crate::programs::ProgramNames;
-use crate::values::{has_value, is_start_named, operand_of};
+use crate::values::{copied, has_any, has_value, operand_of, start_once};
 use clap::ArgMatches;
-use std::alloc::{AllocError, Global};
+use std::alloc::Global;
 
-/// The operands of a command: the program's, that of its declaration, and the last one that the command needs, if
-/// there is one.
+/// The operands of a command that are inputs: the program's, that of its declaration, and the last one that the command
+/// needs, if there is one.
 #[derive(Drop)]
 pub(crate) struct Operands<'a> {
     pub(crate) program: ProgramNames<'a>,
@@ -29,6 +32,39 @@ pub(crate) struct Operands<'a> {
 struct OperandsAfterSource<'a> {
     declaration: Option<&'a str>,
     last: Option<&'a str>,
+}
+
+/// The name of the input that a command needs after the declaration, if it needs one. A run that is watched with an
+/// operator needs none.
+fn last_name(called: ProgramCommand, operated: bool) -> Option<&'static str>
+    ensures { option_map (λ name. name.now) result ≡ last_name operated called }
+{
+    match called {
+        ProgramCommand::Check => Some("CERTIFICATE"),
+        ProgramCommand::Report => Some("CERTIFICATE"),
+        ProgramCommand::Watch if !operated => Some("EVENTS"),
+        _ => None,
+    }
+}
+
+/// The names of the operands and options that give the inputs of a command, with a source or with a tape.
+pub(crate) fn input_names(called: ProgramCommand, is_sourced: bool) -> &'static [&'static str]
+    ensures given { map (λ name. name.now) result.now ≡ input_names called is_sourced }
+    ensures distinct { are_distinct (result_options ++ map (λ name. name.now) result.now) ≡ true }
+    ensures no_result { list_any (bytes_eq (codes "OUT")) (map (λ name. name.now) result.now) ≡ false }
+{
+    match called {
+        ProgramCommand::Declare if is_sourced => &["source", "from"],
+        ProgramCommand::Declare => &["TAPE", "from"],
+        ProgramCommand::Watch if is_sourced => &["source", "TAPE", "DECLARATION", "reader", "keys"],
+        ProgramCommand::Watch => &["TAPE", "DECLARATION", "EVENTS", "reader", "keys"],
+        ProgramCommand::Check | ProgramCommand::Report if is_sourced => {
+            &["source", "TAPE", "DECLARATION"]
+        }
+        ProgramCommand::Check | ProgramCommand::Report => &["TAPE", "DECLARATION", "CERTIFICATE"],
+        _ if is_sourced => &["source", "TAPE"],
+        _ => &["TAPE", "DECLARATION"],
+    }
 }
 
 /// The operands that stand after a source, where these two are given and the last one is needed or not.
@@ -62,138 +98,90 @@ fn operands_behind<'a>(
     }
 }
 
-/// Whether clap has taken more words for operands of a tape than a source leaves.
-fn has_more_operands(found: &ArgMatches<'_>, is_needed: bool) -> bool {
-    let third = ["CERTIFICATE", "EVENTS", "OUT"]
-        .iter()
-        .any(|name| found.get_str(name).is_some());
-    third || (!is_needed && found.get_str("DECLARATION").is_some())
-}
-
-/// The operands of a command with a source that needs none but the declaration. clap has taken them for those of a tape.
-fn declaration_alone<'a>(
-    found: &ArgMatches<'a>,
-) -> Result<OperandsAfterSource<'a>, CommandLineFault>
-    ensures { IfOk result (AreBehind false found.now) }
+/// Whether the result of a command with a source has no place to go: that is the value of `-o`, or of a search the second
+/// of two operands. A single operand might be meant for the declaration.
+fn lacks_output(called: ProgramCommand, found: &ArgMatches<'_>) -> bool
+    ensures { result ≡ true → (needs_output called ≡ true)
+        × (has_value found.now (codes "output") ≡ false) }
 {
-    if has_more_operands(found, false) {
-        return Err(CommandLineFault::Misuse(Misuse::TapeAndSource));
+    if has_value(found, "output") {
+        return false;
     }
-    let first = found.get_str("TAPE");
-    let second = found.get_str("DECLARATION");
-    Ok(operands_behind(false, first, second))
+    match called {
+        ProgramCommand::Report => true,
+        ProgramCommand::Guess | ProgramCommand::Refute | ProgramCommand::Declare => {
+            let second = has_any(found, &["DECLARATION", "CERTIFICATE", "EVENTS", "OUT"]);
+            !(has_value(found, "TAPE") && second)
+        }
+        _ => false,
+    }
 }
 
-/// The operands of a command with a source that needs a last one, of this name.
-fn declaration_and_last<'a>(
-    found: &ArgMatches<'a>,
-    name: &'static str,
-) -> Result<OperandsAfterSource<'a>, CommandLineFault>
-    ensures { IfOk result (AreBehind true found.now) }
-{
-    if has_more_operands(found, true) {
-        return Err(CommandLineFault::Misuse(Misuse::TapeAndSource));
-    }
-    let first = found.get_str("TAPE");
-    let second = found.get_str("DECLARATION");
-    let operands = operands_behind(true, first, second);
-    if operands.last.is_none() {
-        return Err(CommandLineFault::NoOperand(name));
-    }
-    Ok(operands)
-}
-
-/// The operands of a search with a source: the last one is OUT, unless `-o` stands in its place. A single operand without
-/// `-o` might be meant for the declaration or for OUT, and is refused.
-fn search_operands<'a>(found: &ArgMatches<'a>) -> Result<OperandsAfterSource<'a>, CommandLineFault>
-    ensures { IfOk result (AreBehind (needs_out found.now) found.now) }
-{
-    if has_output(found) {
-        return declaration_alone(found);
-    }
-    if !has_value(found, "TAPE") {
-        return Err(CommandLineFault::Misuse(Misuse::NoOutput));
-    }
-    let operands = declaration_and_last(found, "OUT")?;
-    if operands.declaration.is_none() {
-        return Err(CommandLineFault::Misuse(Misuse::NoOutput));
-    }
-    Ok(operands)
-}
-
-/// The same of `declare`, whose declaration is an option.
-fn declare_operands<'a>(found: &ArgMatches<'a>) -> Result<OperandsAfterSource<'a>, CommandLineFault>
-    ensures { IfOk result (AreOfDeclare found.now) }
-{
-    let operands = search_operands(found)?;
-    if operands.declaration.is_some() {
-        return Err(CommandLineFault::Misuse(Misuse::TapeAndSource));
-    }
-    Ok(OperandsAfterSource {
-        declaration: found.get_str("from"),
-        last: operands.last,
-    })
-}
-
-/// The same of the report of a certificate. It goes to the value of `-o`: all operands are inputs.
-fn report_operands<'a>(found: &ArgMatches<'a>) -> Result<OperandsAfterSource<'a>, CommandLineFault>
-    ensures { IfOk result (AreBehind true found.now) }
-{
-    if !has_output(found) {
-        return Err(CommandLineFault::Misuse(Misuse::NoOutput));
-    }
-    declaration_and_last(found, "CERTIFICATE")
-}
-
-/// Ensures that a declaration which is given determines the start and the machine.
-pub(crate) fn start_once(
-    found: &ArgMatches<'_>,
-    declaration: Option<&str>,
-) -> Result<(), CommandLineFault> {
-    if declaration.is_some() && is_start_named(found) {
-        return Err(CommandLineFault::Misuse(Misuse::DeclarationAndStart));
-    }
-    Ok(())
-}
-
-/// These names in a list of its own.
-pub(crate) fn copied<'a>(alloc: Global, names: &[&'a str]) -> Result<Vec<&'a str>, AllocError>
-    ensures { IfOk result (λ copy. copy.items ≡ names.now) }
-{
-    let mut copy = Vec::new(alloc);
-    copy.extend_from_slice(names)?;
-    Ok(copy)
-}
-
-/// The operands of `watch` with `--source`, with an operator or with a list of events.
-fn watched_operands<'a>(
-    found: &ArgMatches<'a>,
-    operated: bool,
-) -> Result<OperandsAfterSource<'a>, CommandLineFault>
-    ensures { IfOk result (AreBehind (not operated) found.now) }
-{
-    if operated {
-        return declaration_alone(found);
-    }
-    declaration_and_last(found, "EVENTS")
-}
-
-/// The operands that stand after the source of a command.
-fn operands_with_source<'a>(
-    called: ProgramCommand,
-    found: &ArgMatches<'a>,
-    operated: bool,
-) -> Result<OperandsAfterSource<'a>, CommandLineFault>
-    ensures { IfOk result (AreWithSource operated called found.now) }
+/// Whether a command takes a declaration after a source.
+fn takes_declaration(called: ProgramCommand) -> bool
+    ensures { result ≡ takes_declaration called }
 {
     match called {
-        ProgramCommand::Verify => declaration_alone(found),
-        ProgramCommand::Watch => watched_operands(found, operated),
-        ProgramCommand::Guess => search_operands(found),
-        ProgramCommand::Refute => search_operands(found),
-        ProgramCommand::Declare => declare_operands(found),
-        ProgramCommand::Report => report_operands(found),
-        ProgramCommand::Check => declaration_and_last(found, "CERTIFICATE"),
+        ProgramCommand::Declare => false,
+        _ => true,
+    }
+}
+
+/// Whether a command takes two operands after a source: the second one is the last input that it needs, or the result of
+/// a search without `-o`.
+fn takes_second(called: ProgramCommand, operated: bool, found: &ArgMatches<'_>) -> bool
+    ensures { result ≡ takes_second called operated found.now }
+{
+    let has_result = is_search(called) && !has_value(found, "output");
+    has_result || last_name(called, operated).is_some()
+}
+
+/// Whether there are more operands after a source than a command takes, with a second one or without. clap has taken
+/// them for those of a tape.
+fn has_more_operands(called: ProgramCommand, second: bool, found: &ArgMatches<'_>) -> bool
+    ensures { result ≡ has_more_operands called second found.now }
+{
+    let third = has_any(found, &["CERTIFICATE", "EVENTS", "OUT"]);
+    let is_second_more = !second && has_value(found, "DECLARATION");
+    let is_first_more = !takes_declaration(called) && has_value(found, "TAPE");
+    third || is_second_more || is_first_more
+}
+
+/// Ensures that the words after a source are operands that a command takes, and that the last input is there, if the
+/// command needs one.
+fn check_operands(
+    called: ProgramCommand,
+    operated: bool,
+    found: &ArgMatches<'_>,
+) -> Result<(), CommandLineFault>
+    requires sourced { is_some (sources_given found.now) ≡ true }
+    requires operated { IsWatchedWithOperator found.now operated }
+    ensures { IfErr result (IsRefused (Program called) found.now) }
+{
+    if lacks_output(called, found) {
+        return Err(CommandLineFault::Misuse(Misuse::NoOutput));
+    }
+    if has_more_operands(called, takes_second(called, operated, found), found) {
+        return Err(CommandLineFault::Misuse(Misuse::TapeAndSource));
+    }
+    match last_name(called, operated) {
+        Some(name) if !has_value(found, "TAPE") => Err(CommandLineFault::NoOperand(name)),
+        _ => Ok(()),
+    }
+}
+
+/// The declaration of a command with a source, of which this one stands after the source.
+fn source_declaration<'a>(
+    called: ProgramCommand,
+    found: &ArgMatches<'a>,
+    behind: Option<&'a str>,
+) -> Option<&'a str>
+    ensures { option_map (λ name. name.now) result ≡ declaration_of_source called found.now
+        (option_map (λ name. name.now) behind.entry) }
+{
+    match called {
+        ProgramCommand::Declare => found.get_str("from"),
+        _ => behind,
     }
 }
 
@@ -205,19 +193,21 @@ fn source_operands<'a>(
     parts: &[&'a str],
 ) -> Result<Operands<'a>, CommandLineFault>
     requires { sources_given found.now ≡ Some (map (λ name. name.now) parts.now) }
-    ensures program { IfOk result (λ operands. IsProgramGiven found.now operands.program) }
-    ensures declaration { IfOk result (λ operands. IsDeclarationGiven called found.now
-        operands.program (option_map (λ name. name.now) operands.declaration)) }
-    ensures last { IfOk result (λ operands. IsLastGiven called found.now
-        operands.program (option_map (λ name. name.now) operands.last)) }
+    ensures { MatchResult result (AreOperandsGiven called found.now)
+        (IsRefused (Program called) found.now) }
 {
     let operated = is_watched_with_operator(found);
-    let operands = operands_with_source(called, found, operated)?;
-    start_once(found, operands.declaration)?;
+    let needed = last_name(called, operated);
+    check_operands(called, operated, found)?;
+    let first = found.get_str("TAPE");
+    let second = found.get_str("DECLARATION");
+    let behind = operands_behind(needed.is_some(), first, second);
+    let declaration = source_declaration(called, found, behind.declaration);
+    start_once(found)?;
     Ok(Operands {
         program: ProgramNames::Source(copied(alloc, parts)?),
-        declaration: operands.declaration,
-        last: operands.last,
+        declaration,
+        last: behind.last,
     })
 }
 
@@ -232,7 +222,7 @@ fn tape_declaration<'a>(called: ProgramCommand, found: &ArgMatches<'a>) -> Optio
     }
 }
 
-/// The last operand of a command with a tape.
+/// The last operand of a command with a tape, if the command needs one.
 fn tape_last<'a>(called: ProgramCommand, found: &ArgMatches<'a>) -> Option<&'a str>
     ensures { option_map (λ name. name.now) result ≡ last_with_tape called found.now }
 {
@@ -240,7 +230,23 @@ fn tape_last<'a>(called: ProgramCommand, found: &ArgMatches<'a>) -> Option<&'a s
         ProgramCommand::Check => found.get_str("CERTIFICATE"),
         ProgramCommand::Report => found.get_str("CERTIFICATE"),
         ProgramCommand::Watch => found.get_str("EVENTS"),
-        _ => found.get_str("OUT"),
+        _ => None,
+    }
+}
+
+/// Ensures that a run of a tape that is watched has a list of events, or an operator.
+fn check_events(called: ProgramCommand, found: &ArgMatches<'_>) -> Result<(), CommandLineFault>
+    requires { sources_given found.now ≡ None }
+    ensures { IfErr result (IsRefused (Program called) found.now) }
+{
+    match called {
+        ProgramCommand::Watch if !has_value(found, "EVENTS") => {
+            if is_watched_with_operator(found) {
+                return Ok(());
+            }
+            Err(CommandLineFault::Misuse(Misuse::NoEvents))
+        }
+        _ => Ok(()),
     }
 }
 
@@ -249,20 +255,15 @@ fn tape_operands<'a>(
     called: ProgramCommand,
     found: &ArgMatches<'a>,
 ) -> Result<Operands<'a>, CommandLineFault>
-    ensures program { IfOk result (λ operands. IsProgramGiven found.now operands.program) }
-    ensures declaration { IfOk result (λ operands. IsDeclarationGiven called found.now
-        operands.program (option_map (λ name. name.now) operands.declaration)) }
-    ensures last { IfOk result (λ operands. IsLastGiven called found.now
-        operands.program (option_map (λ name. name.now) operands.last)) }
+    requires { sources_given found.now ≡ None }
+    ensures { MatchResult result (AreOperandsGiven called found.now)
+        (IsRefused (Program called) found.now) }
 {
-    let last = tape_last(called, found);
-    if called == ProgramCommand::Watch && last.is_none() && !is_watched_with_operator(found) {
-        return Err(CommandLineFault::Misuse(Misuse::NoEvents));
-    }
+    check_events(called, found)?;
     Ok(Operands {
         program: ProgramNames::Tape(operand_of(found, "TAPE")),
         declaration: tape_declaration(called, found),
-        last,
+        last: tape_last(called, found),
     })
 }
 
@@ -272,30 +273,11 @@ pub(crate) fn operands_of<'a>(
     called: ProgramCommand,
     found: &ArgMatches<'a>,
 ) -> Result<Operands<'a>, CommandLineFault>
-    ensures program { IfOk result (λ operands. IsProgramGiven found.now operands.program) }
-    ensures declaration { IfOk result (λ operands. IsDeclarationGiven called found.now
-        operands.program (option_map (λ name. name.now) operands.declaration)) }
-    ensures last { IfOk result (λ operands. IsLastGiven called found.now
-        operands.program (option_map (λ name. name.now) operands.last)) }
+    ensures { MatchResult result (AreOperandsGiven called found.now)
+        (IsRefused (Program called) found.now) }
 {
     match found.get_strs("source") {
         Some(parts) => source_operands(alloc, called, found, parts),
         None => tape_operands(called, found),
     }
-}
-
-/// The names of the inputs: the program's, that of the declaration, and those of others.
-pub(crate) fn inputs_of<'a>(
-    alloc: Global,
-    operands: &Operands<'a>,
-    others: &[Option<&'a str>],
-) -> Result<Vec<&'a str>, AllocError> {
-    let mut inputs = Vec::new(alloc);
-    inputs.extend_from_slice(operands.program.tape().as_slice())?;
-    inputs.extend_from_slice(operands.program.parts())?;
-    inputs.extend_from_slice(operands.declaration.as_slice())?;
-    for other in others {
-        inputs.extend_from_slice(other.as_slice())?;
-    }
-    Ok(inputs)
 }

@@ -1,21 +1,23 @@
 //! The options of a run with an operator.
 
-ghost use Rattle.std.specs.Prelude.{◌≡◌, ◌||◌, IfOk, Some, codes, is_some};
-ghost use Rattle.command_line.specs.Machines.{IsOperatedRunGiven, IsTeletypeGiven, interrupt_given, interrupt_named};
-ghost use Rattle.command_line.specs.Options.{AreSessionOptions, AreTeletypeOptions, IsRunWithOperator, IsWatchedWithOperator, IsWordNamed, value};
+ghost use Rattle.std.specs.Prelude.{◌≡◌, ◌||◌, IfErr, IfOk, MatchResult, Some, codes, is_some, option_map, true};
+ghost use Rattle.command_line.specs.Machines.{IsOperatedRunGiven, IsTeletypeGiven, interrupt_given, interrupt_named, tape_given};
+ghost use Rattle.command_line.specs.Options.{ArePlacesGiven, AreSessionOptions, AreTeletypeOptions, IsRunWithOperator, IsWatchedWithOperator, IsWordNamed, value};
 ghost use Rattle.command_line.specs.Places.{AreShownOn};
-ghost use Rattle.command_line.specs.Requests.{IsSessionGiven};
+ghost use Rattle.command_line.specs.Refusals.{IsRefused, IsRefusedByAny};
+ghost use Rattle.command_line.specs.declared.command_name.CommandName.TheVariants.{Machine};
+ghost use Rattle.command_line.specs.declared.command_name.MachineCommand.TheVariants.{Teletype};
 
 use crate::fault::{CommandLineFault, Misuse};
 use crate::names::FileNames;
 use crate::outputs::punch_of;
 use crate::place_options::{PlaceOptions, StopOptions, shown_on, stopping_on};
-use crate::tapes::tape_of;
 use crate::values::{
-    continues_of, has_value, is_given, profile_of, read_standard_input_once, run_options, start_of,
+    has_any, has_value, is_given, profile_of, read_beside_keys, read_once, run_options, start_of,
 };
 use clap::ArgMatches;
 use command_parts::options::{KeyOptions, SessionOptions, SummaryForm, TeletypeOptions};
+use std::alloc::Global;
 use streams::text::octal_byte;
 use word12::Word;
 use wordset::WordSet;
@@ -141,38 +143,24 @@ pub struct DeviceConnections<'a> {
 pub fn has_operator(found: &ArgMatches<'_>) -> bool
     ensures { IsRunWithOperator found.now result }
 {
-    let reader = has_value(found, "reader");
-    let punch = has_value(found, "punch");
-    let keys = has_value(found, "keys");
-    let switches = has_value(found, "switches");
+    let named = has_any(found, &["reader", "punch", "keys", "switches"]);
     let mark = is_given(found, "mark");
     let teletype = is_given(found, "teletype");
-    is_any(reader, punch, keys, switches, mark, teletype)
+    named || mark || teletype
 }
 
 /// Whether a watched run has an operator.
 pub fn is_watched_with_operator(found: &ArgMatches<'_>) -> bool
     ensures { IsWatchedWithOperator found.now result }
 {
-    let reader = has_value(found, "reader");
-    let keys = has_value(found, "keys");
-    let switches = has_value(found, "switches");
-    let steps = has_value(found, "steps");
-    let continued = has_value(found, "continue");
+    let named = has_any(found, &["reader", "keys", "switches", "steps", "continue"]);
     let mark = is_given(found, "mark");
-    is_any(reader, keys, switches, steps, continued, mark)
-}
-
-/// Whether one of these is so.
-fn is_any(a: bool, b: bool, c: bool, d: bool, e: bool, f: bool) -> bool
-    ensures { result ≡ (a || b || c || d || e || f) }
-{
-    a || b || c || d || e || f
+    named || mark
 }
 
 /// What the switches are set to, if they are.
 fn switches_of(found: &ArgMatches<'_>) -> Result<Option<Word>, CommandLineFault>
-    ensures { IfOk result (IsWordNamed (value found.now (codes "switches"))) }
+    ensures { MatchResult result (IsWordNamed (value found.now (codes "switches"))) (IsRefusedByAny found.now) }
 {
     match found.get_str("switches") {
         None => Ok(None),
@@ -185,32 +173,29 @@ fn switches_of(found: &ArgMatches<'_>) -> Result<Option<Word>, CommandLineFault>
 
 /// The run with an operator that the options of `run` ask for.
 pub fn session_of<'a>(
+    alloc: Global,
     found: &ArgMatches<'a>,
+    tape: Option<&'a str>,
     places: &PlaceOptions<'a>,
 ) -> Result<Session<'a>, CommandLineFault>
-    ensures { IfOk result (IsOperatedRunGiven found.now places.now) }
+    requires tape { option_map (λ name. name.now) tape ≡ tape_given found.now }
+    requires places { ArePlacesGiven found.now places.now }
+    requires operated { IsRunWithOperator found.now true }
+    ensures { MatchResult result (IsOperatedRunGiven found.now places.now)
+        (IsRefusedByAny found.now) }
 {
-    let tape = tape_of(found)?;
-    let reader = found.get_str("reader");
-    let keys = found.get_str("keys");
-    if found.get_str("events").is_some() {
+    if has_value(found, "events") {
         return Err(CommandLineFault::Misuse(Misuse::EventsAndOperator));
     }
-    if found.get_flag("trace-long") {
+    if is_given(found, "trace-long") {
         return Err(CommandLineFault::Misuse(Misuse::LongTrace));
     }
-    let names = [tape.unwrap_or(""), reader.unwrap_or(""), keys.unwrap_or("")];
-    read_standard_input_once(&names)?;
-    let inputs = [
-        tape.unwrap_or("-"),
-        reader.unwrap_or("-"),
-        keys.unwrap_or("-"),
-    ];
+    let inputs = read_once(alloc, found, &["TAPE", "reader", "keys"])?;
     let punch = punch_of(found, &inputs)?;
     let teletype = is_given(found, "teletype");
-    let show = shown_on(tape, places)?;
+    let show = shown_on(found, tape, places)?;
     let options = session_options(found, show)?;
-    let stopping = stopping_on(tape, places)?;
+    let stopping = stopping_on(found, tape, places)?;
     let summary = SummaryForm {
         apart: false,
         seen: teletype,
@@ -219,9 +204,9 @@ pub fn session_of<'a>(
     Ok(Session {
         tape,
         joined: DeviceConnections {
-            reader,
+            reader: found.get_str("reader"),
             punch,
-            keys,
+            keys: found.get_str("keys"),
             teletype,
         },
         options,
@@ -231,12 +216,13 @@ pub fn session_of<'a>(
 }
 
 /// How a tape is run with an operator, with these cells shown.
-fn session_options(
+pub(crate) fn session_options(
     found: &ArgMatches<'_>,
     show: WordSet,
 ) -> Result<SessionOptions, CommandLineFault>
     ensures options { IfOk result (AreSessionOptions found.now) }
     ensures shown { IfOk result (λ options. options.run.show ≡ show) }
+    ensures refused { IfErr result (IsRefusedByAny found.now) }
 {
     let run = run_options(found, show)?;
     let switches = switches_of(found)?;
@@ -247,55 +233,22 @@ fn session_options(
     })
 }
 
-/// The watched run with an operator that the options of `watch` ask for.
-pub fn watched_session_of<'a>(
-    tape: &'a str,
-    declaration: &'a str,
-    show: WordSet,
-    stopping: Option<StopOptions>,
-    found: &ArgMatches<'a>,
-) -> Result<WatchedSession<'a>, CommandLineFault>
-    ensures given { IfOk result (IsSessionGiven found.now) }
-    ensures tape { IfOk result (λ session. session.tape.now ≡ tape.now) }
-    ensures declaration { IfOk result (λ session. session.declaration.now ≡ declaration.now) }
-    ensures shown { IfOk result (λ session. session.options.run.show ≡ show) }
-    ensures stopped { IfOk result (λ session. session.stopping ≡ stopping) }
-{
-    let reader = found.get_str("reader");
-    let keys = found.get_str("keys");
-    if found.get_str("EVENTS").is_some() {
-        return Err(CommandLineFault::Misuse(Misuse::ListAndOperator));
-    }
-    let inputs = [tape, declaration, reader.unwrap_or(""), keys.unwrap_or("")];
-    read_standard_input_once(&inputs)?;
-    let options = session_options(found, show)?;
-    let continues = continues_of(found)?;
-    Ok(WatchedSession {
-        tape,
-        declaration,
-        reader,
-        keys,
-        options,
-        continues,
-        stopping,
-        explained: is_given(found, "why"),
-    })
-}
-
 /// How a session at the teletype is held.
 fn teletype_options(
     found: &ArgMatches<'_>,
     tape: Option<&str>,
     places: &PlaceOptions<'_>,
 ) -> Result<TeletypeOptions, CommandLineFault>
+    requires places { ArePlacesGiven found.now places.now }
     ensures options { IfOk result (AreTeletypeOptions found.now) }
     ensures shown { IfOk result (λ options.
         AreShownOn (is_some tape.entry) places.now options.show) }
+    ensures refused { IfErr result (IsRefusedByAny found.now) }
 {
     let start = start_of(found)?;
     let profile = profile_of(found)?;
     let switches = switches_of(found)?;
-    let show = shown_on(tape, places)?;
+    let show = shown_on(found, tape, places)?;
     Ok(TeletypeOptions {
         start,
         profile,
@@ -309,47 +262,53 @@ fn teletype_options(
 }
 
 /// The key that this text names, or none.
-fn interrupt_named(text: &str) -> Result<Interrupt, CommandLineFault>
-    ensures { IfOk result (λ interrupt. interrupt_named text.now ≡ Some interrupt) }
+fn interrupt_named(text: &str) -> Option<Interrupt>
+    ensures { result ≡ interrupt_named text.now }
 {
     if text == "off" {
-        return Ok(Interrupt::Off);
+        return Some(Interrupt::Off);
     }
     match octal_byte(text.as_bytes()) {
-        Some(byte) => Ok(Interrupt::Key(byte)),
-        None => Err(CommandLineFault::Misuse(Misuse::Interrupt)),
+        Some(byte) => Some(Interrupt::Key(byte)),
+        None => None,
     }
 }
 
 /// The key that interrupts a session, where the bytes of keys are struck as they come or are not.
 fn interrupt_of(found: &ArgMatches<'_>, raw: bool) -> Result<Interrupt, CommandLineFault>
-    ensures { IfOk result (λ interrupt.
-        interrupt_given raw (value found.now (codes "interrupt")) ≡ Some interrupt) }
+    ensures { MatchResult result (λ interrupt.
+        interrupt_given raw (value found.now (codes "interrupt")) ≡ Some interrupt) (IsRefusedByAny found.now) }
 {
     match found.get_str("interrupt") {
         None if raw => Ok(Interrupt::Off),
         None => Ok(Interrupt::Usual),
-        Some(text) => interrupt_named(text),
+        Some(text) => match interrupt_named(text) {
+            Some(interrupt) => Ok(interrupt),
+            None => Err(CommandLineFault::Misuse(Misuse::Interrupt)),
+        },
     }
 }
 
 /// The session at the teletype that the options of `teletype` ask for.
 pub fn teletype_of<'a>(
+    alloc: Global,
     found: &ArgMatches<'a>,
+    tape: Option<&'a str>,
     places: &PlaceOptions<'a>,
 ) -> Result<TeletypeSession<'a>, CommandLineFault>
-    ensures { IfOk result (IsTeletypeGiven found.now places.now) }
+    requires tape { option_map (λ name. name.now) tape ≡ tape_given found.now }
+    requires places { ArePlacesGiven found.now places.now }
+    ensures { MatchResult result (IsTeletypeGiven found.now places.now)
+        (IsRefused (Machine Teletype) found.now) }
 {
-    let tape = tape_of(found)?;
-    let reader = found.get_str("reader");
-    read_standard_input_once(&[tape.unwrap_or(""), reader.unwrap_or(""), "-"])?;
-    let punch = punch_of(found, &[tape.unwrap_or("-"), reader.unwrap_or("-")])?;
+    let inputs = read_beside_keys(alloc, found, &["TAPE", "reader"])?;
+    let punch = punch_of(found, &inputs)?;
     let options = teletype_options(found, tape, places)?;
-    let stopping = stopping_on(tape, places)?;
+    let stopping = stopping_on(found, tape, places)?;
     let interrupt = interrupt_of(found, options.manner.raw)?;
     Ok(TeletypeSession {
         tape,
-        reader,
+        reader: found.get_str("reader"),
         punch,
         options,
         summary: SummaryForm {

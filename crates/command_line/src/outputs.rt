@@ -1,14 +1,16 @@
 //! Where the result of a command goes.
 
-ghost use Rattle.std.specs.Prelude.{◌≡◌, ◌&&◌, IfOk, not, codes, false, option_map};
+ghost use Rattle.std.specs.Prelude.{◌≡◌, IfErr, IfOk, MatchResult, not, codes, false, option_map};
 ghost use Rattle.std.specs.Option.{ForSome};
 ghost use Rattle.std.specs.List.{list_any};
-ghost use Rattle.std.specs.Str.{bytes_eq};
-ghost use Rattle.command_line.specs.Options.{has_value, operand, value};
-ghost use Rattle.command_line.specs.Outputs.{IsEmptiedGiven, IsKeptGiven, IsSaveGiven, file_of, is_same_file, without_here};
+ghost use Rattle.command_line.specs.Options.{value};
+ghost use Rattle.command_line.specs.Outputs.{IsResultGiven, IsSaveGiven, ends_in, file_of, is_emptied, is_same_file, is_source_name, is_taken, result_file, result_operand, without_here};
+ghost use Rattle.command_line.specs.Refusals.{AreInputs, AreInputsBeside, IsRefused, IsRefusedByAny};
 
+use crate::command_name::CommandName;
 use crate::fault::{CommandLineFault, Misuse};
-use crate::values::{has_value, is_given, operand_of};
+use crate::program_command::{ProgramCommand, is_search};
+use crate::values::{is_given, is_sourced, operand_of};
 use clap::ArgMatches;
 
 /// Where a result goes: the name of a file, or `-` for standard output.
@@ -63,8 +65,7 @@ fn is_one_of(name: &str, others: &[&str]) -> bool
 
 /// Whether the file that an output goes to is one of these; standard output is none.
 pub fn is_taken(name: &str, others: &[&str]) -> bool
-    ensures { result ≡ (not (bytes_eq name.now (codes "-")) &&
-        list_any (λ other. is_same_file other.now name.now) others.now) }
+    ensures { result ≡ is_taken name.now others.now }
 {
     if name == "-" {
         return false;
@@ -77,16 +78,25 @@ const SOURCE_ENDINGS: [&str; 10] = [
     ".pal", ".PAL", ".pa", ".PA", ".pal8", ".PAL8", ".asm", ".ASM", ".src", ".SRC",
 ];
 
-/// Whether a name ends as that of a source does.
-pub fn is_source_name(name: &str) -> bool {
-    SOURCE_ENDINGS.iter().any(|ending| name.ends_with(*ending))
+/// Whether a name ends in this.
+fn ends_in(name: &str, ending: &str) -> bool
+    ensures { result ≡ ends_in name.now ending.now }
+{
+    name.as_bytes().ends_with(ending.as_bytes())
 }
 
-/// Whether the result goes to the value of `-o`.
-pub fn has_output(found: &ArgMatches<'_>) -> bool
-    ensures { result ≡ has_value found.now (codes "output") }
+/// Whether a name ends in one of these.
+fn ends_in_any(name: &str, endings: &[&str]) -> bool
+    ensures { result ≡ list_any (λ ending. ends_in name.now ending.now) endings.now }
 {
-    has_value(found, "output")
+    endings.iter().any(|ending| ends_in(name, ending))
+}
+
+/// Whether a name ends as that of a source does.
+pub fn is_source_name(name: &str) -> bool
+    ensures { result ≡ is_source_name name.now }
+{
+    ends_in_any(name, &SOURCE_ENDINGS)
 }
 
 /// Where the report of a search that is stuck goes, if it is requested: it is neither an input nor the
@@ -98,8 +108,9 @@ pub fn report_of<'a>(
 ) -> Result<Option<&'a str>, CommandLineFault>
     ensures named { IfOk result (λ name. option_map (λ it. it.now) name ≡
         value found.now (codes "report")) }
-    ensures free { IfOk result (λ name. ForSome name (λ it. (not (bytes_eq it.now (codes "-")) &&
-        list_any (λ other. is_same_file other.now it.now) others.now) ≡ false)) }
+    ensures free { IfOk result (λ name.
+        ForSome name (λ it. is_taken it.now others.now ≡ false)) }
+    ensures refused { IfErr result (IsRefusedByAny found.now) }
 {
     let Some(name) = found.get_str("report") else {
         return Ok(None);
@@ -118,10 +129,12 @@ pub fn punch_of<'a>(
     found: &ArgMatches<'a>,
     inputs: &[&str],
 ) -> Result<Option<&'a str>, CommandLineFault>
+    requires { AreInputs found.now inputs.now }
+    ensures refused { IfErr result (IsRefusedByAny found.now) }
     ensures named { IfOk result (λ name. option_map (λ it. it.now) name ≡
         value found.now (codes "punch")) }
-    ensures free { IfOk result (λ name. ForSome name (λ it. (not (bytes_eq it.now (codes "-")) &&
-        list_any (λ other. is_same_file other.now it.now) inputs.now) ≡ false)) }
+    ensures free { IfOk result (λ name.
+        ForSome name (λ it. is_taken it.now inputs.now ≡ false)) }
 {
     let Some(name) = found.get_str("punch") else {
         return Ok(None);
@@ -138,57 +151,64 @@ pub fn punch_of<'a>(
     Ok(Some(name))
 }
 
-/// Ensures that the result goes to none of these inputs.
-pub fn no_input<'a>(
-    destination: Destination<'a>,
+/// The operand that the result of a command goes to without `-o`: OUT, or the second operand of a search after a source.
+fn result_operand(called: CommandName, found: &ArgMatches<'_>) -> &'static str
+    ensures { result.now ≡ result_operand called found.now }
+{
+    match called {
+        CommandName::Program(command) if is_search(command) && is_sourced(found) => "DECLARATION",
+        _ => "OUT",
+    }
+}
+
+/// Where the result of a command goes: to the value of `-o`, and without it to the operand.
+fn destination_of<'a>(called: CommandName, found: &ArgMatches<'a>) -> Destination<'a>
+    ensures given { IsResultGiven called found.now result }
+    ensures file { file_of result ≡ result_file called found.now }
+{
+    let operand = operand_of(found, result_operand(called, found));
+    match found.get_str("output") {
+        Some(file) => Destination::MadeLast(file),
+        None if is_emptied(called) => Destination::EmptiedFirst(operand),
+        None => Destination::CheckedFirst(operand),
+    }
+}
+
+/// Whether the operand for the result of a command is emptied before an input is read.
+fn is_emptied(called: CommandName) -> bool
+    ensures { result ≡ is_emptied called }
+{
+    match called {
+        CommandName::Assemble | CommandName::Migrate => true,
+        CommandName::Program(ProgramCommand::Guess) => true,
+        _ => false,
+    }
+}
+
+/// Where the result of a command goes. It is none of these inputs, and only the result of `source` has the name of a
+/// source; the operands of `assemble` and `place` may stand in the wrong order.
+pub(crate) fn result_of<'a>(
+    called: CommandName,
+    found: &ArgMatches<'a>,
     inputs: &[&str],
 ) -> Result<Destination<'a>, CommandLineFault>
-    ensures kept { IfOk result (λ out. out ≡ destination.entry) }
-    ensures free { IfOk result (λ out. (not (bytes_eq (file_of out) (codes "-")) &&
-        list_any (λ other. is_same_file other.now (file_of out)) inputs.now) ≡ false) }
+    requires { AreInputsBeside called found.now inputs.now }
+    ensures given { IfOk result (IsResultGiven called found.now) }
+    ensures free { IfOk result (λ out. is_taken (file_of out) inputs.now ≡ false) }
+    ensures refused { IfErr result (IsRefused called found.now) }
 {
-    if is_taken(destination.name(), inputs) {
+    let out = destination_of(called, found);
+    if is_taken(out.name(), inputs) {
         return Err(CommandLineFault::Misuse(Misuse::OutputIsInput));
     }
-    Ok(destination)
-}
-
-/// Ensures that the result goes to none of these inputs, nor to a file that is named like a source.
-pub fn no_source<'a>(
-    destination: Destination<'a>,
-    inputs: &[&str],
-) -> Result<Destination<'a>, CommandLineFault>
-    ensures kept { IfOk result (λ out. out ≡ destination.entry) }
-    ensures free { IfOk result (λ out. (not (bytes_eq (file_of out) (codes "-")) &&
-        list_any (λ other. is_same_file other.now (file_of out)) inputs.now) ≡ false) }
-{
-    let destination = no_input(destination, inputs)?;
-    if is_source_name(destination.name()) {
-        return Err(CommandLineFault::Misuse(Misuse::ResultIsSource));
+    if !is_source_name(out.name()) {
+        return Ok(out);
     }
-    Ok(destination)
-}
-
-/// Where the result goes: the value of `-o`, otherwise the operand OUT, which is emptied first.
-pub fn emptied_destination<'a>(found: &ArgMatches<'a>) -> Destination<'a>
-    ensures { IsEmptiedGiven (value found.now (codes "output"))
-        (operand found.now (codes "OUT")) result }
-{
-    match found.get_str("output") {
-        Some(name) => Destination::MadeLast(name),
-        None => Destination::EmptiedFirst(operand_of(found, "OUT")),
-    }
-}
-
-/// Where the result goes: the value of `-o`, otherwise the operand OUT, which stays as it was if there is nothing to
-/// write.
-pub fn kept_destination<'a>(found: &ArgMatches<'a>) -> Destination<'a>
-    ensures { IsKeptGiven (value found.now (codes "output"))
-        (operand found.now (codes "OUT")) result }
-{
-    match found.get_str("output") {
-        Some(name) => Destination::MadeLast(name),
-        None => Destination::CheckedFirst(operand_of(found, "OUT")),
+    match called {
+        CommandName::Source => Ok(out),
+        CommandName::Assemble => Err(CommandLineFault::Misuse(Misuse::OutputIsSource)),
+        CommandName::Place => Err(CommandLineFault::Misuse(Misuse::PlacedIsSource)),
+        _ => Err(CommandLineFault::Misuse(Misuse::ResultIsSource)),
     }
 }
 
@@ -248,7 +268,8 @@ pub fn save_of<'a>(
     inputs: &[&str],
     proposed: bool,
 ) -> Result<Option<SaveOptions<'a>>, CommandLineFault>
-    ensures { IfOk result (IsSaveGiven found.now (not proposed)) }
+    ensures { MatchResult result (IsSaveGiven found.now (not proposed))
+        (IsRefusedByAny found.now) }
 {
     let Some(name) = found.get_str("save") else {
         return Ok(None);

@@ -1,16 +1,18 @@
 //! The cells and the places that options name.
 
-ghost use Rattle.std.specs.Prelude.{◌≡◌, ◌==◌, IfOk, IfSome, Some, codes, is_some, map, option_map};
+ghost use Rattle.std.specs.Prelude.{◌≡◌, ◌==◌, ◌<◌, IfSome, MatchResult, length, Some, codes, is_some, map, option_map, true};
 ghost use Rattle.std.specs.List.{position};
-ghost use Rattle.command_line.specs.Options.{ArePlacesGiven, IsNumberNamed, value, values};
-ghost use Rattle.command_line.specs.Places.{AreCellsOf, AreCellsOfText, AreCellsOfTexts, AreShownOn, AreStopsNamed, IsFollowed, IsStoppedOn, IsUntilNamed, IsVisitNamed, is_followed};
+ghost use Rattle.command_line.specs.Options.{ArePlacesGiven, IsNumberNamed, value};
+ghost use Rattle.command_line.specs.Places.{AreCellsOf, AreCellsOfText, AreCellsOfTexts, AreShownOn, AreStopsNamed, IsFollowed, IsStoppedOn, IsUntilNamed, is_followed};
+ghost use Rattle.command_line.specs.Refusals.{IsPlaceMisused, IsRefusedByAny, IsTraced};
+ghost use Rattle.command_line.specs.declared.fault.Misuse.TheVariants.{Place};
 ghost use Rattle.command_line.specs.OctalPlaces.{cells_between, cells_of_word};
 ghost use Rattle.streams.specs.Text.{octal_word};
 ghost use Rattle.streams.specs.TextLeft.{words_left};
 ghost use Rattle.wordset.specs.Lanes.{words};
 
-use crate::fault::{CommandLineFault, Misuse};
-use crate::operands::copied;
+use crate::fault::{CommandLineFault, Misuse, PlaceOption};
+use crate::values::{is_given, values_of};
 use clap::ArgMatches;
 use command_parts::options::Stops;
 use std::alloc::{AllocError, Global};
@@ -24,11 +26,11 @@ const MOST_VISITS: u32 = 1_000_000;
 /// The greatest number of last instructions that may be requested.
 const MOST_LAST: u32 = 1_000_000;
 
-/// The first place of a dash.
-fn place_of_dash(word: &[u8]) -> Option<usize>
-    ensures { result ≡ position (λ c. c == 45) word.now }
+/// The first place of a mark in a word.
+fn place_of(mark: u8, word: &[u8]) -> Option<usize>
+    ensures { result ≡ position (λ c. c == mark) word.now }
 {
-    word.iter().position(|byte| *byte == b'-')
+    word.iter().position(|byte| *byte == mark)
 }
 
 /// The cells from one address to another, which is not below it.
@@ -49,7 +51,7 @@ fn span(low: &[u8], high: &[u8]) -> Option<WordSet>
 fn range(word: &[u8]) -> Option<WordSet>
     ensures { option_map words result ≡ cells_of_word word.now }
 {
-    match place_of_dash(word) {
+    match place_of(b'-', word) {
         None => Some(WordSet::one(octal_word(word)?)),
         Some(at) => span(&word[..at], &word[at + 1..]),
     }
@@ -119,15 +121,16 @@ fn cells<C: AddressReader>(reader: &C, text: &[u8]) -> Option<WordSet>
 fn named_cells<C: AddressReader>(
     reader: &C,
     texts: &[&str],
-    misuse: Misuse,
+    option: PlaceOption,
 ) -> Result<WordSet, Misuse>
-    ensures { IfOk result (AreCellsOfTexts (C.names_cells reader.now)
-        (map (λ text. text.now) texts.now)) }
+    ensures { MatchResult result (AreCellsOfTexts (C.names_cells reader.now)
+        (map (λ text. text.now) texts.now))
+        (λ misuse. (misuse ≡ Place option) × (0 < length texts.now)) }
 {
     let mut set = WordSet::empty();
     for text in texts {
         let Some(more) = cells(reader, text.as_bytes()) else {
-            return Err(misuse);
+            return Err(Misuse::Place(option));
         };
         set = set.union(&more);
     }
@@ -149,27 +152,12 @@ pub struct PlaceOptions<'a> {
     last: Option<u32>,
 }
 
-/// The values of an option that may be given several times.
-pub(crate) fn values_of<'a>(
-    alloc: Global,
-    found: &ArgMatches<'a>,
-    option: &str,
-) -> Result<Vec<&'a str>, AllocError>
-    ensures { IfOk result (λ texts. map (λ text. text.now) texts.items ≡
-        values found.now option.now) }
-{
-    match found.get_strs(option) {
-        Some(texts) => copied(alloc, texts),
-        None => Ok(Vec::new(alloc)),
-    }
-}
-
 /// The cells and the places that options of a run name.
 pub(crate) fn places_of<'a>(
     alloc: Global,
     found: &ArgMatches<'a>,
 ) -> Result<PlaceOptions<'a>, CommandLineFault>
-    ensures { IfOk result (ArePlacesGiven found.now) }
+    ensures { MatchResult result (ArePlacesGiven found.now) (IsRefusedByAny found.now) }
 {
     let last = last_of(found)?;
     let show = values_of(alloc, found, "show")?;
@@ -192,10 +180,10 @@ impl PlaceOptions<'_> {
     ///
     /// What is wrong with a value.
     pub fn shown<C: AddressReader>(&self, reader: &C) -> Result<WordSet, Misuse>
-        ensures { IfOk result (AreCellsOfTexts (C.names_cells reader.now)
-            (map (λ text. text.now) self.now.show.items)) }
+        ensures { MatchResult result (AreCellsOfTexts (C.names_cells reader.now)
+            (map (λ text. text.now) self.now.show.items)) (IsPlaceMisused self.now) }
     {
-        named_cells(reader, &self.show, Misuse::Show)
+        named_cells(reader, &self.show, PlaceOption::Show)
     }
 
     /// Where a run is stopped.
@@ -204,11 +192,11 @@ impl PlaceOptions<'_> {
     ///
     /// What is wrong with a value.
     pub fn stops<C: AddressReader>(&self, reader: &C) -> Result<Stops, Misuse>
-        ensures { IfOk result (AreStopsNamed (C.names_place reader.now) (C.names_cells reader.now)
-            self.now) }
+        ensures { MatchResult result (AreStopsNamed (C.names_place reader.now)
+            (C.names_cells reader.now) self.now) (IsPlaceMisused self.now) }
     {
-        let written = named_cells(reader, &self.written, Misuse::UntilWrite)?;
-        let read = named_cells(reader, &self.read, Misuse::UntilRead)?;
+        let written = named_cells(reader, &self.written, PlaceOption::UntilWrite)?;
+        let read = named_cells(reader, &self.read, PlaceOption::UntilRead)?;
         let stop = self.stop_place(reader)?;
         Ok(Stops {
             place: stop.place,
@@ -220,15 +208,19 @@ impl PlaceOptions<'_> {
 
     /// The place at which a run is stopped, if it is stopped at one.
     fn stop_place<C: AddressReader>(&self, reader: &C) -> Result<StopPlace, Misuse>
-        ensures { IfOk result (λ stop. IsUntilNamed (C.names_place reader.now)
-            (option_map (λ text. text.now) self.now.until) stop.place stop.times) }
+        ensures { MatchResult result (λ stop. IsUntilNamed (C.names_place reader.now)
+            (option_map (λ text. text.now) self.now.until) stop.place stop.times)
+            (IsPlaceMisused self.now) }
     {
         match self.until {
             None => Ok(StopPlace {
                 place: None,
                 times: 1,
             }),
-            Some(text) => named_stop_place(reader, text),
+            Some(text) => match visits_of(reader, text.as_bytes()) {
+                Some(stop) => Ok(stop),
+                None => Err(Misuse::Place(PlaceOption::Until)),
+            },
         }
     }
 
@@ -238,8 +230,8 @@ impl PlaceOptions<'_> {
     ///
     /// What is wrong with a value.
     pub fn stopping<C: AddressReader>(&self, reader: &C) -> Result<Option<StopOptions>, Misuse>
-        ensures { IfOk result (IsFollowed (C.names_place reader.now) (C.names_cells reader.now)
-            self.now) }
+        ensures { MatchResult result (IsFollowed (C.names_place reader.now)
+            (C.names_cells reader.now) self.now) (IsPlaceMisused self.now) }
     {
         if !self.is_followed() {
             return Ok(None);
@@ -262,13 +254,6 @@ impl PlaceOptions<'_> {
     }
 }
 
-/// An address, and how many steps come to it.
-#[derive(Clone, Copy)]
-struct VisitCount {
-    place: Word,
-    times: u32,
-}
-
 /// The address at which a run is stopped, if it is stopped at one, and how many steps come to it.
 #[derive(Clone, Copy)]
 struct StopPlace {
@@ -276,39 +261,18 @@ struct StopPlace {
     times: u32,
 }
 
-/// The first place of a comma.
-fn place_of_comma(word: &[u8]) -> Option<usize>
-    ensures { result ≡ position (λ c. c == 44) word.now }
-{
-    word.iter().position(|byte| *byte == b',')
-}
-
 /// The address and the number of a `PLACE` or a `PLACE,N`.
-fn visits_of<C: AddressReader>(reader: &C, text: &[u8]) -> Option<VisitCount>
-    ensures { IfSome result (λ visits.
-        IsVisitNamed (C.names_place reader.now) text.now visits.place visits.times) }
+fn visits_of<C: AddressReader>(reader: &C, text: &[u8]) -> Option<StopPlace>
+    ensures { IfSome result (λ stop. IsUntilNamed (C.names_place reader.now) (Some text.now)
+        stop.place stop.times) }
 {
-    let Some(at) = place_of_comma(text) else {
-        let place = reader.place(text)?;
-        return Some(VisitCount { place, times: 1 });
+    let Some(at) = place_of(b',', text) else {
+        let place = Some(reader.place(text)?);
+        return Some(StopPlace { place, times: 1 });
     };
-    let place = reader.place(&text[..at])?;
+    let place = Some(reader.place(&text[..at])?);
     let times = decimal_between(1, MOST_VISITS, &text[at + 1..])?;
-    Some(VisitCount { place, times })
-}
-
-/// The place at which a run is stopped that is to be stopped at one.
-fn named_stop_place<C: AddressReader>(reader: &C, text: &str) -> Result<StopPlace, Misuse>
-    ensures { IfOk result (λ stop.
-        IsUntilNamed (C.names_place reader.now) (Some text.now) stop.place stop.times) }
-{
-    match visits_of(reader, text.as_bytes()) {
-        Some(visits) => Ok(StopPlace {
-            place: Some(visits.place),
-            times: visits.times,
-        }),
-        None => Err(Misuse::Until),
-    }
+    Some(StopPlace { place, times })
 }
 
 /// How a run is followed that may be stopped.
@@ -320,11 +284,20 @@ pub struct StopOptions {
     pub last: Option<u32>,
 }
 
+/// Whether a line is written for each instruction.
+fn is_traced(found: &ArgMatches<'_>) -> bool
+    ensures { result ≡ true → IsTraced found.now }
+{
+    let trace = is_given(found, "trace");
+    let long = is_given(found, "trace-long");
+    trace || long
+}
+
 /// How many of the last instructions are shown, if that is requested.
 fn last_of(found: &ArgMatches<'_>) -> Result<Option<u32>, CommandLineFault>
-    ensures { IfOk result (IsNumberNamed 1 1000000 (value found.now (codes "last"))) }
+    ensures { MatchResult result (IsNumberNamed 1 1000000 (value found.now (codes "last"))) (IsRefusedByAny found.now) }
 {
-    let is_traced = found.get_flag("trace") || found.get_flag("trace-long");
+    let is_traced = is_traced(found);
     match found.get_str("last") {
         None => Ok(None),
         Some(_) if is_traced => Err(CommandLineFault::Misuse(Misuse::LastAndTrace)),
@@ -337,26 +310,38 @@ fn last_of(found: &ArgMatches<'_>) -> Result<Option<u32>, CommandLineFault>
 
 /// The cells that are shown of the run of a tape. Of a source they are not known yet.
 pub(crate) fn shown_on(
+    found: &ArgMatches<'_>,
     tape: Option<&str>,
     places: &PlaceOptions<'_>,
 ) -> Result<WordSet, CommandLineFault>
-    ensures { IfOk result (AreShownOn (is_some tape.entry) places.now) }
+    requires { ArePlacesGiven found.now places.now }
+    ensures { MatchResult result (AreShownOn (is_some tape.entry) places.now)
+        (IsRefusedByAny found.now) }
 {
     match tape {
         None => Ok(WordSet::empty()),
-        Some(_) => Ok(places.shown(&OctalAddresses)?),
+        Some(_) => match places.shown(&OctalAddresses) {
+            Ok(show) => Ok(show),
+            Err(misuse) => Err(CommandLineFault::Misuse(misuse)),
+        },
     }
 }
 
 /// How the run of a tape is followed, if it may be stopped. Of a source that is not known yet.
 pub(crate) fn stopping_on(
+    found: &ArgMatches<'_>,
     tape: Option<&str>,
     places: &PlaceOptions<'_>,
 ) -> Result<Option<StopOptions>, CommandLineFault>
-    ensures { IfOk result (IsStoppedOn (is_some tape.entry) places.now) }
+    requires { ArePlacesGiven found.now places.now }
+    ensures { MatchResult result (IsStoppedOn (is_some tape.entry) places.now)
+        (IsRefusedByAny found.now) }
 {
     match tape {
         None => Ok(None),
-        Some(_) => Ok(places.stopping(&OctalAddresses)?),
+        Some(_) => match places.stopping(&OctalAddresses) {
+            Ok(stopping) => Ok(stopping),
+            Err(misuse) => Err(CommandLineFault::Misuse(misuse)),
+        },
     }
 }

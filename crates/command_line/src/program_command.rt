@@ -1,6 +1,7 @@
 //! The commands on a program and its declaration.
 
 ghost use Rattle.std.specs.Prelude.{◌≡◌};
+ghost use Rattle.command_line.specs.Outputs.{is_search};
 ghost use Rattle.command_line.specs.ProgramCommands.{command_of};
 
 /// A command on a program and its declaration.
@@ -34,5 +35,15 @@ pub(crate) fn command_of(command: &str) -> ProgramCommand
         "declare" => ProgramCommand::Declare,
         "report" => ProgramCommand::Report,
         _ => ProgramCommand::Check,
+    }
+}
+
+/// Whether a command searches for its result: for a certificate, for a run, or for a declaration.
+pub(crate) fn is_search(called: ProgramCommand) -> bool
+    ensures { result ≡ is_search called }
+{
+    match called {
+        ProgramCommand::Guess | ProgramCommand::Refute | ProgramCommand::Declare => true,
+        _ => false,
     }
 }

@@ -1,26 +1,26 @@
 //! What may be requested with a program and its declaration: the program is given by its tape, or with `--source` by
 //! its source. It is proved that the files of a program are those that were given.
 
-ghost use Rattle.std.specs.Prelude.{◌≡◌, IfOk, Some, codes, false, is_some, option_map, unwrap_or};
-ghost use Rattle.command_line.specs.Outputs.{IsCertificateResultGiven, IsKeptGiven, IsResultGiven};
-ghost use Rattle.command_line.specs.Options.{IsVersionNamed, operand, value, version_named};
+ghost use Rattle.std.specs.Prelude.{◌≡◌, MatchResult, codes, false, is_some, option_map, unwrap_or, true};
+ghost use Rattle.command_line.specs.Options.{ArePlacesGiven, IsVersionNamed, IsWatchedWithOperator, value, version_named};
+ghost use Rattle.command_line.specs.Refusals.{AreInputsBeside, IsRefused, IsRefusedByAny};
 ghost use Rattle.command_line.specs.Requests.{IsDeclareGiven, IsFollowedOn, IsGuessGiven, IsOperated, IsWatchedRunGiven, IsProgramRequestGiven, IsRefuteGiven, IsReportGiven, IsTaskGiven, IsVerifyGiven, is_tape, last_of, part_names, watched_declaration, watched_tape};
 ghost use Rattle.command_line.specs.Sources.{IsPlaceGiven};
+ghost use Rattle.command_line.specs.declared.command_name.CommandName.TheVariants.{Place, Program};
+ghost use Rattle.command_line.specs.declared.program_command.ProgramCommand.TheVariants.{Declare, Guess, Refute, Report};
 
+use crate::command_name::CommandName;
 use crate::fault::{CommandLineFault, Misuse};
 use crate::names::FileNames;
-use crate::operands::{Operands, inputs_of, operands_of, start_once};
-use crate::operator::{WatchedSession, is_watched_with_operator, watched_session_of};
-use crate::outputs::{
-    Destination, SaveOptions, is_source_name, is_taken, kept_destination, no_input, no_source,
-    report_of, save_of,
-};
+use crate::operands::{Operands, input_names, operands_of};
+use crate::operator::{WatchedSession, is_watched_with_operator, session_options};
+use crate::outputs::{Destination, SaveOptions, is_taken, report_of, result_of, save_of};
 use crate::place_options::{PlaceOptions, StopOptions, places_of, shown_on, stopping_on};
 use crate::program_command::ProgramCommand;
-use crate::sources::source_names;
+use crate::sources::{placed_operands, source_names};
 use crate::values::{
-    declare_options, is_given, is_start_named, operand_of, read_standard_input_once,
-    refinements_of, refute_options, verify_options,
+    continues_of, declare_options, has_value, is_given, is_sourced, is_start_named, read_once,
+    refinements_of, refute_options, start_once, verify_options,
 };
 use certificate_lines::Version;
 use clap::ArgMatches;
@@ -237,28 +237,6 @@ impl<'a> Task<'a> {
     }
 }
 
-/// Where a result goes: the operand OUT, which stays as it was if there is nothing to write; without one the value of
-/// `-o`.
-fn result_of<'a>(found: &ArgMatches<'a>, out: Option<&'a str>) -> Destination<'a>
-    ensures { IsResultGiven found.now (option_map (λ name. name.now) out.entry) result }
-{
-    match out {
-        Some(name) => Destination::CheckedFirst(name),
-        None => Destination::MadeLast(operand_of(found, "output")),
-    }
-}
-
-/// Where a certificate goes: the operand OUT, which is emptied first; without one the value of `-o`.
-fn certificate_of<'a>(found: &ArgMatches<'a>, out: Option<&'a str>) -> Destination<'a>
-    ensures { IsCertificateResultGiven found.now
-        (option_map (λ name. name.now) out.entry) result }
-{
-    match out {
-        Some(name) => Destination::EmptiedFirst(name),
-        None => Destination::MadeLast(operand_of(found, "output")),
-    }
-}
-
 /// The tape of a run that is watched with an operator. Of a source, its name is empty.
 fn watched_tape<'a>(program: &ProgramNames<'a>) -> &'a str
     ensures { result.now ≡ watched_tape program.now }
@@ -280,57 +258,63 @@ fn watched_declaration<'a>(operands: &Operands<'a>) -> &'a str
     }
 }
 
-/// The watched run with an operator that is requested.
-fn session_on<'a>(
-    found: &ArgMatches<'a>,
-    operands: &Operands<'a>,
-    followed: WatchedRunOptions,
-) -> Result<WatchedSession<'a>, CommandLineFault>
-    ensures { IfOk result (IsWatchedRunGiven found.now operands.now followed) }
-{
-    let tape = watched_tape(&operands.program);
-    let declaration = watched_declaration(operands);
-    let WatchedRunOptions { show, stopping } = followed;
-    let session = watched_session_of(tape, declaration, show, stopping, found)?;
-    Ok(session)
-}
-
-/// The same, of which each input is another file.
-fn session_of_operands<'a>(
+/// The watched run with an operator that is requested. Each of its inputs is another file.
+fn watched_session_of<'a>(
     alloc: Global,
     found: &ArgMatches<'a>,
     operands: &Operands<'a>,
     followed: WatchedRunOptions,
 ) -> Result<WatchedSession<'a>, CommandLineFault>
-    ensures { IfOk result (IsWatchedRunGiven found.now operands.now followed) }
+    requires operated { IsWatchedWithOperator found.now true }
+    ensures { MatchResult result (IsWatchedRunGiven found.now operands.now followed)
+        (IsRefusedByAny found.now) }
 {
-    let session = session_on(found, operands, followed)?;
-    let inputs = inputs_of(alloc, operands, &[session.reader, session.keys])?;
-    read_standard_input_once(&inputs)?;
-    Ok(session)
+    if has_value(found, "EVENTS") {
+        return Err(CommandLineFault::Misuse(Misuse::ListAndOperator));
+    }
+    let is_sourced = operands.program.tape().is_none();
+    if is_sourced {
+        read_once(alloc, found, &["reader", "keys"])?;
+    } else {
+        read_once(alloc, found, input_names(ProgramCommand::Watch, false))?;
+    }
+    let options = session_options(found, followed.show)?;
+    let continues = continues_of(found)?;
+    read_once(alloc, found, input_names(ProgramCommand::Watch, is_sourced))?;
+    Ok(WatchedSession {
+        tape: watched_tape(&operands.program),
+        declaration: watched_declaration(operands),
+        reader: found.get_str("reader"),
+        keys: found.get_str("keys"),
+        options,
+        continues,
+        stopping: followed.stopping,
+        explained: is_given(found, "why"),
+    })
 }
 
 /// The version of a certificate that is named.
-fn version_named(name: &str) -> Result<Version, CommandLineFault>
-    ensures { IfOk result (λ version. version_named name.now ≡ Some version) }
+fn version_named(name: &str) -> Option<Version>
+    ensures { result ≡ version_named name.now }
 {
     match name {
-        "1" => Ok(Version::One),
-        "2" => Ok(Version::Two),
-        "3" => Ok(Version::Three),
-        _ => Err(CommandLineFault::Misuse(Misuse::GuessedVersion)),
+        "1" => Some(Version::One),
+        "2" => Some(Version::Two),
+        "3" => Some(Version::Three),
+        _ => None,
     }
 }
 
 /// The version of the certificate for which a search is asked, if one is.
 fn guessed_version(found: &ArgMatches<'_>) -> Result<Option<Version>, CommandLineFault>
-    ensures { IfOk result (IsVersionNamed (value found.now (codes "certificate"))) }
+    ensures { MatchResult result (IsVersionNamed (value found.now (codes "certificate")))
+        (IsRefusedByAny found.now) }
 {
     match found.get_str("certificate") {
         None => Ok(None),
         Some(name) => match version_named(name) {
-            Ok(version) => Ok(Some(version)),
-            Err(refused) => Err(refused),
+            Some(version) => Ok(Some(version)),
+            None => Err(CommandLineFault::Misuse(Misuse::GuessedVersion)),
         },
     }
 }
@@ -342,10 +326,12 @@ fn guess_task<'a>(
     operands: &Operands<'a>,
     inputs: &[&'a str],
 ) -> Result<Task<'a>, CommandLineFault>
-    ensures { IfOk result (IsGuessGiven found.now (last_of operands.now)) }
+    requires { AreInputsBeside (Program Guess) found.now inputs.now }
+    ensures { MatchResult result (IsGuessGiven found.now)
+        (IsRefused (Program Guess) found.now) }
 {
     let is_tape = operands.program.tape().is_some();
-    let out = no_source(certificate_of(found, operands.last), inputs)?;
+    let out = result_of(CommandName::Program(ProgramCommand::Guess), found, inputs)?;
     let named = if is_tape {
         inputs
     } else {
@@ -372,7 +358,8 @@ fn verify_task<'a>(
     operands: &Operands<'a>,
     inputs: &[&'a str],
 ) -> Result<Task<'a>, CommandLineFault>
-    ensures { IfOk result (IsVerifyGiven found.now operands.now) }
+    ensures { MatchResult result (IsVerifyGiven found.now operands.now)
+        (IsRefusedByAny found.now) }
 {
     let save = save_of(found, inputs, operands.declaration.is_none())?;
     let options = verify_options(found)?;
@@ -380,14 +367,12 @@ fn verify_task<'a>(
 }
 
 /// To search for a run that violates the declaration.
-fn refute_task<'a>(
-    found: &ArgMatches<'a>,
-    operands: &Operands<'a>,
-    inputs: &[&'a str],
-) -> Result<Task<'a>, CommandLineFault>
-    ensures { IfOk result (IsRefuteGiven found.now (last_of operands.now)) }
+fn refute_task<'a>(found: &ArgMatches<'a>, inputs: &[&'a str]) -> Result<Task<'a>, CommandLineFault>
+    requires { AreInputsBeside (Program Refute) found.now inputs.now }
+    ensures { MatchResult result (IsRefuteGiven found.now)
+        (IsRefused (Program Refute) found.now) }
 {
-    let out = no_source(result_of(found, operands.last), inputs)?;
+    let out = result_of(CommandName::Program(ProgramCommand::Refute), found, inputs)?;
     let options = refute_options(found)?;
     Ok(Task::Refute { out, options })
 }
@@ -395,12 +380,13 @@ fn refute_task<'a>(
 /// To propose a declaration, or to complete one.
 fn declare_task<'a>(
     found: &ArgMatches<'a>,
-    operands: &Operands<'a>,
     inputs: &[&'a str],
 ) -> Result<Task<'a>, CommandLineFault>
-    ensures { IfOk result (IsDeclareGiven found.now (last_of operands.now)) }
+    requires { AreInputsBeside (Program Declare) found.now inputs.now }
+    ensures { MatchResult result (IsDeclareGiven found.now)
+        (IsRefused (Program Declare) found.now) }
 {
-    let out = no_source(result_of(found, operands.last), inputs)?;
+    let out = result_of(CommandName::Program(ProgramCommand::Declare), found, inputs)?;
     let options = declare_options(found)?;
     let refinements = refinements_of(found);
     Ok(Task::Declare {
@@ -416,10 +402,11 @@ fn report_task<'a>(
     operands: &Operands<'a>,
     inputs: &[&'a str],
 ) -> Result<Task<'a>, CommandLineFault>
-    ensures { IfOk result (IsReportGiven found.now (last_of operands.now)) }
+    requires { AreInputsBeside (Program Report) found.now inputs.now }
+    ensures { MatchResult result (IsReportGiven found.now (last_of operands.now))
+        (IsRefused (Program Report) found.now) }
 {
-    let named = found.get_str("OUT");
-    let out = no_source(result_of(found, named), inputs)?;
+    let out = result_of(CommandName::Program(ProgramCommand::Report), found, inputs)?;
     let certificate = name_or_input(&operands.last);
     Ok(Task::Report {
         certificate,
@@ -438,7 +425,7 @@ fn name_or_input<'a>(name: &Option<&'a str>) -> &'a str
     }
 }
 
-/// What a command asks for, whose program, declaration and last input are these inputs.
+/// What a command asks for whose operands are these, with these inputs and without an operator.
 fn task_of<'a>(
     called: ProgramCommand,
     found: &ArgMatches<'a>,
@@ -446,19 +433,21 @@ fn task_of<'a>(
     inputs: &[&'a str],
     followed: WatchedRunOptions,
 ) -> Result<Task<'a>, CommandLineFault>
-    requires { IsOperated called found.now false }
-    ensures { IfOk result (IsTaskGiven called found.now operands.now followed) }
+    requires inputs { AreInputsBeside (Program called) found.now inputs.now }
+    requires operated { IsOperated called found.now false }
+    ensures { MatchResult result (IsTaskGiven called found.now operands.now followed)
+        (IsRefused (Program called) found.now) }
 {
     match called {
-        ProgramCommand::Verify => verify_task(found, operands, inputs),
+        ProgramCommand::Verify => Ok(verify_task(found, operands, inputs)?),
         ProgramCommand::Watch => Ok(Task::Watch {
             events: name_or_input(&operands.last),
             show: followed.show,
             stopping: followed.stopping,
         }),
         ProgramCommand::Guess => guess_task(found, operands, inputs),
-        ProgramCommand::Refute => refute_task(found, operands, inputs),
-        ProgramCommand::Declare => declare_task(found, operands, inputs),
+        ProgramCommand::Refute => refute_task(found, inputs),
+        ProgramCommand::Declare => declare_task(found, inputs),
         ProgramCommand::Report => report_task(found, operands, inputs),
         ProgramCommand::Check => Ok(Task::Check {
             certificate: name_or_input(&operands.last),
@@ -475,23 +464,18 @@ struct WatchedRunOptions {
 
 /// What is shown of a watched run of a tape, and where it is stopped. Of a source that is not known yet.
 fn followed_on(
+    found: &ArgMatches<'_>,
     operands: &Operands<'_>,
     places: &PlaceOptions<'_>,
 ) -> Result<WatchedRunOptions, CommandLineFault>
-    ensures { IfOk result (IsFollowedOn operands.now.program places.now) }
+    requires { ArePlacesGiven found.now places.now }
+    ensures { MatchResult result (IsFollowedOn operands.now.program places.now)
+        (IsRefusedByAny found.now) }
 {
     let tape = operands.program.tape();
-    let show = shown_on(tape, places)?;
-    let stopping = stopping_on(tape, places)?;
+    let show = shown_on(found, tape, places)?;
+    let stopping = stopping_on(found, tape, places)?;
     Ok(WatchedRunOptions { show, stopping })
-}
-
-/// The last operand of a command, if it is an input.
-fn last_input<'a>(called: ProgramCommand, operands: &Operands<'a>) -> Option<&'a str> {
-    match called {
-        ProgramCommand::Check | ProgramCommand::Report | ProgramCommand::Watch => operands.last,
-        _ => None,
-    }
 }
 
 /// Whether a command is `watch` with an operator.
@@ -512,15 +496,15 @@ fn task_on<'a>(
     operands: &Operands<'a>,
     followed: WatchedRunOptions,
 ) -> Result<Task<'a>, CommandLineFault>
-    ensures { IfOk result (IsTaskGiven called found.now operands.now followed) }
+    ensures { MatchResult result (IsTaskGiven called found.now operands.now followed)
+        (IsRefused (Program called) found.now) }
 {
     if is_operated(called, found) {
-        let session = session_of_operands(alloc, found, operands, followed)?;
+        let session = watched_session_of(alloc, found, operands, followed)?;
         return Ok(Task::WatchSession(session));
     }
-    let inputs = inputs_of(alloc, operands, &[last_input(called, operands)])?;
-    read_standard_input_once(&inputs)?;
-    start_once(found, operands.declaration)?;
+    let inputs = read_once(alloc, found, input_names(called, is_sourced(found)))?;
+    start_once(found)?;
     task_of(called, found, operands, &inputs, followed)
 }
 
@@ -530,11 +514,12 @@ pub(crate) fn program_request<'a>(
     called: ProgramCommand,
     found: &ArgMatches<'a>,
 ) -> Result<ProgramRequest<'a>, CommandLineFault>
-    ensures { IfOk result (IsProgramRequestGiven called found.now) }
+    ensures { MatchResult result (IsProgramRequestGiven called found.now)
+        (IsRefused (Program called) found.now) }
 {
     let operands = operands_of(alloc, called, found)?;
     let places = places_of(alloc, found)?;
-    let followed = followed_on(&operands, &places)?;
+    let followed = followed_on(found, &operands, &places)?;
     let task = task_on(alloc, called, found, &operands, followed)?;
     let Operands {
         program,
@@ -551,47 +536,20 @@ pub(crate) fn program_request<'a>(
     })
 }
 
-/// Where the declaration in numbers goes, which is none of these inputs and is not named like a source.
-fn placed_destination<'a>(
-    found: &ArgMatches<'a>,
-    inputs: &[&str],
-) -> Result<Destination<'a>, CommandLineFault>
-    ensures { IfOk result (IsKeptGiven (value found.now (codes "output"))
-        (operand found.now (codes "OUT"))) }
-{
-    let out = no_input(kept_destination(found), inputs)?;
-    if is_source_name(out.name()) {
-        return Err(CommandLineFault::Misuse(Misuse::PlacedIsSource));
-    }
-    Ok(out)
-}
-
 /// The request for the declaration of a source in numbers.
 pub(crate) fn place_request<'a>(
     alloc: Global,
     found: &ArgMatches<'a>,
 ) -> Result<ProgramRequest<'a>, CommandLineFault>
-    ensures { IfOk result (IsPlaceGiven found.now) }
+    ensures { MatchResult result (IsPlaceGiven found.now) (IsRefused Place found.now) }
 {
+    let inputs = read_once(alloc, found, placed_operands(found))?;
     let names = source_names(alloc, found)?;
-    let declaration = found.get_str("declaration");
-    let operands = Operands {
-        program: ProgramNames::Source(names),
-        declaration,
-        last: None,
-    };
-    let inputs = inputs_of(alloc, &operands, &[])?;
-    read_standard_input_once(&inputs)?;
-    let out = placed_destination(found, &inputs)?;
+    let out = result_of(CommandName::Place, found, &inputs)?;
     let places = places_of(alloc, found)?;
-    let Operands {
-        program,
-        declaration,
-        ..
-    } = operands;
     Ok(ProgramRequest {
-        program,
-        declaration,
+        program: ProgramNames::Source(names),
+        declaration: found.get_str("declaration"),
         task: Task::Place { out },
         places,
         asked: false,

@@ -1,18 +1,16 @@
 //! What the command line asks for.
 
-ghost use Rattle.std.specs.Prelude.{IfOk, map};
+ghost use Rattle.std.specs.Prelude.{MatchResult, map};
 ghost use Rattle.command_line.specs.CommandLines.{IsExplainGiven, IsLineGiven, IsRequestGiven};
+ghost use Rattle.command_line.specs.Refusals.{IsLineRefused, IsRefused};
 
 use crate::command_name::{CommandName, called_of};
 use crate::commands::command;
 use crate::fault::CommandLineFault;
-use crate::operator::{Session, TeletypeSession};
 use crate::programs::{ProgramRequest, place_request, program_request};
-use crate::source_programs::{SourceProgramRequest, machine_request};
+use crate::source_programs::{MachineTask, SourceProgramRequest, machine_request};
 use crate::sources::{AssembleRequest, ListRequest, assemble_request, list_request};
-use crate::tapes::{
-    DumpRequest, MigrateRequest, RunRequest, SourceRequest, migrate_request, source_request,
-};
+use crate::tapes::{MigrateRequest, SourceRequest, migrate_request, source_request};
 use crate::values::is_given;
 use clap::ArgMatches;
 use std::alloc::Global;
@@ -21,14 +19,8 @@ use std::convert::AsStr;
 /// What is requested.
 #[derive(Drop)]
 pub enum Request<'a> {
-    /// To run a tape.
-    Run(RunRequest<'a>),
-    /// To run a tape with an operator.
-    Session(Session<'a>),
-    /// To hold a session at the teletype.
-    Teletype(TeletypeSession<'a>),
-    /// To list the words of a tape.
-    Dump(DumpRequest<'a>),
+    /// To run a tape, or to list its words.
+    Tape(MachineTask<'a>),
     /// To do one of these with the program of a source.
     Sourced(SourceProgramRequest<'a>),
     /// To assemble a source.
@@ -74,14 +66,14 @@ fn request_of<'a>(
     called: CommandName,
     found: &ArgMatches<'a>,
 ) -> Result<Request<'a>, CommandLineFault>
-    ensures { IfOk result (IsRequestGiven called found.now) }
+    ensures { MatchResult result (IsRequestGiven called found.now) (IsRefused called found.now) }
 {
     match called {
         CommandName::Machine(command) => machine_request(alloc, command, found),
         CommandName::Assemble => Ok(Request::Assemble(assemble_request(alloc, found)?)),
         CommandName::List => Ok(Request::List(list_request(alloc, found)?)),
-        CommandName::Source => Ok(Request::Source(source_request(found)?)),
-        CommandName::Migrate => Ok(Request::Migrate(migrate_request(found)?)),
+        CommandName::Source => Ok(Request::Source(source_request(alloc, found)?)),
+        CommandName::Migrate => Ok(Request::Migrate(migrate_request(alloc, found)?)),
         CommandName::Place => Ok(Request::Program(place_request(alloc, found)?)),
         CommandName::Explain => Ok(explain_request(found)),
         CommandName::Program(command) => {
@@ -96,7 +88,8 @@ pub fn parse_arguments<'a, S: AsStr>(
     alloc: Global,
     arguments: &'a [S],
 ) -> Result<CommandLine<'a>, CommandLineFault>
-    ensures { IfOk result (IsLineGiven (map S.text arguments.now)) }
+    ensures { MatchResult result (IsLineGiven (map S.text arguments.now))
+        (IsLineRefused (map S.text arguments.now)) }
 {
     let table = command(alloc)?;
     let matches = table.try_get_matches_from(arguments)?;

@@ -1,22 +1,24 @@
 //! What may be requested with a source in place of a tape, without a declaration.
 
-ghost use Rattle.std.specs.Prelude.{◌≡◌, IfOk, None, Some, map};
+ghost use Rattle.std.specs.Prelude.{◌≡◌, IfErr, MatchResult, Some, map, option_map};
+ghost use Rattle.command_line.specs.Machines.{tape_given};
 ghost use Rattle.command_line.specs.Options.{ArePlacesGiven, sources_given};
-ghost use Rattle.command_line.specs.Sources.{IsMachineGiven, IsMachineTaskGiven, IsTapeTaskGiven};
+ghost use Rattle.command_line.specs.Refusals.{IsRefused, IsRefusedByAny};
+ghost use Rattle.command_line.specs.Sources.{IsMachineGiven, IsMachineTaskGiven};
+ghost use Rattle.command_line.specs.declared.command_name.CommandName.TheVariants.{Machine};
 ghost use Rattle.command_line.specs.declared.command_name.MachineCommand.TheVariants.{Run};
 
 use crate::command_name::MachineCommand;
-use crate::fault::CommandLineFault;
+use crate::fault::{CommandLineFault, Misuse};
 use crate::names::FileNames;
-use crate::operands::copied;
 use crate::operator::{Session, TeletypeSession, has_operator, session_of, teletype_of};
 use crate::place_options::{PlaceOptions, places_of};
 use crate::requests::Request;
-use crate::tapes::{DumpRequest, RunRequest, dump_request, run_request};
-use crate::values::{is_given, read_standard_input_once};
+use crate::tapes::{DumpRequest, RunRequest, dump_request, run_request, tape_of};
+use crate::values::{copied, has_value, is_given, is_sourced, read_beside_keys, read_once};
 use clap::ArgMatches;
 use instruct::Profile;
-use std::alloc::{AllocError, Global};
+use std::alloc::Global;
 
 /// To run the program of a source, or to list its words.
 #[derive(Drop)]
@@ -77,79 +79,44 @@ impl<'a> MachineTask<'a> {
 
 /// What `run` asks for: a run with an operator or without one.
 fn run_task<'a>(
+    alloc: Global,
     found: &ArgMatches<'a>,
+    tape: Option<&'a str>,
     places: &PlaceOptions<'a>,
 ) -> Result<MachineTask<'a>, CommandLineFault>
-    ensures { IfOk result (IsMachineTaskGiven Run found.now places.now) }
+    requires tape { option_map (λ name. name.now) tape ≡ tape_given found.now }
+    requires places { ArePlacesGiven found.now places.now }
+    ensures { MatchResult result (IsMachineTaskGiven Run found.now places.now)
+        (IsRefusedByAny found.now) }
 {
     if has_operator(found) {
-        let session = session_of(found, places)?;
+        let session = session_of(alloc, found, tape, places)?;
         return Ok(MachineTask::Session(session));
     }
-    let run = run_request(found, places)?;
+    let run = run_request(alloc, found, tape, places)?;
     Ok(MachineTask::Run(run))
 }
 
 /// What `run`, `teletype` or `dump` asks for with a program.
 fn task_of<'a>(
+    alloc: Global,
     called: MachineCommand,
     found: &ArgMatches<'a>,
+    tape: Option<&'a str>,
     places: &PlaceOptions<'a>,
 ) -> Result<MachineTask<'a>, CommandLineFault>
-    ensures { IfOk result (IsMachineTaskGiven called found.now places.now) }
+    requires tape { option_map (λ name. name.now) tape ≡ tape_given found.now }
+    requires places { ArePlacesGiven found.now places.now }
+    ensures { MatchResult result (IsMachineTaskGiven called found.now places.now)
+        (IsRefused (Machine called) found.now) }
 {
     match called {
-        MachineCommand::Run => run_task(found, places),
-        MachineCommand::Teletype => Ok(MachineTask::Teletype(teletype_of(found, places)?)),
-        MachineCommand::Dump => Ok(MachineTask::Dump(dump_request(found)?)),
+        MachineCommand::Run => Ok(run_task(alloc, found, tape, places)?),
+        MachineCommand::Teletype => {
+            Ok(MachineTask::Teletype(teletype_of(alloc, found, tape, places)?))
+        }
+        MachineCommand::Dump => Ok(MachineTask::Dump(dump_request(found, tape)?)),
     }
-}
-
-/// What `run` asks for with a tape: a run with an operator or without one.
-fn tape_run_request<'a>(
-    found: &ArgMatches<'a>,
-    places: &PlaceOptions<'a>,
-) -> Result<Request<'a>, CommandLineFault>
-    ensures { IfOk result (IsTapeTaskGiven Run found.now places.now) }
-{
-    if has_operator(found) {
-        let session = session_of(found, places)?;
-        return Ok(Request::Session(session));
-    }
-    let run = run_request(found, places)?;
-    Ok(Request::Run(run))
-}
-
-/// What `run`, `teletype` or `dump` asks for with a tape.
-fn tape_request<'a>(
-    called: MachineCommand,
-    found: &ArgMatches<'a>,
-    places: &PlaceOptions<'a>,
-) -> Result<Request<'a>, CommandLineFault>
-    ensures { IfOk result (IsTapeTaskGiven called found.now places.now) }
-{
-    match called {
-        MachineCommand::Run => tape_run_request(found, places),
-        MachineCommand::Teletype => Ok(Request::Teletype(teletype_of(found, places)?)),
-        MachineCommand::Dump => Ok(Request::Dump(dump_request(found)?)),
-    }
-}
-
-/// The names of a task's inputs and of the parts of a source.
-fn inputs_of<'a>(
-    alloc: Global,
-    task: &MachineTask<'a>,
-    parts: &[&'a str],
-) -> Result<Vec<&'a str>, AllocError> {
-    let mut inputs = Vec::new(alloc);
-    inputs.extend_from_slice(parts)?;
-    for input in task.names().inputs() {
-        inputs.extend_from_slice(input.as_slice())?;
-    }
-    if let MachineTask::Teletype(_) = task {
-        inputs.push("-")?;
-    }
-    Ok(inputs)
 }
 
 /// The request of `run`, `teletype` or `dump`.
@@ -158,49 +125,63 @@ pub(crate) fn machine_request<'a>(
     called: MachineCommand,
     found: &ArgMatches<'a>,
 ) -> Result<Request<'a>, CommandLineFault>
-    ensures { IfOk result (IsMachineGiven called found.now) }
+    ensures { MatchResult result (IsMachineGiven called found.now)
+        (IsRefused (Machine called) found.now) }
 {
     let places = places_of(alloc, found)?;
+    if is_sourced(found) && has_value(found, "TAPE") {
+        return Err(CommandLineFault::Misuse(Misuse::TapeAndSource));
+    }
+    let task = task_of(alloc, called, found, tape_of(found), &places)?;
     match found.get_strs("source") {
-        None => unsourced_request(called, found, &places),
-        Some(names) => sourced_request(alloc, called, found, names, places),
+        None => Ok(Request::Tape(task)),
+        Some(names) => {
+            let parts = source_parts(alloc, called, found, names)?;
+            Ok(Request::Sourced(SourceProgramRequest {
+                parts,
+                places,
+                task,
+                explained: is_given(found, "why"),
+            }))
+        }
     }
 }
 
-/// The request of `run`, `teletype` or `dump` without a source.
-fn unsourced_request<'a>(
+/// Ensures that a source and the other inputs are read from standard input once at most.
+fn check_inputs(
+    alloc: Global,
     called: MachineCommand,
-    found: &ArgMatches<'a>,
-    places: &PlaceOptions<'a>,
-) -> Result<Request<'a>, CommandLineFault>
-    requires sources { sources_given found.now ≡ None }
-    requires places { ArePlacesGiven found.now places.now }
-    ensures { IfOk result (IsMachineGiven called found.now) }
+    found: &ArgMatches<'_>,
+) -> Result<(), CommandLineFault>
+    ensures { IfErr result (IsRefused (Machine called) found.now) }
 {
-    let requested = tape_request(called, found, places)?;
-    Ok(requested)
+    match called {
+        MachineCommand::Teletype => {
+            read_beside_keys(alloc, found, &["source", "reader"])?;
+        }
+        MachineCommand::Run => {
+            read_once(alloc, found, &["source", "events", "reader", "keys"])?;
+        }
+        MachineCommand::Dump => {
+            read_once(alloc, found, &["source"])?;
+        }
+    }
+    Ok(())
 }
 
-/// The request of `run`, `teletype` or `dump` with a source, which gives these parts.
-fn sourced_request<'a>(
+/// The names of the files of a source's parts, in a list of its own.
+fn source_parts<'a>(
     alloc: Global,
     called: MachineCommand,
     found: &ArgMatches<'a>,
     names: &[&'a str],
-    places: PlaceOptions<'a>,
-) -> Result<Request<'a>, CommandLineFault>
-    requires sources { sources_given found.now ≡ Some (map (λ name. name.now) names.now) }
-    requires places { ArePlacesGiven found.now places }
-    ensures { IfOk result (IsMachineGiven called found.now) }
+) -> Result<Vec<&'a str>, CommandLineFault>
+    requires { sources_given found.now ≡ Some (map (λ name. name.now) names.now) }
+    ensures { MatchResult result
+        (λ parts. sources_given found.now ≡ Some (map (λ name. name.now) parts.items))
+        (IsRefused (Machine called) found.now) }
 {
-    let task = task_of(called, found, &places)?;
+    check_inputs(alloc, called, found)?;
     let parts = copied(alloc, names)?;
-    read_standard_input_once(&inputs_of(alloc, &task, &parts)?)?;
-    let explained = is_given(found, "why");
-    Ok(Request::Sourced(SourceProgramRequest {
-        parts,
-        places,
-        task,
-        explained,
-    }))
+    Ok(parts)
 }

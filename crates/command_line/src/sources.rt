@@ -1,17 +1,18 @@
 //! What may be requested with a source that is assembled.
 
-ghost use Rattle.std.specs.Prelude.{◌≡◌, ◌++◌, IfOk, [], codes, if◌then◌else◌, map};
-ghost use Rattle.command_line.specs.Options.{has_value, values};
-ghost use Rattle.command_line.specs.Sources.{IsAssembleGiven, IsListGiven, source_operands};
+ghost use Rattle.std.specs.Prelude.{◌≡◌, IfErr, IfOk, MatchResult, map};
+ghost use Rattle.command_line.specs.Refusals.{AreInputs, AreOfInputs, ArePartsRefused, IsRefused};
+ghost use Rattle.command_line.specs.Sources.{IsAssembleGiven, IsListGiven, part_operands, placed_operands, source_operands};
+ghost use Rattle.command_line.specs.declared.command_name.CommandName.TheVariants.{Assemble, List as ListSource};
 
-use crate::fault::{CommandLineFault, Misuse};
+use crate::command_name::CommandName;
+use crate::fault::CommandLineFault;
 use crate::names::FileNames;
-use crate::outputs::{Destination, emptied_destination, has_output, is_source_name, no_input};
-use crate::place_options::values_of;
-use crate::values::{is_given, profile_of, read_standard_input_once};
+use crate::outputs::{Destination, result_of};
+use crate::values::{has_value, is_given, profile_of, read_once};
 use clap::ArgMatches;
 use instruct::Profile;
-use std::alloc::{AllocError, Global};
+use std::alloc::Global;
 
 /// To assemble a source.
 #[derive(Drop)]
@@ -48,25 +49,28 @@ pub struct ListRequest<'a> {
     pub crossed: bool,
 }
 
-/// The first operand, if it is a part of the source too: with `-o` it is.
-fn first_parts<'a>(alloc: Global, found: &ArgMatches<'a>) -> Result<Vec<&'a str>, AllocError>
-    ensures { IfOk result (λ names. map (λ name. name.now) names.items ≡
-        (if has_value found.now (codes "output") then values found.now (codes "OUT") else [])) }
+/// The operands that are parts of a source: with `-o` the first operand is one of them too.
+fn part_operands(found: &ArgMatches<'_>) -> &'static [&'static str]
+    ensures given { map (λ name. name.now) result.now ≡ part_operands found.now }
+    ensures inputs { AreOfInputs found.now (map (λ name. name.now) result.now) }
 {
-    if has_output(found) {
-        values_of(alloc, found, "OUT")
+    if has_value(found, "output") {
+        &["OUT", "SOURCE"]
     } else {
-        Ok(Vec::new(alloc))
+        &["SOURCE"]
     }
 }
 
-/// Names and those that come after them.
-fn joined<'a>(mut names: Vec<&'a str>, rest: &[&'a str]) -> Result<Vec<&'a str>, AllocError>
-    ensures { IfOk result (λ all. map (λ name. name.now) all.items ≡
-        map (λ name. name.now) names.entry.items ++ map (λ name. name.now) rest.now) }
+/// The operands and the option that give the inputs of `place`.
+pub(crate) fn placed_operands(found: &ArgMatches<'_>) -> &'static [&'static str]
+    ensures given { map (λ name. name.now) result.now ≡ placed_operands found.now }
+    ensures inputs { AreOfInputs found.now (map (λ name. name.now) result.now) }
 {
-    names.extend_from_slice(rest)?;
-    Ok(names)
+    if has_value(found, "output") {
+        &["OUT", "SOURCE", "declaration"]
+    } else {
+        &["SOURCE", "declaration"]
+    }
 }
 
 /// The names of a source's parts, of which there is one at least.
@@ -74,16 +78,15 @@ pub(crate) fn source_names<'a>(
     alloc: Global,
     found: &ArgMatches<'a>,
 ) -> Result<Vec<&'a str>, CommandLineFault>
-    ensures { IfOk result (λ names. map (λ name. name.now) names.items ≡
+    ensures given { IfOk result (λ names. map (λ name. name.now) names.items ≡
         source_operands found.now) }
+    ensures are { IfOk result (λ names. AreInputs found.now names.items) }
+    ensures refused { IfErr result (ArePartsRefused found.now) }
 {
-    let first = first_parts(alloc, found)?;
-    let rest = values_of(alloc, found, "SOURCE")?;
-    let names = joined(first, &rest)?;
+    let names = read_once(alloc, found, part_operands(found))?;
     if names.is_empty() {
         return Err(CommandLineFault::NoOperand("SOURCE"));
     }
-    read_standard_input_once(&names)?;
     Ok(names)
 }
 
@@ -93,13 +96,10 @@ pub(crate) fn assemble_request<'a>(
     alloc: Global,
     found: &ArgMatches<'a>,
 ) -> Result<AssembleRequest<'a>, CommandLineFault>
-    ensures { IfOk result (IsAssembleGiven found.now) }
+    ensures { MatchResult result (IsAssembleGiven found.now) (IsRefused Assemble found.now) }
 {
     let sources = source_names(alloc, found)?;
-    let out = no_input(emptied_destination(found), &sources)?;
-    if is_source_name(out.name()) {
-        return Err(CommandLineFault::Misuse(Misuse::OutputIsSource));
-    }
+    let out = result_of(CommandName::Assemble, found, &sources)?;
     let profile = profile_of(found)?;
     Ok(AssembleRequest {
         out,
@@ -114,7 +114,7 @@ pub(crate) fn list_request<'a>(
     alloc: Global,
     found: &ArgMatches<'a>,
 ) -> Result<ListRequest<'a>, CommandLineFault>
-    ensures { IfOk result (IsListGiven found.now) }
+    ensures { MatchResult result (IsListGiven found.now) (IsRefused ListSource found.now) }
 {
     let sources = source_names(alloc, found)?;
     let profile = profile_of(found)?;

@@ -1,20 +1,23 @@
 //! What may be requested with a tape alone, or with a certificate alone.
 
-ghost use Rattle.std.specs.Prelude.{◌≡◌, IfOk, Some, codes, is_some, option_map};
+ghost use Rattle.std.specs.Prelude.{◌≡◌, IfErr, IfOk, MatchResult, Some, codes, is_some, option_map};
 ghost use Rattle.command_line.specs.Machines.{IsDumpGiven, IsMigrateGiven, IsRunGiven, IsSourceGiven, migrated_version, tape_given, version_with};
-ghost use Rattle.command_line.specs.Options.{value};
+ghost use Rattle.command_line.specs.Refusals.{IsRefused, IsRefusedByAny};
+ghost use Rattle.command_line.specs.Options.{ArePlacesGiven, value, value_or};
+ghost use Rattle.command_line.specs.declared.command_name.CommandName.TheVariants.{Migrate, Source};
 
+use crate::command_name::CommandName;
 use crate::fault::{CommandLineFault, Misuse};
 use crate::names::FileNames;
-use crate::outputs::{Destination, emptied_destination, kept_destination, no_input, no_source};
+use crate::outputs::{Destination, result_of};
 use crate::place_options::{PlaceOptions, StopOptions, shown_on, stopping_on};
 use crate::values::{
-    has_value, is_given, is_start_named, operand_of, profile_of, read_standard_input_once,
-    run_options, start_of,
+    is_given, operand_of, profile_of, read_once, run_options, start_of, start_once, value_or,
 };
 use clap::ArgMatches;
 use command_parts::options::RunOptions;
 use instruct::Profile;
+use std::alloc::Global;
 use word12::Word;
 use wordset::WordSet;
 
@@ -45,36 +48,37 @@ impl<'a> RunRequest<'a> {
 }
 
 /// The name of the tape's file, unless a source takes its place.
-pub(crate) fn tape_of<'a>(found: &ArgMatches<'a>) -> Result<Option<&'a str>, CommandLineFault>
-    ensures { IfOk result (λ tape. option_map (λ name. name.now) tape ≡ tape_given found.now) }
+pub(crate) fn tape_of<'a>(found: &ArgMatches<'a>) -> Option<&'a str>
+    ensures { option_map (λ name. name.now) result ≡ tape_given found.now }
 {
     match found.get_strs("source") {
-        None => Ok(Some(operand_of(found, "TAPE"))),
-        Some(_) if has_value(found, "TAPE") => Err(CommandLineFault::Misuse(Misuse::TapeAndSource)),
-        Some(_) => Ok(None),
+        None => Some(operand_of(found, "TAPE")),
+        Some(_) => None,
     }
 }
 
 /// The run of a tape without an operator. Of a source the cells that are shown and the stops are not known yet.
 pub(crate) fn run_request<'a>(
+    alloc: Global,
     found: &ArgMatches<'a>,
+    tape: Option<&'a str>,
     places: &PlaceOptions<'a>,
 ) -> Result<RunRequest<'a>, CommandLineFault>
-    ensures { IfOk result (IsRunGiven found.now places.now) }
+    requires tape { option_map (λ name. name.now) tape ≡ tape_given found.now }
+    requires places { ArePlacesGiven found.now places.now }
+    ensures { MatchResult result (IsRunGiven found.now places.now) (IsRefusedByAny found.now) }
 {
-    let tape = tape_of(found)?;
-    let events = found.get_str("events");
-    read_standard_input_once(&[tape.unwrap_or(""), events.unwrap_or("")])?;
+    read_once(alloc, found, &["TAPE", "events"])?;
     let long = is_given(found, "trace-long");
-    if long && found.get_flag("trace") {
+    if long && is_given(found, "trace") {
         return Err(CommandLineFault::Misuse(Misuse::LongTrace));
     }
-    let show = shown_on(tape, places)?;
+    let show = shown_on(found, tape, places)?;
     let options = run_options(found, show)?;
-    let stopping = stopping_on(tape, places)?;
+    let stopping = stopping_on(found, tape, places)?;
     Ok(RunRequest {
         tape,
-        events,
+        events: found.get_str("events"),
         options,
         stopping,
         long,
@@ -103,10 +107,13 @@ impl<'a> DumpRequest<'a> {
 }
 
 /// The list of words that is requested.
-pub(crate) fn dump_request<'a>(found: &ArgMatches<'a>) -> Result<DumpRequest<'a>, CommandLineFault>
-    ensures { IfOk result (IsDumpGiven found.now) }
+pub(crate) fn dump_request<'a>(
+    found: &ArgMatches<'a>,
+    tape: Option<&'a str>,
+) -> Result<DumpRequest<'a>, CommandLineFault>
+    requires tape { option_map (λ name. name.now) tape ≡ tape_given found.now }
+    ensures { MatchResult result (IsDumpGiven found.now) (IsRefusedByAny found.now) }
 {
-    let tape = tape_of(found)?;
     let profile = profile_of(found)?;
     let full = is_given(found, "full");
     Ok(DumpRequest {
@@ -146,24 +153,21 @@ impl<'a> SourceRequest<'a> {
 
 /// The source that is requested.
 pub(crate) fn source_request<'a>(
+    alloc: Global,
     found: &ArgMatches<'a>,
 ) -> Result<SourceRequest<'a>, CommandLineFault>
-    ensures { IfOk result (IsSourceGiven found.now) }
+    ensures { MatchResult result (IsSourceGiven found.now) (IsRefused Source found.now) }
 {
-    let tape = operand_of(found, "TAPE");
-    let declaration = found.get_str("declaration");
-    read_standard_input_once(&[tape, declaration.unwrap_or("")])?;
-    if declaration.is_some() && is_start_named(found) {
-        return Err(CommandLineFault::Misuse(Misuse::DeclarationAndStart));
-    }
-    let out = no_input(kept_destination(found), &[tape, declaration.unwrap_or("-")])?;
+    let inputs = read_once(alloc, found, &["TAPE", "declaration"])?;
+    start_once(found)?;
+    let out = result_of(CommandName::Source, found, &inputs)?;
     let start = start_of(found)?;
     let profile = profile_of(found)?;
     Ok(SourceRequest {
-        tape,
+        tape: operand_of(found, "TAPE"),
         out,
         forced: is_given(found, "force"),
-        declaration,
+        declaration: found.get_str("declaration"),
         start,
         profile,
     })
@@ -192,26 +196,13 @@ impl<'a> MigrateRequest<'a> {
 }
 
 /// Whether this text asks for version 3 of a certificate, and not for version 2.
-fn is_third_named(text: &str) -> Result<bool, CommandLineFault>
-    ensures { IfOk result (λ is_third. migrated_version (Some text.now) ≡
-        Some (version_with is_third)) }
+fn is_third_named(text: &str) -> Option<bool>
+    ensures { option_map version_with result ≡ migrated_version text.now }
 {
     match text {
-        "2" => Ok(false),
-        "3" => Ok(true),
-        _ => Err(CommandLineFault::Misuse(Misuse::Version)),
-    }
-}
-
-/// Whether version 3 of a certificate is requested, and not version 2.
-fn is_third_requested(found: &ArgMatches<'_>) -> Result<bool, CommandLineFault>
-    ensures { IfOk result (λ is_third.
-        migrated_version (value found.now (codes "certificate")) ≡
-        Some (version_with is_third)) }
-{
-    match found.get_str("certificate") {
-        None => Ok(false),
-        Some(text) => is_third_named(text),
+        "2" => Some(false),
+        "3" => Some(true),
+        _ => None,
     }
 }
 
@@ -220,11 +211,14 @@ fn declaration_of_sites<'a>(found: &ArgMatches<'a>) -> Result<Option<&'a str>, C
     ensures named { IfOk result (λ name. option_map (λ it. it.now) name ≡
         value found.now (codes "declaration")) }
     ensures version { IfOk result (λ name.
-        migrated_version (value found.now (codes "certificate")) ≡
+        migrated_version (value_or found.now (codes "certificate") (codes "2")) ≡
         Some (version_with (is_some name))) }
+    ensures refused { IfErr result (IsRefused Migrate found.now) }
 {
     let declaration = found.get_str("declaration");
-    let is_third = is_third_requested(found)?;
+    let Some(is_third) = is_third_named(value_or(found, "certificate", "2")) else {
+        return Err(CommandLineFault::Misuse(Misuse::Version));
+    };
     if declaration.is_some() != is_third {
         return Err(CommandLineFault::Misuse(Misuse::VersionAndDeclaration));
     }
@@ -233,17 +227,16 @@ fn declaration_of_sites<'a>(found: &ArgMatches<'a>) -> Result<Option<&'a str>, C
 
 /// The certificate in another version that is requested.
 pub(crate) fn migrate_request<'a>(
+    alloc: Global,
     found: &ArgMatches<'a>,
 ) -> Result<MigrateRequest<'a>, CommandLineFault>
-    ensures { IfOk result (IsMigrateGiven found.now) }
+    ensures { MatchResult result (IsMigrateGiven found.now) (IsRefused Migrate found.now) }
 {
-    let certificate = operand_of(found, "CERTIFICATE");
     let declaration = declaration_of_sites(found)?;
-    read_standard_input_once(&[certificate, declaration.unwrap_or("")])?;
-    let inputs = [declaration.unwrap_or(certificate), certificate];
-    let out = no_source(emptied_destination(found), &inputs)?;
+    let inputs = read_once(alloc, found, &["CERTIFICATE", "declaration"])?;
+    let out = result_of(CommandName::Migrate, found, &inputs)?;
     Ok(MigrateRequest {
-        certificate,
+        certificate: operand_of(found, "CERTIFICATE"),
         declaration,
         out,
     })

@@ -1,9 +1,12 @@
 //! The values of options and operands that several commands have.
 
-ghost use Rattle.std.specs.Prelude.{◌≡◌, ◌≤◌, IfOk, IfErr, Ok, Some, codes, is_some};
-ghost use Rattle.std.specs.List.{count_by};
+ghost use Rattle.std.specs.Prelude.{◌≡◌, ◌≤◌, ◌||◌, IfErr, IfOk, MatchResult, Ok, Some, is_some, map, codes};
+ghost use Rattle.std.specs.List.{count_by, list_any};
 ghost use Rattle.command_line.specs.Outputs.{is_standard_input};
-ghost use Rattle.command_line.specs.Options.{AreDeclareOptions, AreRefinements, AreRefuteOptions, AreRunOptions, AreVerifyOptions, IsFlagGiven, IsNumberNamed, is_start_named, machine_given, machine_named, number_or, operand, start_given, value, value_or};
+ghost use Rattle.command_line.specs.Refusals.{AreInputs, AreOfInputs, IsRefused, IsRefusedByAny, is_declared};
+ghost use Rattle.command_line.specs.declared.command_name.CommandName.TheVariants.{Machine};
+ghost use Rattle.command_line.specs.declared.command_name.MachineCommand.TheVariants.{Teletype};
+ghost use Rattle.command_line.specs.Options.{AreDeclareOptions, AreRefinements, AreRefuteOptions, AreRunOptions, AreVerifyOptions, IsFlagGiven, IsNumberNamed, has_value, is_start_named, machine_given, machine_named, named, number_or, operand, sources_given, start_given, value, value_or, values};
 
 use crate::fault::{CommandLineFault, Misuse};
 use clap::ArgMatches;
@@ -11,6 +14,7 @@ use command_parts::options::{
     DeclareOptions, Refinements, RefuteOptions, RunOptions, VerifyOptions,
 };
 use instruct::Profile;
+use std::alloc::{AllocError, Global};
 use streams::text::decimal_between;
 use word12::Word;
 use wordset::WordSet;
@@ -37,7 +41,7 @@ const SEED: u32 = 1;
 const MOST_SEED: u32 = 99_999_999;
 
 /// The value of an option, and another text where it is left out.
-fn value_or<'a>(found: &ArgMatches<'a>, name: &str, otherwise: &'a str) -> &'a str
+pub(crate) fn value_or<'a>(found: &ArgMatches<'a>, name: &str, otherwise: &'a str) -> &'a str
     ensures { result.now ≡ value_or found.now name.now otherwise.now }
 {
     match found.get_str(name) {
@@ -70,31 +74,81 @@ pub(crate) fn is_given(found: &ArgMatches<'_>, name: &str) -> bool
     found.get_flag(name)
 }
 
+/// Whether one of these options or operands has a value.
+pub(crate) fn has_any(found: &ArgMatches<'_>, names: &[&str]) -> bool
+    ensures { result ≡ list_any (λ name. has_value found.now name.now) names.now }
+{
+    names.iter().any(|name| has_value(found, name))
+}
+
+/// The values of an option or an operand that may have several.
+pub(crate) fn values_of<'a>(
+    alloc: Global,
+    found: &ArgMatches<'a>,
+    name: &str,
+) -> Result<Vec<&'a str>, AllocError>
+    ensures { IfOk result (λ texts. map (λ text. text.now) texts.items ≡
+        values found.now name.now) }
+{
+    match found.get_strs(name) {
+        Some(texts) => copied(alloc, texts),
+        None => Ok(Vec::new(alloc)),
+    }
+}
+
+/// These names in a list of its own.
+pub(crate) fn copied<'a>(alloc: Global, names: &[&'a str]) -> Result<Vec<&'a str>, AllocError>
+    ensures { IfOk result (λ copy. copy.items ≡ names.now) }
+{
+    let mut copy = Vec::new(alloc);
+    copy.extend_from_slice(names)?;
+    Ok(copy)
+}
+
+/// The names of the files that these operands and options give, in this order.
+pub(crate) fn inputs_of<'a>(
+    alloc: Global,
+    found: &ArgMatches<'a>,
+    names: &[&str],
+) -> Result<Vec<&'a str>, AllocError>
+    ensures { IfOk result (λ inputs. map (λ input. input.now) inputs.items ≡
+        named found.now (map (λ name. name.now) names.now)) }
+{
+    let mut inputs = Vec::new(alloc);
+    for name in names {
+        inputs.extend_from_slice(&values_of(alloc, found, name)?)?;
+    }
+    Ok(inputs)
+}
+
 /// The machine of a name.
-fn machine_named(name: &str) -> Result<Profile, CommandLineFault>
-    ensures { IfOk result (λ machine. machine_named name.now ≡ Some machine) }
+fn machine_named(name: &str) -> Option<Profile>
+    ensures { result ≡ machine_named name.now }
 {
     match name {
-        "8i" => Ok(Profile::Pdp8I),
-        "8e" => Ok(Profile::Pdp8E),
-        _ => Err(CommandLineFault::Misuse(Misuse::Profile)),
+        "8i" => Some(Profile::Pdp8I),
+        "8e" => Some(Profile::Pdp8E),
+        _ => None,
     }
 }
 
 /// The machine that is meant.
 pub(crate) fn profile_of(found: &ArgMatches<'_>) -> Result<Profile, CommandLineFault>
-    ensures { IfOk result (λ machine. machine_given found.now ≡ Some machine) }
+    ensures { MatchResult result (λ machine. machine_given found.now ≡ Some machine) (IsRefusedByAny found.now) }
 {
-    machine_named(value_or(found, "profile", "8i"))
+    match machine_named(value_or(found, "profile", "8i")) {
+        Some(machine) => Ok(machine),
+        None => Err(CommandLineFault::Misuse(Misuse::Profile)),
+    }
 }
 
 /// The address of the first instruction.
 pub(crate) fn start_of(found: &ArgMatches<'_>) -> Result<Word, CommandLineFault>
-    ensures { IfOk result (λ start. start_given found.now ≡ Ok start) }
+    ensures { MatchResult result (λ start. start_given found.now ≡ Ok start) (IsRefusedByAny found.now) }
 {
     match Word::from_octal(value_or(found, "start", "0200").as_bytes()) {
         Ok(start) => Ok(start),
-        Err(fault) => Err(CommandLineFault::from(fault)),
+        Err(fault) => Err(CommandLineFault::Start(fault)),
     }
 }
 
@@ -122,20 +176,9 @@ fn number_or(
     }
 }
 
-/// How many rounds are made at most.
-fn rounds_of(found: &ArgMatches<'_>) -> Result<u32, CommandLineFault>
-    ensures { IfOk result (λ rounds.
-        number_or 1 1000000 100000 (value found.now (codes "steps")) ≡ Some rounds) }
-{
-    match number_or(found, "steps", 1, MOST_ROUNDS, ROUNDS) {
-        Some(rounds) => Ok(rounds),
-        None => Err(CommandLineFault::Steps(MOST_ROUNDS)),
-    }
-}
-
 /// How often CONTINUE is pressed at declared pauses at most, if it may be.
 pub(crate) fn continues_of(found: &ArgMatches<'_>) -> Result<Option<u32>, CommandLineFault>
-    ensures { IfOk result (IsNumberNamed 1 1000000 (value found.now (codes "continue"))) }
+    ensures { MatchResult result (IsNumberNamed 1 1000000 (value found.now (codes "continue"))) (IsRefusedByAny found.now) }
 {
     match found.get_str("continue") {
         None => Ok(None),
@@ -153,9 +196,12 @@ pub(crate) fn run_options(
 ) -> Result<RunOptions, CommandLineFault>
     ensures options { IfOk result (AreRunOptions found.now) }
     ensures shown { IfOk result (λ options. options.show ≡ show) }
+    ensures refused { IfErr result (IsRefusedByAny found.now) }
 {
     let start = start_of(found)?;
-    let rounds = rounds_of(found)?;
+    let Some(rounds) = number_or(found, "steps", 1, MOST_ROUNDS, ROUNDS) else {
+        return Err(CommandLineFault::Steps(MOST_ROUNDS));
+    };
     let profile = profile_of(found)?;
     Ok(RunOptions {
         start,
@@ -168,7 +214,7 @@ pub(crate) fn run_options(
 
 /// What a declaration is proposed for.
 pub(crate) fn declare_options(found: &ArgMatches<'_>) -> Result<DeclareOptions, CommandLineFault>
-    ensures { IfOk result (AreDeclareOptions found.now) }
+    ensures { MatchResult result (AreDeclareOptions found.now) (IsRefusedByAny found.now) }
 {
     let start = start_of(found)?;
     let profile = profile_of(found)?;
@@ -189,34 +235,16 @@ pub(crate) fn refinements_of(found: &ArgMatches<'_>) -> Refinements
     }
 }
 
-/// How many steps a search for a run makes at most.
-fn search_steps_of(found: &ArgMatches<'_>) -> Result<u32, CommandLineFault>
-    ensures { IfOk result (λ steps.
-        number_or 1 100000000 20000000 (value found.now (codes "steps")) ≡ Some steps) }
-{
-    match number_or(found, "steps", 1, MOST_SEARCH_STEPS, SEARCH_STEPS) {
-        Some(steps) => Ok(steps),
-        None => Err(CommandLineFault::Steps(MOST_SEARCH_STEPS)),
-    }
-}
-
-/// Where the random numbers of a search begin.
-fn seed_of(found: &ArgMatches<'_>) -> Result<u32, CommandLineFault>
-    ensures { IfOk result (λ seed.
-        number_or 0 99999999 1 (value found.now (codes "seed")) ≡ Some seed) }
-{
-    match number_or(found, "seed", 0, MOST_SEED, SEED) {
-        Some(seed) => Ok(seed),
-        None => Err(CommandLineFault::Misuse(Misuse::Seed)),
-    }
-}
-
 /// How a run that violates a declaration is searched for.
 pub(crate) fn refute_options(found: &ArgMatches<'_>) -> Result<RefuteOptions, CommandLineFault>
-    ensures { IfOk result (AreRefuteOptions found.now) }
+    ensures { MatchResult result (AreRefuteOptions found.now) (IsRefusedByAny found.now) }
 {
-    let steps = search_steps_of(found)?;
-    let seed = seed_of(found)?;
+    let Some(steps) = number_or(found, "steps", 1, MOST_SEARCH_STEPS, SEARCH_STEPS) else {
+        return Err(CommandLineFault::Steps(MOST_SEARCH_STEPS));
+    };
+    let Some(seed) = number_or(found, "seed", 0, MOST_SEED, SEED) else {
+        return Err(CommandLineFault::Misuse(Misuse::Seed));
+    };
     Ok(RefuteOptions {
         steps,
         seed,
@@ -226,7 +254,7 @@ pub(crate) fn refute_options(found: &ArgMatches<'_>) -> Result<RefuteOptions, Co
 
 /// How it is found out whether a program complies with its declaration.
 pub(crate) fn verify_options(found: &ArgMatches<'_>) -> Result<VerifyOptions, CommandLineFault>
-    ensures { IfOk result (AreVerifyOptions found.now) }
+    ensures { MatchResult result (AreVerifyOptions found.now) (IsRefusedByAny found.now) }
 {
     let start = start_of(found)?;
     let profile = profile_of(found)?;
@@ -245,16 +273,77 @@ fn is_standard_input(name: &str) -> bool
     name == "-" || name == "/dev/stdin"
 }
 
-/// Ensures that at most one of these inputs is standard input.
-pub(crate) fn read_standard_input_once(names: &[&str]) -> Result<(), CommandLineFault>
-    ensures once { IfOk result (λ done.
-        count_by (λ name. is_standard_input name.now) names.now ≤ 1) }
-    ensures refused { IfErr result (λ fault.
-        2 ≤ count_by (λ name. is_standard_input name.now) names.now) }
+/// How many of these inputs are standard input.
+fn standard_inputs(names: &[&str]) -> usize
+    ensures { result ≡ count_by (λ name. is_standard_input name.now) names.now }
 {
-    let count = names.iter().filter(|name| is_standard_input(name)).count();
-    if count > 1 {
+    names.iter().filter(|name| is_standard_input(name)).count()
+}
+
+/// The names of the files that these operands and options give, of which one may be standard input.
+pub(crate) fn read_once<'a>(
+    alloc: Global,
+    found: &ArgMatches<'a>,
+    names: &[&str],
+) -> Result<Vec<&'a str>, CommandLineFault>
+    requires names { AreOfInputs found.now (map (λ name. name.now) names.now) }
+    ensures given { IfOk result (λ inputs. map (λ input. input.now) inputs.items ≡
+        named found.now (map (λ name. name.now) names.now)) }
+    ensures are { IfOk result (λ inputs. AreInputs found.now inputs.items) }
+    ensures refused { IfErr result (IsRefusedByAny found.now) }
+{
+    let inputs = inputs_of(alloc, found, names)?;
+    if standard_inputs(&inputs) > 1 {
         return Err(CommandLineFault::Misuse(Misuse::BothStandardInput));
+    }
+    Ok(inputs)
+}
+
+/// The same beside the keys of a session at the teletype, which are standard input.
+pub(crate) fn read_beside_keys<'a>(
+    alloc: Global,
+    found: &ArgMatches<'a>,
+    names: &[&str],
+) -> Result<Vec<&'a str>, CommandLineFault>
+    requires names { AreOfInputs found.now (map (λ name. name.now) names.now) }
+    ensures given { IfOk result (λ inputs. map (λ input. input.now) inputs.items ≡
+        named found.now (map (λ name. name.now) names.now)) }
+    ensures are { IfOk result (λ inputs. AreInputs found.now inputs.items) }
+    ensures refused { IfErr result (IsRefused (Machine Teletype) found.now) }
+{
+    let inputs = inputs_of(alloc, found, names)?;
+    if standard_inputs(&inputs) > 0 {
+        return Err(CommandLineFault::Misuse(Misuse::BothStandardInput));
+    }
+    Ok(inputs)
+}
+
+/// Whether the program is given by its source.
+pub(crate) fn is_sourced(found: &ArgMatches<'_>) -> bool
+    ensures { result ≡ is_some (sources_given found.now) }
+{
+    match found.get_strs("source") {
+        Some(_) => true,
+        None => false,
+    }
+}
+
+/// Whether a declaration is given.
+fn is_declared(found: &ArgMatches<'_>) -> bool
+    ensures { result ≡ is_declared found.now }
+{
+    let named = has_any(found, &["DECLARATION", "declaration", "from"]);
+    let sourced = is_sourced(found);
+    let first = has_value(found, "TAPE");
+    named || (sourced && first)
+}
+
+/// Ensures that a declaration which is given determines the start and the machine.
+pub(crate) fn start_once(found: &ArgMatches<'_>) -> Result<(), CommandLineFault>
+    ensures { IfErr result (IsRefusedByAny found.now) }
+{
+    if is_declared(found) && is_start_named(found) {
+        return Err(CommandLineFault::Misuse(Misuse::DeclarationAndStart));
     }
     Ok(())
 }

@@ -70,7 +70,9 @@ pub fn push_cells_ending<A: Allocator>(
 }
 
 /// Adds the lines of a list of cells that may be read; a list without a cell is a line too.
-pub fn push_reads<A: Allocator>(text: &mut Vec<u8, A>, cells: &WordSet) -> Result<(), AllocError> {
+pub fn push_reads<A: Allocator>(text: &mut Vec<u8, A>, cells: &WordSet) -> Result<(), AllocError>
+    ensures { OnOk result (StaysInFront text.old.items text.new.items) }
+{
     if cells.is_empty() {
         return text.extend_from_slice(b"read\n");
     }
@@ -81,7 +83,9 @@ pub fn push_reads<A: Allocator>(text: &mut Vec<u8, A>, cells: &WordSet) -> Resul
 pub fn push_low_offsets<A: Allocator>(
     text: &mut Vec<u8, A>,
     offsets: &WordSet,
-) -> Result<(), AllocError> {
+) -> Result<(), AllocError>
+    ensures { OnOk result (StaysInFront text.old.items text.new.items) }
+{
     for offset in 0..8usize {
         if offsets.contains(Word::from_index(offset)) {
             text.extend_from_slice(b" ")?;
@@ -156,6 +160,28 @@ fn push_further<A: Allocator>(
     text.extend_from_slice(b"\n")
 }
 
+/// Begins the line of a routine: its entry and its body.
+fn push_body<A: Allocator>(
+    text: &mut Vec<u8, A>,
+    entry: Word,
+    body: &WordSet,
+) -> Result<(), AllocError>
+    ensures { OnOk result (StaysInFront text.old.items text.new.items) }
+{
+    text.extend_from_slice(b"sub")?;
+    push_address(text, entry)?;
+    text.extend_from_slice(b" body")?;
+    push_ranges(text, body)
+}
+
+/// Goes on with the line of a routine: its offsets that are below 8.
+fn push_returns<A: Allocator>(text: &mut Vec<u8, A>, offsets: &WordSet) -> Result<(), AllocError>
+    ensures { OnOk result (StaysInFront text.old.items text.new.items) }
+{
+    text.extend_from_slice(b" returns")?;
+    push_low_offsets(text, offsets)
+}
+
 /// A tape, and the machine for which comments name its words.
 #[derive(Clone, Copy)]
 pub struct CommentedTape<'a> {
@@ -170,7 +196,9 @@ impl CommentedTape<'_> {
         text: &mut Vec<u8, A>,
         kind: &[u8],
         halts: &WordSet,
-    ) -> Result<(), AllocError> {
+    ) -> Result<(), AllocError>
+        ensures { OnOk result (StaysInFront text.old.items text.new.items) }
+    {
         for at in halts.iter() {
             text.extend_from_slice(kind)?;
             push_address(text, at)?;
@@ -187,13 +215,11 @@ impl CommentedTape<'_> {
         entry: Word,
         body: &WordSet,
         offsets: &WordSet,
-    ) -> Result<(), AllocError> {
-        text.extend_from_slice(b"sub")?;
-        push_address(text, entry)?;
-        text.extend_from_slice(b" body")?;
-        push_ranges(text, body)?;
-        text.extend_from_slice(b" returns")?;
-        push_low_offsets(text, offsets)?;
+    ) -> Result<(), AllocError>
+        ensures { OnOk result (StaysInFront text.old.items text.new.items) }
+    {
+        push_body(text, entry, body)?;
+        push_returns(text, offsets)?;
         self.push_remark(text, b" / begins with ", entry.increment())?;
         push_further(text, entry, offsets)
     }
@@ -204,7 +230,9 @@ impl CommentedTape<'_> {
         text: &mut Vec<u8, A>,
         before: &[u8],
         at: Word,
-    ) -> Result<(), AllocError> {
+    ) -> Result<(), AllocError>
+        ensures { OnOk result (StaysInFront text.old.items text.new.items) }
+    {
         if let Some(word) = self.image.get(at) {
             text.extend_from_slice(before)?;
             text.extend_from_slice(name(word, self.profile).as_bytes())?;

@@ -17,6 +17,7 @@ use Rattle.machine_commands.specs.Running.{fresh}
 use Rattle.machine_commands.specs.Schedule.{Place, Whole, first_place, operating}
 use Rattle.machine_commands.specs.Session.{comes_by}
 use Rattle.command_parts.specs.declared.status.Status.{Status}
+use Rattle.machine_commands.specs.ViolationText.{IsWhy}
 use Rattle.machine_commands.specs.WatchText.{IsSeen, IsShown, watched_status, watched_text}
 
 -- The machine is halted at a declared pause.
@@ -84,13 +85,13 @@ IsLine None image d events watched line = line ≡ watched_text watched
 IsLine (Some most) image d events Clean line = SaysHowFar most image d events line
 IsLine (Some most) image d events (Broken n r) line = line ≡ watched_text (Broken n r)
 
--- What is told of a watched run: its line, after it, only if it is to be explained, some lines more, of which nothing is said
--- here, and then the cells that are named.
+-- What is told of a watched run: its line, after it, only if they are requested, the lines that explain it, and then the cells
+-- that are named.
 pub record IsToldOfRun (continues : Option ℕ) (image : List (Option ℕ)) (d : Declaration) (events : List Event) (watched : Watched) (explained : Bool) (named : ℕ → Bool) (told : List ℕ) : Type 0 where
   pub line : List ℕ
   pub is_line : IsLine continues image d events watched line
   pub why : List ℕ
-  pub plain : explained ≡ false → why ≡ []
+  pub why_is : IsWhy explained image d events watched why
   pub shown : List ℕ
   pub shows : IsShown named image d events watched shown
   pub told_is : told ≡ (line ++ why) ++ shown

@@ -11,7 +11,7 @@ use Rattle.command_parts.specs.declared.options.RefuteOptions.{RefuteOptions}
 use Rattle.command_parts.specs.declared.status.Status.{Status}
 use Rattle.command_parts.specs.declared.status.Status.TheVariants.{Done, Refused}
 use Rattle.machine_commands.specs.Running.{fresh}
-use Rattle.machine_commands.specs.WatchText.{IsTold}
+use Rattle.machine_commands.specs.ViolationText.{IsTold}
 
 -- The line where nothing was found in so many steps.
 abbrev pub unbroken_text : ℕ → List ℕ
@@ -19,7 +19,7 @@ unbroken_text steps = codes "not broken in " ++ decimal steps ++ codes " steps\n
 
 -- The list spells a run that violates the declaration: of these events, from the declared start with all registers and all
 -- cells that are not on the tape 0, the last one is the first step that is not legal. What is told is what `watch` says of
--- them: its place, and the lowest-numbered rule that it violates.
+-- them: its place, the lowest-numbered rule that it violates, and below it, only if they are requested, the lines of that step.
 pub record IsWitnessOf (explained : Bool) (image : List (Option ℕ)) (declaration : Declaration) (list told : List ℕ) : Type 0 where
   pub events : List Event
   pub spells : Spells list events
@@ -27,7 +27,7 @@ pub record IsWitnessOf (explained : Bool) (image : List (Option ℕ)) (declarati
   pub rule : Rule
   pub breaks : BreaksAt (image_of image) declaration events (fresh image declaration.start) event rule
   pub last : event + 1 ≡ length events
-  pub is : IsTold (Broken event rule) explained told
+  pub is : IsTold explained image declaration events (Broken event rule) told
 
 -- What is found in search of a run that violates the declaration: the command is refused, and the list spells such a run of
 -- which this is told; or it is done, there is no list, and what is told says in how many steps none was found.

@@ -1,7 +1,7 @@
 -- What `watch --why`, `refute --why` and `verify --why` say of a step that violates a rule, before it is carried out: the instruction, what
 -- the rule requires, what the step does instead, where control came from, and which routine is running. Words and addresses are four
 -- octal digits.
-use Rattle.std.specs.Prelude.{ℕ, ◌≡◌, ◌==◌, nat_lt, not, ◌&&◌, ◌||◌, if◌then◌else◌, Bool, true, false, Option, Some, None, is_some, List, [], ◌∷◌, ◌++◌, codes, decimal, map, find, filter, take}
+use Rattle.std.specs.Prelude.{ℕ, ◌≡◌, ◌==◌, nat_lt, not, ◌&&◌, ◌||◌, if◌then◌else◌, Bool, true, false, Option, Some, None, is_some, List, [], ◌∷◌, ◌++◌, codes, decimal, map, find, filter, take, ⊤}
 use Rattle.std.specs.List.{join_by, range_with_len}
 use Rattle.std.specs.Option.{option_map}
 use Rattle.word12.specs.Words.{octal_text}
@@ -32,6 +32,7 @@ use Rattle.policy.specs.declared.rules.Rule.TheVariants as rule
 use Rattle.policy.specs.declared.watcher.Watched.{Watched}
 use Rattle.policy.specs.declared.watcher.Watched.TheVariants.{Clean, Broken}
 use Rattle.command_parts.specs.Dumping.{dump_line}
+use Rattle.machine_commands.specs.WatchText.{watched_text}
 use Rattle.machine_commands.specs.Running.{fresh}
 use Rattle.machine_commands.specs.declared.violations.flow.ExecutedInstruction.{ExecutedInstruction}
 
@@ -399,8 +400,15 @@ pub record IsToldAfter (d : Declaration) (events : List Event) (w : WorldState) 
   pub leads : LeadsBy d events w [] None world calls executed
   pub text_is : text ≡ violation_text d (last_call calls) world.state r executed
 
--- What is told of what is seen of a watched run, if it is to be explained: nothing if no rule is violated, and else the lines of the step
--- that violates one, after the events before it.
-abbrev pub IsToldOf : List (Option ℕ) → Declaration → List Event → Watched → List ℕ → Type 0
-IsToldOf image d events Clean text = text ≡ []
-IsToldOf image d events (Broken n r) text = IsToldAfter d (take n events) (fresh image d.start) r text
+-- The lines below the verdict of a watched run: none if they are not requested; of a run that violates a rule those of the step that
+-- violates it, after the events before it; and of a run in which each step is legal some lines of which nothing is said here.
+abbrev pub IsWhy : Bool → List (Option ℕ) → Declaration → List Event → Watched → List ℕ → Type 0
+IsWhy false image d events watched text = text ≡ []
+IsWhy true image d events Clean text = ⊤
+IsWhy true image d events (Broken n r) text = IsToldAfter d (take n events) (fresh image d.start) r text
+
+-- What is told of a watched run: the line of what is seen, and below it, only if they are requested, the lines that explain it.
+pub record IsTold (explained : Bool) (image : List (Option ℕ)) (d : Declaration) (events : List Event) (watched : Watched) (told : List ℕ) : Type 0 where
+  pub why : List ℕ
+  pub why_is : IsWhy explained image d events watched why
+  pub told_is : told ≡ watched_text watched ++ why

@@ -52,10 +52,3 @@ pub record CellsAfter (named : ℕ → Bool) (image : List (Option ℕ)) (d : De
 pub record IsShown (named : ℕ → Bool) (image : List (Option ℕ)) (d : Declaration) (events : List Event) (watched : Watched) (shown : List ℕ) : Type 0 where
   pub none : has_some named ≡ false → shown ≡ []
   pub some : has_some named ≡ true → CellsAfter named image d (happening watched events) shown
-
--- What is told of a watched run: the line of what is seen, and after it, only if it is to be explained, some lines more, of
--- which nothing is said here.
-pub record IsTold (watched : Watched) (explained : Bool) (told : List ℕ) : Type 0 where
-  pub why : List ℕ
-  pub plain : explained ≡ false → why ≡ []
-  pub told_is : told ≡ watched_text watched ++ why

@@ -1,14 +1,15 @@
 //! What is told of runs, with its addresses marked for whoever has the program's source. The commands write the same
 //! as plain text.
 
-ghost use Rattle.std.specs.Prelude.{◌≡◌, [], false, IfOk, IfErr};
+ghost use Rattle.std.specs.Prelude.{◌≡◌, IfOk, IfErr};
 ghost use Rattle.declaration.specs.DeclarationInCode.{meaning};
 ghost use Rattle.peripherals.specs.Loading.{image_of};
 ghost use Rattle.refuter.specs.Witnesses.{Breaks, IsLast, IsSpelled};
 ghost use Rattle.command_parts.specs.Answers.{IsMemoryFault};
 ghost use Rattle.command_parts.specs.Messages.{plain};
 ghost use Rattle.machine_commands.specs.RefuteText.{IsRefutationOf, unbroken_text};
-ghost use Rattle.machine_commands.specs.WatchText.{IsTold, broken_text, watched_status, watched_text};
+ghost use Rattle.machine_commands.specs.ViolationText.{IsTold, IsWhy};
+ghost use Rattle.machine_commands.specs.WatchText.{IsSeen, broken_text, watched_status, watched_text};
 
 use crate::progress::{AvailableInput, offered_by, progress_lines};
 use crate::violations::violation_lines;
@@ -97,8 +98,8 @@ pub(crate) fn watched_status(watched: Watched) -> Status
     }
 }
 
-/// The lines after the verdict of a watched run, if it is to be explained: how far a run came that keeps
-/// the rules, and what the step is about to do that breaks one.
+/// The lines below the verdict of a watched run, if they are requested: how far a run came that keeps the rules, or what
+/// the step is about to do that violates one.
 pub(crate) fn why_of<A: Allocator + Copy, D: Allocator>(
     alloc: A,
     image: &Image,
@@ -108,16 +109,23 @@ pub(crate) fn why_of<A: Allocator + Copy, D: Allocator>(
     watched: Watched,
     explained: bool,
 ) -> Result<Message<A>, NoMemory>
-    ensures { IfOk result (λ text. explained ≡ false → plain text ≡ []) }
+    requires { IsSeen image.now (meaning declaration.now) events.now watched }
+    ensures { IfOk result (λ text. IsWhy explained image.now (meaning declaration.now) events.now watched
+        (plain text)) }
 {
+    if !explained {
+        return Ok(Message::new(alloc));
+    }
     match watched {
-        Watched::Clean if explained => progress_lines(alloc, image, declaration, events, offered),
-        _ => violation_lines(alloc, image, declaration, events, watched, explained),
+        Watched::Clean => progress_lines(alloc, image, declaration, events, offered),
+        Watched::Broken { event, rule } => {
+            violation_lines(alloc, image, declaration, events, event, rule)
+        }
     }
 }
 
-/// What is told of a watched run: the line that says what was seen, and after it, if it is to be explained, how far
-/// the run came, or what the step is about to do that violates a rule.
+/// What is told of a watched run: the line that says what was seen, and below it, if it is to be explained, how far the
+/// run came, or what the step is about to do that violates a rule.
 fn seen_message<A: Allocator + Copy, D: Allocator>(
     alloc: A,
     image: &Image,
@@ -127,7 +135,9 @@ fn seen_message<A: Allocator + Copy, D: Allocator>(
     watched: Watched,
     explained: bool,
 ) -> Result<Message<A>, NoMemory>
-    ensures { IfOk result (λ text. IsTold watched explained (plain text)) }
+    requires { IsSeen image.now (meaning declaration.now) events.now watched }
+    ensures { IfOk result (λ text. IsTold explained image.now (meaning declaration.now) events.now watched
+        (plain text)) }
 {
     let mut text = Message::of(alloc, watched_line(alloc, watched)?);
     let why = why_of(

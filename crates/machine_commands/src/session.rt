@@ -63,29 +63,6 @@ fn is_step(event: &Event) -> bool
     matches!(event, Event::Step)
 }
 
-/// Types the byte that an event printed after so many others, if there is one. Only a step prints, so
-/// after another event nothing is looked at.
-#[inline(always)]
-fn type_printed<T: ByteSink>(
-    event: &Event,
-    bytes: &[u8],
-    from: usize,
-    teletype: &mut T,
-) -> Result<(), Failed>
-    requires unmarked { T.mark teletype.old ≡ false }
-    requires quiet { is_step event.now ≡ false → drop from bytes.now ≡ [] }
-    ensures whole { OnOk result (Appends (T.taken teletype.old) (T.taken teletype.new)
-        (map character (drop from bytes.now))) }
-    ensures front { OnErr result (AppendsFront (T.taken teletype.old) (T.taken teletype.new)
-        (map character (drop from bytes.now))) }
-    ensures marks { T.mark teletype.new ≡ is_err result }
-{
-    if !is_step(event) {
-        return Ok(());
-    }
-    type_from(bytes, from, teletype)
-}
-
 /// The character of the byte with this index.
 fn character_at(bytes: &[u8], index: usize) -> [u8; 1]
     ensures { result ≡ (get_or bytes.now index 0 % 128) ∷ [] }
@@ -122,7 +99,7 @@ pub(crate) fn apply_event<A: Allocator, W: ByteSink, T: ByteSink>(
 {
     let before = world.printed().len();
     let seen = advance(world, report, trace, event)?;
-    type_printed(&event, world.printed(), before, teletype)?;
+    type_from(world.printed(), before, teletype)?;
     Ok(seen)
 }
 

@@ -1,13 +1,13 @@
 //! What is told of a watched run up to where it is stopped, with its last instructions.
 
-ghost use Rattle.std.specs.Prelude.{◌≡◌, ◌++◌, None, IfOk, IfErr};
+ghost use Rattle.std.specs.Prelude.{◌≡◌, None, IfOk, IfErr};
 ghost use Rattle.wordset.specs.Lanes.{words};
 ghost use Rattle.declaration.specs.DeclarationInCode.{meaning};
 ghost use Rattle.peripherals.specs.Operator.{plan_of};
 ghost use Rattle.peripherals.specs.World.{profile_of, view};
 ghost use Rattle.command_parts.specs.Answers.{IsMemoryFault};
 ghost use Rattle.command_parts.specs.Messages.{plain};
-ghost use Rattle.machine_commands.specs.Continued.{IsLine, IsToldOfRun, IsWatch, came_by};
+ghost use Rattle.machine_commands.specs.Continued.{IsLine, IsWatch, came_by};
 ghost use Rattle.machine_commands.specs.Session.{plan_for};
 ghost use Rattle.machine_commands.specs.StoppedWatch.{IsPlanToStop, IsWatchToStop};
 
@@ -58,40 +58,8 @@ fn line_of<A: Allocator + Copy, D: Allocator>(
     }
 }
 
-/// What is told of a watched run: its line, after it, if it is to be explained, how far the run came or what the step is
-/// about to do that violates a rule, and the cells that are to be shown.
-fn watched_lines<A: Allocator + Copy, D: Allocator>(
-    alloc: A,
-    image: &Image,
-    declaration: &Declaration<D>,
-    events: &[Event],
-    offered: AvailableInput,
-    watched: Watched,
-    continues: Option<u32>,
-    telling: &WatchOptions<'_>,
-) -> Result<Message<A>, NoMemory>
-    ensures { IfOk result (λ text. IsToldOfRun continues image.now (meaning declaration.now) events.now
-        watched telling.now.explained (words telling.now.show.now) (plain text)) }
-{
-    let (explained, show) = (telling.explained, telling.show);
-    let line = line_of(alloc, image, declaration, events, watched, continues)?;
-    let mut text = Message::of(alloc, line);
-    let why = why_of(
-        alloc,
-        image,
-        declaration,
-        events,
-        offered,
-        watched,
-        explained,
-    )?;
-    text.push_message(&why)?;
-    let shown = shown_of(alloc, image, declaration, events, watched, show)?;
-    text.push_text(&shown)?;
-    Ok(text)
-}
-
-/// What is told of the run of some events, by what there was to come.
+/// What is told of the run of some events, by what there was to come: its line, after it, if it is to be explained, how far
+/// the run came or what the step is about to do that violates a rule, and the cells that are to be shown.
 pub(crate) fn watch_of<A: Allocator + Copy, D: Allocator>(
     alloc: A,
     image: &Image,
@@ -106,32 +74,24 @@ pub(crate) fn watch_of<A: Allocator + Copy, D: Allocator>(
         (plain run.told)) }
     ensures faults { IfErr result IsMemoryFault }
 {
+    let (explained, show) = (telling.explained, telling.show);
     let watched = policy::watch(alloc, image, declaration, &Start::zero(), events)?;
-    let told = watched_lines(
+    let line = line_of(alloc, image, declaration, events, watched, continues)?;
+    let mut told = Message::of(alloc, line);
+    let why = why_of(
         alloc,
         image,
         declaration,
         events,
         offered,
         watched,
-        continues,
-        telling,
+        explained,
     )?;
+    told.push_message(&why)?;
+    let shown = shown_of(alloc, image, declaration, events, watched, show)?;
+    told.push_text(&shown)?;
     let status = watched_status(watched);
     Ok(RunMessage { told, status })
-}
-
-/// What is told, with a text before it.
-fn behind<A: Allocator + Copy>(
-    alloc: A,
-    before: Vec<u8, A>,
-    told: &Message<A>,
-) -> Result<Message<A>, NoMemory>
-    ensures { IfOk result (λ text. plain text ≡ before.items ++ plain told.now) }
-{
-    let mut text = Message::of(alloc, before);
-    text.push_message(told)?;
-    Ok(text)
 }
 
 /// What is told of the run of some events up to where it is stopped.
@@ -160,9 +120,12 @@ fn told_to_stop<A: Allocator + Copy, D: Allocator>(
         continues,
         telling,
     )?;
-    let RunMessage { told, status } = seen;
-    let told = behind(alloc, before, &told)?;
-    Ok(RunMessage { told, status })
+    let mut told = Message::of(alloc, before);
+    told.push_message(&seen.told)?;
+    Ok(RunMessage {
+        told,
+        status: seen.status,
+    })
 }
 
 /// What `watch` tells of a list of events, up to where their run is stopped: the lines of the last instructions, if

@@ -1,6 +1,6 @@
 //! The lines that say what a step that violates a rule is about to do.
 
-ghost use Rattle.std.specs.Prelude.{◌≡◌, ◌++◌, false, true, take, [], IfOk, OnOk, Some};
+ghost use Rattle.std.specs.Prelude.{◌≡◌, ◌++◌, take, IfOk, OnOk, Some};
 ghost use Rattle.std.specs.Option.{option_map};
 ghost use Rattle.processor.specs.Fetch.{fetched};
 ghost use Rattle.processor.specs.Steps.{state_of};
@@ -12,8 +12,7 @@ ghost use Rattle.policy.specs.Watching.{BreaksAt};
 ghost use Rattle.command_parts.specs.Dumping.{dump_line};
 ghost use Rattle.command_parts.specs.Messages.{plain};
 ghost use Rattle.machine_commands.specs.Running.{fresh};
-ghost use Rattle.machine_commands.specs.ViolationText.{act_text, last_call, reference_text, violation_text, IsToldAfter, IsToldOf};
-ghost use Rattle.machine_commands.specs.WatchText.{IsSeen};
+ghost use Rattle.machine_commands.specs.ViolationText.{act_text, last_call, reference_text, violation_text, IsToldAfter};
 
 mod assertions;
 mod flow;
@@ -36,7 +35,7 @@ use bin_tape::Image;
 use command_parts::message::{Message, MessageWriter};
 use declaration::Declaration;
 use peripherals::{Event, NoMemory, Start};
-use policy::{Call, Rule, Watched, Watcher};
+use policy::{Call, Rule, Watcher};
 use processor::{Cpu, DecodedInstruction};
 use std::alloc::{AllocError, Allocator};
 
@@ -166,46 +165,27 @@ fn lines_of<A: Allocator + Copy, D: Allocator, C: Allocator>(
     Ok(text)
 }
 
-/// What the step that follows so many events of a watched run is about to do, which violates a rule.
-fn lines_after<A: Allocator + Copy, D: Allocator>(
-    alloc: A,
-    image: &Image,
-    declaration: &Declaration<D>,
-    events: &[Event],
-    count: usize,
-    rule: Rule,
-) -> Result<Message<A>, NoMemory>
-    ensures { let d = meaning declaration.now in let first = fresh image.now d.start in
-        IfOk result (λ text. BreaksAt (image_of image.now) d events.now first count rule
-        → IsToldAfter d (take count events.now) first rule (plain text)) }
-{
-    let start = Start::zero();
-    let mut watcher = Watcher::new(alloc, image, declaration, &start);
-    let executed = replay(&mut watcher, declaration, events, count)?;
-    Ok(lines_of(alloc, declaration, &watcher, rule, &executed)?)
-}
-
-/// The lines after the verdict of a watched run: what the step is about to do that violates a rule. There are none if
-/// they are not requested, or no rule is violated.
+/// The lines below the verdict on a watched run of which this event is the first step that is not legal: what it is about
+/// to do that violates this rule.
+///
+/// # Errors
+///
+/// `NoMemory`.
 pub fn violation_lines<A: Allocator + Copy, D: Allocator>(
     alloc: A,
     image: &Image,
     declaration: &Declaration<D>,
     events: &[Event],
-    watched: Watched,
-    explained: bool,
+    event: usize,
+    rule: Rule,
 ) -> Result<Message<A>, NoMemory>
-    ensures unasked { IfOk result (λ text. explained ≡ false → plain text ≡ []) }
-    // Where the watched run is as it is said, they are those of the state before that step.
-    ensures told { let d = meaning declaration.now in
-        IfOk result (λ text. explained ≡ true → IsSeen image.now d events.now watched
-        → IsToldOf image.now d events.now watched (plain text)) }
+    // If the verdict is right, they are those of the state before that step.
+    ensures { let d = meaning declaration.now in let first = fresh image.now d.start in
+        IfOk result (λ text. BreaksAt (image_of image.now) d events.now first event rule
+        → IsToldAfter d (take event events.now) first rule (plain text)) }
 {
-    let Watched::Broken { event, rule } = watched else {
-        return Ok(Message::new(alloc));
-    };
-    if !explained {
-        return Ok(Message::new(alloc));
-    }
-    lines_after(alloc, image, declaration, events, event, rule)
+    let start = Start::zero();
+    let mut watcher = Watcher::new(alloc, image, declaration, &start);
+    let executed = replay(&mut watcher, declaration, events, event)?;
+    Ok(lines_of(alloc, declaration, &watcher, rule, &executed)?)
 }

@@ -5,7 +5,7 @@ use crate::files::{bytes_of, is_read_once};
 use crate::hints::CommandFiles;
 use crate::source_faults::{NO_WORD, output_name};
 use command_line::explanations::push_advice;
-use command_line::{FileNames, Request};
+use command_line::{FileNames, MachineTask, Request};
 use command_parts::status::{DeviceFault, Fault};
 use command_parts::visible::visible_text;
 use declaration::DeclarationFault;
@@ -139,7 +139,8 @@ pub fn fault_lines<R: Files + Input>(
 /// command.
 pub fn refusal_lines(request: &Request<'_>) -> &'static str {
     match request {
-        Request::Run(_) | Request::Session(_) | Request::Teletype(_) => UNSUPPORTED,
+        Request::Tape(MachineTask::Dump(_)) => "",
+        Request::Tape(_) => UNSUPPORTED,
         _ => "",
     }
 }

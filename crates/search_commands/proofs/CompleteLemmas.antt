@@ -1,5 +1,5 @@
 -- What `complete` writes.
-use Rattle.std.proofs.Common.{ℕ, ◌≡◌, ◌||◌, Bool, true, List, Option, refl, inl, inr, sym, subst, take, arith}
+use Rattle.std.proofs.Common.{ℕ, ◌≡◌, ◌||◌, Bool, true, false, List, Option, refl, inl, inr, sym, subst, take, arith}
 use Rattle.std.specs.Prelude.{Some, None, IfSome}
 use Rattle.wordset.specs.Words.{Words}
 use Rattle.peripherals.specs.Loading.{image_of}
@@ -10,65 +10,50 @@ use Rattle.command_parts.specs.declared.status.Status.{Status}
 use Rattle.command_parts.specs.declared.status.Status.TheVariants.{Done, Refused}
 use Rattle.command_parts.proofs.InputLemmas.{all_or_more}
 use Rattle.search_commands.proofs.DeclareLemmas.{refused_not_done}
-use Rattle.search_commands.specs.Extending.{Extends, KeepsReads}
-use Rattle.search_commands.specs.Adding.{lists}
+use Rattle.search_commands.specs.Adding.{AddsOnly, IsNoWider, lists}
 use Rattle.search_commands.specs.CompleteText.{Completes, CompletesBy, IsExtensionBy, IsFit}
 use Rattle.search_commands.specs.Keeping.{KeepsLines}
 use Rattle.search_commands.specs.Keeping.KeepsLines.{unchanged}
 
-keeps_own : (reads : Option Words) → KeepsReads reads reads
-keeps_own None = refl
-keeps_own (Some cells) = λ v small listed. listed
-
--- a declaration extends itself
-extends_own : (d : Declaration) → Extends d d
-extends_own d = record {
-  start_is = refl;
-  profile_is = refl;
-  cells = λ a small. record { body = λ r inside. inside; entry = λ is. is; offset = λ o low is. is };
-  variables = λ v small is. is;
-  stops = λ v small is. is;
-  pauses = λ v small is. is;
-  reads = keeps_own d.reads;
-  moves = λ v small is. is;
-  abandon = λ v small is. is;
-}
-
 so_left : (a b : Bool) → a ≡ true → (a || b) ≡ true
 so_left a b is = rw is refl
+
+-- a declaration allows nothing that it does not allow, whatever is proposed
+adds_nothing : (d proposed : Declaration) → AddsOnly d proposed d
+adds_nothing d proposed = λ a small. record {
+  body = λ r is. so_left (d.body r a) (proposed.body r a) is;
+  offset = λ o low is. so_left (d.offset a o) (proposed.offset a o) is;
+  entry = λ is. so_left (d.entry a) (proposed.entry a) is;
+  variable = λ is. so_left (d.variable a) (proposed.variable a) is;
+  stop = λ is. so_left (d.stop a) (proposed.stop a) is;
+  pause = λ is. so_left (d.pause a) (proposed.pause a) is;
+  read = λ is. so_left (lists d.reads a) (lists proposed.reads a) is;
+  moves = λ is. so_left (d.moves a) (proposed.moves a) is;
+  abandon = λ is. so_left (d.abandon a) (proposed.abandon a) is;
+}
+
+-- so it extends itself
+extends_own : (d : Declaration) → IsNoWider d d
+extends_own d = record { start_is = refl; profile_is = refl; adds = adds_nothing d d; listed = refl }
 
 -- what is found to be such an extension shows that the text is fit
 pub fit_if : {D : Type 0} (declared : D → Declaration) (bytes : List ℕ) (given proposed : Declaration) (text : List ℕ) (found : Option D) (d : D) → found ≡ Some d →
     IfSome found (λ more. IsExtensionBy bytes given proposed (declared more) text) → IsFit bytes given proposed text
 fit_if declared bytes given proposed text found d is extends = (declared d, rw is at extends)
 
--- so its text is that of an extension of it, in which nothing is added
+-- and its text is that of an extension of it, in which nothing is added
 pub own_extension : (given proposed : Declaration) (text : List ℕ) → Declares text given → IsFit text given proposed text
 own_extension given proposed text declares = (
   given,
-  record {
-    declares = declares;
-    extends = extends_own given;
-    adds = λ a small. record {
-      body = λ r is. so_left (given.body r a) (proposed.body r a) is;
-      offset = λ o low is. so_left (given.offset a o) (proposed.offset a o) is;
-      entry = λ is. so_left (given.entry a) (proposed.entry a) is;
-      variable = λ is. so_left (given.variable a) (proposed.variable a) is;
-      stop = λ is. so_left (given.stop a) (proposed.stop a) is;
-      pause = λ is. so_left (given.pause a) (proposed.pause a) is;
-      read = λ is. so_left (lists given.reads a) (lists proposed.reads a) is;
-      moves = λ is. so_left (given.moves a) (proposed.moves a) is;
-      abandon = λ is. so_left (given.abandon a) (proposed.abandon a) is;
-    };
-    keeps = unchanged text;
-  },
+  record { declares = declares; extends = extends_own given; adds = adds_nothing given proposed; keeps = unchanged text },
 )
 
 -- with a certificate for the declaration itself
-pub own_completes : (image : List (Option ℕ)) (d : Declaration) (text : List ℕ) → Declares text d → IsSafe (image_of image) d →
-    Completes (Some text) image d Done text
-own_completes image d text declares safe = record {
+pub own_completes : (reads : Bool) (image : List (Option ℕ)) (d : Declaration) (text : List ℕ) → Declares text d → IsSafe (image_of image) d →
+    Completes (Some text) reads image d Done text
+own_completes reads image d text declares safe = record {
   is = record { declaration = d; declares = declares; extends = extends_own d; keeps = unchanged text };
+  unlisted = λ off a small listed. listed;
   ends = inl refl;
   safe = λ done. safe;
 }
@@ -83,11 +68,17 @@ pub lacking_completes : (image : List (Option ℕ)) (bytes : List ℕ) (given pr
     CompletesBy bytes image given proposed Refused text
 lacking_completes image bytes given proposed text is = record { is = is; ends = inr refl; safe = λ done. refused_not_done done }
 
--- what completes a declaration by what is proposed completes it
-pub completes_by : (image : List (Option ℕ)) (bytes : List ℕ) (given proposed : Declaration) (status : Status) (text : List ℕ) → CompletesBy bytes image given proposed status text →
-    Completes (Some bytes) image given status text
-completes_by image bytes given proposed status text by = record {
+listed_before : (given : Bool) (proposed : Option Words) (a : ℕ) → proposed ≡ None → (given || lists proposed a) ≡ true → given ≡ true
+listed_before true proposed a none listed = refl
+listed_before false proposed a none listed = let P : Option Words → Type 0 = λ p. lists p a ≡ true in subst P none listed
+
+-- what completes a declaration by what is proposed completes it; reads are listed in what is proposed only if that is
+-- requested
+pub completes_by : (reads : Bool) (image : List (Option ℕ)) (bytes : List ℕ) (given proposed : Declaration) (status : Status) (text : List ℕ) →
+    (reads ≡ false → proposed.reads ≡ None) → CompletesBy bytes image given proposed status text → Completes (Some bytes) reads image given status text
+completes_by reads image bytes given proposed status text off by = record {
   is = record { declaration = by.is.0; declares = by.is.1.declares; extends = by.is.1.extends; keeps = by.is.1.keeps };
+  unlisted = λ is a small listed. listed_before (lists given.reads a) proposed.reads a (off is) ((by.is.1.adds a small).read listed);
   ends = by.ends;
   safe = by.safe;
 }
@@ -103,10 +94,11 @@ keeps_source None bytes text is keeps = tt
 keeps_source (Some all) bytes text is keeps = let P : List ℕ → Type 0 = λ t. KeepsLines t text in subst P (sym is) keeps
 
 -- so it completes the declaration of the source
-pub completes_source : (source : Option (List ℕ)) (bytes : List ℕ) (image : List (Option ℕ)) (given : Declaration) (status : Status) (text : List ℕ)
-    → IfSome source (λ all. all ≡ bytes) → Completes (Some bytes) image given status text → Completes source image given status text
-completes_source source bytes image given status text all is = record {
+pub completes_source : (source : Option (List ℕ)) (bytes : List ℕ) (reads : Bool) (image : List (Option ℕ)) (given : Declaration) (status : Status) (text : List ℕ)
+    → IfSome source (λ all. all ≡ bytes) → Completes (Some bytes) reads image given status text → Completes source reads image given status text
+completes_source source bytes reads image given status text all is = record {
   is = record { declaration = is.is.declaration; declares = is.is.declares; extends = is.is.extends; keeps = keeps_source source bytes text all is.is.keeps };
+  unlisted = is.unlisted;
   ends = is.ends;
   safe = is.safe;
 }

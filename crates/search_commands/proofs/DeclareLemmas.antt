@@ -36,9 +36,9 @@ shown_proposal {A = A} options image p c fits shown listed needed written unlist
       unlisted = unlisted;
       bare = λ refused. done_not_refused refused;
       safe = λ done. kept.0;
-      written = λ done. let all : AreWritten {A = A} image p.declaration (Safe c) = rw is at written in record { lines = certified.meaning c; lines_are = kept.1.0; version_is = kept.1.1; valid = kept.2; written = all };
+      written = λ done. let all : AreWritten {A = A} image p.declaration (Safe c) = rw is at written in record { lines = certified.meaning c; lines_are = kept.1.0; version_is = kept.1.1; valid = kept.2; shows = all };
       listed = λ done asked. let lists : IsListed {A = A} p.declaration (Safe c) = rw is at listed asked in lists;
-      needed = λ done asked. let all : AreNeeded {A = A} image p.declaration (Safe c) = rw is at needed asked in record { lines = certified.meaning c; lines_are = kept.1.0; version_is = kept.1.1; valid = kept.2; needed = all };
+      needed = λ done asked. let all : AreNeeded {A = A} image p.declaration (Safe c) = rw is at needed asked in record { lines = certified.meaning c; lines_are = kept.1.0; version_is = kept.1.1; valid = kept.2; shows = all };
     }
 
 -- without one

@@ -4,3 +4,4 @@ mod AgreeLemmas
 pub mod WidenedLemmas
 mod KeepingLemmas
 pub mod RefiningLemmas
+pub mod AddingLemmas

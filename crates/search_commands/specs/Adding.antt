@@ -1,5 +1,5 @@
 -- What is added to a declaration, out of what another declaration proposes.
-use Rattle.std.specs.Prelude.{ℕ, ◌≡◌, ◌<◌, ◌||◌, true, false, Bool, Option, Some, None}
+use Rattle.std.specs.Prelude.{ℕ, ◌≡◌, ◌<◌, ◌||◌, true, false, Bool, Option, Some, None, is_some}
 use Rattle.wordset.specs.Words.{Words}
 use Rattle.declaration.specs.Declaration.{Declaration, Routine}
 
@@ -26,3 +26,11 @@ pub record AddsToCell (given proposed more : Declaration) (a : ℕ) : Type 0 whe
 -- Nothing is allowed beyond the given declaration except what is proposed.
 abbrev pub AddsOnly : Declaration → Declaration → Declaration → Type 0
 AddsOnly given proposed more = (a : ℕ) → a < 4096 → AddsToCell given proposed more a
+
+-- The second declaration is no wider than the first: the start and the machine are the same, it allows nothing that the
+-- first does not allow, and it lists reads exactly if the first does. Nothing is said here about what is to hold.
+pub record IsNoWider (given less : Declaration) : Type 0 where
+  pub start_is : less.start ≡ given.start
+  pub profile_is : less.profile ≡ given.profile
+  pub adds : AddsOnly given given less
+  pub listed : is_some less.reads ≡ is_some given.reads

@@ -1,18 +1,10 @@
 -- What `declare` makes of a declaration for which a certificate is found.
-use Rattle.std.specs.Prelude.{ℕ, ◌≡◌, ◌⊎◌, List, Option, is_some}
+use Rattle.std.specs.Prelude.{ℕ, ◌≡◌, ◌⊎◌, List, Option}
 use Rattle.peripherals.specs.Loading.{image_of}
 use Rattle.declaration.specs.Declaration.{Declaration}
 use Rattle.declaration.specs.Text.{Declares}
 use Rattle.policy.specs.Runs.{IsSafe}
-use Rattle.search_commands.specs.Adding.{AddsOnly}
-
--- The second declaration is no wider than the first: the start and the machine are the same, it allows nothing that the
--- first does not allow, and it lists reads exactly if the first does. Nothing is said here about what is to hold.
-pub record IsNoWider (given less : Declaration) : Type 0 where
-  pub start_is : less.start ≡ given.start
-  pub profile_is : less.profile ≡ given.profile
-  pub adds : AddsOnly given given less
-  pub listed : is_some less.reads ≡ is_some given.reads
+use Rattle.search_commands.specs.Adding.{IsNoWider}
 
 -- The text declares something that is no wider than a declaration, and no run of the program with these words violates
 -- it.

@@ -7,7 +7,8 @@ use Rattle.declaration.specs.Text.{Declares}
 use Rattle.policy.specs.declared.rules.Rule.{Rule}
 use Rattle.policy.specs.Watching.{number_of}
 use Rattle.certificate.specs.Exact.{AreLines}
-use Rattle.certificate_lines.specs.CertificateInCode.{meaning}
+use Rattle.certificate_lines.specs.CertificateInCode.{Kept, claims, meaning}
+use Rattle.analyser.specs.Attempts.{IsDraft}
 use Rattle.refuter.specs.Witnesses.{Breaks, IsLast, IsSpelled}
 use Rattle.diagnostics.specs.CheckText.{IsYes, checked_case, yes_text}
 use Rattle.command_parts.specs.declared.options.VerifyOptions.{VerifyOptions}
@@ -55,6 +56,18 @@ proposed_text _ line = line
 abbrev pub answer_status : {A : Type 0} → Answer A → Status
 answer_status (Yes c) = Done
 answer_status _ = Refused
+
+-- The draft of a certificate that a search had found when it came to this end: the search is stuck, the draft has lines
+-- where it is stuck, and all its lines are where those of a certificate may be.
+abbrev pub IsDraftFor : Declaration → InconclusiveReason → Kept → Type 0
+IsDraftFor d (Stuck at) draft = IsDraft d at (claims draft) × AreLines (meaning draft)
+IsDraftFor d TurnsSpent draft = ⊥
+
+-- The draft belongs to the answer: only an answer that is not known has one.
+abbrev pub IsDraftOf : {A : Type 0} → Declaration → Answer A → Kept → Type 0
+IsDraftOf d (Yes c) draft = ⊥
+IsDraftOf d (No w) draft = ⊥
+IsDraftOf d (NotKnown lack) draft = IsDraftFor d lack draft
 
 -- What is reported for an answer with this line: the line comes first and is unchanged; if the answer is to be
 -- explained, and only then, more lines may follow, about which nothing is said here.

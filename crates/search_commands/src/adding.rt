@@ -1,13 +1,21 @@
-//! Whether nothing is allowed beyond a declaration except what is proposed.
+//! Whether nothing is allowed beyond a declaration except what is proposed, and whether one declaration is no wider than
+//! another one.
 
-ghost use Rattle.std.specs.Prelude.{ℕ, ◌≡◌, ◌<◌, ◌||◌, true};
+ghost use Rattle.std.specs.Prelude.{ℕ, ◌≡◌, ◌<◌, ◌↔◌, ◌||◌, IsTrue, true};
 ghost use Rattle.declaration.specs.Declaration.{Routine};
 ghost use Rattle.declaration.specs.DeclarationInCode.{meaning};
-ghost use Rattle.search_commands.specs.Adding.{AddsOnly, AddsToCell, lists};
+ghost use Rattle.search_commands.specs.Adding.{AddsOnly, AddsToCell, IsNoWider, lists};
 
 use declaration::{Declaration, Owner};
 use std::alloc::Allocator;
 use word12::Word;
+
+/// Whether something that is true in the last declaration is true in one of the other two.
+fn is_known(more: bool, given: bool, proposed: bool) -> bool
+    ensures { IsTrue result ↔ (more ≡ true → given || proposed ≡ true) }
+{
+    !more || given || proposed
+}
 
 /// Whether a cell is in the same body in one of two other declarations, if it is in a body at all.
 fn body_is_known<A: Allocator, B: Allocator, C: Allocator>(
@@ -16,8 +24,8 @@ fn body_is_known<A: Allocator, B: Allocator, C: Allocator>(
     more: &Declaration<C>,
     at: Word,
 ) -> bool
-    ensures { result ≡ true → (r : Routine) → (meaning more.now).body r at ≡ true →
-        (meaning given.now).body r at || (meaning proposed.now).body r at ≡ true }
+    ensures { IsTrue result ↔ ((r : Routine) → (meaning more.now).body r at ≡ true →
+        (meaning given.now).body r at || (meaning proposed.now).body r at ≡ true) }
 {
     let Some(owner) = more.owner_of(at) else {
         return true;
@@ -36,15 +44,16 @@ fn offsets_are_known<A: Allocator, B: Allocator, C: Allocator>(
     more: &Declaration<C>,
     entry: Word,
 ) -> bool
-    ensures { result ≡ true → (o : ℕ) → o < 64 → (meaning more.now).offset entry o ≡ true →
-        (meaning given.now).offset entry o || (meaning proposed.now).offset entry o ≡ true }
+    ensures { IsTrue result ↔ ((o : ℕ) → o < 64 → (meaning more.now).offset entry o ≡ true →
+        (meaning given.now).offset entry o || (meaning proposed.now).offset entry o ≡ true) }
 {
     for index in 0..64usize {
         let offset = Word::from_index(index);
-        if more.has_offset(entry, offset)
-            && !given.has_offset(entry, offset)
-            && !proposed.has_offset(entry, offset)
-        {
+        if !is_known(
+            more.has_offset(entry, offset),
+            given.has_offset(entry, offset),
+            proposed.has_offset(entry, offset),
+        ) {
             return false;
         }
     }
@@ -61,13 +70,6 @@ fn is_listed<A: Allocator>(declaration: &Declaration<A>, at: Word) -> bool
     }
 }
 
-/// Whether something that is true of a cell in the last declaration is true of it in one of the other two.
-fn is_known(more: bool, given: bool, proposed: bool) -> bool
-    ensures { result ≡ true → more ≡ true → given || proposed ≡ true }
-{
-    !more || given || proposed
-}
-
 /// Whether everything that is allowed for a cell is allowed in one of two other declarations.
 fn adds_to_cell<A: Allocator, B: Allocator, C: Allocator>(
     given: &Declaration<A>,
@@ -75,7 +77,7 @@ fn adds_to_cell<A: Allocator, B: Allocator, C: Allocator>(
     more: &Declaration<C>,
     at: Word,
 ) -> bool
-    ensures { result ≡ true →
+    ensures { IsTrue result ↔
         AddsToCell (meaning given.now) (meaning proposed.now) (meaning more.now) at }
 {
     if !body_is_known(given, proposed, more, at) {
@@ -123,7 +125,7 @@ pub(crate) fn adds_only<A: Allocator, B: Allocator, C: Allocator>(
     proposed: &Declaration<B>,
     more: &Declaration<C>,
 ) -> bool
-    ensures { result ≡ true →
+    ensures { IsTrue result ↔
         AddsOnly (meaning given.now) (meaning proposed.now) (meaning more.now) }
 {
     for index in 0..4096usize {
@@ -132,4 +134,24 @@ pub(crate) fn adds_only<A: Allocator, B: Allocator, C: Allocator>(
         }
     }
     true
+}
+
+/// Whether the second declaration is no wider than the first: it has the same start and machine, lists reads exactly if
+/// the first one does, and allows nothing that the first one does not allow.
+pub(crate) fn is_no_wider<A: Allocator, B: Allocator>(
+    given: &Declaration<A>,
+    less: &Declaration<B>,
+) -> bool
+    ensures { IsTrue result ↔ IsNoWider (meaning given.now) (meaning less.now) }
+{
+    if less.start() != given.start() {
+        return false;
+    }
+    if less.profile() != given.profile() {
+        return false;
+    }
+    if less.reads_listed() != given.reads_listed() {
+        return false;
+    }
+    adds_only(given, given, less)
 }

@@ -9,9 +9,8 @@ ghost use Rattle.search_commands.specs.SearchFaults.{IsProposeFault};
 ghost use Rattle.declaration.specs.DeclarationInCode.{meaning};
 ghost use Rattle.declaration.specs.Text.{Declares};
 
-use crate::adding::adds_only;
+use crate::adding::{adds_only, is_no_wider};
 use crate::declaring::{MOST_TURNS, copy_of, proposal_for, push_remarks};
-use crate::extending::extends;
 use crate::keeping::keeps_lines;
 use crate::merging::merged;
 use crate::verifying::{InconclusiveReason, certificate_for};
@@ -112,7 +111,7 @@ fn extension<A: Allocator + Copy, D: Allocator>(
     }
     match Declaration::parse(alloc, text) {
         Ok(more) => {
-            if !extends(given, &more) {
+            if !is_no_wider(&more, given) {
                 return Ok(None);
             }
             if !adds_only(given, proposed, &more) {
@@ -221,7 +220,7 @@ fn completion_of<A: Allocator + Copy>(
     reads: bool,
 ) -> Result<CommandResult<A>, Fault>
     requires { Declares program.given.text.items (meaning program.given.declaration) }
-    ensures completes { IfOk result (λ told. Completes (Some program.given.text.items)
+    ensures completes { IfOk result (λ told. Completes (Some program.given.text.items) reads
         program.image (meaning program.given.declaration) told.status told.text.items) }
     ensures faults { IfErr result IsProposeFault }
     ensures unwritten { fails_to_write result ≡ false }
@@ -271,11 +270,11 @@ pub fn complete<A: Allocator + Copy, R: ByteSource, D: ByteSource, W: ByteSink>(
     requires declaration_readable { D.mark declaration.old ≡ false }
     requires writable { W.mark out.old ≡ false }
     // What is written declares a program, extends the declaration that is read, and keeps its lines in their order,
-    // after which there are only comments and lines that end with `/ added`. If the command is done, no run of the
-    // tape's program violates what is written.
+    // after which there are only comments and lines that end with `/ added`. Unless that is requested, no reads are added
+    // to a list. If the command is done, no run of the tape's program violates what is written.
     ensures completed { WritesAnswer
         (OfProgram (R.remaining tape.old) (D.remaining declaration.old)
-        (Completes (D.remaining declaration.old)))
+        (Completes (D.remaining declaration.old) reads))
         (output (W.mark out.new) (W.taken out.old) (W.taken out.new)) result }
     // The inputs are read in order. If both are good, what was found may be undeclarable, or a write may fail.
     ensures reads { ReadsTwo (IsLaterFault IsProposeFault)

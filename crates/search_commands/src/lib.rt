@@ -6,7 +6,6 @@ mod adding;
 pub mod checking;
 pub mod completing;
 pub mod declaring;
-mod extending;
 pub mod guessing;
 mod keeping;
 pub mod laws;

@@ -1,16 +1,16 @@
 //! Whether a program complies with its declaration, and why. The addresses in these messages are marked, for readers
 //! who have the source of the program. The commands write the same as plain text.
 
-ghost use Rattle.std.specs.Prelude.{◌≡◌, ◌++◌, false, [], IfOk, IfErr};
+ghost use Rattle.std.specs.Prelude.{◌≡◌, ◌++◌, false, [], None, IfOk, IfErr, IfSome, if◌then◌else◌};
 ghost use Rattle.declaration.specs.DeclarationInCode.{meaning};
-ghost use Rattle.analyser.specs.Attempts.{IsAcceptedIfFound, claimed_by};
+ghost use Rattle.analyser.specs.Attempts.{IsAcceptedIfFound, IsDraftIfStuck, claimed_by};
 ghost use Rattle.certificate.specs.Exact.{AreLines};
 ghost use Rattle.certificate_lines.specs.CertificateInCode.{meaning as lines_of};
 ghost use Rattle.command_parts.specs.Answers.{IsMemoryFault};
 ghost use Rattle.command_parts.specs.Faults.{fails_to_write};
 ghost use Rattle.command_parts.specs.Messages.{plain};
 ghost use Rattle.search_commands.specs.SearchFaults.{IsProposeFault};
-ghost use Rattle.search_commands.specs.VerifyText.{IsAnswer, IsProposedAnswerOf, IsVerifiedOf, answer_text, lack_text, no_text, proposed_text};
+ghost use Rattle.search_commands.specs.VerifyText.{IsAnswer, IsDraftFor, IsDraftOf, IsProposedAnswerOf, IsVerifiedOf, answer_text, lack_text, no_text, proposed_text};
 
 use crate::stuck::draft_message;
 use crate::verifying::{
@@ -29,7 +29,7 @@ use diagnostics::verdicts::surplus_text::surplus_message;
 use diagnostics::verdicts::verdict::verdict_line;
 use itoa::Buffer;
 use machine_commands::violations::violation_lines;
-use policy::{Rule, Watched};
+use policy::Rule;
 use proposer::propose;
 use refuter::refute_within;
 use std::alloc::{AllocError, Allocator};
@@ -77,8 +77,11 @@ fn answer_on<A: Allocator + Copy, D: Allocator>(
     lack: InconclusiveReason,
     draft: Option<Certificate<A>>,
 ) -> Result<AnswerWithDraft<A>, Fault>
+    requires { IfSome draft (IsDraftFor (meaning declaration.now) lack) }
     ensures answer { IfOk result (λ found.
         IsAnswer image.now (meaning declaration.now) found.answer) }
+    ensures draft { IfOk result (λ found.
+        IfSome found.draft (IsDraftOf (meaning declaration.now) found.answer)) }
     ensures faults { IfErr result IsMemoryFault }
 {
     let mut turns = Turns::new(options.steps);
@@ -86,7 +89,7 @@ fn answer_on<A: Allocator + Copy, D: Allocator>(
     match refute_within(alloc, image, declaration, seed, &mut turns)? {
         Some(found) => Ok(AnswerWithDraft {
             answer: Answer::No(found),
-            draft,
+            draft: None,
         }),
         None => Ok(AnswerWithDraft {
             answer: Answer::NotKnown(lack),
@@ -105,8 +108,11 @@ fn answer_by_attempt<A: Allocator + Copy, D: Allocator>(
 ) -> Result<AnswerWithDraft<A>, Fault>
     requires accepted { IsAcceptedIfFound image.now declaration.now attempt }
     requires lines { AreLines (lines_of (claimed_by attempt)) }
+    requires draft { IsDraftIfStuck (meaning declaration.now) attempt }
     ensures answer { IfOk result (λ found.
         IsAnswer image.now (meaning declaration.now) found.answer) }
+    ensures draft { IfOk result (λ found.
+        IfSome found.draft (IsDraftOf (meaning declaration.now) found.answer)) }
     ensures faults { IfErr result IsMemoryFault }
 {
     match attempt {
@@ -131,14 +137,16 @@ fn answer_of<A: Allocator + Copy, D: Allocator>(
 ) -> Result<AnswerWithDraft<A>, Fault>
     ensures answer { IfOk result (λ found.
         IsAnswer image.now (meaning declaration.now) found.answer) }
+    ensures draft { IfOk result (λ found.
+        IfSome found.draft (IsDraftOf (meaning declaration.now) found.answer)) }
     ensures faults { IfErr result IsMemoryFault }
 {
     match guess_or_draft(alloc, image, declaration) {
         Ok(attempt) => answer_by_attempt(alloc, image, declaration, options, attempt),
-        Err(fault) => match inconclusive_reason_of(fault) {
-            Ok(lack) => answer_on(alloc, image, declaration, options, lack, None),
-            Err(fault) => Err(fault),
-        },
+        Err(fault) => {
+            let lack = inconclusive_reason_of(fault)?;
+            answer_on(alloc, image, declaration, options, lack, None)
+        }
     }
 }
 
@@ -250,18 +258,16 @@ fn why_message<A: Allocator + Copy, D: Allocator>(
         }
         Answer::No(found) => {
             let (event, rule) = (found.event, found.rule);
-            let watched = Watched::Broken { event, rule };
             let events = &found.events;
-            Ok(violation_lines(alloc, image, declaration, events, watched, true)?)
+            Ok(violation_lines(alloc, image, declaration, events, event, rule)?)
         }
     }
 }
 
 /// What a search had found, if the answer is to be explained.
-fn draft_if<A: Allocator>(
-    explained: bool,
-    draft: Option<Certificate<A>>,
-) -> Option<Certificate<A>> {
+fn draft_if<A: Allocator>(explained: bool, draft: Option<Certificate<A>>) -> Option<Certificate<A>>
+    ensures { result ≡ (if explained then draft else None) }
+{
     if explained { draft } else { None }
 }
 
@@ -273,13 +279,17 @@ fn message_of<A: Allocator + Copy, D: Allocator>(
     found: AnswerWithDraft<A>,
     explained: bool,
 ) -> Result<AnswerMessage<A>, Fault>
-    requires { IsAnswer image.now (meaning declaration.now) found.answer }
+    requires answer { IsAnswer image.now (meaning declaration.now) found.answer }
+    requires draft { IfSome found.draft (IsDraftOf (meaning declaration.now) found.answer) }
     ensures told { IfOk result (λ told. IsVerifiedOf explained image.now (meaning declaration.now)
         told.answer (told.line.items ++ plain told.why)) }
     ensures line { IfOk result (λ told.
         told.line.items ≡ answer_text (meaning declaration.now) told.answer) }
     ensures same { IfOk result (λ told. told.answer ≡ found.answer) }
     ensures plain { IfOk result (λ told. explained ≡ false → plain told.why ≡ []) }
+    ensures draft { IfOk result (λ told.
+        IfSome told.draft (IsDraftOf (meaning declaration.now) told.answer)) }
+    ensures unasked { IfOk result (λ told. explained ≡ false → told.draft ≡ None) }
     ensures faults { IfErr result IsMemoryFault }
 {
     let line = answer_line(alloc, declaration, &found.answer)?;
@@ -311,6 +321,10 @@ pub fn verify_message<A: Allocator + Copy, D: Allocator>(
         (meaning declaration.now) told.answer (told.line.items ++ plain told.why)) }
     ensures line { IfOk result (λ told.
         told.line.items ≡ answer_text (meaning declaration.now) told.answer) }
+    // What the search had found comes with the answer only if the search is stuck and the answer is to be explained.
+    ensures draft { IfOk result (λ told.
+        IfSome told.draft (IsDraftOf (meaning declaration.now) told.answer)) }
+    ensures unasked { IfOk result (λ told. options.now.explained ≡ false → told.draft ≡ None) }
     ensures faults { IfErr result IsMemoryFault }
 {
     let found = answer_of(alloc, image, declaration, options)?;

@@ -1,14 +1,15 @@
 //! What `declare` makes of a declaration for which a certificate is found: it leaves out what is unnecessary, and adds
 //! what routines return with.
 
-ghost use Rattle.std.specs.Prelude.{ℕ, ◌≡◌, true, List, Option, IfOk, IfErr, IfSome};
+ghost use Rattle.std.specs.Prelude.{ℕ, List, Option, IfOk, IfErr, IfSome};
 ghost use Rattle.command_parts.specs.Answers.{IsMemoryFault};
 ghost use Rattle.declaration.specs.DeclarationInCode.{meaning};
 ghost use Rattle.declaration.specs.Text.{Declares};
 ghost use Rattle.search_commands.specs.Keeping.{KeepsLines};
-ghost use Rattle.search_commands.specs.Refining.{IsNoWider, IsRefined};
+ghost use Rattle.search_commands.specs.Refining.{IsRefined};
+ghost use Rattle.search_commands.specs.SearchFaults.{IsRefineFault};
 
-use crate::adding::adds_only;
+use crate::adding::is_no_wider;
 use crate::completing::end_text;
 use crate::declaring::copy_of;
 use crate::keeping::keeps_lines;
@@ -21,7 +22,6 @@ use command_parts::message::{Message, MessageWriter};
 use command_parts::status::Fault;
 use declaration::{Declaration, DeclarationFault};
 use diagnostics::verdicts::surplus_text::{push_cells, push_routine_offsets};
-use proposer::is_alike;
 use std::alloc::{AllocError, Allocator};
 use wordset::WordSet;
 
@@ -58,21 +58,13 @@ pub struct Refinement<A: Allocator> {
     pub told: Message<A>,
 }
 
-/// Whether a declaration is no wider than another one: it has the same start and machine, lists reads exactly if the
-/// other one does, requires the same to hold at places, and at returns first what the other one requires there.
-fn is_no_wider<A: Allocator, B: Allocator>(given: &Declaration<A>, less: &Declaration<B>) -> bool
-    ensures { result ≡ true → IsNoWider (meaning given.now) (meaning less.now) }
-{
-    if !is_alike(given, less) {
-        return false;
-    }
-    if less.reads_listed() != given.reads_listed() {
-        return false;
-    }
-    if less.holds() != given.holds() || !less.returns().starts_with(given.returns()) {
-        return false;
-    }
-    adds_only(given, given, less)
+/// Whether a declaration requires the same to hold at places as another one, and at returns first what that one requires
+/// there.
+fn keeps_assertions<A: Allocator, B: Allocator>(
+    given: &Declaration<A>,
+    less: &Declaration<B>,
+) -> bool {
+    less.holds() == given.holds() && less.returns().starts_with(given.returns())
 }
 
 /// What a text declares, if that is no wider than what a given text declares, and a certificate is found for it.
@@ -90,6 +82,9 @@ fn shown_no_wider<A: Allocator + Copy, D: Allocator>(
 {
     match Declaration::parse(alloc, written) {
         Ok(less) => {
+            if !keeps_assertions(given, &less) {
+                return Ok(None);
+            }
             if !is_no_wider(given, &less) {
                 return Ok(None);
             }
@@ -225,7 +220,8 @@ pub fn tightened<A: Allocator + Copy>(
     image: &Image,
     text: &[u8],
 ) -> Result<Refinement<A>, Fault>
-    ensures { IfOk result (λ refined. IsRefined image.now text.now refined.text.items) }
+    ensures refined { IfOk result (λ refined. IsRefined image.now text.now refined.text.items) }
+    ensures faults { IfErr result (IsRefineFault text.now) }
 {
     let given = Declaration::parse(alloc, text)?;
     let Ok(certificate) = certificate_for(alloc, image, &given)? else {
@@ -270,6 +266,7 @@ pub fn with_returns<A: Allocator + Copy>(
 ) -> Result<Refinement<A>, Fault>
     ensures refined { IfOk result (λ refined. IsRefined image.now text.now refined.text.items) }
     ensures keeps { IfOk result (λ refined. KeepsLines text.now refined.text.items) }
+    ensures faults { IfErr result (IsRefineFault text.now) }
 {
     let given = Declaration::parse(alloc, text)?;
     let Ok(certificate) = certificate_for(alloc, image, &given)? else {

@@ -85,9 +85,6 @@ pub(crate) fn certificate_for<A: Allocator + Copy, D: Allocator>(
 {
     match guess(alloc, image, declaration) {
         Ok(certificate) => Ok(Ok(certificate)),
-        Err(fault) => match inconclusive_reason_of(fault) {
-            Ok(lack) => Ok(Err(lack)),
-            Err(fault) => Err(fault),
-        },
+        Err(fault) => Ok(Err(inconclusive_reason_of(fault)?)),
     }
 }

@@ -81,4 +81,4 @@ pub listed_as : (crossed : Bool) (profile : Profile) (sources : List (Option (Li
 listed_as false profile sources parts symbols image listing text read means lists plain table =
     record { symbols = symbols; image = image; parts = parts; read = read; means = means; lists = rw (plain refl) lists }
 listed_as true profile sources parts symbols image listing text read means lists plain table =
-    record { symbols = symbols; image = image; parts = parts; read = read; means = means; listing = listing; lists = lists; crossed = table refl }
+    record { listing = listing; is = record { symbols = symbols; image = image; parts = parts; read = read; means = means; lists = lists }; crossed = table refl }

@@ -4,12 +4,8 @@ use Rattle.std.specs.List.Sorted.{IsPermutation}
 use Rattle.instruct.specs.declared.Profile.{Profile}
 use Rattle.word12.specs.Words.{octal_text}
 use Rattle.pal_text.specs.declared.names.Name.{Name}
-use Rattle.pal_acts.specs.Permanent.{permanent_symbols}
-use Rattle.pal_asm.specs.Listings.{Lists}
-use Rattle.pal_asm.specs.Sources.{Means}
 use Rattle.source_commands.specs.declared.cross.Entry.{Entry}
 use Rattle.source_commands.specs.AssembleText.{IsListing}
-use Rattle.source_commands.specs.SourceTexts.{AreRead}
 
 -- The symbols of a source as entries of its table.
 abbrev pub entries_of : List (Name × ℕ) → List Entry
@@ -44,16 +40,11 @@ pub record HasTable (own : List (Name × ℕ)) (listing text : List ℕ) : Type 
   pub is_table : IsTable own table
   pub text_is : text ≡ listing ++ codes "\n" ++ table
 
--- The sources mean an image, and the text is their listing, then an empty line, then a table of their symbols.
+-- The text is the listing of the sources, then an empty line, then a table of their symbols.
 pub record IsCrossListing (profile : Profile) (sources : List (Option (List ℕ))) (text : List ℕ) : Type 0 where
-  pub symbols : List (Name × ℕ)
-  pub image : List (Option ℕ)
-  pub parts : List (List ℕ)
-  pub read : AreRead sources parts
-  pub means : Means (permanent_symbols profile) parts symbols image
   pub listing : List ℕ
-  pub lists : Lists (permanent_symbols profile) parts symbols listing
-  pub crossed : HasTable symbols listing text
+  pub is : IsListing profile sources listing
+  pub crossed : HasTable is.symbols listing text
 
 -- What is written for a listing: the listing itself or, if that is requested, the listing with the table.
 abbrev pub IsListed : Bool → Profile → List (Option (List ℕ)) → List ℕ → Type 0

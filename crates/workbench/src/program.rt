@@ -5,7 +5,9 @@ ghost use Rattle.std.specs.Prelude.{◌≤◌};
 use clap::Error;
 use command_line::explanations::{push_codes, push_explanations};
 use command_line::tips::is_wrong_tip;
-use command_line::{CommandLine, CommandLineFault, Destination, Misuse, Request, parse_arguments};
+use command_line::{
+    CommandLine, CommandLineFault, Destination, MachineTask, Misuse, Request, parse_arguments,
+};
 use command_parts::status::{DeviceFault, Fault, Status};
 use command_parts::visible::visible_text;
 use requests::faults::{fault_lines, refusal_lines};
@@ -91,10 +93,12 @@ fn carry_out<R: Files + Input + Print + Eprint>(
         Err(_) => return tell(rt, Fault::NoMemory),
     }
     let answer = match &line.request {
-        Request::Run(asked) => run_from(rt, alloc, asked),
-        Request::Session(session) => hold_session(rt, alloc, session),
-        Request::Teletype(session) => hold_teletype_session(rt, alloc, session, at_terminal),
-        Request::Dump(asked) => dump_from(rt, alloc, asked),
+        Request::Tape(MachineTask::Run(asked)) => run_from(rt, alloc, asked),
+        Request::Tape(MachineTask::Session(session)) => hold_session(rt, alloc, session),
+        Request::Tape(MachineTask::Teletype(session)) => {
+            hold_teletype_session(rt, alloc, session, at_terminal)
+        }
+        Request::Tape(MachineTask::Dump(asked)) => dump_from(rt, alloc, asked),
         Request::Assemble(asked) => {
             translate_to(rt, alloc, files, Product::Tape, asked.profile, asked.out)
         }

@@ -54,6 +54,7 @@ pub fn is_code<D: Allocator>(declaration: &Declaration<D>, cell: Word) -> bool
 }
 
 /// Adds a line that is a text, an address and a text.
+#[tactic(auto, using(crate::proofs::ViolationLemmas::joined, crate::proofs::ViolationLemmas::joined_three))]
 pub fn push_line<L: MessageWriter>(
     text: &mut L,
     before: &[u8],
@@ -69,6 +70,7 @@ pub fn push_line<L: MessageWriter>(
 }
 
 /// Adds the rest of a line: a text, an address within a line of a declaration that is advised, and a text.
+#[tactic(auto, using(crate::proofs::ViolationLemmas::joined, crate::proofs::ViolationLemmas::joined_three))]
 pub fn push_advice<L: MessageWriter>(
     text: &mut L,
     before: &[u8],
@@ -84,6 +86,7 @@ pub fn push_advice<L: MessageWriter>(
 }
 
 /// Adds the rest of a line: a text, a word that is not an address, and a text.
+#[tactic(auto, using(crate::proofs::ViolationLemmas::joined, crate::proofs::ViolationLemmas::joined_three))]
 pub fn push_word_line<L: MessageWriter>(
     text: &mut L,
     before: &[u8],

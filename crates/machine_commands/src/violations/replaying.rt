@@ -1,6 +1,6 @@
 //! The state in which a watched run stands when a step violates a rule, and the instruction that was carried out last.
 
-ghost use Rattle.std.specs.Prelude.{◌≡◌, ℕ, take, None, [], IfOk};
+ghost use Rattle.std.specs.Prelude.{◌≡◌, take, None, [], IfOk};
 ghost use Rattle.processor.specs.Runs.{Image as Words};
 ghost use Rattle.processor.specs.Steps.{state_of};
 ghost use Rattle.peripherals.specs.World.{profile_of, view};

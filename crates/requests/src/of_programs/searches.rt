@@ -1,6 +1,13 @@
 //! Searches about a program that is open: for a certificate, for a run that violates its declaration, and for a
 //! declaration.
 
+ghost use Rattle.std.specs.Prelude.{◌≡◌, true, false, IfOk};
+ghost use Rattle.analyser.specs.Attempts.{IsAcceptedIfFound, IsDraftIfStuck, claimed_by, is_found};
+ghost use Rattle.certificate.specs.Exact.{AreLines};
+ghost use Rattle.certificate_lines.specs.CertificateInCode.{meaning};
+ghost use Rattle.declaration.specs.DeclarationInCode.{meaning as declared};
+ghost use Rattle.requests.specs.Searches.{HasRequestedVersion};
+
 use crate::files::{finish, open_output};
 use crate::of_programs::open::OpenProgram;
 use crate::of_sources::source_lines::{lines_of, rest_with_source_lines};
@@ -41,7 +48,18 @@ fn search(
     program: &ProgramWithDeclaration<Global>,
     version: Option<Version>,
     is_drafted: bool,
-) -> Result<Attempt<Global>, GuessFault> {
+) -> Result<Attempt<Global>, GuessFault>
+    // The judge accepts a certificate that is found.
+    ensures accepted { IfOk result
+        (IsAcceptedIfFound program.now.image program.now.declaration) }
+    // A draft is returned only if that is requested. It has lines where the search is stuck, and all its lines are where
+    // those of a certificate may be.
+    ensures unasked { is_drafted ≡ false → IfOk result (λ attempt. is_found attempt ≡ true) }
+    ensures draft { IfOk result (IsDraftIfStuck (declared program.now.declaration)) }
+    ensures lines { IfOk result (λ attempt. AreLines (meaning (claimed_by attempt))) }
+    ensures version { IfOk result
+        (HasRequestedVersion (declared program.now.declaration).profile version) }
+{
     let ProgramWithDeclaration { image, declaration } = program;
     match version {
         None if is_drafted => guess_or_draft(alloc, image, declaration),

@@ -1,10 +1,20 @@
+use Rattle.std.proofs.Common.{rules}
 use Rattle.command_line.proofs.operator.has_operator.Goals as goal
 
-pub returns : goal.returns
-returns c = record {
+pub returns-then-mark : goal.returns-then-mark
+returns-then-mark c = record {
   mark = c.is_given-mark.result;
   mark_is = c.is_given-mark.ensures;
   teletype = c.is_given-teletype.result;
   teletype_is = c.is_given-teletype.ensures;
-  any = rw (c.has_value-reader.ensures, c.has_value-punch.ensures, c.has_value-keys.ensures, c.has_value-switches.ensures) at c.is_any.ensures;
+  any = search rules;
+}
+
+pub returns-else-mark : goal.returns-else-mark
+returns-else-mark c = record {
+  mark = c.is_given-mark.result;
+  mark_is = c.is_given-mark.ensures;
+  teletype = c.is_given-teletype.result;
+  teletype_is = c.is_given-teletype.ensures;
+  any = search rules;
 }

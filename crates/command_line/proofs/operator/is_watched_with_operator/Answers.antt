@@ -1,8 +1,16 @@
+use Rattle.std.proofs.Common.{rules}
 use Rattle.command_line.proofs.operator.is_watched_with_operator.Goals as goal
 
-pub returns : goal.returns
-returns c = record {
+pub returns-then-named : goal.returns-then-named
+returns-then-named c = record {
   mark = c.is_given-mark.result;
   flag = c.is_given-mark.ensures;
-  any = rw (c.has_value-reader.ensures, c.has_value-keys.ensures, c.has_value-switches.ensures, c.has_value-steps.ensures, c.has_value-continued.ensures) at c.is_any.ensures;
+  any = search rules;
+}
+
+pub returns-else-named : goal.returns-else-named
+returns-else-named c = record {
+  mark = c.is_given-mark.result;
+  flag = c.is_given-mark.ensures;
+  any = search rules;
 }

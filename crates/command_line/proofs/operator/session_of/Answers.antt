@@ -3,9 +3,9 @@ use Rattle.command_line.proofs.operator.session_of.Goals as goal
 
 pub returns : goal.returns
 returns c = record {
-  tape = c.in_ok-tape.ensures;
-  reader = c.get_str-reader.ensures;
-  keys = c.get_str-keys.ensures;
+  tape = c.requires.tape;
+  reader = c.get_str.ensures;
+  keys = c.get_str-2.ensures;
   punch = c.in_ok-punch.ensures.named;
   teletype = c.is_given-teletype.ensures;
   options = c.in_ok-options.ensures.options;
@@ -13,3 +13,6 @@ returns c = record {
   shown = rw c.in_ok-options.ensures.shown c.in_ok-show.ensures;
   stopping = c.in_ok-stopping.ensures;
 }
+
+pub punch_of-requires : goal.punch_of-requires
+punch_of-requires c = rw c.deref.ensures.value c.in_ok-inputs.ensures.are

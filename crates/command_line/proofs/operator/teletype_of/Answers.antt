@@ -3,8 +3,8 @@ use Rattle.command_line.proofs.operator.teletype_of.Goals as goal
 
 pub returns : goal.returns
 returns c = record {
-  tape = c.in_ok-tape.ensures;
-  reader = c.get_str-reader.ensures;
+  tape = c.requires.tape;
+  reader = c.get_str.ensures;
   punch = c.in_ok-punch.ensures.named;
   options = c.in_ok-options.ensures.options;
   interrupt = c.in_ok-interrupt.ensures;
@@ -12,3 +12,6 @@ returns c = record {
   shown = c.in_ok-options.ensures.shown;
   stopping = c.in_ok-stopping.ensures;
 }
+
+pub punch_of-requires : goal.punch_of-requires
+punch_of-requires c = rw c.deref.ensures.value c.in_ok-inputs.ensures.are

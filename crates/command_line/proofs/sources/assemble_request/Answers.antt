@@ -1,9 +1,15 @@
+use Rattle.std.proofs.Common.{refl}
+use Rattle.command_line.specs.declared.command_name.CommandName.TheVariants as kind
+use Rattle.command_line.proofs.RefusalLemmas.{beside_out}
 use Rattle.command_line.proofs.sources.assemble_request.Goals as goal
 
 pub returns : goal.returns
 returns c = record {
-  out = rw c.in_ok-out.ensures.kept c.emptied_destination.ensures;
-  sources = c.in_ok-sources.ensures;
+  out = c.in_ok-out.ensures.given;
+  sources = c.in_ok-sources.ensures.given;
   machine = c.in_ok-profile.ensures;
   explained = c.is_given.ensures;
 }
+
+pub result_of-requires : goal.result_of-requires
+result_of-requires c = rw c.deref.ensures.value (beside_out kind.Assemble c.args.found.now _ refl c.in_ok-sources.ensures.are)

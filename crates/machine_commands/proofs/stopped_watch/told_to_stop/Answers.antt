@@ -1,3 +1,4 @@
+use Rattle.std.proofs.Common.{rules}
 use Rattle.command_parts.specs.Messages.{plain}
 use Rattle.machine_commands.proofs.stopped_watch.told_to_stop.Goals as goal
 
@@ -10,5 +11,5 @@ returns-clause-told g c = record {
   before_is = c.in_ok-before.ensures;
   rest = plain c.in_ok-seen.seen.told;
   is = c.in_ok-seen.ensures.told;
-  told_is = c.in_ok-told.ensures;
+  told_is = search rules;
 }

@@ -1,21 +1,34 @@
 use Rattle.std.proofs.Common.{◌≡◌, rules}
 use Rattle.peripherals.specs.Loading.{image_of, loaded}
 use Rattle.declaration.specs.DeclarationInCode.{meaning}
+use Rattle.command_parts.specs.Messages.{plain}
 use Rattle.machine_commands.specs.Running.{fresh}
-use Rattle.machine_commands.specs.WatchText.{IsSeen}
 use Rattle.machine_commands.proofs.WatchLemmas.{is_seen}
 use Rattle.machine_commands.proofs.stopped_watch.watch_of.Goals as goal
+
+pub why_of-requires : goal.why_of-requires
+why_of-requires g c =
+    let image = c.args.image.now in
+    let d = meaning c.args.declaration.now in
+    let begins : loaded (image_of image) d.start c.zero.result ≡ fresh image d.start = search rules in
+    is_seen image d c.args.events.now c.in_ok-watched.watched (loaded (image_of image) d.start c.zero.result) begins c.in_ok-watched.ensures.clean c.in_ok-watched.ensures.broken
 
 pub returns-clause-told : goal.returns-clause-told
 returns-clause-told g c =
     let image = c.args.image.now in
     let d = meaning c.args.declaration.now in
-    let events = c.args.events.now in
     let begins : loaded (image_of image) d.start c.zero.result ≡ fresh image d.start = search rules in
-    let sees : IsSeen image d events c.in_ok-watched.watched = is_seen image d events c.in_ok-watched.watched (loaded (image_of image) d.start c.zero.result) begins c.in_ok-watched.ensures.clean c.in_ok-watched.ensures.broken in
     record {
       watched = c.in_ok-watched.watched;
-      sees = sees;
-      is = c.in_ok-told.ensures;
+      sees = is_seen image d c.args.events.now c.in_ok-watched.watched (loaded (image_of image) d.start c.zero.result) begins c.in_ok-watched.ensures.clean c.in_ok-watched.ensures.broken;
+      is = record {
+        line = c.in_ok-line.line.items;
+        is_line = c.in_ok-line.ensures;
+        why = plain c.in_ok-why.why;
+        why_is = c.in_ok-why.ensures;
+        shown = c.in_ok-shown.shown.items;
+        shows = c.in_ok-shown.ensures;
+        told_is = search rules;
+      };
       status_is = c.watched_status-status.ensures;
     }

@@ -20,6 +20,6 @@ returns-in-Ok-clause-completed g c =
       tape = c.in-Ok.ensures.image;
       declaration = meaning c.in-Ok.program.given.declaration;
       declares = c.in-Ok.ensures.declares;
-      is = completes_source _ _ _ _ status text c.in-Ok.ensures.whole is;
+      is = completes_source _ _ _ _ _ status text c.in-Ok.ensures.whole is;
     })
     c.deliver.ensures.writes

@@ -1,3 +1,4 @@
+use Rattle.std.proofs.Common.{rules}
 use Rattle.std.specs.Prelude.{Some}
 use Rattle.std.proofs.lemmas.Result.{IfOk-weaker}
 use Rattle.declaration.specs.DeclarationInCode.{meaning}
@@ -6,11 +7,11 @@ use Rattle.search_commands.proofs.CompleteLemmas.{completes_by, own_completes}
 use Rattle.search_commands.proofs.completing.completion_of.Goals as goal
 
 pub returns-in-Ok-clause-completes : goal.returns-in-Ok-clause-completes
-returns-in-Ok-clause-completes g c = own_completes _ _ _ c.requires (rw c.in-Ok.is at c.in_ok-_certificate.ensures.shown)
+returns-in-Ok-clause-completes g c = own_completes _ _ _ _ c.requires (rw c.in-Ok.is at c.in_ok-_certificate.ensures.shown)
 
 pub returns-in_ok-proposal-in-Err-clause-completes : goal.returns-in_ok-proposal-in-Err-clause-completes
 returns-in_ok-proposal-in-Err-clause-completes g c =
     IfOk-weaker c.completed.result
     (λ told. CompletesBy c.args.program.given.text.items c.args.program.image (meaning c.args.program.given.declaration) (meaning c.in_ok-proposal-in-Err.proposal.declaration) told.status told.text.items)
-    (λ told. Completes (Some c.args.program.given.text.items) c.args.program.image (meaning c.args.program.given.declaration) told.status told.text.items)
-    (λ told by. completes_by _ _ _ _ _ _ by) c.completed.ensures.completes
+    (λ told. Completes (Some c.args.program.given.text.items) c.args.reads c.args.program.image (meaning c.args.program.given.declaration) told.status told.text.items)
+    (λ told by. completes_by _ _ _ _ _ _ _ (search rules) by) c.completed.ensures.completes

@@ -1,0 +1,108 @@
+-- Why words are refused, from what a function finds wrong with them.
+use Rattle.std.proofs.Common.{◌≡◌, ◌∙◌, ◌+◌, ◌++◌, ◌<◌, ℕ, Bool, true, false, List, [], Option, None, Some, ap, drop, get_or, length, map, refl, subst, sym, true≢false}
+use Rattle.std.proofs.lemmas.List.{append_assoc, drop_more, map-append}
+use Rattle.std.specs.Borrow.{Bor}
+use Rattle.std.specs.List.{list_any}
+use Rattle.std.specs.Prelude.{codes, is_some}
+use Rattle.std.specs.Str.{bytes_eq}
+use Rattle.clap.specs.declared.parser.matches.ArgMatches.{ArgMatches}
+use Rattle.command_line.specs.declared.fault.CommandLineFault.{CommandLineFault}
+use Rattle.command_line.specs.declared.fault.CommandLineFault.TheVariants as fault
+use Rattle.command_line.specs.declared.command_name.CommandName.{CommandName}
+use Rattle.command_line.specs.declared.command_name.CommandName.TheVariants as kind
+use Rattle.command_line.specs.declared.fault.Misuse.{Misuse}
+use Rattle.command_line.specs.declared.place_options.PlaceOptions.{PlaceOptions}
+use Rattle.command_line.specs.declared.program_command.ProgramCommand.{ProgramCommand}
+use Rattle.command_line.specs.declared.program_command.ProgramCommand.TheVariants.{Verify, Watch, Guess, Refute, Declare, Report, Check}
+use Rattle.command_line.specs.Options.{ArePlacesGiven, has_value, named, number_or, sources_given, values}
+use Rattle.command_line.specs.Outputs.{result_name, result_operand}
+use Rattle.command_line.specs.Refusals.{AreInputs, AreInputsBeside, AreOfInputs, IsFoundRefused, IsLineRefused, IsMisused, IsNumberRefused, IsOfParser, IsPlaceMisused, are_distinct, result_options}
+use Rattle.command_line.specs.Requests.{input_names}
+
+-- What one more operand or option gives stands behind the inputs so far.
+pub named_more : (found : ArgMatches) (names : List (Bor (List ℕ))) (i : ℕ) (none : Bor (List ℕ)) (inputs more : List (Bor (List ℕ)))
+    → i < length names → map (λ it. it.now) more ≡ values found (get_or names i none).now
+    → map (λ it. it.now) (inputs ++ more) ++ named found (map (λ it. it.now) (drop (i + 1) names)) ≡ map (λ it. it.now) inputs ++ named found (map (λ it. it.now) (drop i names))
+named_more found names i none inputs more h e =
+    ap (λ l. l ++ named found (map (λ (it : Bor (List ℕ)). it.now) (drop (i + 1) names)))
+    (map-append (λ (it : Bor (List ℕ)). it.now) inputs more ∙ ap (λ l. map (λ (it : Bor (List ℕ)). it.now) inputs ++ l) e)
+    ∙ (append_assoc (map (λ (it : Bor (List ℕ)). it.now) inputs) (values found (get_or names i none).now) (named found (map (λ (it : Bor (List ℕ)). it.now) (drop (i + 1) names)))
+    ∙ ap (λ (l : List (Bor (List ℕ))). map (λ (it : Bor (List ℕ)). it.now) inputs ++ named found (map (λ (it : Bor (List ℕ)). it.now) l)) (sym (drop_more names i none h)))
+
+-- A number that is given and that is none between two others is refused.
+pub number_refused : (least most otherwise : ℕ) (text : Option (List ℕ)) → number_or least most otherwise text ≡ None → IsNumberRefused least most text
+number_refused least most otherwise None e = absurd (true≢false (ap is_some e))
+number_refused least most otherwise (Some text) e = e
+
+-- Operands and options that OUT is none of may give inputs, if they are different and none is an option for a result.
+pub of_inputs : (found : ArgMatches) (names : List (List ℕ)) → are_distinct (result_options ++ names) ≡ true → list_any (bytes_eq (codes "OUT")) names ≡ false → AreOfInputs found names
+of_inputs found names distinct out = record { distinct = distinct; out = λ is. absurd (true≢false (sym is ∙ out)) }
+
+-- The inputs that a function reads are what these operands and options give.
+pub are_inputs : (found : ArgMatches) (names : List (List ℕ)) (inputs : List (Bor (List ℕ))) → AreOfInputs found names → map (λ input. input.now) inputs ≡ named found names
+    → AreInputs found inputs
+are_inputs found names inputs are e = record { names = names; are = are; given = e }
+
+no_out : (b c : Bool) → (b ≡ true → c ≡ true) → c ≡ false → b ≡ false
+no_out true c h e = absurd (true≢false (sym (h refl) ∙ e))
+no_out false c h e = refl
+
+-- The inputs of a command whose result goes to OUT are beside that operand.
+pub beside_out : (called : CommandName) (found : ArgMatches) (inputs : List (Bor (List ℕ))) → result_operand called found ≡ codes "OUT" → AreInputs found inputs
+    → AreInputsBeside called found inputs
+beside_out called found inputs e are = record {
+  names = are.names;
+  are = are.are;
+  beside = λ without. subst (λ name. list_any (bytes_eq name) are.names ≡ false) (sym e) (no_out _ _ are.are.out without);
+  given = are.given;
+}
+
+inputs_beside : (called : ProgramCommand) (sourced : Bool) → list_any (bytes_eq (result_name (kind.Program called) sourced)) (input_names called sourced) ≡ false
+inputs_beside Verify true = refl
+inputs_beside Verify false = refl
+inputs_beside Watch true = refl
+inputs_beside Watch false = refl
+inputs_beside Guess true = refl
+inputs_beside Guess false = refl
+inputs_beside Refute true = refl
+inputs_beside Refute false = refl
+inputs_beside Declare true = refl
+inputs_beside Declare false = refl
+inputs_beside Report true = refl
+inputs_beside Report false = refl
+inputs_beside Check true = refl
+inputs_beside Check false = refl
+
+-- The inputs of a command on a program are beside the operand for its result.
+pub beside_result : (called : ProgramCommand) (found : ArgMatches) (inputs : List (Bor (List ℕ))) → AreOfInputs found (input_names called (is_some (sources_given found)))
+    → map (λ input. input.now) inputs ≡ named found (input_names called (is_some (sources_given found))) → AreInputsBeside (kind.Program called) found inputs
+beside_result called found inputs are e = record {
+  names = input_names called (is_some (sources_given found));
+  are = are;
+  beside = λ without. inputs_beside called (is_some (sources_given found));
+  given = e;
+}
+
+-- What is wrong with an option for cells or for a place is wrong with what is found.
+pub place_refused : (found : ArgMatches) (places : PlaceOptions) (wrong : Misuse) → ArePlacesGiven found places → IsPlaceMisused places wrong → IsMisused wrong found
+place_refused found places wrong are (which, e, given) = subst (λ it. IsMisused it found) (sym e) (places, are, given)
+
+-- What an error of the parser becomes is a refusal of the line.
+pub parser_refused : (words : List (List ℕ)) (refused : CommandLineFault) → IsOfParser refused → IsLineRefused words refused
+parser_refused words (fault.CommandLine error) is = tt
+parser_refused words fault.Memory is = tt
+parser_refused words (fault.Misuse wrong) is = absurd is
+parser_refused words (fault.Start wrong) is = absurd is
+parser_refused words (fault.Switches wrong) is = absurd is
+parser_refused words (fault.NoOperand name) is = absurd is
+parser_refused words (fault.Steps most) is = absurd is
+
+-- What is found behind a command's name and refused is a refusal of the line.
+pub found_refused : (words : List (List ℕ)) (refused : CommandLineFault) → IsFoundRefused words refused → IsLineRefused words refused
+found_refused words (fault.CommandLine error) is = tt
+found_refused words fault.Memory is = tt
+found_refused words (fault.Misuse wrong) is = is
+found_refused words (fault.Start wrong) is = is
+found_refused words (fault.Switches wrong) is = is
+found_refused words (fault.NoOperand name) is = is
+found_refused words (fault.Steps most) is = is

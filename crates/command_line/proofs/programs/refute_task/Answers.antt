@@ -1,4 +1,0 @@
-use Rattle.command_line.proofs.programs.refute_task.Goals as goal
-
-pub returns : goal.returns
-returns c = (rw c.in_ok-out.ensures.kept c.result_of.ensures, c.in_ok-options.ensures)

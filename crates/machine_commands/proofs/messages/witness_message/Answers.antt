@@ -1,0 +1,12 @@
+use Rattle.machine_commands.proofs.messages.witness_message.Goals as goal
+
+pub returns-clause-told : goal.returns-clause-told
+returns-clause-told g c = record {
+  events = c.args.found.events.items;
+  spells = c.requires.spelled;
+  event = c.args.found.event;
+  rule = c.args.found.rule;
+  breaks = c.requires.broken;
+  last = c.requires.last;
+  is = rw c.deref-2.ensures.value at c.in_ok-told.ensures;
+}

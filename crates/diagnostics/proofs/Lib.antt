@@ -1,3 +1,4 @@
+pub mod PieceLemmas
 pub mod BoundTextLemmas
 pub mod BoundLemmas
 pub mod CheckLemmas

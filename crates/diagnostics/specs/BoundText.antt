@@ -148,14 +148,10 @@ pub record SaysEnough (image : List (Option ℕ)) (d : Declaration) (at cell : �
 abbrev pub SaysSufficient : List (Option ℕ) → Declaration → ℕ → ℕ → Words → List ℕ → List ℕ → Type 0
 SaysSufficient image d at cell known old new = (new ≡ old) ⊎ SaysEnough image d at cell known old new
 
--- The word in a pointer as the sum of the word in another cell and a number.
-abbrev pub sum_text : ℕ → ℕ → ℕ → List ℕ
-sum_text cell other more = (codes "the word in " ++ octal_text cell) ++ (codes " is the word in " ++ octal_text other) ++ (codes " plus " ++ octal_text more)
-
 -- The line of a relation of a pointer to another cell, and of the instruction at which it is lost.
 abbrev pub relation_line : Declaration → List (Option ℕ) → ℕ → ℕ → ℕ → ℕ → List ℕ
 relation_line d image cell other more from =
-    sum_text cell other more ++ place_text d image (codes "; this is known up to ") from ++ codes ", and lost there\n"
+    (codes "the word in " ++ octal_text cell ++ codes " is the word in " ++ octal_text other ++ codes " plus " ++ octal_text more) ++ place_text d image (codes "; this is known up to ") from ++ codes ", and lost there\n"
 
 -- A text became this one by the place at which the bound of a pointer was lost, and by more: why it was lost there.
 pub record LosesBound (image : List (Option ℕ)) (d : Declaration) (cell : ℕ) (old new : List ℕ) : Type 0 where

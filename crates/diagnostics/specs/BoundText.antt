@@ -1,6 +1,6 @@
 -- What is said about a pointer where a search for a certificate is stuck: the cell that is named is that of the instruction, the words
 -- that would be enough are permitted ones, and the skip that could show it follows an instruction of the same body that adds the pointer.
-use Rattle.std.specs.Prelude.{ℕ, ◌≡◌, ◌+◌, ◌%◌, ◌<◌, ◌==◌, ◌&&◌, ◌⊎◌, ◌++◌, Bool, true, false, codes, if◌then◌else◌, List, [], Option, Some, None}
+use Rattle.std.specs.Prelude.{ℕ, ◌≡◌, ◌+◌, ◌%◌, ◌<◌, ◌==◌, ◌&&◌, ◌⊎◌, ◌++◌, Bool, true, false, codes, if◌then◌else◌, List, [], length, Option, Some, None}
 use Rattle.word12.specs.Words.{octal_text}
 use Rattle.wordset.specs.Words.{Words, HasNoneFrom, IsFirstFrom}
 use Rattle.wordset.specs.Ranging.{IsLastFrom}
@@ -13,6 +13,7 @@ use Rattle.instruct.specs.declared.Operation.TheVariants as operation
 use Rattle.bin_tape.specs.Image.{word_at}
 use Rattle.processor.specs.Machine.{is_auto_index}
 use Rattle.declaration.specs.Declaration.{Declaration, IsListed, Routine}
+use Rattle.certificate_lines.specs.Certificate.{Certificate}
 
 -- The word is a memory reference.
 abbrev pub is_reference : ℕ → Bool
@@ -182,7 +183,15 @@ pub record SaysPointer (image : List (Option ℕ)) (d : Declaration) (at : ℕ) 
   pub enough_is : SaysSufficient image d at cell known (told ++ codes " there\n") enough
   pub lost_is : SaysLost image d cell enough new
 
--- A text became this one by nothing, or by the lines on the pointer of the instruction at an address. That the words that are named
--- are those that the draft leaves to the pointer is tested.
-abbrev pub SaysBound : List (Option ℕ) → Declaration → ℕ → List ℕ → List ℕ → Type 0
-SaysBound image d at old new = (new ≡ old) ⊎ SaysPointer image d at old new
+-- The instruction at an address refers to memory through no variable, or the tape has no word there.
+abbrev pub HasNoPointer : List (Option ℕ) → Declaration → ℕ → Type 0
+HasNoPointer image d at = (cell : ℕ) → IsPointer image d at cell → ⊥
+
+-- Nothing is to be said of a pointer: the instruction at an address has none, or the draft has no fact there.
+abbrev pub HasNoBound : List (Option ℕ) → Declaration → Certificate → ℕ → Type 0
+HasNoBound image d draft at = HasNoPointer image d at ⊎ (length (draft.facts at) ≡ 0)
+
+-- A text became this one by the lines on the pointer of the instruction at an address, or by nothing where there is nothing to say. That
+-- the words that are named are those that the draft leaves to the pointer is tested.
+abbrev pub SaysBound : List (Option ℕ) → Declaration → Certificate → ℕ → List ℕ → List ℕ → Type 0
+SaysBound image d draft at old new = ((new ≡ old) × HasNoBound image d draft at) ⊎ SaysPointer image d at old new

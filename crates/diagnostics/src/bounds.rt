@@ -2,10 +2,11 @@
 //! enough, and the last place where fewer were known. That the draft leaves these words to it, and that fewer were known there, is tested,
 //! not proved.
 
-ghost use Rattle.std.specs.Prelude.{◌≡◌, ◌++◌, OnOk, IfSome};
+ghost use Rattle.std.specs.Prelude.{◌≡◌, ◌++◌, OnOk, IfSome, IfNone};
 ghost use Rattle.wordset.specs.Lanes.{words};
 ghost use Rattle.declaration.specs.DeclarationInCode.{meaning};
-ghost use Rattle.diagnostics.specs.BoundText.{IsPointer, LosesBound, SaysBound, SaysLost, SaysSufficient, SaysTest, place_text, relation_line};
+ghost use Rattle.certificate_lines.specs.CertificateInCode.{claims};
+ghost use Rattle.diagnostics.specs.BoundText.{HasNoPointer, IsPointer, LosesBound, SaysBound, SaysLost, SaysSufficient, SaysTest, place_text, relation_line};
 
 mod draft_facts;
 mod losses;
@@ -26,7 +27,7 @@ use command_parts::message::{MessageWriter, push_text_and_address};
 use declaration::Declaration;
 use domain::Location;
 use instruct::{name, refers_indirectly, refers_to_memory, target};
-use judge::Case;
+use judge::{Case, Claims};
 use std::alloc::{AllocError, Allocator};
 use word12::Word;
 use wordset::WordSet;
@@ -37,7 +38,8 @@ const ADDRESSES: usize = 4096;
 /// The variable by which the instruction at an address refers to memory, if it does, except for a
 /// return.
 fn pointer_at<D: Allocator>(image: &Image, declaration: &Declaration<D>, at: Word) -> Option<Word>
-    ensures { IfSome result (λ cell. IsPointer image.now (meaning declaration.now) at cell) }
+    ensures found { IfSome result (λ cell. IsPointer image.now (meaning declaration.now) at cell) }
+    ensures none { IfNone result (HasNoPointer image.now (meaning declaration.now) at) }
 {
     let word = image.get(at)?;
     let named = target(word, at);
@@ -127,16 +129,16 @@ pub fn push_bound<A: Allocator + Copy, L: MessageWriter, D: Allocator, C: Alloca
     draft: &Certificate<C>,
     at: Word,
 ) -> Result<(), AllocError>
-    ensures { OnOk result (SaysBound image.now (meaning declaration.now) at
+    ensures { OnOk result (SaysBound image.now (meaning declaration.now) (claims draft.now) at
         (L.text text.old) (L.text text.new)) }
 {
     let Some(pointer) = pointer_at(image, declaration, at) else {
         return Ok(());
     };
-    let mut known = DraftFacts::of(image, draft);
-    if !known.has_fact(at) {
+    if draft.count_facts(at, 0) == 0 {
         return Ok(());
     }
+    let mut known = DraftFacts::of(image, draft);
     let case = Case {
         image,
         declaration,

@@ -14,6 +14,10 @@ joined old mid new a b first second = rw (second, first) (append_assoc old a b)
 pub joined_three : (old mid more new a b c : List ℕ) → mid ≡ old ++ a → more ≡ mid ++ b → new ≡ more ++ c → new ≡ old ++ ((a ++ b) ++ c)
 joined_three old mid more new a b c first second third = joined old more new (a ++ b) c (joined old mid more a b first second) third
 
+-- Four pieces, of which the first three belong together
+pub joined_four : (old mid more most new a b c d : List ℕ) → mid ≡ old ++ a → more ≡ mid ++ b → most ≡ more ++ c → new ≡ most ++ d → new ≡ old ++ (((a ++ b) ++ c) ++ d)
+joined_four old mid more most new a b c d first second third fourth = joined old most new ((a ++ b) ++ c) d (joined_three old mid more most a b c first second third) fourth
+
 -- A piece that is known by another name, and one behind it
 pub known_joined : (old mid new piece a b : List ℕ) → piece ≡ a → mid ≡ old ++ piece → new ≡ mid ++ b → new ≡ old ++ (a ++ b)
 known_joined old mid new piece a b known first second = joined old mid new a b (first ∙ ap (λ (t : List ℕ). old ++ t) known) second

@@ -1,5 +1,5 @@
 use Rattle.std.proofs.lemmas.Result.{on_ok_weaker}
-use Rattle.diagnostics.proofs.PieceLemmas.{joined}
+use Rattle.diagnostics.proofs.PieceLemmas.{joined_four}
 use Rattle.diagnostics.proofs.verdicts.reason_text.push_reason.Goals as goal
 
 pub returns-in-OffsetInMain : goal.returns-in-OffsetInMain
@@ -20,5 +20,5 @@ returns-in-RoutineNotListed g c = rw c.in-RoutineNotListed.is c.push_in_body-in-
 pub returns-in_ok-push_text-in-ExitDeniesAssertion-2 : goal.returns-in_ok-push_text-in-ExitDeniesAssertion-2
 returns-in_ok-push_text-in-ExitDeniesAssertion-2 g c =
     rw c.in-ExitDeniesAssertion.is (on_ok_weaker c.push_denied.result
-    (λ is. joined _ _ _ _ _ (joined _ _ _ _ _ (joined _ _ _ _ _ c.in_ok-push_text-in-ExitDeniesAssertion.ensures c.in_ok-push_exit_line-in-ExitDeniesAssertion.ensures) c.in_ok-push_text-in-ExitDeniesAssertion-2.ensures) is)
+    (λ is. joined_four _ _ _ _ _ _ _ _ _ c.in_ok-push_text-in-ExitDeniesAssertion.ensures c.in_ok-push_exit_line-in-ExitDeniesAssertion.ensures c.in_ok-push_text-in-ExitDeniesAssertion-2.ensures is)
     c.push_denied.ensures)

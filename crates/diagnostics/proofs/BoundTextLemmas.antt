@@ -1,40 +1,19 @@
 -- What is told of the pointer of an instruction.
-use Rattle.std.proofs.Common.{ℕ, ◌≡◌, ◌+◌, ◌<◌, ◌∙◌, List, ◌++◌, Option, Some, None, sym, ap, subst, refl, arith}
-use Rattle.std.specs.Prelude.{codes, IfSome, true, false, Bool, ◌||◌, ◌&&◌, ◌==◌}
+use Rattle.std.proofs.Common.{ℕ, ◌≡◌, ◌+◌, ◌<◌, ◌∙◌, List, ◌++◌, Option, Some, sym, ap, subst, refl}
+use Rattle.std.specs.Prelude.{codes, true, false, Bool, ◌&&◌}
 use Rattle.word12.specs.Words.{octal_text}
-use Rattle.std.proofs.lemmas.Bool.{eqb-true, true≢false}
-use Rattle.wordset.specs.Words.{Words, HasNoneFrom, IsFirstFrom, meet, nothing, with_word}
+use Rattle.std.proofs.lemmas.Bool.{true≢false}
+use Rattle.wordset.specs.Words.{Words, HasNoneFrom, IsFirstFrom, meet}
 use Rattle.wordset.specs.Lanes.{words}
 use Rattle.wordset.specs.Ranging.{IsLastFrom}
-use Rattle.instruct.specs.Instructions.{operation_of}
-use Rattle.instruct.specs.declared.Operation.{Operation}
 use Rattle.bin_tape.specs.Image.{word_at}
 use Rattle.declaration.specs.Declaration.{Declaration}
-use Rattle.diagnostics.specs.BoundText.{AddsCell, AddsRanges, AddsSet, AreEnough, AreInOneBody, IsNextTest, IsPointer, IsTestOf, LosesBound, MayReferTo, NamesNoTest, NamesTest, SaysEnough, SaysLost, SaysPointer, SaysSufficient, SaysTest, all_ranges, behind, ends_computation, first_range, further_range, is_test, later_test, next_test, no_range, place_text, range_text, referred_to, some_ranges}
-use Rattle.diagnostics.proofs.ReasonLemmas.{joined, joined_three, joined_to_three}
-
--- Of no words all are enough.
-pub none_enough : (d : Declaration) (at word : ℕ) (set : Words) → set ≡ nothing → AreEnough d at word set
-none_enough d at word set empty held inside = absurd (true≢false (sym inside ∙ ap (λ (s : Words). s held) empty))
-
-in_either : (b c : Bool) → (b || c) ≡ true → b ≡ false → c ≡ true
-in_either true c e f = absurd (true≢false f)
-in_either false c e f = e
+use Rattle.diagnostics.specs.BoundText.{AddsRanges, AddsSet, AreEnough, IsNextTest, IsPointer, IsTestOf, LosesBound, NamesNoTest, NamesTest, SaysEnough, SaysLost, SaysPointer, SaysSufficient, SaysTest, all_ranges, behind, ends_computation, first_range, further_range, is_test, later_test, next_test, no_range, place_text, range_text, some_ranges}
+use Rattle.diagnostics.proofs.PieceLemmas.{joined, joined_three}
 
 both_true : (b c : Bool) → (b && c) ≡ true → (b ≡ true) × (c ≡ true)
 both_true true c e = (refl, e)
 both_true false c e = absurd (true≢false (sym e))
-
--- One word more is enough.
-pub one_enough : (d : Declaration) (at word held : ℕ) (set more : Words) → AreEnough d at word set → MayReferTo d (operation_of word) at (referred_to word at held) →
-    more ≡ with_word held set → AreEnough d at word more
-one_enough d at word held set more before new is one inside = by_test (set one) refl
-  where
-    by_test : (b : Bool) → set one ≡ b → MayReferTo d (operation_of word) at (referred_to word at one)
-    by_test true e = before one e
-    by_test false e =
-        let same : one ≡ held = eqb-true one held (in_either (set one) (one == held) (sym (ap (λ (s : Words). s one) is) ∙ inside) e) in
-        subst (λ (w : ℕ). MayReferTo d (operation_of word) at (referred_to word at w)) (sym same) new
 
 -- The first range of a set is told.
 pub first_told : (lanes set : List ℕ) (from after low high : ℕ) (old new : List ℕ) → set ≡ lanes → from ≡ 0 → IsFirstFrom from (words set) low
@@ -65,22 +44,13 @@ pub more_told : (lanes set : List ℕ) (from low : ℕ) (old now new : List ℕ)
     → new ≡ now ++ codes " and more" → AddsSet (words lanes) old new
 more_told lanes set from low old now new before same begins is = rw is (some_ranges from low now before (rw same at begins))
 
--- The test that follows a word which adds the pointer is one of a sum with it.
-pub test_found : (image : List (Option ℕ)) (d : Declaration) (at cell adding word : ℕ) (test : Option ℕ) → word_at image adding ≡ Some word → AddsCell word adding cell
-    → AreInOneBody d at adding → IfSome test (IsNextTest image adding) → IfSome test (IsTestOf image d at cell)
-test_found image d at cell adding word None is adds body follows = tt
-test_found image d at cell adding word (Some test) is adds body follows =
-    record { adding = adding; word = word; is = is; adds = adds; body = body; follows = follows }
-
 -- The line on where the bound of a pointer was lost.
-pub bound_lost : (image : List (Option ℕ)) (d : Declaration) (cell from : ℕ) (old a b c e new why : List ℕ) → a ≡ old ++ (codes "the bound of " ++ octal_text cell)
-    → b ≡ a ++ place_text d image (codes " was lost at ") from → c ≡ b ++ codes ": " → e ≡ c ++ why → new ≡ e ++ codes "\n" → LosesBound image d cell old new
-bound_lost image d cell from old a b c e new why first second third fourth fifth = record {
+pub bound_lost : (image : List (Option ℕ)) (d : Declaration) (cell from : ℕ) (old mid more new why : List ℕ) → mid ≡ old ++ (codes "the bound of " ++ octal_text cell)
+    → more ≡ mid ++ place_text d image (codes " was lost at ") from → new ≡ more ++ why → LosesBound image d cell old new
+bound_lost image d cell from old mid more new why first second third = record {
   from = from;
-  rest = codes ": " ++ (why ++ codes "\n");
-  is =
-      joined_three old a b new (codes "the bound of " ++ octal_text cell) (place_text d image (codes " was lost at ") from) (codes ": " ++ (why ++ codes "\n")) first second
-      (joined_to_three b c e new (codes ": ") why (codes "\n") third fourth fifth);
+  rest = why;
+  is = joined_three old mid more new (codes "the bound of " ++ octal_text cell) (place_text d image (codes " was lost at ") from) why first second third;
 }
 
 -- The line on a skip that could show which words the pointer holds.
@@ -113,26 +83,19 @@ enough_said image d at cell word known found set old begun told ended new is eno
 }
 
 -- The lines on a pointer.
-pub pointer_said : (image : List (Option ℕ)) (d : Declaration) (at cell : ℕ) (known : Words) (old named begun told ended enough new : List ℕ) → IsPointer image d at cell
-    → named ≡ old ++ (codes "the pointer " ++ octal_text cell) → begun ≡ named ++ codes " may hold " → AddsSet known begun told → ended ≡ told ++ codes " there\n"
+pub pointer_said : (image : List (Option ℕ)) (d : Declaration) (at cell : ℕ) (known : Words) (old begun told ended enough new : List ℕ) → IsPointer image d at cell
+    → begun ≡ old ++ (codes "the pointer " ++ octal_text cell ++ codes " may hold ") → AddsSet known begun told → ended ≡ told ++ codes " there\n"
     → SaysSufficient image d at cell known ended enough → SaysLost image d cell enough new → SaysPointer image d at old new
-pointer_said image d at cell known old named begun told ended enough new pointer first second adds third sufficient lost = record {
+pointer_said image d at cell known old begun told ended enough new pointer first adds third sufficient lost = record {
   cell = cell;
   pointer = pointer;
   known = known;
   told = told;
-  set_is = subst (λ (t : List ℕ). AddsSet known t told) (joined old named begun (codes "the pointer " ++ octal_text cell) (codes " may hold ") first second) adds;
+  set_is = subst (λ (t : List ℕ). AddsSet known t told) first adds;
   enough = enough;
   enough_is = subst (λ (t : List ℕ). SaysSufficient image d at cell known t enough) third sufficient;
   lost_is = lost;
 }
-
--- One word more is enough, if the declaration permits what it refers to.
-pub permitted : (d : Declaration) (at word held cell : ℕ) (o : Operation) (set more : Words) → AreEnough d at word set → MayReferTo d o at cell → o ≡ operation_of word
-    → cell ≡ referred_to word at held → more ≡ with_word held set → AreEnough d at word more
-permitted d at word held cell o set more before may same refers is =
-    one_enough d at word held set more before
-    (subst (λ (p : Operation). MayReferTo d p at (referred_to word at held)) same (subst (λ (c : ℕ). MayReferTo d o at c) refers may)) is
 
 -- The word behind an address is a test.
 pub test_reached : (image : List (Option ℕ)) (at here step word : ℕ) (held : Option ℕ) (tests : Bool) → ((t : ℕ) → IsNextTest image here t → IsNextTest image at t)

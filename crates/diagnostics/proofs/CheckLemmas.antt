@@ -1,6 +1,6 @@
 -- What `check` reads and counts.
-use Rattle.std.proofs.Common.{ℕ, suc, ◌+◌, length, map, arith, ◌≡◌, ◌<◌, ◌==◌, ◌&&◌, ◌||◌, ◌⊎◌, ◌∷◌, [], Bool, true, false, List, Option, Some, None, refl, sym, ◌∙◌, ap, inl, inr}
-use Rattle.std.specs.Prelude.{IfSome, OnOk, MatchResult, Result, Ok, Err}
+use Rattle.std.proofs.Common.{ℕ, suc, ◌+◌, length, map, arith, ◌≡◌, ◌<◌, ◌==◌, ◌&&◌, ◌||◌, ◌⊎◌, ◌∷◌, ◌++◌, [], Bool, true, false, List, Option, Some, None, refl, sym, ◌∙◌, ap, inl, inr}
+use Rattle.std.specs.Prelude.{decimal, IfSome, OnOk, MatchResult, Result, Ok, Err}
 use Rattle.std.proofs.lemmas.Bool.{true≢false, eq-eqb}
 use Rattle.wordset.specs.Words.{Words, SameWords, some_below}
 use Rattle.policy.specs.Runs.{IsSafe}
@@ -114,8 +114,8 @@ any_body_is rs a small =
     (λ h. let found = some_to 4096 (λ e. bodies rs e a) h in any_of_body rs found.at a found.holds)
 
 -- sets that agree have as many words
-pub counted_same : (s t : Words) (name : List ℕ) → SameWords s t → counted s name ≡ counted t name
-counted_same s t name same = rw (how_many_same 4096 s t same) refl
+pub count_pushed : (old new : List ℕ) (s t : Words) (name : List ℕ) → SameWords s t → new ≡ old ++ counted s name → new ≡ old ++ counted t name
+count_pushed old new s t name same is = is ∙ ap (λ (n : ℕ). old ++ (decimal n ++ name)) (how_many_same 4096 s t same)
 
 -- a set that has the cells of all bodies, said of what is declared
 pub all_bodies : (main : List ℕ) (rs : List Routine) (cells : List ℕ) → ((e : ℕ) → entries rs e ≡ true → e < 4096) →

@@ -3,7 +3,7 @@ use Rattle.std.proofs.Common.{ℕ, ◌≡◌, ◌∙◌, List, ◌++◌, append_
 use Rattle.std.specs.Prelude.{Result, Ok, Err, OnOk, is_ok, codes, decimal}
 use Rattle.std.proofs.lemmas.Bool.{true≢false}
 use Rattle.diagnostics.specs.FaultText.{SaysAddress, SaysChecksum, SaysFile, SaysFrame, SaysLine, SaysMore, four_digits}
-use Rattle.diagnostics.proofs.ReasonLemmas.{joined}
+use Rattle.diagnostics.proofs.PieceLemmas.{joined}
 
 -- What holds if a call succeeds leads to what holds if another one does, which succeeds exactly if the first does.
 pub on_ok_as : {T E F P Q : Type 0} (r : Result T E) (q : Result T F) → is_ok q ≡ is_ok r → (P → Q) → OnOk r P → OnOk q Q

@@ -1,6 +1,6 @@
 -- What is said about a pointer where a search for a certificate is stuck: the cell that is named is that of the instruction, the words
 -- that would be enough are permitted ones, and the skip that could show it follows an instruction of the same body that adds the pointer.
-use Rattle.std.specs.Prelude.{ℕ, ◌≡◌, ◌+◌, ◌%◌, ◌<◌, ◌==◌, ◌&&◌, ◌⊎◌, ◌++◌, Bool, true, false, codes, if◌then◌else◌, List, [], Option, Some, None}
+use Rattle.std.specs.Prelude.{ℕ, ◌≡◌, ◌+◌, ◌%◌, ◌<◌, ◌==◌, ◌&&◌, ◌⊎◌, ◌++◌, Bool, true, false, codes, if◌then◌else◌, List, [], length, Option, Some, None}
 use Rattle.word12.specs.Words.{octal_text}
 use Rattle.wordset.specs.Words.{Words, HasNoneFrom, IsFirstFrom}
 use Rattle.wordset.specs.Ranging.{IsLastFrom}
@@ -13,6 +13,7 @@ use Rattle.instruct.specs.declared.Operation.TheVariants as operation
 use Rattle.bin_tape.specs.Image.{word_at}
 use Rattle.processor.specs.Machine.{is_auto_index}
 use Rattle.declaration.specs.Declaration.{Declaration, IsListed, Routine}
+use Rattle.certificate_lines.specs.Certificate.{Certificate}
 
 -- The word is a memory reference.
 abbrev pub is_reference : ℕ → Bool
@@ -148,14 +149,10 @@ pub record SaysEnough (image : List (Option ℕ)) (d : Declaration) (at cell : �
 abbrev pub SaysSufficient : List (Option ℕ) → Declaration → ℕ → ℕ → Words → List ℕ → List ℕ → Type 0
 SaysSufficient image d at cell known old new = (new ≡ old) ⊎ SaysEnough image d at cell known old new
 
--- The word in a pointer as the sum of the word in another cell and a number.
-abbrev pub sum_text : ℕ → ℕ → ℕ → List ℕ
-sum_text cell other more = (codes "the word in " ++ octal_text cell) ++ (codes " is the word in " ++ octal_text other) ++ (codes " plus " ++ octal_text more)
-
 -- The line of a relation of a pointer to another cell, and of the instruction at which it is lost.
 abbrev pub relation_line : Declaration → List (Option ℕ) → ℕ → ℕ → ℕ → ℕ → List ℕ
 relation_line d image cell other more from =
-    sum_text cell other more ++ place_text d image (codes "; this is known up to ") from ++ codes ", and lost there\n"
+    (codes "the word in " ++ octal_text cell ++ codes " is the word in " ++ octal_text other ++ codes " plus " ++ octal_text more) ++ place_text d image (codes "; this is known up to ") from ++ codes ", and lost there\n"
 
 -- A text became this one by the place at which the bound of a pointer was lost, and by more: why it was lost there.
 pub record LosesBound (image : List (Option ℕ)) (d : Declaration) (cell : ℕ) (old new : List ℕ) : Type 0 where
@@ -186,7 +183,15 @@ pub record SaysPointer (image : List (Option ℕ)) (d : Declaration) (at : ℕ) 
   pub enough_is : SaysSufficient image d at cell known (told ++ codes " there\n") enough
   pub lost_is : SaysLost image d cell enough new
 
--- A text became this one by nothing, or by the lines on the pointer of the instruction at an address. That the words that are named
--- are those that the draft leaves to the pointer is tested.
-abbrev pub SaysBound : List (Option ℕ) → Declaration → ℕ → List ℕ → List ℕ → Type 0
-SaysBound image d at old new = (new ≡ old) ⊎ SaysPointer image d at old new
+-- The instruction at an address refers to memory through no variable, or the tape has no word there.
+abbrev pub HasNoPointer : List (Option ℕ) → Declaration → ℕ → Type 0
+HasNoPointer image d at = (cell : ℕ) → IsPointer image d at cell → ⊥
+
+-- Nothing is to be said of a pointer: the instruction at an address has none, or the draft has no fact there.
+abbrev pub HasNoBound : List (Option ℕ) → Declaration → Certificate → ℕ → Type 0
+HasNoBound image d draft at = HasNoPointer image d at ⊎ (length (draft.facts at) ≡ 0)
+
+-- A text became this one by the lines on the pointer of the instruction at an address, or by nothing where there is nothing to say. That
+-- the words that are named are those that the draft leaves to the pointer is tested.
+abbrev pub SaysBound : List (Option ℕ) → Declaration → Certificate → ℕ → List ℕ → List ℕ → Type 0
+SaysBound image d draft at old new = ((new ≡ old) × HasNoBound image d draft at) ⊎ SaysPointer image d at old new

@@ -1,3 +1,4 @@
+pub mod Pieces
 pub mod BoundText
 pub mod CertificateInputs
 pub mod CertificateFaults

@@ -11,6 +11,7 @@ use Rattle.bin_tape.specs.Image.{word_at}
 use Rattle.processor.specs.Machine.{is_auto_index}
 use Rattle.declaration.specs.Declaration.{Declaration, Routine}
 use Rattle.command_parts.specs.Dumping.{dump_line}
+use Rattle.diagnostics.specs.Pieces.{around}
 use Rattle.diagnostics.specs.declared.inputs.omissions.Omission.{Omission}
 use Rattle.diagnostics.specs.declared.inputs.omissions.Omission.TheVariants as omission
 
@@ -114,111 +115,86 @@ pub record IsOmitted (image : List (Option ℕ)) (d : Declaration) (at : ℕ) (o
   pub variable : d.variable at ≡ false
   pub violation : IsViolation image d routine at o
 
--- A text, an address in four octal digits, and a text.
-abbrev pub around_place : List ℕ → ℕ → List ℕ → List ℕ
-around_place before at after = before ++ octal_text at ++ after
-
--- A text, and behind it an address in four octal digits.
-abbrev pub before_place : List ℕ → ℕ → List ℕ
-before_place before at = before ++ octal_text at
-
 -- What the instruction at an address does.
 abbrev pub act_text : ℕ → Omission → List ℕ
 act_text at omission.NoWord = octal_text at
 act_text at omission.Unsupported = codes "the machine does not implement this word"
 act_text at omission.OfThe8e = codes "of the two machines modelled, only the PDP-8/E implements this word"
-act_text at (omission.Stores cell) = before_place (codes "it stores into ") cell
-act_text at (omission.StoresInEntry cell) = before_place (codes "it stores into ") cell
-act_text at (omission.StoresInOwn cell) = before_place (codes "it stores into ") cell
-act_text at (omission.Steps cell) = before_place (codes "it increments the pointer ") cell
-act_text at (omission.Calls place) = before_place (codes "it calls ") place
-act_text at (omission.CallsIntoBody place) = before_place (codes "it calls ") place
-act_text at (omission.CallsAutoIndex place) = before_place (codes "it calls ") place
-act_text at (omission.Jumps place) = before_place (codes "it jumps to ") place
-act_text at (omission.JumpsAcross place) = before_place (codes "it jumps to ") place
-act_text at (omission.JumpsToMain place) = before_place (codes "it jumps to ") place
+act_text at (omission.Stores cell) = codes "it stores into " ++ octal_text cell
+act_text at (omission.StoresInEntry cell) = codes "it stores into " ++ octal_text cell
+act_text at (omission.StoresInOwn cell) = codes "it stores into " ++ octal_text cell
+act_text at (omission.Steps cell) = codes "it increments the pointer " ++ octal_text cell
+act_text at (omission.Calls place) = codes "it calls " ++ octal_text place
+act_text at (omission.CallsIntoBody place) = codes "it calls " ++ octal_text place
+act_text at (omission.CallsAutoIndex place) = codes "it calls " ++ octal_text place
+act_text at (omission.Jumps place) = codes "it jumps to " ++ octal_text place
+act_text at (omission.JumpsAcross place) = codes "it jumps to " ++ octal_text place
+act_text at (omission.JumpsToMain place) = codes "it jumps to " ++ octal_text place
 act_text at omission.Halts = codes "it halts, and no halt is declared there"
-act_text at (omission.GoesOn next) = before_place (codes "the operator may continue at ") next
-act_text at (omission.GoesAcross next) = before_place (codes "the operator may continue at ") next
+act_text at (omission.GoesOn next) = codes "the operator may continue at " ++ octal_text next
+act_text at (omission.GoesAcross next) = codes "the operator may continue at " ++ octal_text next
 
 -- What is not declared of the address that it names.
 abbrev pub lack_text : Omission → List ℕ
 lack_text omission.NoWord = codes " is in a body, but the tape has no word there"
 lack_text omission.Unsupported = []
 lack_text omission.OfThe8e = []
+lack_text omission.Halts = []
 lack_text (omission.Stores cell) = codes ", which is not a variable"
+lack_text (omission.Steps cell) = codes ", which is not a variable"
 lack_text (omission.StoresInEntry cell) = codes ", which is an entry"
 lack_text (omission.StoresInOwn cell) = codes ", which is the routine's own entry"
-lack_text (omission.Steps cell) = codes ", which is not a variable"
 lack_text (omission.Calls place) = codes ", which is not an entry"
 lack_text (omission.CallsIntoBody place) = codes ", which is not an entry"
 lack_text (omission.CallsAutoIndex place) = codes ", which is not an entry"
-lack_text (omission.Jumps place) = codes ", which is not in the same body"
-lack_text (omission.JumpsAcross place) = codes ", which is not in the same body"
-lack_text (omission.JumpsToMain place) = codes ", which is not in the same body"
-lack_text omission.Halts = []
-lack_text (omission.GoesOn next) = codes ", which is not in the same body"
-lack_text (omission.GoesAcross next) = codes ", which is not in the same body"
-
--- A line that is advised, with an address in it twice.
-abbrev pub twice : List ℕ → ℕ → List ℕ → List ℕ → List ℕ
-twice before at between after = around_place before at between ++ around_place [] at after
-
--- That a stop or a pause may be declared at an address.
-abbrev pub halt_remedy : ℕ → List ℕ
-halt_remedy at = twice (codes "add `stop ") at (codes "`, or `pause ") (codes "` if the operator may continue")
+lack_text _ = codes ", which is not in the same body"
 
 -- That a stop is declared at an address in place of a pause.
 abbrev pub stop_for_pause : List ℕ → ℕ → List ℕ
-stop_for_pause before at = twice before at (codes "` in place of `pause ") (codes "`")
+stop_for_pause before at = before ++ octal_text at ++ codes "` in place of `pause " ++ octal_text at ++ codes "`"
 
 -- What to do about what is omitted at an address.
 abbrev pub remedy_text : ℕ → Omission → List ℕ
 remedy_text at omission.NoWord = codes "remove it from the body, or end the program before it"
 remedy_text at omission.Unsupported = codes "if this word is data, remove it from the body"
 remedy_text at omission.OfThe8e = codes "add `profile 8e` if the program is for a PDP-8/E"
-remedy_text at (omission.Stores cell) = around_place (codes "add `var ") cell (codes "`")
+remedy_text at (omission.Stores cell) = around (codes "add `var ") cell (codes "`")
 remedy_text at (omission.StoresInEntry cell) = codes "only a JMS that calls the routine, an ISZ in the routine and, with a `moves` line, a DCA in the routine may write there"
-remedy_text at (omission.StoresInOwn entry) = around_place (codes "add `moves ") entry (codes "`")
-remedy_text at (omission.Steps cell) = around_place (codes "add `var ") cell (codes "`")
-remedy_text at (omission.Calls entry) = around_place (codes "add `sub ") entry (codes " body .. returns ..`")
+remedy_text at (omission.StoresInOwn entry) = around (codes "add `moves ") entry (codes "`")
+remedy_text at (omission.Steps cell) = around (codes "add `var ") cell (codes "`")
+remedy_text at (omission.Calls entry) = around (codes "add `sub ") entry (codes " body .. returns ..`")
 remedy_text at (omission.CallsIntoBody entry) =
-    around_place (codes "add `sub ") entry (codes " body .. returns ..`, and remove the entry from the body and the variables")
+    around (codes "add `sub ") entry (codes " body .. returns ..`, and remove the entry from the body and the variables")
 remedy_text at (omission.CallsAutoIndex entry) = codes "no routine can begin at 0010 to 0017"
 remedy_text at (omission.Jumps place) = codes "add that address to the body"
 remedy_text at (omission.JumpsAcross place) = codes "call a routine with a JMS, and leave it with a return"
-remedy_text at (omission.JumpsToMain place) = around_place (codes "leave the routine with a return, or add `abandon ") place (codes "`")
-remedy_text at omission.Halts = halt_remedy at
+remedy_text at (omission.JumpsToMain place) = around (codes "leave the routine with a return, or add `abandon ") place (codes "`")
+remedy_text at omission.Halts =
+    codes "add `stop " ++ octal_text at ++ codes "`, or `pause " ++ octal_text at ++ codes "` if the operator may continue"
 remedy_text at (omission.GoesOn next) = stop_for_pause (codes "add that address to the body, or declare `stop ") at
 remedy_text at (omission.GoesAcross next) = stop_for_pause (codes "declare `stop ") at
 
+-- The line of what to do about what is omitted at an address.
+abbrev pub remedy_line : ℕ → Omission → List ℕ
+remedy_line at o = remedy_text at o ++ codes "\n"
+
 -- The line of what is omitted at an address, and what to do about it.
 abbrev pub omission_line : ℕ → Omission → List ℕ
-omission_line at o = act_text at o ++ lack_text o ++ codes ": " ++ remedy_text at o ++ codes "\n"
-
--- The line of what to do about what is omitted at an address, with what stands before it.
-abbrev pub remedy_line : List ℕ → ℕ → Omission → List ℕ
-remedy_line before at o = before ++ remedy_text at o ++ codes "\n"
+omission_line at o = act_text at o ++ lack_text o ++ codes ": " ++ remedy_line at o
 
 -- What is said of the instruction at which a search is stuck: what to do about what is omitted there; nothing where the reason already
 -- names a line that would allow the instruction.
 abbrev pub stuck_line : ℕ → Omission → List ℕ
 stuck_line at omission.NoWord = omission_line at omission.NoWord
-stuck_line at omission.Unsupported = remedy_line [] at omission.Unsupported
 stuck_line at omission.OfThe8e = omission_line at omission.OfThe8e
 stuck_line at (omission.StoresInOwn entry) = []
 stuck_line at (omission.JumpsToMain place) = []
-stuck_line at (omission.StoresInEntry cell) = remedy_line [] at (omission.StoresInEntry cell)
-stuck_line at (omission.CallsAutoIndex place) = remedy_line [] at (omission.CallsAutoIndex place)
-stuck_line at (omission.JumpsAcross place) = remedy_line [] at (omission.JumpsAcross place)
-stuck_line at (omission.GoesAcross next) = remedy_line [] at (omission.GoesAcross next)
-stuck_line at (omission.Stores cell) = remedy_line (codes "if this is intended, ") at (omission.Stores cell)
-stuck_line at (omission.Steps cell) = remedy_line (codes "if this is intended, ") at (omission.Steps cell)
-stuck_line at (omission.Calls place) = remedy_line (codes "if this is intended, ") at (omission.Calls place)
-stuck_line at (omission.CallsIntoBody place) = remedy_line (codes "if this is intended, ") at (omission.CallsIntoBody place)
-stuck_line at (omission.Jumps place) = remedy_line (codes "if this is intended, ") at (omission.Jumps place)
-stuck_line at omission.Halts = remedy_line (codes "if this is intended, ") at omission.Halts
-stuck_line at (omission.GoesOn next) = remedy_line (codes "if this is intended, ") at (omission.GoesOn next)
+stuck_line at omission.Unsupported = remedy_line at omission.Unsupported
+stuck_line at (omission.StoresInEntry cell) = remedy_line at (omission.StoresInEntry cell)
+stuck_line at (omission.CallsAutoIndex place) = remedy_line at (omission.CallsAutoIndex place)
+stuck_line at (omission.JumpsAcross place) = remedy_line at (omission.JumpsAcross place)
+stuck_line at (omission.GoesAcross next) = remedy_line at (omission.GoesAcross next)
+stuck_line at o = codes "if this is intended, " ++ remedy_line at o
 
 -- The lines on what is omitted at an address: the instruction, and what is said of it.
 abbrev pub omission_lines : List (Option ℕ) → Declaration → ℕ → Omission → List ℕ
@@ -233,7 +209,12 @@ pub data SaysOmissions (image : List (Option ℕ)) (d : Declaration) : List ℕ 
       → SaysOmissions image d old (new ++ omission_lines image d at o)
   others : (old new : List ℕ) → SaysOmissions image d old new → SaysOmissions image d old (new ++ codes "and other instructions\n")
 
--- A text became this one by what is said of the instruction at an address at which a search is stuck, which is so; or by nothing, and
--- when nothing is said is only tested.
+-- The tape has a word at an address, if that is a cell of a body and no variable.
+abbrev pub IsOnTape : List (Option ℕ) → Declaration → ℕ → Type 0
+IsOnTape image d at = (r : Routine) → d.body r at ≡ true → d.variable at ≡ false → word_at image at ≡ None → ⊥
+
+-- A text became this one by what is said of the instruction at an address at which a search is stuck, which is so; or by nothing, but
+-- not where the tape lacks the word of a body. When else nothing is said is only tested.
 abbrev pub SaysRemedy : List (Option ℕ) → Declaration → ℕ → List ℕ → List ℕ → Type 0
-SaysRemedy image d at old new = (new ≡ old) ⊎ ((o : Omission) × IsOmitted image d at o × (new ≡ old ++ stuck_line at o))
+SaysRemedy image d at old new =
+    ((new ≡ old) × IsOnTape image d at) ⊎ ((o : Omission) × IsOmitted image d at o × (new ≡ old ++ stuck_line at o))

@@ -1,5 +1,5 @@
 -- How the fact by which a condition fails is told from the others at its address.
-use Rattle.std.specs.Prelude.{ℕ, ◌≡◌, ◌==◌, Bool, true, false, not, ◌&&◌, List, [], ◌∷◌, length, Option, Some, None, IfSome, Result, Ok, Err}
+use Rattle.std.specs.Prelude.{ℕ, ◌≡◌, ◌==◌, Bool, true, false, not, ◌&&◌, List, length, Option, Some, None, IfSome, Result, Ok, Err}
 use Rattle.std.specs.List.{list_any}
 use Rattle.wordset.specs.Words.{only}
 use Rattle.domain.specs.Locations.{Ac, Cell}
@@ -34,17 +34,13 @@ pub record IsMarked (f : Fact) (fs : List Fact) (m : Distinction) : Type 0 where
 
 -- The place, among those at its address, of the fact of which a reason speaks, if it speaks of one.
 abbrev pub place_in : Reason → Option ℕ
-place_in (reason.AtStart l) = None
-place_in reason.LineAtNoEntry = None
-place_in reason.InNoBody = None
 place_in (reason.OffsetInMain i o) = Some i
 place_in (reason.SitesInMain i) = Some i
 place_in (reason.NoOffset i e) = Some i
 place_in (reason.NoSites i e) = Some i
-place_in (reason.RoutineNotListed e) = None
 place_in (reason.TooManyWords i n) = Some i
 place_in (reason.ByWord i w b) = Some i
-place_in (reason.ExitDeniesAssertion o i s w) = None
+place_in _ = None
 
 -- The same of a reason, if there is one.
 abbrev pub place_of_reason : Option Reason → Option ℕ

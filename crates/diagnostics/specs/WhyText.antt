@@ -1,6 +1,6 @@
 -- What `check --why` writes after the verdict: the word that violates the condition, what the condition requires, and why it
 -- fails. Of the rules of equations, by which certificates of versions 1 and 2 are judged, some of it reads otherwise.
-use Rattle.std.specs.Prelude.{ℕ, ◌≡◌, ◌+◌, ◌/◌, ◌%◌, ◌==◌, nat_lt, ◌&&◌, if◌then◌else◌, Bool, ◌++◌, codes, decimal, true, List, [], ◌∷◌, flat_map, length, min, false, Option, Some, None, is_some, IfSome, Result, Ok, Err}
+use Rattle.std.specs.Prelude.{ℕ, ◌≡◌, ◌+◌, ◌<◌, ◌==◌, nat_lt, ◌&&◌, if◌then◌else◌, Bool, ◌++◌, codes, decimal, true, List, [], ◌∷◌, flat_map, length, min, false, Option, Some, None, is_some, IfSome, Result, Ok, Err}
 use Rattle.word12.specs.Words.{octal_text}
 use Rattle.wordset.specs.Words.{minus}
 use Rattle.instruct.specs.declared.Profile.{Profile}
@@ -36,6 +36,7 @@ use Rattle.reasons.specs.declared.reason.Reason.TheVariants as reason
 use Rattle.command_parts.specs.declared.status.Status.{Status}
 use Rattle.command_parts.specs.Dumping.{dump_line}
 use Rattle.command_parts.specs.LinkText.{link_text}
+use Rattle.diagnostics.specs.Pieces.{around, offset_text}
 use Rattle.diagnostics.specs.CheckText.{IsVerdict, checked_case, condition_text, verdict_status, verdict_text}
 use Rattle.certificate_lines.specs.Written.{fact_text_at}
 use Rattle.diagnostics.specs.ReasonContexts.{IsTellingOf, place_of_reason}
@@ -71,46 +72,17 @@ sums_asked_text condition.V4 = codes "at each address where the run may continue
 sums_asked_text condition.V9 = codes "the callee's routine line lists the address of the JMS as a site, and this address is at most 7776"
 sums_asked_text condition.V10 = codes "the facts at the callee's first instruction allow every possible state"
 sums_asked_text condition.V11 = codes "the facts at each return address allow every possible state"
-sums_asked_text condition.V3 = asked_text condition.V3
-sums_asked_text condition.V5 = asked_text condition.V5
-sums_asked_text condition.V6 = asked_text condition.V6
-sums_asked_text condition.V7 = asked_text condition.V7
-sums_asked_text condition.V8 = asked_text condition.V8
-sums_asked_text condition.V12 = asked_text condition.V12
-sums_asked_text condition.V13 = asked_text condition.V13
-sums_asked_text condition.V14 = asked_text condition.V14
-sums_asked_text condition.V15 = asked_text condition.V15
-sums_asked_text condition.V16 = asked_text condition.V16
+sums_asked_text c = asked_text c
 
 -- What each condition requires, by the rules.
 abbrev pub asked_by : Rules → Condition → List ℕ
 asked_by OfEquations c = asked_text c
 asked_by OfSums c = sums_asked_text c
 
--- A text, an address in four octal digits, and a text.
-abbrev pub around : List ℕ → ℕ → List ℕ → List ℕ
-around before at after = before ++ octal_text at ++ after
-
--- A text, a number in decimal digits, and a text.
-abbrev pub around_number : List ℕ → ℕ → List ℕ → List ℕ
-around_number before number after = before ++ decimal number ++ after
-
--- An offset in octal digits, of which there is one below 10.
-abbrev pub offset_text : ℕ → List ℕ
-offset_text o = (if nat_lt o 8 then [] else decimal (o / 8)) ++ decimal (o % 8)
-
--- A text, an offset, and a text.
-abbrev pub around_offset : List ℕ → ℕ → List ℕ → List ℕ
-around_offset before o after = before ++ offset_text o ++ after
-
--- What a cell holds: its address in brackets.
-abbrev pub content_text : ℕ → List ℕ
-content_text a = around (codes "[") a (codes "]")
-
--- AC, or what a cell holds.
+-- AC, or what a cell holds: its address in brackets.
 abbrev pub name_text : Location → List ℕ
 name_text Ac = codes "AC"
-name_text (Cell a) = content_text a
+name_text (Cell a) = around (codes "[") a (codes "]")
 
 -- A number that is added, or the one that is taken away in its place, and nothing for 0.
 abbrev pub added_text : ℕ → List ℕ
@@ -127,7 +99,7 @@ abbrev pub coefficient_text : Bool → ℕ → List ℕ
 coefficient_text first c =
     if c == 1 then (if first then [] else codes " + ")
     else (if c == 4095 then (if first then codes "-" else codes " - ")
-    else ((if first then [] else codes " + ") ++ octal_text c) ++ codes " * ")
+    else (if first then [] else codes " + ") ++ octal_text c ++ codes " * ")
 
 -- A term with what comes before it.
 abbrev pub summand_text : Bool → Summand → List ℕ
@@ -151,12 +123,12 @@ is_minus sum =
 abbrev pub more_text : ℕ → List ℕ
 more_text w =
     if w == 0 then codes " may equal "
-    else (if nat_lt w 2048 then (codes " may be " ++ octal_text w) ++ codes " more than "
-    else (codes " may be " ++ octal_text (minus 0 w)) ++ codes " less than ")
+    else (if nat_lt w 2048 then codes " may be " ++ octal_text w ++ codes " more than "
+    else codes " may be " ++ octal_text (minus 0 w) ++ codes " less than ")
 
 -- That a term may be a word more than another one.
 abbrev pub difference_may_be : Term → Term → ℕ → List ℕ
-difference_may_be s t w = (term_text s ++ more_text w) ++ term_text t
+difference_may_be s t w = term_text s ++ more_text w ++ term_text t
 
 -- That a sum may be this word. Of a difference it is said by how much the one term may be more than the other.
 abbrev pub sum_may_be : Sum → ℕ → List ℕ
@@ -166,7 +138,7 @@ sum_may_be sum w =
 
 -- That a term is a word more than another one.
 abbrev pub equation_text : Term → Term → ℕ → List ℕ
-equation_text s t w = term_text s ++ (codes " = " ++ term_text t) ++ added_text w
+equation_text s t w = term_text s ++ codes " = " ++ term_text t ++ added_text w
 
 -- That a sum is this word. Of a difference it is said what its first term is.
 abbrev pub sum_is : Sum → ℕ → List ℕ
@@ -185,94 +157,58 @@ gap_text (gap.Accumulator w) = codes "AC may be " ++ octal_text w
 gap_text (gap.Mq w) = codes "MQ may be " ++ octal_text w
 gap_text (gap.Link l) = codes "the link may be " ++ link_text l
 gap_text (gap.Site a) = codes "the routine may have been called from " ++ octal_text a
-gap_text (gap.Offset o) = around_offset (codes "the return word may be the return address plus ") o (codes "")
-gap_text (gap.Cell c w) = (codes "the cell " ++ octal_text c) ++ (codes " may hold " ++ octal_text w)
+gap_text (gap.Offset o) = codes "the return word may be the return address plus " ++ offset_text o
+gap_text (gap.Cell c w) = codes "the cell " ++ octal_text c ++ codes " may hold " ++ octal_text w
 gap_text (gap.Sum s w) = sum_may_be (sum_of s) w
 gap_text (gap.Equation s w) = word_told (sum_of s) w
 gap_text (gap.Chain c v w l) =
-    (codes "while the cell " ++ octal_text c) ++ (codes " holds " ++ octal_text v) ++ (codes ", AC may be " ++ octal_text w) ++
-    (codes " with the link " ++ link_text l)
+    codes "while the cell " ++ octal_text c ++ codes " holds " ++ octal_text v ++ codes ", AC may be " ++ octal_text w ++ codes " with the link " ++ link_text l
 
--- What is said before what may be: of an equation, what requires it.
-abbrev pub required_text : Counterexample → List ℕ → List ℕ
-required_text (gap.Accumulator w) required = []
-required_text (gap.Mq w) required = []
-required_text (gap.Link l) required = []
-required_text (gap.Site a) required = []
-required_text (gap.Offset o) required = []
-required_text (gap.Cell c w) required = []
-required_text (gap.Sum s w) required = []
-required_text (gap.Equation s w) required = required
-required_text (gap.Chain c v w l) required = []
+-- What may be is that an equation is false.
+abbrev pub is_equation : Counterexample → Bool
+is_equation (gap.Equation s w) = true
+is_equation _ = false
 
--- What is said after what may be: what excludes it, or of an equation, that it may be false.
-abbrev pub excluded_text : Counterexample → List ℕ → List ℕ
-excluded_text (gap.Accumulator w) excluded = excluded
-excluded_text (gap.Mq w) excluded = excluded
-excluded_text (gap.Link l) excluded = excluded
-excluded_text (gap.Site a) excluded = excluded
-excluded_text (gap.Offset o) excluded = excluded
-excluded_text (gap.Cell c w) excluded = excluded
-excluded_text (gap.Sum s w) excluded = excluded
-excluded_text (gap.Equation s w) excluded = codes ", and this may be false"
-excluded_text (gap.Chain c v w l) excluded = excluded
-
--- What may be, with the texts that say what requires an equation, or what excludes anything else.
-abbrev pub told_gap : Counterexample → List ℕ → List ℕ → List ℕ
-told_gap g required excluded = (required_text g required ++ gap_text g) ++ excluded_text g excluded
-
--- What may be though the fact at an address excludes it.
-abbrev pub gap_of_fact : Counterexample → List ℕ
-gap_of_fact g = told_gap g (codes "the fact there requires ") (codes ", which the fact there excludes")
-
--- What may be though an exit line excludes it.
-abbrev pub gap_of_exit : Counterexample → List ℕ
-gap_of_exit g = told_gap g (codes "the exit line requires ") (codes ", which the exit line excludes")
+-- What may be though the fact or the exit line of this name excludes it; or that an equation which it requires may be false.
+abbrev pub told_gap : List ℕ → Counterexample → List ℕ
+told_gap one g =
+    if is_equation g then one ++ codes " requires " ++ gap_text g ++ codes ", and this may be false"
+    else gap_text g ++ (codes ", which " ++ one ++ codes " excludes")
 
 -- The link with which something is possible, before what is.
 abbrev pub with_link_text : ℕ → List ℕ
-with_link_text l = (codes "if the link is " ++ link_text l) ++ codes ", "
+with_link_text l = codes "if the link is " ++ link_text l ++ codes ", "
 
 -- A word that a name may hold.
 abbrev pub name_may_hold : Location → ℕ → List ℕ
 name_may_hold Ac w = codes "AC may be " ++ octal_text w
-name_may_hold (Cell c) w = (codes "the cell " ++ octal_text c) ++ (codes " may hold " ++ octal_text w)
+name_may_hold (Cell c) w = codes "the cell " ++ octal_text c ++ codes " may hold " ++ octal_text w
 
--- A word that a name may hold with a link.
-abbrev pub left_text : ℕ → Location → ℕ → List ℕ
-left_text l n w = with_link_text l ++ name_may_hold n w
+-- What is possible though the facts or the exit lines, of which one and all are called so, exclude it.
+abbrev pub possible_text : List ℕ → List ℕ → LandingFailure → List ℕ
+possible_text one all landing.NoFact = []
+possible_text one all landing.OtherBody = []
+possible_text one all (landing.Excluded g) = told_gap one g
+possible_text one all (landing.ExcludedUnder l g) = with_link_text l ++ told_gap one g
+possible_text one all (landing.NotTaken l n w) = with_link_text l ++ name_may_hold (location_of n) w ++ (codes ", which none of " ++ all ++ codes " allows")
+possible_text one all landing.NotEntailed = codes "none of " ++ all ++ codes " allows all that is possible"
 
 -- Why a run does not land.
 abbrev pub landing_text : LandingFailure → List ℕ
 landing_text landing.NoFact = codes "there is no fact at the address reached"
 landing_text landing.OtherBody = codes "the address reached is not in the body"
-landing_text (landing.Excluded g) = gap_of_fact g
-landing_text (landing.ExcludedUnder l g) = with_link_text l ++ gap_of_fact g
-landing_text (landing.NotTaken l n w) = left_text l (location_of n) w ++ codes ", which none of the facts there allows"
-landing_text landing.NotEntailed = codes "none of the facts there allows all that is possible"
+landing_text l = possible_text (codes "the fact there") (codes "the facts there") l
 
 -- Why what is possible at a return is not among what the exit lines allow.
 abbrev pub exit_text : LandingFailure → List ℕ
 exit_text landing.NoFact = codes ", which has no exit line"
 exit_text landing.OtherBody = codes ", which is not in the body"
-exit_text (landing.Excluded g) = codes ": " ++ gap_of_exit g
-exit_text (landing.ExcludedUnder l g) = (codes ": " ++ with_link_text l) ++ gap_of_exit g
-exit_text (landing.NotTaken l n w) = codes ": " ++ (left_text l (location_of n) w ++ codes ", which none of the exit lines allows")
-exit_text landing.NotEntailed = codes ": none of the exit lines allows all that is possible"
-
--- A run does not land since there is no fact.
-abbrev pub is_without_fact : LandingFailure → Bool
-is_without_fact landing.NoFact = true
-is_without_fact landing.OtherBody = false
-is_without_fact (landing.Excluded g) = false
-is_without_fact (landing.ExcludedUnder l g) = false
-is_without_fact (landing.NotTaken l n w) = false
-is_without_fact landing.NotEntailed = false
+exit_text l = codes ": " ++ possible_text (codes "the exit line") (codes "the exit lines") l
 
 -- Why the facts at the start do not allow every start.
 abbrev pub start_text : LandingFailure → List ℕ
-start_text l =
-    if is_without_fact l then codes "there is no fact at this address" else codes "at the start, " ++ landing_text l
+start_text landing.NoFact = codes "there is no fact at this address"
+start_text l = codes "at the start, " ++ landing_text l
 
 -- A call from an address past the last that may be a site, by the rules.
 abbrev pub too_high_text : Rules → List ℕ
@@ -283,36 +219,37 @@ too_high_text OfSums = codes " from an address above 7776"
 abbrev pub from_one : ℕ → ℕ
 from_one i = min (i + 1) 18446744073709551615
 
--- By which offset a callee returns, and by the rules of sums, by which several exit lines may stand for an offset, which of them.
-abbrev pub returned_text : Rules → ℕ → ℕ → List ℕ
-returned_text OfEquations o i = around_offset (codes ", which returns with offset ") o (codes ": ")
-returned_text OfSums o i = around_offset (codes ", which returns with offset ") o (codes ", according to exit line ") ++ around_number (codes "") (from_one i) (codes ": ")
+-- An offset, and by the rules of sums, by which several exit lines may stand for an offset, which of them, behind a few words.
+abbrev pub exit_line : Rules → ℕ → List ℕ → ℕ → List ℕ
+exit_line OfEquations o between i = offset_text o
+exit_line OfSums o between i = offset_text o ++ between ++ decimal (from_one i)
 
 -- What a call violates.
 abbrev pub call_text : Rules → CallViolation → List ℕ
 call_text rules call.NoEntry = codes ", which is not an entry"
 call_text rules call.NotListed = codes ", which has no routine line"
 call_text rules (call.NotLower rank own) =
-    around_number (codes ", whose rank ") rank (codes " is not below the caller's rank ") ++ decimal own
+    codes ", whose rank " ++ decimal rank ++ codes " is not below the caller's rank " ++ decimal own
 call_text rules (call.Writes c) = around (codes ", which may write ") c (codes ", a cell that the caller's written set does not contain")
 call_text rules call.EntryNotWritten = codes ", which the caller's written set does not contain"
 call_text rules call.WritesCaller = codes ", which may write the caller's entry"
 call_text rules call.NoSite = codes ", whose routine line does not list this address as a site"
 call_text rules call.TooHigh = too_high_text rules
 call_text rules (call.Enters l) = codes " and continues after the entry: " ++ landing_text l
-call_text rules (call.Returns o i l) = returned_text rules o i ++ landing_text l
+call_text rules (call.Returns o i l) =
+    codes ", which returns with offset " ++ exit_line rules o (codes ", according to exit line ") i ++ codes ": " ++ landing_text l
 
 -- That an offset of the routine of an entry is not declared. One above 7 can be declared by a `skips` line alone.
 abbrev pub undeclared_text : ℕ → ℕ → List ℕ
 undeclared_text e o =
     if nat_lt o 8 then codes ", which is not declared"
-    else (codes ", which is not declared: add `skips " ++ octal_text e) ++ around_offset (codes " ") o (codes "`")
+    else codes ", which is not declared: add `skips " ++ octal_text e ++ codes " " ++ offset_text o ++ codes "`"
 
 -- What a return through an entry violates.
 abbrev pub return_text : ℕ → ReturnViolation → List ℕ
 return_text e return.OtherRoutine = codes ", which is not the entry of its own routine"
-return_text e (return.NotDeclared o) = around_offset (codes " with offset ") o (codes "") ++ undeclared_text e o
-return_text e (return.NotAllowed o l) = around_offset (codes " with offset ") o (codes "") ++ exit_text l
+return_text e (return.NotDeclared o) = codes " with offset " ++ offset_text o ++ undeclared_text e o
+return_text e (return.NotAllowed o l) = codes " with offset " ++ offset_text o ++ exit_text l
 
 -- Of what an assertion speaks.
 abbrev pub subject_text : Subject → List ℕ
@@ -328,7 +265,7 @@ subject_word _ w = octal_text w
 
 -- That it may have a word that a line of this name excludes.
 abbrev pub denied_text : Subject → ℕ → List ℕ → List ℕ
-denied_text s w line = subject_text s ++ (codes " may be " ++ (subject_word s w ++ (codes ", which a `" ++ (line ++ codes "` line excludes"))))
+denied_text s w line = subject_text s ++ codes " may be " ++ subject_word s w ++ (codes ", which a `" ++ line ++ codes "` line excludes")
 
 -- How far an ISZ may increment the return word in its routine's own entry, by the rules.
 abbrev pub counting_text : Rules → List ℕ
@@ -338,12 +275,12 @@ counting_text OfSums = codes ", the routine's own entry, past offset 77 or past 
 -- That a DCA may store a word in its routine's own entry that is out of reach of a return address.
 abbrev pub moving_text : ℕ → ℕ → ℕ → List ℕ
 moving_text e w s =
-    (codes "it may store the word " ++ octal_text w) ++ (around (codes " in ") e (codes "") ++
-    around (codes ", but the word there must be the return address of the call at ") s (codes " plus 0 to 77"))
+    codes "it may store the word " ++ octal_text w ++ codes " in " ++ octal_text e ++
+    codes ", but the word there must be the return address of the call at " ++ octal_text s ++ codes " plus 0 to 77"
 
 -- An address, and after it that a line with it is to be added, up to its end.
 abbrev pub advised_text : List ℕ → ℕ → List ℕ → List ℕ
-advised_text before at line = (before ++ octal_text at) ++ ((line ++ octal_text at) ++ codes "`")
+advised_text before at line = before ++ octal_text at ++ line ++ octal_text at ++ codes "`"
 
 -- What a word violates.
 abbrev pub breach_text : Rules → Violation → List ℕ
@@ -352,7 +289,7 @@ breach_text rules (breach.WritesUndeclared c) = around (codes "it may write ") c
 breach_text rules (breach.WritesEntry c) = around (codes "it may write ") c (codes ", which is an entry")
 breach_text rules (breach.CountsTooFar c) = around (codes "it may increment ") c (counting_text rules)
 breach_text rules (breach.StoresInOwn c) = advised_text (codes "it may write ") c (codes ", the routine's own entry: add `moves ")
-breach_text rules (breach.MovesTooFar c w s) = moving_text c w s
+breach_text rules (breach.MovesTooFar e w s) = moving_text e w s
 breach_text rules (breach.WritesUnlisted c) = around (codes "it may write ") c (codes ", which is not in the routine's written set")
 breach_text rules breach.HaltsUndeclared = codes "it halts, and no halt is declared there"
 breach_text rules breach.CallsThroughIndex = codes "it calls through an auto-index cell"
@@ -369,7 +306,7 @@ mark_text (mark.CalledFrom a) = codes ", for the call from " ++ octal_text a
 mark_text mark.LinkClear = codes ", link 0"
 mark_text mark.LinkSet = codes ", link 1"
 mark_text (mark.Accumulator w) = codes ", AC = " ++ octal_text w
-mark_text (mark.Cell c w) = around (codes ", [") c (codes "]") ++ (codes " = " ++ octal_text w)
+mark_text (mark.Cell c w) = codes ", [" ++ octal_text c ++ codes "] = " ++ octal_text w
 
 -- The same, if something tells it.
 abbrev pub told_mark : Option Distinction → List ℕ
@@ -378,33 +315,29 @@ told_mark (Some m) = mark_text m
 
 -- All that tells it.
 abbrev pub marks_text : ReasonContext → List ℕ
-marks_text t = ((told_mark t.site ++ told_mark t.link) ++ told_mark t.accumulator) ++ told_mark t.cell
+marks_text t = told_mark t.site ++ told_mark t.link ++ told_mark t.accumulator ++ told_mark t.cell
 
 -- Which fact it is, where several stand at the address: its place among their lines, and what tells it.
 abbrev pub which_text : ReasonContext → Option ℕ → List ℕ
 which_text t None = []
 which_text t (Some i) =
     if nat_lt t.count 2 then []
-    else (around_number (codes "fact ") (from_one i) (codes " of ") ++ around_number (codes "") t.count (codes " at this address")) ++ (marks_text t ++ codes ": ")
-
--- By which offset a routine returns, and by the rules of sums by which of its exit lines.
-abbrev pub exit_named : Rules → ℕ → ℕ → List ℕ
-exit_named OfEquations o i = around_offset (codes "when it returns with offset ") o (codes ", ")
-exit_named OfSums o i = around_offset (codes "when it returns with offset ") o (codes " by exit line ") ++ around_number (codes "") (from_one i) (codes ", ")
+    else codes "fact " ++ decimal (from_one i) ++ codes " of " ++ decimal t.count ++ codes " at this address" ++ marks_text t ++ codes ": "
 
 -- Why the condition fails.
 abbrev pub reason_text : Rules → Reason → List ℕ
 reason_text rules (reason.AtStart l) = start_text l
 reason_text rules reason.LineAtNoEntry = codes "a routine or exit line names this address, which is not an entry"
 reason_text rules reason.InNoBody = codes "there is a fact at this address, which is not in any body"
-reason_text rules (reason.OffsetInMain i o) = around_offset (codes "the fact is in main's body but has the offset ") o (codes "")
+reason_text rules (reason.OffsetInMain i o) = codes "the fact is in main's body but has the offset " ++ offset_text o
 reason_text rules (reason.SitesInMain i) = codes "the fact is in main's body but has sites"
 reason_text rules (reason.NoOffset i e) = around (codes "the fact is in the body of the routine ") e (codes " but has no offset")
 reason_text rules (reason.NoSites i e) = around (codes "the fact is in the body of the routine ") e (codes " but has no sites")
 reason_text rules (reason.RoutineNotListed e) = around (codes "the fact is in the body of the routine ") e (codes ", which has no routine line")
-reason_text rules (reason.TooManyWords i n) = around_number (codes "") n (codes " words are possible")
+reason_text rules (reason.TooManyWords i n) = decimal n ++ codes " words are possible"
 reason_text rules (reason.ByWord i w b) = breach_text rules b
-reason_text rules (reason.ExitDeniesAssertion o i s w) = exit_named rules o i ++ denied_text s w (codes "returns")
+reason_text rules (reason.ExitDeniesAssertion o i s w) =
+    codes "when it returns with offset " ++ exit_line rules o (codes " by exit line ") i ++ codes ", " ++ denied_text s w (codes "returns")
 
 -- The word that is shown: the one that violates the condition, or else the tape's.
 abbrev pub word_shown : List (Option ℕ) → ℕ → Option Reason → Option ℕ
@@ -414,7 +347,7 @@ word_shown image at _ = word_at image at
 -- The line of a reason, if there is one, told by which fact it is so.
 abbrev pub reason_line : ReasonContext → Option Reason → List ℕ
 reason_line t None = []
-reason_line t (Some r) = (which_text t t.place ++ reason_text t.rules r) ++ codes "\n"
+reason_line t (Some r) = which_text t t.place ++ reason_text t.rules r ++ codes "\n"
 
 -- The address with its word and its name, what the condition requires, and why it fails. After a yes there is nothing.
 abbrev pub why_text : Profile → List (Option ℕ) → Result (Unit {0}) Refusal → Option Reason → ReasonContext → List ℕ
@@ -449,10 +382,10 @@ abbrev pub IsReason : Case → Result (Unit {0}) Refusal → Option Reason → T
 IsReason j (Ok _) reason = reason ≡ None
 IsReason j (Err r) reason = IsReasonFor j r reason
 
--- Behind a no nothing more is told.
-abbrev pub IsOnlyAfterYes : Result (Unit {0}) Refusal → List ℕ → Type 0
-IsOnlyAfterYes (Ok _) more = Unit {0}
-IsOnlyAfterYes (Err r) more = more ≡ []
+-- Behind a yes more is told, and behind a no nothing.
+abbrev pub IsSaidAfterYes : Result (Unit {0}) Refusal → List ℕ → Type 0
+IsSaidAfterYes (Ok _) more = 0 < length more
+IsSaidAfterYes (Err r) more = more ≡ []
 
 -- The text is the line of the verdict on an image, a declaration and the lines of a certificate, why it is, and the fact there; and
 -- the status is that of the verdict.
@@ -464,7 +397,7 @@ pub record IsExplanationOf (image : List (Option ℕ)) (declaration : Declaratio
   pub telling : ReasonContext
   pub told : IsTellingOf (certificate_of lines) verdict reason telling
   pub more : List ℕ
-  pub only : IsOnlyAfterYes verdict more
+  pub only : IsSaidAfterYes verdict more
   pub text_is : text ≡ ((verdict_text declaration verdict ++ why_text declaration.profile image verdict reason telling) ++ fact_shown lines verdict reason) ++ more
   pub status_is : status ≡ verdict_status verdict
 

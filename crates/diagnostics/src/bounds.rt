@@ -2,11 +2,11 @@
 //! enough, and the last place where fewer were known. That the draft leaves these words to it, and that fewer were known there, is tested,
 //! not proved.
 
-ghost use Rattle.std.specs.Prelude.{◌≡◌, ◌++◌, OnOk, IfSome};
+ghost use Rattle.std.specs.Prelude.{◌≡◌, ◌++◌, OnOk, IfSome, IfNone};
 ghost use Rattle.wordset.specs.Lanes.{words};
-ghost use Rattle.bin_tape.specs.Image.{word_at};
 ghost use Rattle.declaration.specs.DeclarationInCode.{meaning};
-ghost use Rattle.diagnostics.specs.BoundText.{IsPointer, LosesBound, SaysBound, SaysLost, SaysSufficient, SaysTest, name_at, place_text, relation_line, sum_text};
+ghost use Rattle.certificate_lines.specs.CertificateInCode.{claims};
+ghost use Rattle.diagnostics.specs.BoundText.{HasNoPointer, IsPointer, LosesBound, SaysBound, SaysLost, SaysSufficient, SaysTest, place_text, relation_line};
 
 mod draft_facts;
 mod losses;
@@ -19,12 +19,15 @@ use crate::bounds::losses::{PrecisionLoss, loss_at, may_go_on};
 use crate::bounds::relations::{Relation, lost_relation};
 use crate::bounds::sets::push_set;
 use crate::bounds::sufficient::{sufficient_words, test_of_pointer};
+use crate::pieces::Piece::{Address, Octal, Text};
+use crate::pieces::{push_around, push_pieces};
 use bin_tape::Image;
 use certificate::Certificate;
-use command_parts::message::{MessageWriter, push_text_and_address, push_text_and_word};
+use command_parts::message::{MessageWriter, push_text_and_address};
 use declaration::Declaration;
 use domain::Location;
 use instruct::{name, refers_indirectly, refers_to_memory, target};
+use judge::{Case, Claims};
 use std::alloc::{AllocError, Allocator};
 use word12::Word;
 use wordset::WordSet;
@@ -35,7 +38,8 @@ const ADDRESSES: usize = 4096;
 /// The variable by which the instruction at an address refers to memory, if it does, except for a
 /// return.
 fn pointer_at<D: Allocator>(image: &Image, declaration: &Declaration<D>, at: Word) -> Option<Word>
-    ensures { IfSome result (λ cell. IsPointer image.now (meaning declaration.now) at cell) }
+    ensures found { IfSome result (λ cell. IsPointer image.now (meaning declaration.now) at cell) }
+    ensures none { IfNone result (HasNoPointer image.now (meaning declaration.now) at) }
 {
     let word = image.get(at)?;
     let named = target(word, at);
@@ -57,8 +61,7 @@ struct LostBound {
 /// pointer is lost, and adds the others to the list.
 fn step_back<A: Allocator, D: Allocator, C: Allocator>(
     seen: &mut Vec<Word, A>,
-    image: &Image,
-    declaration: &Declaration<D>,
+    case: &Case<'_, D, Certificate<C>>,
     known: &mut DraftFacts<'_, C>,
     pointer: Word,
     here: Word,
@@ -68,10 +71,10 @@ fn step_back<A: Allocator, D: Allocator, C: Allocator>(
     }
     for index in 0..ADDRESSES {
         let from = Word::from_index(index);
-        let Some(word) = image.get(from) else {
+        let Some(word) = case.image.get(from) else {
             continue;
         };
-        if !may_go_on(declaration, from, word, here) || !known.has_fact(from) {
+        if !may_go_on(case.declaration, from, word, here) || !known.has_fact(from) {
             continue;
         }
         if let Some(loss) = loss_at(known, from, word, here, pointer) {
@@ -92,8 +95,7 @@ fn step_back<A: Allocator, D: Allocator, C: Allocator>(
 /// of it, and why the bound was lost there.
 fn lost_before<A: Allocator + Copy, D: Allocator, C: Allocator>(
     alloc: A,
-    image: &Image,
-    declaration: &Declaration<D>,
+    case: &Case<'_, D, Certificate<C>>,
     known: &mut DraftFacts<'_, C>,
     pointer: Word,
     at: Word,
@@ -101,11 +103,10 @@ fn lost_before<A: Allocator + Copy, D: Allocator, C: Allocator>(
     let mut seen = Vec::new(alloc);
     seen.push(at)?;
     for index in 0..ADDRESSES {
-        let Some(here) = seen.get(index) else {
+        let Some(here) = seen.get(index).copied() else {
             return Ok(None);
         };
-        let here = *here;
-        let found = step_back(&mut seen, image, declaration, known, pointer, here)?;
+        let found = step_back(&mut seen, case, known, pointer, here)?;
         if found.is_some() {
             return Ok(found);
         }
@@ -128,94 +129,67 @@ pub fn push_bound<A: Allocator + Copy, L: MessageWriter, D: Allocator, C: Alloca
     draft: &Certificate<C>,
     at: Word,
 ) -> Result<(), AllocError>
-    ensures { OnOk result (SaysBound image.now (meaning declaration.now) at
+    ensures { OnOk result (SaysBound image.now (meaning declaration.now) (claims draft.now) at
         (L.text text.old) (L.text text.new)) }
 {
     let Some(pointer) = pointer_at(image, declaration, at) else {
         return Ok(());
     };
-    let mut known = DraftFacts::of(image, draft);
-    if !known.has_fact(at) {
+    if draft.count_facts(at, 0) == 0 {
         return Ok(());
     }
-    push_text_and_address(text, b"the pointer ", pointer)?;
-    text.push_text(b" may hold ")?;
+    let mut known = DraftFacts::of(image, draft);
+    let case = Case {
+        image,
+        declaration,
+        claims: draft,
+    };
+    push_around(text, b"the pointer ", pointer, b" may hold ")?;
     let held = known.words_at(at, &Location::Cell(pointer));
     push_set(text, &held)?;
     text.push_text(b" there\n")?;
-    push_sufficient(text, image, declaration, at, pointer, &held)?;
-    push_lost_before(
-        alloc,
-        text,
-        image,
-        declaration,
-        draft,
-        &mut known,
-        pointer,
-        at,
-    )
-}
-
-/// Adds where the bound of a pointer was lost before an address, if it was.
-fn push_lost_before<A: Allocator + Copy, L: MessageWriter, D: Allocator, C: Allocator>(
-    alloc: A,
-    text: &mut L,
-    image: &Image,
-    declaration: &Declaration<D>,
-    draft: &Certificate<C>,
-    known: &mut DraftFacts<'_, C>,
-    pointer: Word,
-    at: Word,
-) -> Result<(), AllocError>
-    ensures { OnOk result (SaysLost image.now (meaning declaration.now) pointer
-        (L.text text.old) (L.text text.new)) }
-{
-    let Some(lost) = lost_before(alloc, image, declaration, known, pointer, at)? else {
-        return Ok(());
-    };
-    push_lost(alloc, text, image, declaration, draft, pointer, &lost)
+    push_sufficient(text, &case, at, pointer, &held)?;
+    push_lost(alloc, text, &case, &mut known, pointer, at)
 }
 
 /// Adds which of the words that a pointer may hold would be enough for the instruction at an address, if they are fewer, and which test
 /// in the same body could show it.
-fn push_sufficient<L: MessageWriter, D: Allocator>(
+fn push_sufficient<L: MessageWriter, D: Allocator, C: Allocator>(
     text: &mut L,
-    image: &Image,
-    declaration: &Declaration<D>,
+    case: &Case<'_, D, Certificate<C>>,
     at: Word,
     pointer: Word,
     held: &WordSet,
 ) -> Result<(), AllocError>
-    ensures { OnOk result (SaysSufficient image.now (meaning declaration.now) at pointer
+    ensures { OnOk result (SaysSufficient case.now.image.now (meaning case.now.declaration.now) at pointer
         (words held.now) (L.text text.old) (L.text text.new)) }
 {
-    let Some(word) = image.get(at) else {
+    let Some(word) = case.image.get(at) else {
         return Ok(());
     };
-    let sufficient = sufficient_words(declaration, at, word).meet(held);
+    let sufficient = sufficient_words(case.declaration, at, word).meet(held);
     if sufficient.is_empty() || held.is_subset(&sufficient) {
         return Ok(());
     }
     text.push_text(b"for this instruction, it would be enough if the pointer held only ")?;
     push_set(text, &sufficient)?;
     text.push_text(b"\n")?;
-    push_test(text, image, declaration, at, pointer)
+    push_test(text, case, at, pointer)
 }
 
 /// Adds the skip in the same body that tests a sum with a pointer, or that there is none.
-fn push_test<L: MessageWriter, D: Allocator>(
+fn push_test<L: MessageWriter, D: Allocator, C: Allocator>(
     text: &mut L,
-    image: &Image,
-    declaration: &Declaration<D>,
+    case: &Case<'_, D, Certificate<C>>,
     at: Word,
     pointer: Word,
 ) -> Result<(), AllocError>
-    ensures { OnOk result (SaysTest image.now (meaning declaration.now) at pointer
+    ensures { OnOk result (SaysTest case.now.image.now (meaning case.now.declaration.now) at pointer
         (L.text text.old) (L.text text.new)) }
 {
-    match test_of_pointer(image, declaration, at, pointer) {
+    match test_of_pointer(case.image, case.declaration, at, pointer) {
         Some(test) => {
-            push_place(text, image, declaration, b"the skip at ", test)?;
+            push_place(text, case, b"the skip at ", test)?;
             text.push_text(
                 b" tests a sum that contains the pointer, and could show that the pointer holds only the words that would be enough\n",
             )
@@ -229,108 +203,87 @@ fn push_test<L: MessageWriter, D: Allocator>(
     }
 }
 
-/// Adds the relation that a loop loses, if the bound was lost where paths meet and there is one; otherwise where the
-/// bound was lost, and why.
+/// Adds where the bound of a pointer was lost before an address, if it was, and why: where paths meet, the relation that a loop loses, if
+/// there is one.
 fn push_lost<A: Allocator + Copy, L: MessageWriter, D: Allocator, C: Allocator>(
     alloc: A,
     text: &mut L,
-    image: &Image,
-    declaration: &Declaration<D>,
-    draft: &Certificate<C>,
+    case: &Case<'_, D, Certificate<C>>,
+    known: &mut DraftFacts<'_, C>,
     pointer: Word,
-    lost: &LostBound,
-) -> Result<(), AllocError>
-    ensures { OnOk result (SaysLost image.now (meaning declaration.now) pointer
-        (L.text text.old) (L.text text.new)) }
-{
-    if lost.loss != PrecisionLoss::Meeting {
-        return push_loss(text, image, declaration, pointer, lost);
-    }
-    let (from, head) = (lost.from, lost.to);
-    let found = lost_relation(alloc, image, declaration, draft, pointer, from, head)?;
-    match found {
-        Some((relation, at)) => push_relation(text, image, declaration, pointer, &relation, at),
-        None => push_loss(text, image, declaration, pointer, lost),
-    }
-}
-
-/// Adds the name of the word at an address, if the tape has one.
-fn push_name<L: MessageWriter, D: Allocator>(
-    text: &mut L,
-    image: &Image,
-    declaration: &Declaration<D>,
     at: Word,
 ) -> Result<(), AllocError>
-    ensures { OnOk result (L.text text.new ≡
-        L.text text.old ++ name_at (meaning declaration.now) (word_at image.now at)) }
+    ensures { OnOk result (SaysLost case.now.image.now (meaning case.now.declaration.now) pointer
+        (L.text text.old) (L.text text.new)) }
 {
-    match image.get(at) {
-        Some(word) => text.push_text(name(word, declaration.profile()).as_str().as_bytes()),
-        None => Ok(()),
+    let Some(lost) = lost_before(alloc, case, known, pointer, at)? else {
+        return Ok(());
+    };
+    if lost.loss != PrecisionLoss::Meeting {
+        return push_loss(text, case, pointer, &lost);
+    }
+    let (from, head) = (lost.from, lost.to);
+    let found = lost_relation(alloc, case, pointer, from, head)?;
+    match found {
+        Some((relation, at)) => push_relation(text, case, pointer, &relation, at),
+        None => push_loss(text, case, pointer, &lost),
     }
 }
 
 /// Adds an address behind a few words, and the name of the word there.
-fn push_place<L: MessageWriter, D: Allocator>(
+fn push_place<L: MessageWriter, D: Allocator, C: Allocator>(
     text: &mut L,
-    image: &Image,
-    declaration: &Declaration<D>,
+    case: &Case<'_, D, Certificate<C>>,
     before: &[u8],
     at: Word,
 ) -> Result<(), AllocError>
     ensures { OnOk result (L.text text.new ≡
-        L.text text.old ++ place_text (meaning declaration.now) image.now before.now at) }
+        L.text text.old ++ place_text (meaning case.now.declaration.now) case.now.image.now before.now at) }
 {
-    push_text_and_address(text, before, at)?;
-    text.push_text(b" ")?;
-    push_name(text, image, declaration, at)
-}
-
-/// Adds that the word in a pointer is the word in another cell and so much more.
-fn push_sum<L: MessageWriter>(
-    text: &mut L,
-    pointer: Word,
-    cell: Word,
-    more: Word,
-) -> Result<(), AllocError>
-    ensures { OnOk result (L.text text.new ≡ L.text text.old ++ sum_text pointer cell more) }
-{
-    push_text_and_address(text, b"the word in ", pointer)?;
-    push_text_and_address(text, b" is the word in ", cell)?;
-    push_text_and_word(text, b" plus ", more)
+    push_pieces(text, &[Text(before), Address(at), Text(b" ")])?;
+    match case.image.get(at) {
+        Some(word) => text.push_text(name(word, case.declaration.profile()).as_str().as_bytes()),
+        None => Ok(()),
+    }
 }
 
 /// Adds a relation of a pointer that a loop keeps on one way, and the instruction at which it is lost on another.
-fn push_relation<L: MessageWriter, D: Allocator>(
+fn push_relation<L: MessageWriter, D: Allocator, C: Allocator>(
     text: &mut L,
-    image: &Image,
-    declaration: &Declaration<D>,
+    case: &Case<'_, D, Certificate<C>>,
     pointer: Word,
     relation: &Relation,
     at: Word,
 ) -> Result<(), AllocError>
     ensures { OnOk result (L.text text.new ≡ L.text text.old ++ relation_line
-        (meaning declaration.now) image.now pointer relation.now.cell relation.now.more at) }
+        (meaning case.now.declaration.now) case.now.image.now pointer relation.now.cell relation.now.more at) }
 {
-    push_sum(text, pointer, relation.cell, relation.more)?;
-    push_place(text, image, declaration, b"; this is known up to ", at)?;
+    push_pieces(
+        text,
+        &[
+            Text(b"the word in "),
+            Address(pointer),
+            Text(b" is the word in "),
+            Address(relation.cell),
+            Text(b" plus "),
+            Octal(relation.more),
+        ],
+    )?;
+    push_place(text, case, b"; this is known up to ", at)?;
     text.push_text(b", and lost there\n")
 }
 
 /// Adds where the bound of a pointer was lost, and why.
-fn push_loss<L: MessageWriter, D: Allocator>(
+fn push_loss<L: MessageWriter, D: Allocator, C: Allocator>(
     text: &mut L,
-    image: &Image,
-    declaration: &Declaration<D>,
+    case: &Case<'_, D, Certificate<C>>,
     pointer: Word,
     lost: &LostBound,
 ) -> Result<(), AllocError>
-    ensures { OnOk result (LosesBound image.now (meaning declaration.now) pointer
+    ensures { OnOk result (LosesBound case.now.image.now (meaning case.now.declaration.now) pointer
         (L.text text.old) (L.text text.new)) }
 {
     push_text_and_address(text, b"the bound of ", pointer)?;
-    push_place(text, image, declaration, b" was lost at ", lost.from)?;
-    text.push_text(b": ")?;
-    text.push_text(lost.loss.told())?;
-    text.push_text(b"\n")
+    push_place(text, case, b" was lost at ", lost.from)?;
+    push_pieces(text, &[Text(b": "), Text(lost.loss.told()), Text(b"\n")])
 }

@@ -3,4 +3,5 @@
 
 pub mod bounds;
 pub mod inputs;
+mod pieces;
 pub mod verdicts;

@@ -46,14 +46,9 @@ impl<'x, C: Allocator> DraftFacts<'x, C> {
         }
     }
 
-    /// How many facts there are at an address.
-    fn count(&self, at: Word) -> usize {
-        self.draft.count_facts(at, 0)
-    }
-
     /// Whether there is a fact at an address.
     pub(crate) fn has_fact(&self, at: Word) -> bool {
-        self.count(at) != 0
+        self.draft.count_facts(at, 0) != 0
     }
 
     /// The words that a name may hold at an address by one of the facts there.

@@ -78,22 +78,6 @@ fn tests_or_asks_device(word: Word) -> bool {
     is_test(word) || Format::of(word) == Format::Device
 }
 
-/// Whether a call at this address may return to that one.
-fn may_return<D: Allocator>(
-    declaration: &Declaration<D>,
-    entry: Word,
-    after: Word,
-    to: Word,
-) -> bool {
-    for index in 0..64usize {
-        let offset = Word::from_index(index);
-        if declaration.has_offset(entry, offset) && after.add(offset) == to {
-            return true;
-        }
-    }
-    false
-}
-
 /// Whether a word stores through a pointer.
 pub(crate) fn stores_through_pointer(word: Word) -> bool {
     matches!(operation(word), Some(Operation::Dca | Operation::Isz)) && refers_indirectly(word)
@@ -129,7 +113,8 @@ pub(crate) fn may_go_on<D: Allocator>(
         Some(Operation::Jmp) => !refers_indirectly(word) && named == to,
         Some(Operation::Jms) => {
             !refers_indirectly(word)
-                && (named.increment() == to || may_return(declaration, named, next, to))
+                && (named.increment() == to
+                    || successors_of_call(declaration, named, at).contains(to))
         }
         Some(Operation::Isz) => to == next || to == next.increment(),
         Some(_) => to == next,

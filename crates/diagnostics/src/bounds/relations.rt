@@ -100,7 +100,8 @@ struct LoopState {
 
 /// A walk through a loop, from its head and back to it.
 #[derive(Drop)]
-struct LoopTraversal<A: Allocator> {
+struct LoopTraversal<'x, A: Allocator, D: Allocator, C: Allocator> {
+    case: &'x Case<'x, D, Certificate<C>>,
     relation: Relation,
     head: Word,
     stands: Vec<LoopState, A>,
@@ -110,12 +111,7 @@ struct LoopTraversal<A: Allocator> {
     lost_at: Option<Word>,
 }
 
-impl<A: Allocator> LoopTraversal<A> {
-    /// One of the places that were found, by its number.
-    fn stand_at(&self, index: usize) -> Option<LoopState> {
-        self.stands.get(index).copied()
-    }
-
+impl<A: Allocator, D: Allocator, C: Allocator> LoopTraversal<'_, A, D, C> {
     /// Goes on at an address.
     fn continue_at(&mut self, next: LoopState) -> Result<(), AllocError> {
         if next.at == self.head {
@@ -153,45 +149,39 @@ impl<A: Allocator> LoopTraversal<A> {
     }
 
     /// Goes on from a place to wherever the word there leads, by each fact of a draft there.
-    fn step<D: Allocator, C: Allocator>(
-        &mut self,
-        case: &Case<'_, D, Certificate<C>>,
-        from: &LoopState,
-        rooms: &mut LoopWorkspace,
-    ) -> Result<(), AllocError> {
+    fn step(&mut self, from: &LoopState, rooms: &mut LoopWorkspace) -> Result<(), AllocError> {
+        let case = self.case;
         let Some(word) = case.image.get(from.at) else {
             return Ok(());
         };
+        let known = from.distance.map(|more| Relation {
+            more,
+            ..self.relation
+        });
         for index in 0..case.claims.count_facts(from.at, 0) {
-            let known = KnownDistance {
-                relation: &self.relation,
-                distance: &from.distance,
-            };
             if put_outcomes(case, from.at, word, index, &known, rooms) {
-                self.follow_each(case, from, word, &rooms.outcomes)?;
+                self.follow_each(from, word, &rooms.outcomes)?;
             }
         }
         Ok(())
     }
 
     /// Goes on with each outcome of a word.
-    fn follow_each<D: Allocator, C: Allocator>(
+    fn follow_each(
         &mut self,
-        case: &Case<'_, D, Certificate<C>>,
         from: &LoopState,
         word: Word,
         outcomes: &Outcomes,
     ) -> Result<(), AllocError> {
-        self.follow(case, from, word, &outcomes.first)?;
-        self.follow(case, from, word, &outcomes.second)?;
-        self.follow(case, from, word, &outcomes.third)?;
-        self.follow(case, from, word, &outcomes.fourth)
+        for outcome in each_of(outcomes) {
+            self.follow(from, word, outcome)?;
+        }
+        Ok(())
     }
 
     /// Goes on with one outcome of a word.
-    fn follow<D: Allocator, C: Allocator>(
+    fn follow(
         &mut self,
-        case: &Case<'_, D, Certificate<C>>,
         from: &LoopState,
         word: Word,
         outcome: &FactOutcome,
@@ -204,10 +194,10 @@ impl<A: Allocator> LoopTraversal<A> {
             }
             OutcomeKind::Goes => {
                 let (pointer, cell) = (self.relation.pointer, self.relation.cell);
-                let distance = distance_in(case.image, &outcome.fact, pointer, cell);
+                let distance = distance_in(self.case.image, &outcome.fact, pointer, cell);
                 self.spread(from, &distance, &targets)
             }
-            OutcomeKind::Calls => self.call_each(case.declaration, case.claims, from, &targets),
+            OutcomeKind::Calls => self.call(from, &targets),
             OutcomeKind::Returns | OutcomeKind::Nothing => Ok(()),
         }
     }
@@ -226,74 +216,54 @@ impl<A: Allocator> LoopTraversal<A> {
         Ok(())
     }
 
-    /// Goes on behind a call of each of these entries.
-    fn call_each<D: Allocator, C: Allocator>(
-        &mut self,
-        declaration: &Declaration<D>,
-        draft: &Certificate<C>,
-        from: &LoopState,
-        entries: &WordSet,
-    ) -> Result<(), AllocError> {
+    /// Goes on behind a call of each of these entries, which loses the distance if the routine may write one of the two cells.
+    fn call(&mut self, from: &LoopState, entries: &WordSet) -> Result<(), AllocError> {
         for entry in entries.iter() {
-            self.call(declaration, draft, from, entry)?;
+            let Some(routine) = self.case.claims.routine(entry) else {
+                continue;
+            };
+            let is_written = routine.writes.contains(self.relation.pointer)
+                || routine.writes.contains(self.relation.cell);
+            let distance = if is_written { None } else { from.distance };
+            let places = successors_of_call(self.case.declaration, entry, from.at);
+            self.spread(from, &distance, &places)?;
         }
         Ok(())
     }
-
-    /// Goes on behind a call, which loses the distance if the routine may write one of the two cells.
-    fn call<D: Allocator, C: Allocator>(
-        &mut self,
-        declaration: &Declaration<D>,
-        draft: &Certificate<C>,
-        from: &LoopState,
-        entry: Word,
-    ) -> Result<(), AllocError> {
-        let Some(routine) = draft.routine(entry) else {
-            return Ok(());
-        };
-        let is_written = routine.writes.contains(self.relation.pointer)
-            || routine.writes.contains(self.relation.cell);
-        let distance = if is_written { None } else { from.distance };
-        self.spread(
-            from,
-            &distance,
-            &successors_of_call(declaration, entry, from.at),
-        )
-    }
 }
 
-/// A relation, and the distance that is known of it.
-#[derive(Clone, Copy)]
-struct KnownDistance<'x> {
-    relation: &'x Relation,
-    distance: &'x Option<Word>,
+/// The outcomes of a word, one by one.
+fn each_of(outcomes: &Outcomes) -> [&FactOutcome; 4] {
+    [
+        &outcomes.first,
+        &outcomes.second,
+        &outcomes.third,
+        &outcomes.fourth,
+    ]
 }
 
-/// Adds the distance that is known to a fact, if there is room.
-fn relate(fact: &mut Fact, known: &KnownDistance<'_>)
+/// Adds a relation, if one is known, to a fact, if there is room.
+fn relate(fact: &mut Fact, known: &Option<Relation>)
     ensures { HasShape (fact_in_code fact.old) → HasShape (fact_in_code fact.new) }
 {
-    let Some(more) = known.distance else {
+    let Some(known) = known else {
         return;
     };
     if fact.relations().is_full() {
         return;
     }
-    let sum = Sum::difference(
-        Location::Cell(known.relation.pointer),
-        Location::Cell(known.relation.cell),
-    );
-    fact.relate_one(&sum, *more);
+    let sum = Sum::difference(Location::Cell(known.pointer), Location::Cell(known.cell));
+    fact.relate_one(&sum, known.more);
 }
 
-/// Whether the fact at this place of those at an address of a body is asked, with a distance that is known; then the outcomes of a word
+/// Whether the fact at this place of those at an address of a body is asked, with a relation that is known; then the outcomes of a word
 /// there stand in the room for them.
 fn put_outcomes<D: Allocator, C: Allocator>(
     case: &Case<'_, D, Certificate<C>>,
     at: Word,
     word: Word,
     index: usize,
-    known: &KnownDistance<'_>,
+    known: &Option<Relation>,
     rooms: &mut LoopWorkspace,
 ) -> bool
     requires { index < length ((claims case.now.claims.now).facts at) }
@@ -330,6 +300,7 @@ fn lost_in_loop<A: Allocator + Copy, D: Allocator, C: Allocator>(
     rooms: &mut LoopWorkspace,
 ) -> Result<Option<Word>, AllocError> {
     let mut walk = LoopTraversal {
+        case,
         relation: *relation,
         head,
         stands: Vec::new(alloc),
@@ -342,18 +313,14 @@ fn lost_in_loop<A: Allocator + Copy, D: Allocator, C: Allocator>(
         lost_at: None,
         restored: false,
     };
-    walk.step(case, &first, rooms)?;
+    walk.step(&first, rooms)?;
     for index in 0..MOST_STANDS {
-        let Some(next) = walk.stand_at(index) else {
+        let Some(next) = walk.stands.get(index).copied() else {
             break;
         };
-        walk.step(case, &next, rooms)?;
+        walk.step(&next, rooms)?;
     }
-    if walk.is_kept {
-        Ok(walk.lost_at)
-    } else {
-        Ok(None)
-    }
+    Ok(if walk.is_kept { walk.lost_at } else { None })
 }
 
 /// The relations between a pointer and a variable that are known where a loop is entered with this fact.
@@ -380,13 +347,7 @@ fn relations_of<A: Allocator, D: Allocator>(
 
 /// The fact of the first outcome that goes on at the head of a loop.
 fn fact_entering<'x>(outcomes: &'x Outcomes, head: Word) -> Option<&'x NextFact> {
-    let all = [
-        &outcomes.first,
-        &outcomes.second,
-        &outcomes.third,
-        &outcomes.fourth,
-    ];
-    for outcome in all {
+    for outcome in each_of(outcomes) {
         let mut targets = WordSet::empty();
         outcome.targets.put(&mut targets);
         if outcome.kind == OutcomeKind::Goes && targets.contains(head) {
@@ -406,19 +367,10 @@ fn relations_entering<A: Allocator, D: Allocator, C: Allocator>(
     head: Word,
     rooms: &mut LoopWorkspace,
 ) -> Result<Vec<Relation, A>, AllocError> {
-    let relation = Relation {
-        pointer,
-        cell: pointer,
-        more: Word::ZERO,
-    };
-    let known = KnownDistance {
-        relation: &relation,
-        distance: &None,
-    };
     let Some(word) = case.image.get(from) else {
         return Ok(Vec::new(alloc));
     };
-    if case.claims.count_facts(from, 0) == 0 || !put_outcomes(case, from, word, 0, &known, rooms) {
+    if case.claims.count_facts(from, 0) == 0 || !put_outcomes(case, from, word, 0, &None, rooms) {
         return Ok(Vec::new(alloc));
     }
     match fact_entering(&rooms.outcomes, head) {
@@ -432,22 +384,15 @@ fn relations_entering<A: Allocator, D: Allocator, C: Allocator>(
 #[inline(never)]
 pub(crate) fn lost_relation<A: Allocator + Copy, D: Allocator, C: Allocator>(
     alloc: A,
-    image: &Image,
-    declaration: &Declaration<D>,
-    draft: &Certificate<C>,
+    case: &Case<'_, D, Certificate<C>>,
     pointer: Word,
     from: Word,
     head: Word,
 ) -> Result<Option<(Relation, Word)>, AllocError> {
     let mut rooms = Box::new(alloc, LoopWorkspace::new())?;
-    let case = Case {
-        image,
-        declaration,
-        claims: draft,
-    };
-    let relations = relations_entering(alloc, &case, pointer, from, head, &mut rooms)?;
+    let relations = relations_entering(alloc, case, pointer, from, head, &mut rooms)?;
     for relation in relations.iter() {
-        if let Some(at) = lost_in_loop(alloc, &case, head, relation, &mut rooms)? {
+        if let Some(at) = lost_in_loop(alloc, case, head, relation, &mut rooms)? {
             return Ok(Some((*relation, at)));
         }
     }

@@ -2,16 +2,39 @@
 
 ghost use Rattle.std.specs.Prelude.{OnOk};
 ghost use Rattle.std.specs.String.{string_bytes};
-ghost use Rattle.diagnostics.specs.FaultText.{SaysAddress, SaysDeclared, SaysLine, SaysMore};
+ghost use Rattle.diagnostics.specs.FaultText.{SaysAddress, SaysDeclared};
 
 use crate::inputs::forms::declaration_form;
 use crate::inputs::lines::line_of;
-use crate::inputs::{FaultyFile, push_formed, push_numbered, push_said};
+use crate::inputs::{FaultyFile, push_formed, push_said};
 use declaration::DeclarationFault;
 use peripherals::NoMemory;
 use std::alloc::Allocator;
 use std::fmt::Write;
 use word12::Word;
+
+/// What is said of a declaration with this fault, or of the line or the address that has it. What is said of a line with no valid form
+/// depends on its first word instead.
+fn said_of(fault: &DeclarationFault) -> &'static str {
+    match fault {
+        DeclarationFault::TwoStarts(_) => "duplicate start line: only one is allowed",
+        DeclarationFault::TwoProfiles(_) => "duplicate profile line: only one is allowed",
+        DeclarationFault::NoStart =>
+            "a line such as `start 0200` is missing; in a source, write it as `/: start 0200`",
+        DeclarationFault::Overlap(_) =>
+            " has two roles that exclude each other. Either it is in two bodies; or it is an entry and also a variable, a cell of a body or the entry of another routine; or it is both a stop and a pause. Remove one of the roles",
+        DeclarationFault::EntryInAutoIndex(_) =>
+            " is one of the cells 0010 to 0017, which an indirect reference increments; a routine must begin elsewhere",
+        DeclarationFault::StartNotInMain => "the start is not in any `main` line: add it there",
+        DeclarationFault::HaltNotInBody(_) =>
+            " is not in any body: add it to the `main` line or to a routine's body",
+        DeclarationFault::Misplaced(_) =>
+            " is named where it may not be: `skips`, `moves` and `returns` name entries, `abandon` names cells of main, and `holds` names cells of bodies",
+        DeclarationFault::TooMany =>
+            "it has more than 64 `sub` lines, 64 `skips` lines or 256 `holds` and `returns` lines, or more than 16384 bytes",
+        DeclarationFault::BadLine(_) | DeclarationFault::NoMemory => "",
+    }
+}
 
 /// Adds the lines on a fault of a declaration.
 pub(crate) fn push_declaration<A: Allocator>(
@@ -22,79 +45,25 @@ pub(crate) fn push_declaration<A: Allocator>(
     ensures { OnOk result (SaysDeclared fault file.now.name.now
         (string_bytes text.old) (string_bytes text.new)) }
 {
+    let said = said_of(&fault);
     match fault {
         DeclarationFault::BadLine(number) => {
             let form = declaration_form(line_of(file.bytes, number));
             push_formed(text, file, number, form)
         }
-        DeclarationFault::TwoStarts(number) => push_repeated(text, file, number, "start"),
-        DeclarationFault::TwoProfiles(number) => push_repeated(text, file, number, "profile"),
-        DeclarationFault::NoStart => push_said(
-            text,
-            file,
-            "a line such as `start 0200` is missing; in a source, write it as `/: start 0200`",
-        ),
-        DeclarationFault::Overlap(at) => push_address(
-            text,
-            file,
-            "",
-            at,
-            " has two roles that exclude each other. Either it is in two bodies; or it is an entry and also a variable, a cell of a body or the entry of another routine; or it is both a stop and a pause. Remove one of the roles",
-        ),
-        DeclarationFault::EntryInAutoIndex(at) => push_address(
-            text,
-            file,
-            "the entry ",
-            at,
-            " is one of the cells 0010 to 0017, which an indirect reference increments; a routine must begin elsewhere",
-        ),
-        DeclarationFault::StartNotInMain => push_said(
-            text,
-            file,
-            "the start is not in any `main` line: add it there",
-        ),
-        DeclarationFault::HaltNotInBody(at) => push_address(
-            text,
-            file,
-            "the stop or pause ",
-            at,
-            " is not in any body: add it to the `main` line or to a routine's body",
-        ),
-        DeclarationFault::Misplaced(at) => push_address(
-            text,
-            file,
-            "",
-            at,
-            " is named where it may not be: `skips`, `moves` and `returns` name entries, `abandon` names cells of main, and `holds` names cells of bodies",
-        ),
-        DeclarationFault::TooMany => push_said(
-            text,
-            file,
-            "it has more than 64 `sub` lines, 64 `skips` lines or 256 `holds` and `returns` lines, or more than 16384 bytes",
-        ),
+        DeclarationFault::TwoStarts(number) => push_formed(text, file, number, said),
+        DeclarationFault::TwoProfiles(number) => push_formed(text, file, number, said),
+        DeclarationFault::NoStart => push_said(text, file, said),
+        DeclarationFault::Overlap(at) => push_address(text, file, "", at, said),
+        DeclarationFault::EntryInAutoIndex(at) => push_address(text, file, "the entry ", at, said),
+        DeclarationFault::StartNotInMain => push_said(text, file, said),
+        DeclarationFault::HaltNotInBody(at) => {
+            push_address(text, file, "the stop or pause ", at, said)
+        }
+        DeclarationFault::Misplaced(at) => push_address(text, file, "", at, said),
+        DeclarationFault::TooMany => push_said(text, file, said),
         DeclarationFault::NoMemory => Ok(()),
     }
-}
-
-/// Adds the lines on a line of a kind of which there may be one only.
-fn push_repeated<A: Allocator>(
-    text: &mut String<A>,
-    file: &FaultyFile<'_>,
-    number: usize,
-    kind: &str,
-) -> Result<(), NoMemory>
-    ensures { OnOk result (SaysLine file.now.name.now number
-        (string_bytes text.old) (string_bytes text.new)) }
-{
-    push_numbered(text, file, number)?;
-    push_duplicate(text, kind)
-}
-
-/// Adds that there may be one line of a kind only.
-fn push_duplicate<A: Allocator>(text: &mut String<A>, kind: &str) -> Result<(), NoMemory>
-    ensures { OnOk result (SaysMore (string_bytes text.old) (string_bytes text.new)) }
-{
-    writeln!(text, "duplicate {kind} line: only one is allowed").map_err(|_| NoMemory)
 }
 
 /// Adds a line with the name of a file and what is said of an address in it.

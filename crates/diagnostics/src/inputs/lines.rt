@@ -46,16 +46,8 @@ pub fn push_numbered<A: Allocator>(
     push_line(text, line_of(file.bytes, number))
 }
 
-/// Adds the characters of a line, and its end.
+/// Adds the characters of a line, and its end; a byte that is no character is shown as a question mark.
 fn push_line<A: Allocator>(text: &mut String<A>, line: &[u8]) -> Result<(), NoMemory>
-    ensures { OnOk result (SaysMore (string_bytes text.old) (string_bytes text.new)) }
-{
-    push_shown(text, line)?;
-    text.push('\n').map_err(|_| NoMemory)
-}
-
-/// Adds the characters of a line; a byte that is none is shown as a question mark.
-fn push_shown<A: Allocator>(text: &mut String<A>, line: &[u8]) -> Result<(), NoMemory>
     ensures { OnOk result (SaysMore (string_bytes text.old) (string_bytes text.new)) }
 {
     for byte in line.iter().take(MOST_SHOWN) {
@@ -63,5 +55,5 @@ fn push_shown<A: Allocator>(text: &mut String<A>, line: &[u8]) -> Result<(), NoM
         let shown = if is_shown { *byte as char } else { '?' };
         text.push(shown).map_err(|_| NoMemory)?;
     }
-    Ok(())
+    text.push('\n').map_err(|_| NoMemory)
 }

@@ -1,17 +1,20 @@
 //! What a declaration leaves out, as far as that is seen by the tape and the declaration alone: no
 //! certificate can fix it, if a run comes there.
 
-ghost use Rattle.std.specs.Prelude.{◌≡◌, ◌++◌, ℕ, List, Option, Some, IfSome, OnOk, codes, false, true};
+ghost use Rattle.std.specs.Prelude.{◌≡◌, ◌++◌, ℕ, List, Option, Some, IfSome, IfNone, OnOk, codes, false, true};
 ghost use Rattle.instruct.specs.Bits.{is_indirect};
 ghost use Rattle.instruct.specs.Instructions.{Dca, Jms, Jmp, instruction_of, kind_of, meaning_of, reference};
 ghost use Rattle.instruct.specs.declared.Instruction.TheVariants.{Memory, Unsupported};
 ghost use Rattle.bin_tape.specs.Image.{word_at};
 ghost use Rattle.declaration.specs.Declaration.{Declaration as Promise, Routine};
 ghost use Rattle.declaration.specs.DeclarationInCode.{meaning, routine_of};
-ghost use Rattle.diagnostics.specs.OmissionText.{IsHalt, IsOmitted, IsViolation, Means, SaysOmissions, SaysRemedy, Stores, act_text, around_place, halt_remedy, lack_text, omission_line, remedy_line, remedy_text, stop_for_pause, stuck_line, twice};
+ghost use Rattle.diagnostics.specs.OmissionText.{IsHalt, IsOmitted, IsOnTape, IsViolation, Means, SaysOmissions, SaysRemedy, Stores, act_text, lack_text, omission_line, remedy_line, remedy_text, stop_for_pause, stuck_line};
+ghost use Rattle.diagnostics.specs.Pieces.{around};
 
+use crate::pieces::Piece::{Advised, Text};
+use crate::pieces::push_pieces;
 use bin_tape::Image;
-use command_parts::message::{MessageWriter, push_text_and_address, push_text_and_advised};
+use command_parts::message::{MessageWriter, push_text_and_address};
 use declaration::{Declaration, Owner};
 use instruct::{
     Instruction, Operation, Profile, SkipCondition, decode, halts, refers_indirectly, target,
@@ -285,8 +288,9 @@ fn omitted_in_body<D: Allocator>(
     owner: Owner,
     at: Word,
 ) -> Option<Omission>
-    ensures { IfSome result
+    ensures found { IfSome result
         (IsViolation image.now (meaning declaration.now) (routine_of owner) at) }
+    ensures none { IfNone result (word_at image.now at ≡ None → ⊥) }
 {
     match image.get(at) {
         None => Some(Omission::NoWord),
@@ -300,7 +304,8 @@ fn omitted_at<D: Allocator>(
     declaration: &Declaration<D>,
     at: Word,
 ) -> Option<Omission>
-    ensures { IfSome result (IsOmitted image.now (meaning declaration.now) at) }
+    ensures found { IfSome result (IsOmitted image.now (meaning declaration.now) at) }
+    ensures none { IfNone result (IsOnTape image.now (meaning declaration.now) at) }
 {
     let Some(owner) = declaration.owner_of(at) else {
         return None;
@@ -312,45 +317,16 @@ fn omitted_at<D: Allocator>(
 }
 
 /// Adds an address within a line of a declaration that is advised, with what comes before it and after it.
-fn push_advice<L: MessageWriter>(
+fn push_advice<'a, L: MessageWriter>(
     text: &mut L,
-    before: &[u8],
+    before: &'a [u8],
     place: Word,
-    after: &[u8],
+    after: &'a [u8],
 ) -> Result<(), AllocError>
     ensures { OnOk result
-        (L.text text.new ≡ L.text text.old ++ around_place before.now place after.now) }
+        (L.text text.new ≡ L.text text.old ++ around before.now place after.now) }
 {
-    push_text_and_advised(text, before, place)?;
-    text.push_text(after)
-}
-
-/// Adds an address within a line of a declaration that is advised, where it stands twice.
-fn push_advice_twice<L: MessageWriter>(
-    text: &mut L,
-    before: &[u8],
-    place: Word,
-    between: &[u8],
-    after: &[u8],
-) -> Result<(), AllocError>
-    ensures { OnOk result
-        (L.text text.new ≡ L.text text.old ++ twice before.now place between.now after.now) }
-{
-    push_advice(text, before, place, between)?;
-    push_advice(text, b"", place, after)
-}
-
-/// Adds that a stop may be declared at an address, or a pause.
-fn push_halt_remedy<L: MessageWriter>(text: &mut L, at: Word) -> Result<(), AllocError>
-    ensures { OnOk result (L.text text.new ≡ L.text text.old ++ halt_remedy at) }
-{
-    push_advice_twice(
-        text,
-        b"add `stop ",
-        at,
-        b"`, or `pause ",
-        b"` if the operator may continue",
-    )
+    push_pieces(text, &[Text(before), Advised(place), Text(after)])
 }
 
 /// Adds what the instruction at an address does.
@@ -403,6 +379,22 @@ fn lack_of(omission: &Omission) -> &'static [u8]
     }
 }
 
+/// Adds that a stop may be declared at an address, or a pause.
+fn push_halt_remedy<L: MessageWriter>(text: &mut L, at: Word) -> Result<(), AllocError>
+    ensures { OnOk result (L.text text.new ≡ L.text text.old ++ remedy_text at Omission.Halts) }
+{
+    push_pieces(
+        text,
+        &[
+            Text(b"add `stop "),
+            Advised(at),
+            Text(b"`, or `pause "),
+            Advised(at),
+            Text(b"` if the operator may continue"),
+        ],
+    )
+}
+
 /// Adds that a stop is declared at an address in place of a pause.
 fn push_stop_for_pause<L: MessageWriter>(
     text: &mut L,
@@ -411,7 +403,16 @@ fn push_stop_for_pause<L: MessageWriter>(
 ) -> Result<(), AllocError>
     ensures { OnOk result (L.text text.new ≡ L.text text.old ++ stop_for_pause before.now at) }
 {
-    push_advice_twice(text, before, at, b"` in place of `pause ", b"`")
+    push_pieces(
+        text,
+        &[
+            Text(before),
+            Advised(at),
+            Text(b"` in place of `pause "),
+            Advised(at),
+            Text(b"`"),
+        ],
+    )
 }
 
 /// Adds what to do about what is omitted at an address.
@@ -461,6 +462,18 @@ fn push_remedy<L: MessageWriter>(
     }
 }
 
+/// Adds the line of what to do about what is omitted at an address.
+fn push_remedy_line<L: MessageWriter>(
+    text: &mut L,
+    at: Word,
+    omission: &Omission,
+) -> Result<(), AllocError>
+    ensures { OnOk result (L.text text.new ≡ L.text text.old ++ remedy_line at omission.now) }
+{
+    push_remedy(text, at, omission)?;
+    text.push_text(b"\n")
+}
+
 /// Adds the line of what the instruction at an address would violate, and what to do about it.
 fn push_omission<L: MessageWriter>(
     text: &mut L,
@@ -472,23 +485,7 @@ fn push_omission<L: MessageWriter>(
     push_act(text, at, omission)?;
     text.push_text(lack_of(omission))?;
     text.push_text(b": ")?;
-    push_remedy(text, at, omission)?;
-    text.push_text(b"\n")
-}
-
-/// Adds the line of what to do about what is omitted at an address.
-fn push_remedy_line<L: MessageWriter>(
-    text: &mut L,
-    before: &[u8],
-    at: Word,
-    omission: &Omission,
-) -> Result<(), AllocError>
-    ensures { OnOk result (L.text text.new ≡
-        L.text text.old ++ remedy_line before.now at omission.now) }
-{
-    text.push_text(before)?;
-    push_remedy(text, at, omission)?;
-    text.push_text(b"\n")
+    push_remedy_line(text, at, omission)
 }
 
 /// Adds the line of what to do about what is omitted at an address, if the instruction is intended.
@@ -498,9 +495,10 @@ fn push_intended<L: MessageWriter>(
     omission: &Omission,
 ) -> Result<(), AllocError>
     ensures { OnOk result (L.text text.new ≡
-        L.text text.old ++ remedy_line (codes "if this is intended, ") at omission.now) }
+        L.text text.old ++ (codes "if this is intended, " ++ remedy_line at omission.now)) }
 {
-    push_remedy_line(text, b"if this is intended, ", at, omission)
+    text.push_text(b"if this is intended, ")?;
+    push_remedy_line(text, at, omission)
 }
 
 /// Adds what is said of the instruction at which a search is stuck, where this is omitted. Where the reason already names a line
@@ -519,7 +517,7 @@ fn push_stuck<L: MessageWriter>(
         | Omission::StoresInEntry(_)
         | Omission::CallsAutoIndex(_)
         | Omission::JumpsAcross(_)
-        | Omission::GoesAcross(_) => push_remedy_line(text, b"", at, omission),
+        | Omission::GoesAcross(_) => push_remedy_line(text, at, omission),
         Omission::Stores(_) | Omission::Steps(_) | Omission::Calls(_) => {
             push_intended(text, at, omission)
         }

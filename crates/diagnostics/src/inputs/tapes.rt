@@ -11,6 +11,29 @@ use std::alloc::Allocator;
 use std::fmt::Write;
 use word12::Word;
 
+/// What is said of a tape with this fault, or of the frame that has it.
+fn said_of(fault: &TapeFault) -> &'static str {
+    match fault {
+        TapeFault::TooLong =>
+            "its first 65536 frames have no trailer (a frame 200) after the last word",
+        TapeFault::NoWord =>
+            "it ends before any word: is it a tape in the format of the Binary Loader?",
+        TapeFault::NoOrigin =>
+            "a data word comes first; the first word must say where the next ones go, and its first frame must be from 100 to 177",
+        TapeFault::BadFrame(_) =>
+            "a word is two frames, from 000 to 177 and then from 000 to 077; before the first word, 200 is leader; after a word, 200 ends the tape; 300 may stand between words; frames between two rubouts (377) are skipped",
+        TapeFault::WrongField(_) =>
+            "it selects a field of memory other than 0, and there is only field 0",
+        TapeFault::Truncated =>
+            "it ends within a word, or after a rubout (377) that no second rubout follows, or it has no trailer (a frame 200) after the checksum",
+        TapeFault::NoChecksum =>
+            "its last word is an origin, not a checksum: is the tape complete?",
+        TapeFault::Checksum(..) =>
+            "a frame was misread, lost or duplicated, or it is a RIM tape, which has no checksum",
+        TapeFault::ReadFault => "",
+    }
+}
+
 /// Adds the lines on a fault of a tape.
 pub(crate) fn push_tape<A: Allocator>(
     text: &mut String<A>,
@@ -20,55 +43,27 @@ pub(crate) fn push_tape<A: Allocator>(
     ensures { OnOk result (SaysTape fault file.now.name.now
         (string_bytes text.old) (string_bytes text.new)) }
 {
+    let said = said_of(&fault);
     match fault {
-        TapeFault::TooLong => push_said(
-            text,
-            file,
-            "its first 65536 frames have no trailer (a frame 200) after the last word",
-        ),
-        TapeFault::NoWord => push_said(
-            text,
-            file,
-            "it ends before any word: is it a tape in the format of the Binary Loader?",
-        ),
-        TapeFault::NoOrigin => push_said(
-            text,
-            file,
-            "a data word comes first; the first word must say where the next ones go, and its first frame must be from 100 to 177",
-        ),
-        TapeFault::BadFrame(place) => push_frame(
-            text,
-            file,
-            place,
-            "a word is two frames, from 000 to 177 and then from 000 to 077; before the first word, 200 is leader; after a word, 200 ends the tape; 300 may stand between words; frames between two rubouts (377) are skipped",
-        ),
-        TapeFault::WrongField(place) => push_frame(
-            text,
-            file,
-            place,
-            "it selects a field of memory other than 0, and there is only field 0",
-        ),
-        TapeFault::Truncated => push_said(
-            text,
-            file,
-            "it ends within a word, or after a rubout (377) that no second rubout follows, or it has no trailer (a frame 200) after the checksum",
-        ),
-        TapeFault::NoChecksum => push_said(
-            text,
-            file,
-            "its last word is an origin, not a checksum: is the tape complete?",
-        ),
-        TapeFault::Checksum(read, counted) => push_checksum(text, file, read, counted),
+        TapeFault::TooLong => push_said(text, file, said),
+        TapeFault::NoWord => push_said(text, file, said),
+        TapeFault::NoOrigin => push_said(text, file, said),
+        TapeFault::BadFrame(place) => push_frame(text, file, place, said),
+        TapeFault::WrongField(place) => push_frame(text, file, place, said),
+        TapeFault::Truncated => push_said(text, file, said),
+        TapeFault::NoChecksum => push_said(text, file, said),
+        TapeFault::Checksum(read, counted) => push_checksum(text, file, read, counted, said),
         TapeFault::ReadFault => Ok(()),
     }
 }
 
-/// Adds the line on a checksum that was read, and another that was counted.
+/// Adds the line on a checksum that was read, and another that was counted, and what is said of the tape.
 fn push_checksum<A: Allocator>(
     text: &mut String<A>,
     file: &FaultyFile<'_>,
     read: Word,
     counted: Word,
+    said: &str,
 ) -> Result<(), NoMemory>
     ensures { OnOk result (SaysChecksum file.now.name.now read counted
         (string_bytes text.old) (string_bytes text.new)) }
@@ -78,7 +73,7 @@ fn push_checksum<A: Allocator>(
     let counted = counted.value();
     writeln!(
         text,
-        "{name}: its last word, the checksum, is {read:04o}, and the frames of the words before it add up to {counted:04o}: a frame was misread, lost or duplicated, or it is a RIM tape, which has no checksum"
+        "{name}: its last word, the checksum, is {read:04o}, and the frames of the words before it add up to {counted:04o}: {said}"
     )
     .map_err(|_| NoMemory)
 }

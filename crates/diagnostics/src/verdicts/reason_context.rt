@@ -8,7 +8,7 @@ ghost use Rattle.domain.specs.FactInCode.{fact_in_code};
 ghost use Rattle.domain.specs.Facts as said;
 ghost use Rattle.diagnostics.specs.ReasonContexts.{AreMarks, IsMarked, IsTelling, IsTellingOf, has_mark, is_word, place_in, place_of_reason};
 
-use domain::{CellSet, Location, Rules};
+use domain::{Location, Rules};
 use facts::Fact;
 use judge::{Claims, Refusal};
 use reasons::Reason;
@@ -55,17 +55,17 @@ fn place_in(reason: &Reason) -> Option<usize>
     ensures { result ≡ place_in reason.now }
 {
     match reason {
-        Reason::AtStart(_) => None,
-        Reason::LineAtNoEntry => None,
-        Reason::InNoBody => None,
-        Reason::OffsetInMain(index, _) => Some(*index),
-        Reason::SitesInMain(index) => Some(*index),
-        Reason::NoOffset(index, _) => Some(*index),
-        Reason::NoSites(index, _) => Some(*index),
-        Reason::RoutineNotListed(_) => None,
-        Reason::TooManyWords(index, _) => Some(*index),
-        Reason::ByWord(index, _, _) => Some(*index),
-        Reason::ExitDeniesAssertion(..) => None,
+        Reason::OffsetInMain(index, _)
+        | Reason::SitesInMain(index)
+        | Reason::NoOffset(index, _)
+        | Reason::NoSites(index, _)
+        | Reason::TooManyWords(index, _)
+        | Reason::ByWord(index, _, _) => Some(*index),
+        Reason::AtStart(_)
+        | Reason::LineAtNoEntry
+        | Reason::InNoBody
+        | Reason::RoutineNotListed(_)
+        | Reason::ExitDeniesAssertion(..) => None,
     }
 }
 
@@ -127,84 +127,33 @@ fn some_lacks<C: Claims>(claims: &C, at: Word, mark: &Distinction, given: &mut F
     false
 }
 
-/// A mark, if a fact has it and some fact at the address does not.
+/// A mark, if there is one that a fact has and some fact at the address does not.
 fn told<C: Claims>(
     claims: &C,
     at: Word,
     fact: &Fact,
-    mark: &Distinction,
+    mark: Option<Distinction>,
     given: &mut Fact,
 ) -> Option<Distinction>
     ensures { IfSome result
         (IsMarked (fact_in_code fact.now) ((C.claims claims.now).facts at)) }
 {
-    if !has_mark(fact, mark) {
+    let mark = mark?;
+    if !has_mark(fact, &mark) {
         return None;
     }
-    if !some_lacks(claims, at, mark, given) {
+    if !some_lacks(claims, at, &mark, given) {
         return None;
     }
-    Some(*mark)
+    Some(mark)
 }
 
-/// From where a fact says that the running routine was called, if that tells it from others at its address.
-fn site_mark<C: Claims>(claims: &C, at: Word, fact: &Fact, given: &mut Fact) -> Option<Distinction>
-    ensures { IfSome result
-        (IsMarked (fact_in_code fact.now) ((C.claims claims.now).facts at)) }
-{
-    match fact.sites().only() {
-        None => None,
-        Some(site) => told(claims, at, fact, &Distinction::CalledFrom(site), given),
-    }
-}
-
-/// What a fact says of the link, if that tells it from others at its address.
-fn link_mark<C: Claims>(claims: &C, at: Word, fact: &Fact, given: &mut Fact) -> Option<Distinction>
-    ensures { IfSome result
-        (IsMarked (fact_in_code fact.now) ((C.claims claims.now).facts at)) }
-{
-    if let Some(mark) = told(claims, at, fact, &Distinction::LinkClear, given) {
-        return Some(mark);
-    }
-    told(claims, at, fact, &Distinction::LinkSet, given)
-}
-
-/// Which word a fact says that the accumulator holds, if that tells it from others at its address.
-fn accumulator_mark<C: Claims>(
-    claims: &C,
-    at: Word,
-    fact: &Fact,
-    given: &mut Fact,
-) -> Option<Distinction>
-    ensures { IfSome result
-        (IsMarked (fact_in_code fact.now) ((C.claims claims.now).facts at)) }
-{
-    match fact.accumulator().only() {
-        None => None,
-        Some(word) => told(claims, at, fact, &Distinction::Accumulator(word), given),
-    }
-}
-
-/// Which word a fact says that a cell holds of which it tells something, if that tells it from others at its address.
-fn entry_mark<C: Claims>(
-    claims: &C,
-    at: Word,
-    fact: &Fact,
-    entry: &CellSet,
-    given: &mut Fact,
-) -> Option<Distinction>
-    ensures { IfSome result
-        (IsMarked (fact_in_code fact.now) ((C.claims claims.now).facts at)) }
-{
-    match entry.set.only() {
-        None => None,
-        Some(word) => told(
-            claims,
-            at,
-            fact,
-            &Distinction::Cell(entry.cell, word),
-            given,
-        ),
+/// What a fact says of the link, if it allows one link alone.
+fn link_mark(fact: &Fact) -> Distinction {
+    if fact.link().contains(Link::CLEAR) {
+        Distinction::LinkClear
+    } else {
+        Distinction::LinkSet
     }
 }
 
@@ -214,7 +163,11 @@ fn cell_mark<C: Claims>(claims: &C, at: Word, fact: &Fact, given: &mut Fact) -> 
         (IsMarked (fact_in_code fact.now) ((C.claims claims.now).facts at)) }
 {
     for entry in fact.told_cells() {
-        if let Some(mark) = entry_mark(claims, at, fact, entry, given) {
+        let mark = entry
+            .set
+            .only()
+            .map(|word| Distinction::Cell(entry.cell, word));
+        if let Some(mark) = told(claims, at, fact, mark, given) {
             return Some(mark);
         }
     }
@@ -233,10 +186,13 @@ fn with_marks<C: Claims>(claims: &C, at: Word, index: usize, plain: &ReasonConte
     let mut fact = Fact::any();
     let mut given = Fact::any();
     let _line = claims.put_fact(at, 0, index, &mut fact);
+    let site = fact.sites().only().map(Distinction::CalledFrom);
+    let link = Some(link_mark(&fact));
+    let accumulator = fact.accumulator().only().map(Distinction::Accumulator);
     ReasonContext {
-        site: site_mark(claims, at, &fact, &mut given),
-        link: link_mark(claims, at, &fact, &mut given),
-        accumulator: accumulator_mark(claims, at, &fact, &mut given),
+        site: told(claims, at, &fact, site, &mut given),
+        link: told(claims, at, &fact, link, &mut given),
+        accumulator: told(claims, at, &fact, accumulator, &mut given),
         cell: cell_mark(claims, at, &fact, &mut given),
         ..*plain
     }

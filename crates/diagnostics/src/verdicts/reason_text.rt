@@ -2,21 +2,22 @@
 
 ghost use Rattle.std.specs.Prelude.{◌≡◌, ◌++◌, codes, OnOk};
 ghost use Rattle.diagnostics.specs.CheckText.{condition_text};
-ghost use Rattle.diagnostics.specs.WhyText.{around, asked_by, reason_line, reason_text, which_text, why_text, word_shown};
+ghost use Rattle.diagnostics.specs.Pieces.{around};
+ghost use Rattle.diagnostics.specs.WhyText.{asked_by, reason_line, reason_text, why_text, word_shown};
 
 mod asked;
 mod landing;
 mod marks;
-mod pieces;
 mod sums;
 mod violation;
 
+use crate::pieces::Piece::{Decimal, Offset, Text};
+use crate::pieces::{push_around, push_pieces};
 use crate::verdicts::reason_context::ReasonContext;
 use crate::verdicts::reason_text::asked::asked_of;
 use crate::verdicts::reason_text::landing::push_start;
 use crate::verdicts::reason_text::marks::push_which;
-use crate::verdicts::reason_text::pieces::{push_around, push_around_number, push_around_offset};
-use crate::verdicts::reason_text::violation::{push_denied, push_exit_named, push_violation};
+use crate::verdicts::reason_text::violation::{push_denied, push_exit_line, push_violation};
 use crate::verdicts::verdict::condition_name;
 use bin_tape::Image;
 use command_parts::message::MessageWriter;
@@ -56,11 +57,12 @@ fn push_reason<L: MessageWriter>(
         Reason::InNoBody => {
             text.push_text(b"there is a fact at this address, which is not in any body")
         }
-        Reason::OffsetInMain(_, offset) => push_around_offset(
+        Reason::OffsetInMain(_, offset) => push_pieces(
             text,
-            b"the fact is in main's body but has the offset ",
-            *offset,
-            b"",
+            &[
+                Text(b"the fact is in main's body but has the offset "),
+                Offset(*offset),
+            ],
         ),
         Reason::SitesInMain(_) => text.push_text(b"the fact is in main's body but has sites"),
         Reason::NoOffset(_, entry) => push_in_body(text, *entry, b" but has no offset"),
@@ -70,32 +72,21 @@ fn push_reason<L: MessageWriter>(
             *entry,
             b", which has no routine line",
         ),
-        Reason::TooManyWords(_, count) => {
-            push_around_number(text, b"", *count, b" words are possible")
-        }
+        Reason::TooManyWords(_, count) => push_pieces(
+            text,
+            &[Decimal(*count), Text(b" words are possible")],
+        ),
         Reason::ByWord(_, _, breach) => push_violation(text, rules, breach),
         Reason::ExitDeniesAssertion(offset, index, subject, word) => {
-            push_exit_named(text, rules, *offset, *index)?;
+            text.push_text(b"when it returns with offset ")?;
+            push_exit_line(text, rules, *offset, b" by exit line ", *index)?;
+            text.push_text(b", ")?;
             push_denied(text, subject, *word, b"returns")
         }
     }
 }
 
-/// Adds by which fact a condition fails, and why.
-fn push_told_reason<L: MessageWriter>(
-    text: &mut L,
-    telling: &ReasonContext,
-    reason: &Reason,
-) -> Result<(), AllocError>
-    ensures { OnOk result (L.text text.new ≡ L.text text.old ++
-        (which_text telling.now telling.now.place ++ reason_text telling.now.rules reason.now)) }
-{
-    push_which(text, telling, &telling.place)?;
-    push_reason(text, &telling.rules, reason)?;
-    Ok(())
-}
-
-/// Adds the line of a reason, if there is one.
+/// Adds the line of by which fact a condition fails and why, if there is a reason.
 fn push_reason_line<L: MessageWriter>(
     text: &mut L,
     telling: &ReasonContext,
@@ -107,7 +98,8 @@ fn push_reason_line<L: MessageWriter>(
     let Some(reason) = reason else {
         return Ok(());
     };
-    push_told_reason(text, telling, reason)?;
+    push_which(text, telling, &telling.place)?;
+    push_reason(text, &telling.rules, reason)?;
     text.push_text(b"\n")
 }
 

@@ -1,9 +1,11 @@
 //! What is said below a yes: what of the declaration is wider than the certificate needs, and what routines return with.
 
-ghost use Rattle.std.specs.Prelude.{◌<◌, IfOk};
+ghost use Rattle.std.specs.Prelude.{◌<◌, length, IfOk};
 ghost use Rattle.command_parts.specs.Messages.{plain};
-ghost use Rattle.diagnostics.specs.WhyText.{IsOnlyAfterYes};
+ghost use Rattle.diagnostics.specs.WhyText.{IsSaidAfterYes};
 
+use crate::pieces::Piece::{Address, Octal, Offset, Text};
+use crate::pieces::{Piece, push_pieces};
 use bin_tape::Image;
 use certificate::Certificate;
 use command_parts::message::{Message, MessageWriter};
@@ -98,50 +100,35 @@ impl<D: Allocator, C: Allocator> Shown<'_, D, C> {
     }
 }
 
-/// Adds the ranges of a set of addresses.
-fn push_addresses<L: MessageWriter>(text: &mut L, cells: &WordSet) -> Result<(), AllocError> {
-    for (first, last) in cells.ranges() {
-        text.push_text(b" ")?;
-        text.push_address(first)?;
-        if last != first {
-            text.push_text(b"-")?;
-            text.push_address(last)?;
-        }
-    }
-    Ok(())
+/// What the words of a set are.
+#[derive(Clone, Copy)]
+enum SetKind {
+    Addresses,
+    Words,
+    Offsets,
 }
 
-/// Adds the ranges of a set of words that are no addresses.
-fn push_words<L: MessageWriter>(text: &mut L, set: &WordSet) -> Result<(), AllocError> {
+impl SetKind {
+    /// One of the words, as a piece of a text.
+    fn piece(self, word: Word) -> Piece<'static> {
+        match self {
+            SetKind::Addresses => Address(word),
+            SetKind::Words => Octal(word),
+            SetKind::Offsets => Offset(word.index()),
+        }
+    }
+}
+
+/// Adds the ranges of a set.
+fn push_ranges<L: MessageWriter>(
+    text: &mut L,
+    kind: SetKind,
+    set: &WordSet,
+) -> Result<(), AllocError> {
     for (first, last) in set.ranges() {
-        text.push_text(b" ")?;
-        text.push_text(&first.to_octal())?;
+        push_pieces(text, &[Text(b" "), kind.piece(first)])?;
         if last != first {
-            text.push_text(b"-")?;
-            text.push_text(&last.to_octal())?;
-        }
-    }
-    Ok(())
-}
-
-/// The digits of an offset.
-fn push_offset<L: MessageWriter>(text: &mut L, offset: Word) -> Result<(), AllocError> {
-    let digits = offset.to_octal();
-    if offset.index() < 8 {
-        text.push_text(&digits[3..])
-    } else {
-        text.push_text(&digits[2..])
-    }
-}
-
-/// Adds the ranges of a set of offsets.
-fn push_offsets<L: MessageWriter>(text: &mut L, offsets: &WordSet) -> Result<(), AllocError> {
-    for (first, last) in offsets.ranges() {
-        text.push_text(b" ")?;
-        push_offset(text, first)?;
-        if last != first {
-            text.push_text(b"-")?;
-            push_offset(text, last)?;
+            push_pieces(text, &[Text(b"-"), kind.piece(last)])?;
         }
     }
     Ok(())
@@ -156,9 +143,8 @@ pub fn push_cells<L: MessageWriter>(
     if cells.is_empty() {
         return Ok(());
     }
-    text.push_text(name)?;
-    text.push_text(b":")?;
-    push_addresses(text, cells)?;
+    push_pieces(text, &[Text(name), Text(b":")])?;
+    push_ranges(text, SetKind::Addresses, cells)?;
     text.push_text(b"\n")
 }
 
@@ -172,10 +158,11 @@ pub fn push_routine_offsets<L: MessageWriter>(
     if offsets.is_empty() {
         return Ok(());
     }
-    text.push_text(name)?;
-    text.push_address(entry)?;
-    text.push_text(b" never returns:")?;
-    push_offsets(text, offsets)?;
+    push_pieces(
+        text,
+        &[Text(name), Address(entry), Text(b" never returns:")],
+    )?;
+    push_ranges(text, SetKind::Offsets, offsets)?;
     text.push_text(b"\n")
 }
 
@@ -191,86 +178,71 @@ fn cells_of(image: &Image) -> WordSet {
     cells
 }
 
-/// Adds the cells of bodies that no run reaches.
-fn push_unexecuted<L: MessageWriter>(
-    text: &mut L,
-    image: &Image,
-    surplus: &Surplus,
-) -> Result<(), AllocError> {
-    let on_tape = cells_of(image);
-    push_cells(
-        text,
-        b"Body cells that no run reaches",
-        &surplus.unexecuted.meet(&on_tape),
-    )?;
-    push_cells(
-        text,
-        b"Body cells that no run reaches, and for which the tape has no word",
-        &surplus.unexecuted.minus(&on_tape),
-    )
-}
-
-/// Adds the cells that are declared to be used in some other way and are not.
-fn push_unused<L: MessageWriter>(text: &mut L, surplus: &Surplus) -> Result<(), AllocError> {
-    push_cells(
-        text,
-        b"Variables that no instruction writes",
-        &surplus.unwritten,
-    )?;
-    push_cells(text, b"Listed reads that are not needed", &surplus.unread)?;
-    push_cells(
-        text,
-        b"Stops and pauses at which no run halts",
-        &surplus.unhalted,
-    )?;
-    push_cells(text, b"Routines that are never called", &surplus.uncalled)?;
-    push_cells(
-        text,
-        b"Addresses in `abandon` lines at which no call is abandoned",
-        &surplus.unabandoned,
-    )?;
-    push_cells(
-        text,
-        b"Routines that `moves` lines name but that do not store their return word",
-        &surplus.unmoved,
-    )
-}
-
-/// Adds the offsets by which the routine of an entry is declared to return and never does, and those of which a `returns` line
-/// speaks in vain.
-fn push_idle_offsets<L: MessageWriter, D: Allocator, C: Allocator>(
+/// Adds the cells that are declared for a use which no run makes of them.
+fn push_unused<L: MessageWriter, D: Allocator, C: Allocator>(
     text: &mut L,
     shown: &Shown<'_, D, C>,
-    entry: Word,
+    surplus: &Surplus,
 ) -> Result<(), AllocError> {
-    let found = shown.offsets_of(entry);
-    push_routine_offsets(
-        text,
-        b"Declared offsets by which the routine ",
-        entry,
-        &shown.declared_offsets(entry).minus(&found),
-    )?;
-    if found.is_empty() {
-        return Ok(());
+    let on_tape = cells_of(shown.image);
+    let rows: [(&[u8], WordSet); 9] = [
+        (
+            b"Body cells that no run reaches",
+            surplus.unexecuted.meet(&on_tape),
+        ),
+        (
+            b"Body cells that no run reaches, and for which the tape has no word",
+            surplus.unexecuted.minus(&on_tape),
+        ),
+        (b"Variables that no instruction writes", surplus.unwritten),
+        (b"Listed reads that are not needed", surplus.unread),
+        (b"Stops and pauses at which no run halts", surplus.unhalted),
+        (b"Routines that are never called", surplus.uncalled),
+        (
+            b"Addresses in `abandon` lines at which no call is abandoned",
+            surplus.unabandoned,
+        ),
+        (
+            b"Routines that `moves` lines name but that do not store their return word",
+            surplus.unmoved,
+        ),
+        (
+            b"Addresses in `holds` lines that no run reaches",
+            shown.asserted_places().meet(&surplus.unexecuted),
+        ),
+    ];
+    for (name, cells) in &rows {
+        push_cells(text, name, cells)?;
     }
-    push_routine_offsets(
-        text,
-        b"Offsets that `returns` lines name but by which the routine ",
-        entry,
-        &shown.asserted_offsets(entry).minus(&found),
-    )
+    Ok(())
 }
 
-/// Adds the offsets by which routines are declared to return and never do. Of a routine that is never called this is not told.
-fn push_all_idle_offsets<L: MessageWriter, D: Allocator, C: Allocator>(
+/// Adds the offsets by which routines are declared to return and never do, and those of which a `returns` line speaks in vain. Of a
+/// routine that is never called this is not told.
+fn push_idle_offsets<L: MessageWriter, D: Allocator, C: Allocator>(
     text: &mut L,
     shown: &Shown<'_, D, C>,
     surplus: &Surplus,
 ) -> Result<(), AllocError> {
     for routine in shown.declaration.routines() {
         let entry = routine.entry();
-        if !surplus.uncalled.contains(entry) {
-            push_idle_offsets(text, shown, entry)?;
+        if surplus.uncalled.contains(entry) {
+            continue;
+        }
+        let found = shown.offsets_of(entry);
+        push_routine_offsets(
+            text,
+            b"Declared offsets by which the routine ",
+            entry,
+            &shown.declared_offsets(entry).minus(&found),
+        )?;
+        if !found.is_empty() {
+            push_routine_offsets(
+                text,
+                b"Offsets that `returns` lines name but by which the routine ",
+                entry,
+                &shown.asserted_offsets(entry).minus(&found),
+            )?;
         }
     }
     Ok(())
@@ -281,47 +253,21 @@ fn push_accumulator<L: MessageWriter>(text: &mut L, set: &WordSet) -> Result<(),
     if set.is_all() {
         return text.push_text(b"; AC may be any word");
     }
-    if set.only().is_some() {
-        text.push_text(b"; AC is")?;
-    } else {
-        text.push_text(b"; AC may be")?;
-    }
-    push_words(text, set)
+    let is_one = set.only().is_some();
+    text.push_text(if is_one { b"; AC is" } else { b"; AC may be" })?;
+    push_ranges(text, SetKind::Words, set)
 }
 
-/// Adds what the link may be.
-fn push_link<L: MessageWriter>(text: &mut L, set: &WordSet) -> Result<(), AllocError> {
-    let is_clear = set.contains(Word::from_index(0));
-    let is_set = set.contains(Word::from_index(1));
-    if is_clear && is_set {
-        text.push_text(b", and the link may be 0 or 1\n")
-    } else if is_set {
-        text.push_text(b", and the link is 1\n")
-    } else {
-        text.push_text(b", and the link is 0\n")
+/// What is said of what the link may be.
+fn link_words(set: &WordSet) -> &'static [u8] {
+    match (
+        set.contains(Word::from_index(0)),
+        set.contains(Word::from_index(1)),
+    ) {
+        (true, true) => b", and the link may be 0 or 1\n",
+        (false, true) => b", and the link is 1\n",
+        (_, false) => b", and the link is 0\n",
     }
-}
-
-/// Adds with what the routine of an entry returns by an offset, if it does.
-fn push_return<L: MessageWriter, D: Allocator, C: Allocator>(
-    text: &mut L,
-    shown: &Shown<'_, D, C>,
-    entry: Word,
-    offset: usize,
-) -> Result<(), AllocError>
-    requires { offset < 64 }
-{
-    let accumulator = shown.returned(Register::Accumulator, entry, offset);
-    if accumulator.is_empty() {
-        return Ok(());
-    }
-    let link = shown.returned(Register::Link, entry, offset);
-    text.push_text(b"The routine ")?;
-    text.push_address(entry)?;
-    text.push_text(b" returns with offset ")?;
-    push_offset(text, Word::from_index(offset))?;
-    push_accumulator(text, &accumulator)?;
-    push_link(text, &link)
 }
 
 /// Adds with what the routine of an entry returns.
@@ -331,20 +277,46 @@ fn push_returns<L: MessageWriter, D: Allocator, C: Allocator>(
     entry: Word,
 ) -> Result<(), AllocError> {
     for offset in 0..OFFSETS {
-        push_return(text, shown, entry, offset)?;
+        let accumulator = shown.returned(Register::Accumulator, entry, offset);
+        if accumulator.is_empty() {
+            continue;
+        }
+        push_pieces(
+            text,
+            &[
+                Text(b"The routine "),
+                Address(entry),
+                Text(b" returns with offset "),
+                Offset(offset),
+            ],
+        )?;
+        push_accumulator(text, &accumulator)?;
+        text.push_text(link_words(&shown.returned(Register::Link, entry, offset)))?;
     }
     Ok(())
 }
 
-/// Adds with what the routines return, each in the order of its line.
-fn push_all_returns<L: MessageWriter, D: Allocator, C: Allocator>(
-    text: &mut L,
+/// What the declaration lists and the certificate does not need, or that it needs all.
+fn unneeded_message<A: Allocator + Copy, D: Allocator, C: Allocator>(
+    alloc: A,
     shown: &Shown<'_, D, C>,
-) -> Result<(), AllocError> {
-    for routine in shown.declaration.routines() {
-        push_returns(text, shown, routine.entry())?;
+) -> Result<Message<A>, AllocError>
+    ensures { IfOk result (λ message. 0 < length (plain message)) }
+{
+    let surplus = surplus_of(shown.image, shown.declaration, shown.certificate);
+    let mut text = Message::new(alloc);
+    push_unused(&mut text, shown, &surplus)?;
+    push_idle_offsets(&mut text, shown, &surplus)?;
+    push_cells(
+        &mut text,
+        b"Routines in `returns` lines that never return",
+        &shown.asserted_in_vain(),
+    )?;
+    if !text.as_bytes().is_empty() {
+        return Ok(text);
     }
-    Ok(())
+    text.push_text(b"The certificate needs all that the declaration lists.\n")?;
+    Ok(text)
 }
 
 /// What is said below a yes: what the declaration lists and the certificate does not need, or that it needs all; and with what
@@ -359,31 +331,21 @@ pub fn surplus_message<A: Allocator + Copy, D: Allocator, C: Allocator>(
     image: &Image,
     declaration: &Declaration<D>,
     certificate: &Certificate<C>,
-) -> Result<Message<A>, AllocError> {
+) -> Result<Message<A>, AllocError>
+    // Something is always said.
+    ensures { IfOk result (λ message. 0 < length (plain message)) }
+{
     let shown = Shown {
         image,
         declaration,
         certificate,
     };
-    let surplus = surplus_of(image, declaration, certificate);
-    let mut text = Message::new(alloc);
-    push_unexecuted(&mut text, image, &surplus)?;
-    push_unused(&mut text, &surplus)?;
-    push_cells(
-        &mut text,
-        b"Addresses in `holds` lines that no run reaches",
-        &shown.asserted_places().meet(&surplus.unexecuted),
-    )?;
-    push_all_idle_offsets(&mut text, &shown, &surplus)?;
-    push_cells(
-        &mut text,
-        b"Routines in `returns` lines that never return",
-        &shown.asserted_in_vain(),
-    )?;
-    if text.is_empty() {
-        text.push_text(b"The certificate needs all that the declaration lists.\n")?;
+    let mut text = unneeded_message(alloc, &shown)?;
+    let mut returns = Message::new(alloc);
+    for routine in declaration.routines() {
+        push_returns(&mut returns, &shown, routine.entry())?;
     }
-    push_all_returns(&mut text, &shown)?;
+    text.push_message(&returns)?;
     Ok(text)
 }
 
@@ -399,7 +361,7 @@ pub fn surplus_after<A: Allocator + Copy, D: Allocator, C: Allocator>(
     certificate: &Certificate<C>,
     verdict: &Result<(), Refusal>,
 ) -> Result<Message<A>, AllocError>
-    ensures { IfOk result (λ message. IsOnlyAfterYes verdict.now (plain message)) }
+    ensures { IfOk result (λ message. IsSaidAfterYes verdict.now (plain message)) }
 {
     match verdict {
         Ok(()) => surplus_message(alloc, image, declaration, certificate),

@@ -1,7 +1,6 @@
 //! The line of a verdict.
 
-ghost use Rattle.std.specs.Prelude.{◌≡◌, ◌+◌, ◌++◌, codes, decimal, length, OnOk, IfOk, Option};
-ghost use Rattle.word12.specs.Words.{octal_text};
+ghost use Rattle.std.specs.Prelude.{◌≡◌, ◌+◌, ◌++◌, codes, decimal, length, OnOk, IfOk};
 ghost use Rattle.wordset.specs.Words.{SameWords};
 ghost use Rattle.wordset.specs.Lanes.{words};
 ghost use Rattle.declaration.specs.DeclarationInCode.{meaning};
@@ -80,50 +79,6 @@ fn push_count<A: Allocator>(
     text.extend_from_slice(name)
 }
 
-/// Adds how many cells are in bodies.
-fn push_bodies<A: Allocator, D: Allocator>(
-    text: &mut Vec<u8, A>,
-    declaration: &Declaration<D>,
-) -> Result<(), AllocError>
-    ensures { OnOk result (text.new.items ≡ text.old.items
-        ++ counted (in_bodies (meaning declaration.now)) (codes " body cells, ")) }
-{
-    push_count(text, &cells_of_bodies(declaration), b" body cells, ")
-}
-
-/// Adds how many cells are variables.
-fn push_variables<A: Allocator, D: Allocator>(
-    text: &mut Vec<u8, A>,
-    declaration: &Declaration<D>,
-) -> Result<(), AllocError>
-    ensures { OnOk result (text.new.items ≡ text.old.items
-        ++ counted (meaning declaration.now).variable (codes " variable cells, ")) }
-{
-    push_count(text, declaration.variables(), b" variable cells, ")
-}
-
-/// Adds how many entries there are.
-fn push_entries<A: Allocator, D: Allocator>(
-    text: &mut Vec<u8, A>,
-    declaration: &Declaration<D>,
-) -> Result<(), AllocError>
-    ensures { OnOk result (text.new.items ≡ text.old.items
-        ++ counted (meaning declaration.now).entry (codes " entries, ")) }
-{
-    push_count(text, &declaration.entries(), b" entries, ")
-}
-
-/// Adds how many declared halts there are.
-fn push_halts<A: Allocator, D: Allocator>(
-    text: &mut Vec<u8, A>,
-    declaration: &Declaration<D>,
-) -> Result<(), AllocError>
-    ensures { OnOk result (text.new.items ≡ text.old.items
-        ++ counted (is_halt (meaning declaration.now)) (codes " halts")) }
-{
-    push_count(text, &halts_of(declaration), b" halts")
-}
-
 /// Adds how many cells are in bodies, how many are variables, how many entries there are and how many
 /// declared halts.
 fn push_counts<A: Allocator, D: Allocator>(
@@ -135,10 +90,10 @@ fn push_counts<A: Allocator, D: Allocator>(
         ++ counted d.variable (codes " variable cells, ")
         ++ counted d.entry (codes " entries, ") ++ counted (is_halt d) (codes " halts")) }
 {
-    push_bodies(text, declaration)?;
-    push_variables(text, declaration)?;
-    push_entries(text, declaration)?;
-    push_halts(text, declaration)
+    push_count(text, &cells_of_bodies(declaration), b" body cells, ")?;
+    push_count(text, declaration.variables(), b" variable cells, ")?;
+    push_count(text, &declaration.entries(), b" entries, ")?;
+    push_count(text, &halts_of(declaration), b" halts")
 }
 
 /// Adds how many cells may be read, where they are listed.

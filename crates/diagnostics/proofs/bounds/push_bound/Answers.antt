@@ -6,7 +6,7 @@ use Rattle.diagnostics.proofs.bounds.push_bound.Goals as goal
 
 pub returns : goal.returns
 returns g c =
-    on_ok_weaker c.push_lost_before.result
-    (λ is. inr (pointer_said c.args.image.now (meaning c.args.declaration.now) c.args.at c.in-Some.pointer _ _ _ _ _ _ _ _ c.in-Some.ensures c.in_ok-push_text_and_address.ensures
-    c.in_ok-push_text.ensures c.in_ok-push_set.ensures c.in_ok-push_text-2.ensures c.in_ok-push_sufficient.ensures is))
-    c.push_lost_before.ensures
+    on_ok_weaker c.push_lost.result
+    (λ is. inr (pointer_said c.args.image.now (meaning c.args.declaration.now) c.args.at c.in-Some.pointer _ _ _ _ _ _ _ c.in-Some.ensures.found c.in_ok-push_around.ensures
+    c.in_ok-push_set.ensures c.in_ok-push_text.ensures c.in_ok-push_sufficient.ensures is))
+    c.push_lost.ensures

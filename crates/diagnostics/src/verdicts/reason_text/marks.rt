@@ -1,24 +1,13 @@
 //! Which fact it is, where several stand at an address, and what tells it from the others.
 
-ghost use Rattle.std.specs.Prelude.{◌≡◌, ◌++◌, codes, OnOk};
-ghost use Rattle.word12.specs.Words.{octal_text};
-ghost use Rattle.diagnostics.specs.WhyText.{around, around_number, from_one, mark_text, marks_text, told_mark, which_text};
+ghost use Rattle.std.specs.Prelude.{◌≡◌, ◌++◌, codes, decimal, OnOk};
+ghost use Rattle.diagnostics.specs.WhyText.{from_one, mark_text, marks_text, told_mark, which_text};
 
+use crate::pieces::Piece::{Address, Decimal, Octal, Text};
+use crate::pieces::push_pieces;
 use crate::verdicts::reason_context::{Distinction, ReasonContext};
-use crate::verdicts::reason_text::pieces::{push_around, push_around_number};
 use command_parts::message::{MessageWriter, push_text_and_address, push_text_and_word};
 use std::alloc::AllocError;
-use word12::Word;
-
-/// Adds what a cell holds.
-fn push_held<L: MessageWriter>(text: &mut L, cell: Word, word: Word) -> Result<(), AllocError>
-    ensures { OnOk result (L.text text.new ≡ L.text text.old ++
-        (around (codes ", [") cell (codes "]") ++ (codes " = " ++ octal_text word))) }
-{
-    push_around(text, b", [", cell, b"]")?;
-    push_text_and_word(text, b" = ", word)?;
-    Ok(())
-}
 
 /// Adds what tells a fact from another at its address.
 fn push_mark<L: MessageWriter>(text: &mut L, mark: &Distinction) -> Result<(), AllocError>
@@ -33,7 +22,10 @@ fn push_mark<L: MessageWriter>(text: &mut L, mark: &Distinction) -> Result<(), A
         Distinction::LinkClear => text.push_text(b", link 0"),
         Distinction::LinkSet => text.push_text(b", link 1"),
         Distinction::Accumulator(word) => push_text_and_word(text, b", AC = ", *word),
-        Distinction::Cell(cell, word) => push_held(text, *cell, *word),
+        Distinction::Cell(cell, word) => push_pieces(
+            text,
+            &[Text(b", ["), Address(*cell), Text(b"] = "), Octal(*word)],
+        ),
     }
 }
 
@@ -61,43 +53,21 @@ fn push_marks<L: MessageWriter>(text: &mut L, telling: &ReasonContext) -> Result
     Ok(())
 }
 
-/// Adds the place of a fact, counted from 1.
-fn push_number<L: MessageWriter>(text: &mut L, index: usize) -> Result<(), AllocError>
-    ensures { OnOk result (L.text text.new ≡
-        L.text text.old ++ around_number (codes "fact ") (from_one index) (codes " of ")) }
-{
-    push_around_number(text, b"fact ", index.saturating_add(1), b" of ")
-}
-
-/// Adds how many facts there are.
-fn push_count<L: MessageWriter>(text: &mut L, count: usize) -> Result<(), AllocError>
-    ensures { OnOk result (L.text text.new ≡
-        L.text text.old ++ around_number (codes "") count (codes " at this address")) }
-{
-    push_around_number(text, b"", count, b" at this address")
-}
-
-/// Adds the place of a fact among so many.
+/// Adds the place of a fact, counted from 1, among so many at an address.
 fn push_place<L: MessageWriter>(text: &mut L, index: usize, count: usize) -> Result<(), AllocError>
-    ensures { OnOk result (L.text text.new ≡ L.text text.old ++
-        (around_number (codes "fact ") (from_one index) (codes " of ") ++ around_number (codes "") count (codes " at this address"))) }
+    ensures { OnOk result (L.text text.new ≡ L.text text.old ++ (codes "fact "
+        ++ decimal (from_one index) ++ codes " of " ++ decimal count ++ codes " at this address")) }
 {
-    push_number(text, index)?;
-    push_count(text, count)?;
-    Ok(())
-}
-
-/// Adds all that tells a fact from others at its address, and a colon.
-fn push_marks_and_colon<L: MessageWriter>(
-    text: &mut L,
-    telling: &ReasonContext,
-) -> Result<(), AllocError>
-    ensures { OnOk result (L.text text.new ≡
-        L.text text.old ++ (marks_text telling.now ++ codes ": ")) }
-{
-    push_marks(text, telling)?;
-    text.push_text(b": ")?;
-    Ok(())
+    push_pieces(
+        text,
+        &[
+            Text(b"fact "),
+            Decimal(index.saturating_add(1)),
+            Text(b" of "),
+            Decimal(count),
+            Text(b" at this address"),
+        ],
+    )
 }
 
 /// Adds which fact it is of several at an address.
@@ -106,13 +76,13 @@ fn push_several<L: MessageWriter>(
     telling: &ReasonContext,
     index: usize,
 ) -> Result<(), AllocError>
-    ensures { OnOk result (L.text text.new ≡ L.text text.old ++
-        ((around_number (codes "fact ") (from_one index) (codes " of ") ++ around_number (codes "") telling.now.count (codes " at this address"))
-        ++ (marks_text telling.now ++ codes ": "))) }
+    ensures { OnOk result (L.text text.new ≡ L.text text.old ++ (codes "fact "
+        ++ decimal (from_one index) ++ codes " of " ++ decimal telling.now.count
+        ++ codes " at this address" ++ marks_text telling.now ++ codes ": ")) }
 {
     push_place(text, index, telling.count)?;
-    push_marks_and_colon(text, telling)?;
-    Ok(())
+    push_marks(text, telling)?;
+    text.push_text(b": ")
 }
 
 /// Adds which fact it is, where several stand at the address.

@@ -1,17 +1,16 @@
 //! What a word violates: a write, a call, a return, or where it goes on.
 
-ghost use Rattle.std.specs.Prelude.{◌≡◌, ◌==◌, ◌++◌, codes, decimal, if◌then◌else◌, OnOk};
-ghost use Rattle.diagnostics.specs.WhyText.{advised_text, around, around_number, breach_text, call_text, counting_text, denied_text, exit_named, from_one, moving_text, return_text, returned_text, subject_text, subject_word, too_high_text, undeclared_text};
+ghost use Rattle.std.specs.Prelude.{◌≡◌, ◌++◌, codes, OnOk};
+ghost use Rattle.diagnostics.specs.Pieces.{around};
+ghost use Rattle.diagnostics.specs.WhyText.{advised_text, breach_text, call_text, counting_text, denied_text, exit_line, landing_text, moving_text, return_text, subject_text, subject_word, too_high_text, undeclared_text};
 
-use crate::verdicts::reason_text::landing::{push_before_landing, push_exit, push_landing};
-use crate::verdicts::reason_text::pieces::{push_around, push_around_number, push_around_offset};
-use command_parts::message::{
-    MessageWriter, push_text_and_address, push_text_and_advised, push_text_and_word,
-};
+use crate::pieces::Piece::{Address, Advised, Decimal, Octal, Offset, Text};
+use crate::pieces::{push_around, push_pieces};
+use crate::verdicts::reason_text::landing::{push_exit, push_landing};
+use command_parts::message::{MessageWriter, push_text_and_address};
 use declaration::Subject;
 use domain::Rules;
-use itoa::Buffer;
-use reasons::{CallViolation, ReturnViolation, Violation};
+use reasons::{CallViolation, LandingFailure, ReturnViolation, Violation};
 use std::alloc::AllocError;
 use word12::Word;
 
@@ -25,65 +24,28 @@ fn too_high(rules: &Rules) -> &'static [u8]
     }
 }
 
-/// Adds the number of a place, counted from 1, and a colon.
-fn push_number_and_colon<L: MessageWriter>(text: &mut L, index: usize) -> Result<(), AllocError>
-    ensures { OnOk result (L.text text.new ≡
-        L.text text.old ++ around_number (codes "") (from_one index) (codes ": ")) }
-{
-    push_around_number(text, b"", index.saturating_add(1), b": ")
-}
-
-/// Adds by which offset a callee returns, and by the rules of sums by which exit of those for the offset.
-fn push_returned<L: MessageWriter>(
+/// Adds an offset, and by the rules of sums the number of its exit line, counted from 1, behind a few words.
+pub fn push_exit_line<L: MessageWriter>(
     text: &mut L,
     rules: &Rules,
     offset: usize,
+    between: &[u8],
     index: usize,
 ) -> Result<(), AllocError>
     ensures { OnOk result (L.text text.new ≡
-        L.text text.old ++ returned_text rules.now offset index) }
+        L.text text.old ++ exit_line rules.now offset between.now index) }
 {
     match rules {
-        Rules::OfEquations => push_around_offset(
+        Rules::OfEquations => push_pieces(text, &[Offset(offset)]),
+        Rules::OfSums => push_pieces(
             text,
-            b", which returns with offset ",
-            offset,
-            b": ",
+            &[
+                Offset(offset),
+                Text(between),
+                Decimal(index.saturating_add(1)),
+            ],
         ),
-        Rules::OfSums => {
-            push_around_offset(
-                text,
-                b", which returns with offset ",
-                offset,
-                b", according to exit line ",
-            )?;
-            push_number_and_colon(text, index)?;
-            Ok(())
-        }
     }
-}
-
-/// Adds that the rank of a callee is not below that of the caller.
-fn push_ranks<L: MessageWriter>(text: &mut L, rank: usize, own: usize) -> Result<(), AllocError>
-    ensures { OnOk result (L.text text.new ≡ L.text text.old ++ (around_number (codes ", whose rank ") rank
-        (codes " is not below the caller's rank ") ++ decimal own)) }
-{
-    push_around_number(
-        text,
-        b", whose rank ",
-        rank,
-        b" is not below the caller's rank ",
-    )?;
-    push_decimal(text, own)?;
-    Ok(())
-}
-
-/// Adds a number in decimal.
-fn push_decimal<L: MessageWriter>(text: &mut L, number: usize) -> Result<(), AllocError>
-    ensures { OnOk result (L.text text.new ≡ L.text text.old ++ decimal number) }
-{
-    let mut digits = Buffer::new();
-    text.push_text(digits.format(number).as_bytes())
 }
 
 /// Adds what a call violates.
@@ -97,7 +59,15 @@ fn push_call<L: MessageWriter>(
     match breach {
         CallViolation::NoEntry => text.push_text(b", which is not an entry"),
         CallViolation::NotListed => text.push_text(b", which has no routine line"),
-        CallViolation::NotLower(rank, own) => push_ranks(text, *rank, *own),
+        CallViolation::NotLower(rank, own) => push_pieces(
+            text,
+            &[
+                Text(b", whose rank "),
+                Decimal(*rank),
+                Text(b" is not below the caller's rank "),
+                Decimal(*own),
+            ],
+        ),
         CallViolation::Writes(cell) => push_around(
             text,
             b", which may write ",
@@ -113,12 +83,14 @@ fn push_call<L: MessageWriter>(
         }
         CallViolation::TooHigh => text.push_text(too_high(rules)),
         CallViolation::Enters(landing) => {
-            push_before_landing(text, b" and continues after the entry: ", landing)
+            text.push_text(b" and continues after the entry: ")?;
+            push_landing(text, landing)
         }
         CallViolation::Returns(offset, index, landing) => {
-            push_returned(text, rules, *offset, *index)?;
-            push_landing(text, landing)?;
-            Ok(())
+            text.push_text(b", which returns with offset ")?;
+            push_exit_line(text, rules, *offset, b", according to exit line ", *index)?;
+            text.push_text(b": ")?;
+            push_landing(text, landing)
         }
     }
 }
@@ -134,9 +106,16 @@ fn push_undeclared<L: MessageWriter>(
     if offset < 8 {
         return text.push_text(b", which is not declared");
     }
-    push_text_and_advised(text, b", which is not declared: add `skips ", entry)?;
-    push_around_offset(text, b" ", offset, b"`")?;
-    Ok(())
+    push_pieces(
+        text,
+        &[
+            Text(b", which is not declared: add `skips "),
+            Advised(entry),
+            Text(b" "),
+            Offset(offset),
+            Text(b"`"),
+        ],
+    )
 }
 
 /// Adds what a return through an entry violates.
@@ -152,14 +131,12 @@ fn push_return<L: MessageWriter>(
             b", which is not the entry of its own routine",
         ),
         ReturnViolation::NotDeclared(offset) => {
-            push_around_offset(text, b" with offset ", *offset, b"")?;
-            push_undeclared(text, entry, *offset)?;
-            Ok(())
+            push_pieces(text, &[Text(b" with offset "), Offset(*offset)])?;
+            push_undeclared(text, entry, *offset)
         }
         ReturnViolation::NotAllowed(offset, landing) => {
-            push_around_offset(text, b" with offset ", *offset, b"")?;
-            push_exit(text, landing)?;
-            Ok(())
+            push_pieces(text, &[Text(b" with offset "), Offset(*offset)])?;
+            push_exit(text, landing)
         }
     }
 }
@@ -170,6 +147,19 @@ fn push_write<L: MessageWriter>(text: &mut L, cell: Word, wrong: &[u8]) -> Resul
         (L.text text.new ≡ L.text text.old ++ around (codes "it may write ") cell wrong.now) }
 {
     push_around(text, b"it may write ", cell, wrong)
+}
+
+/// Adds a cell that may be read, though it is not on the list of reads.
+fn push_read<L: MessageWriter>(text: &mut L, cell: Word) -> Result<(), AllocError>
+    ensures { OnOk result (L.text text.new ≡ L.text text.old
+        ++ around (codes "it may read ") cell (codes ", which is not on the list of reads")) }
+{
+    push_around(
+        text,
+        b"it may read ",
+        cell,
+        b", which is not on the list of reads",
+    )
 }
 
 /// Adds of what an assertion speaks.
@@ -184,13 +174,6 @@ fn push_subject<L: MessageWriter>(text: &mut L, subject: &Subject) -> Result<(),
     }
 }
 
-/// The digit of a link that is given as a word.
-fn link_digit(word: Word) -> &'static [u8]
-    ensures { result.now ≡ (if word == 0 then codes "0" else codes "1") }
-{
-    if word == Word::ZERO { b"0" } else { b"1" }
-}
-
 /// Adds a word of what an assertion speaks of.
 fn push_subject_word<L: MessageWriter>(
     text: &mut L,
@@ -200,20 +183,9 @@ fn push_subject_word<L: MessageWriter>(
     ensures { OnOk result (L.text text.new ≡ L.text text.old ++ subject_word subject.now word) }
 {
     match subject {
-        Subject::Link => text.push_text(link_digit(word)),
+        Subject::Link => text.push_text(if word == Word::ZERO { b"0" } else { b"1" }),
         _ => text.push_text(&word.to_octal()),
     }
-}
-
-/// Adds that a line of this name excludes what was told.
-fn push_line_excludes<L: MessageWriter>(text: &mut L, line: &[u8]) -> Result<(), AllocError>
-    ensures { OnOk result (L.text text.new ≡
-        L.text text.old ++ (codes ", which a `" ++ (line.now ++ codes "` line excludes"))) }
-{
-    text.push_text(b", which a `")?;
-    text.push_text(line)?;
-    text.push_text(b"` line excludes")?;
-    Ok(())
 }
 
 /// Adds that the subject of an assertion may have a word that a line of this name excludes.
@@ -229,8 +201,10 @@ pub fn push_denied<L: MessageWriter>(
     push_subject(text, subject)?;
     text.push_text(b" may be ")?;
     push_subject_word(text, subject, word)?;
-    push_line_excludes(text, line)?;
-    Ok(())
+    push_pieces(
+        text,
+        &[Text(b", which a `"), Text(line), Text(b"` line excludes")],
+    )
 }
 
 /// How far an ISZ may increment the return word in its routine's own entry, by the rules.
@@ -243,7 +217,29 @@ fn counting(rules: &Rules) -> &'static [u8]
     }
 }
 
-/// Adds that a DCA may store a word in its routine's own entry that is out of reach of the return address of a call.
+/// Adds an address, and after it that a line with it is to be added.
+fn push_advised<'a, L: MessageWriter>(
+    text: &mut L,
+    before: &'a [u8],
+    at: Word,
+    line: &'a [u8],
+) -> Result<(), AllocError>
+    ensures { OnOk result
+        (L.text text.new ≡ L.text text.old ++ advised_text before.now at line.now) }
+{
+    push_pieces(
+        text,
+        &[
+            Text(before),
+            Address(at),
+            Text(line),
+            Advised(at),
+            Text(b"`"),
+        ],
+    )
+}
+
+/// Adds that a DCA may store a word in its routine's own entry that is out of reach of a return address.
 fn push_moving<L: MessageWriter>(
     text: &mut L,
     entry: Word,
@@ -252,104 +248,31 @@ fn push_moving<L: MessageWriter>(
 ) -> Result<(), AllocError>
     ensures { OnOk result (L.text text.new ≡ L.text text.old ++ moving_text entry word site) }
 {
-    push_text_and_word(text, b"it may store the word ", word)?;
-    push_around(text, b" in ", entry, b"")?;
-    push_around(
+    push_pieces(
         text,
-        b", but the word there must be the return address of the call at ",
-        site,
-        b" plus 0 to 77",
-    )?;
-    Ok(())
+        &[
+            Text(b"it may store the word "),
+            Octal(word),
+            Text(b" in "),
+            Address(entry),
+            Text(b", but the word there must be the return address of the call at "),
+            Address(site),
+            Text(b" plus 0 to 77"),
+        ],
+    )
 }
 
-/// Adds an address, and after it that a line with it is to be added.
-fn push_address_and_advice<L: MessageWriter>(
+/// Adds where a run goes on, and why it does not land there.
+fn push_going_on<L: MessageWriter>(
     text: &mut L,
-    before: &[u8],
     at: Word,
-    line: &[u8],
+    landing: &LandingFailure,
 ) -> Result<(), AllocError>
-    ensures { OnOk result (L.text text.new ≡
-        L.text text.old ++ advised_text before.now at line.now) }
-{
-    push_text_and_address(text, before, at)?;
-    push_text_and_advised(text, line, at)?;
-    text.push_text(b"`")?;
-    Ok(())
-}
-
-/// Adds that a DCA may store in the routine's own entry, and the `moves` line that allows this.
-fn push_own_store<L: MessageWriter>(text: &mut L, entry: Word) -> Result<(), AllocError>
     ensures { OnOk result (L.text text.new ≡ L.text text.old
-        ++ advised_text (codes "it may write ") entry (codes ", the routine's own entry: add `moves ")) }
+        ++ (around (codes "the run may continue at ") at (codes ", and ") ++ landing_text landing.now)) }
 {
-    push_address_and_advice(
-        text,
-        b"it may write ",
-        entry,
-        b", the routine's own entry: add `moves ",
-    )
-}
-
-/// Adds that a jump may leave a routine for main's body, and the `abandon` line that allows this.
-fn push_jump_to_main<L: MessageWriter>(text: &mut L, at: Word) -> Result<(), AllocError>
-    ensures { OnOk result (L.text text.new ≡ L.text text.old
-        ++ advised_text (codes "the run may continue at ") at (codes ", which is in main's body: add `abandon ")) }
-{
-    push_address_and_advice(
-        text,
-        b"the run may continue at ",
-        at,
-        b", which is in main's body: add `abandon ",
-    )
-}
-
-/// Adds that a cell may be read that is not on the list of reads.
-fn push_unlisted_read<L: MessageWriter>(text: &mut L, cell: Word) -> Result<(), AllocError>
-    ensures { OnOk result (L.text text.new ≡ L.text text.old
-        ++ around (codes "it may read ") cell (codes ", which is not on the list of reads")) }
-{
-    push_around(
-        text,
-        b"it may read ",
-        cell,
-        b", which is not on the list of reads",
-    )
-}
-
-/// Adds the number of a place, counted from 1, and a comma.
-fn push_number_and_comma<L: MessageWriter>(text: &mut L, index: usize) -> Result<(), AllocError>
-    ensures { OnOk result (L.text text.new ≡
-        L.text text.old ++ around_number (codes "") (from_one index) (codes ", ")) }
-{
-    push_around_number(text, b"", index.saturating_add(1), b", ")
-}
-
-/// Adds by which offset a routine returns, and by the rules of sums by which of its exit lines.
-pub fn push_exit_named<L: MessageWriter>(
-    text: &mut L,
-    rules: &Rules,
-    offset: usize,
-    index: usize,
-) -> Result<(), AllocError>
-    ensures { OnOk result (L.text text.new ≡ L.text text.old ++ exit_named rules.now offset index) }
-{
-    match rules {
-        Rules::OfEquations => {
-            push_around_offset(text, b"when it returns with offset ", offset, b", ")
-        }
-        Rules::OfSums => {
-            push_around_offset(
-                text,
-                b"when it returns with offset ",
-                offset,
-                b" by exit line ",
-            )?;
-            push_number_and_comma(text, index)?;
-            Ok(())
-        }
-    }
+    push_around(text, b"the run may continue at ", at, b", and ")?;
+    push_landing(text, landing)
 }
 
 /// Adds what a word violates.
@@ -369,7 +292,12 @@ pub fn push_violation<L: MessageWriter>(
         Violation::CountsTooFar(entry) => {
             push_around(text, b"it may increment ", *entry, counting(rules))
         }
-        Violation::StoresInOwn(entry) => push_own_store(text, *entry),
+        Violation::StoresInOwn(entry) => push_advised(
+            text,
+            b"it may write ",
+            *entry,
+            b", the routine's own entry: add `moves ",
+        ),
         Violation::MovesTooFar(entry, word, site) => push_moving(text, *entry, *word, *site),
         Violation::WritesUnlisted(cell) => {
             push_write(text, *cell, b", which is not in the routine's written set")
@@ -384,12 +312,14 @@ pub fn push_violation<L: MessageWriter>(
             push_text_and_address(text, b"it returns through ", *entry)?;
             push_return(text, *entry, back)
         }
-        Violation::GoesOn(at, landing) => {
-            push_around(text, b"the run may continue at ", *at, b", and ")?;
-            push_landing(text, landing)
-        }
-        Violation::JumpsToMain(at) => push_jump_to_main(text, *at),
-        Violation::ReadsUnlisted(cell) => push_unlisted_read(text, *cell),
+        Violation::GoesOn(at, landing) => push_going_on(text, *at, landing),
+        Violation::JumpsToMain(at) => push_advised(
+            text,
+            b"the run may continue at ",
+            *at,
+            b", which is in main's body: add `abandon ",
+        ),
+        Violation::ReadsUnlisted(cell) => push_read(text, *cell),
         Violation::DeniesAssertion(subject, word) => push_denied(text, subject, *word, b"holds"),
     }
 }

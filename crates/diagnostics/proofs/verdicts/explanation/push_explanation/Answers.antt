@@ -1,4 +1,4 @@
-use Rattle.diagnostics.proofs.ReasonLemmas.{joined}
+use Rattle.diagnostics.proofs.PieceLemmas.{joined}
 use Rattle.diagnostics.proofs.verdicts.explanation.push_explanation.Goals as goal
 
 pub returns : goal.returns

@@ -2,7 +2,7 @@ use Rattle.std.proofs.Common.{◌≡◌, ◌++◌, rules}
 use Rattle.declaration.specs.DeclarationInCode.{meaning}
 use Rattle.diagnostics.specs.CheckText.{verdict_text}
 use Rattle.diagnostics.specs.WhyText.{why_text}
-use Rattle.diagnostics.proofs.ReasonLemmas.{known_joined}
+use Rattle.diagnostics.proofs.PieceLemmas.{known_joined}
 use Rattle.diagnostics.proofs.verdicts.explanation.push_verdict.Goals as goal
 
 pub returns : goal.returns

@@ -4,7 +4,7 @@ use Rattle.certificate_lines.specs.CertificateInCode.{meaning as text_of}
 use Rattle.command_parts.specs.Messages.{plain}
 use Rattle.diagnostics.specs.CheckText.{checked_case}
 use Rattle.diagnostics.proofs.CheckLemmas.{verdict_is}
-use Rattle.diagnostics.proofs.ReasonLemmas.{behind_nothing}
+use Rattle.diagnostics.proofs.PieceLemmas.{behind_nothing}
 use Rattle.diagnostics.proofs.verdicts.messages.check_message.Goals as goal
 
 pub returns : goal.returns

@@ -1,11 +1,9 @@
-use Rattle.diagnostics.proofs.ReasonLemmas.{joined}
+use Rattle.std.proofs.lemmas.Result.{on_ok_weaker}
+use Rattle.diagnostics.proofs.LandingLemmas.{exit_by}
+use Rattle.diagnostics.proofs.PieceLemmas.{joined}
 use Rattle.diagnostics.proofs.verdicts.reason_text.landing.push_exit.Goals as goal
 
-pub returns-in_ok-push_excluded-in-Excluded : goal.returns-in_ok-push_excluded-in-Excluded
-returns-in_ok-push_excluded-in-Excluded g c = rw c.in-Excluded.is (joined _ _ _ _ _ c.in_ok-push_text-in-Excluded.ensures c.in_ok-push_excluded-in-Excluded.ensures)
-
-pub returns-in_ok-push_excluded-in-ExcludedUnder : goal.returns-in_ok-push_excluded-in-ExcludedUnder
-returns-in_ok-push_excluded-in-ExcludedUnder g c = rw c.in-ExcludedUnder.is (joined _ _ _ _ _ c.in_ok-push_colon_and_link-in-ExcludedUnder.ensures c.in_ok-push_excluded-in-ExcludedUnder.ensures)
-
-pub returns-in_ok-push_left_and-in-NotTaken : goal.returns-in_ok-push_left_and-in-NotTaken
-returns-in_ok-push_left_and-in-NotTaken g c = rw c.in-NotTaken.is (joined _ _ _ _ _ c.in_ok-push_text-in-NotTaken.ensures c.in_ok-push_left_and-in-NotTaken.ensures)
+pub returns-in_ok-push_text-in_default : goal.returns-in_ok-push_text-in_default
+returns-in_ok-push_text-in_default g c =
+    rw (exit_by c.args.landing.now c.in_default.not-NoFact c.in_default.not-OtherBody)
+    (on_ok_weaker c.push_possible.result (λ is. joined _ _ _ _ _ c.in_ok-push_text-in_default.ensures is) c.push_possible.ensures)

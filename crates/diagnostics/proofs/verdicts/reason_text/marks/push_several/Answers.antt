@@ -1,5 +1,7 @@
-use Rattle.diagnostics.proofs.ReasonLemmas.{joined}
+use Rattle.std.proofs.lemmas.Result.{on_ok_weaker}
+use Rattle.diagnostics.proofs.PieceLemmas.{joined_three}
 use Rattle.diagnostics.proofs.verdicts.reason_text.marks.push_several.Goals as goal
 
 pub returns : goal.returns
-returns g c = joined _ _ _ _ _ c.in_ok-push_place.ensures c.in_ok-push_marks_and_colon.ensures
+returns g c =
+    on_ok_weaker c.push_text.result (λ is. joined_three _ _ _ _ _ _ _ c.in_ok-push_place.ensures c.in_ok-push_marks.ensures is) c.push_text.ensures

@@ -6,6 +6,6 @@ use Rattle.diagnostics.proofs.verdicts.reason_text.sums.push_less.Goals as goal
 
 pub returns : goal.returns
 returns g c =
-    on_ok_weaker c.push_more_or_less.result
+    on_ok_weaker c.push_pieces.result
     (λ is. is ∙ ap (λ (n : ℕ). g.L.MessageWriter.text c.args.text.now ++ ((codes " may be " ++ octal_text n) ++ codes " less than ")) c.negated.ensures)
-    c.push_more_or_less.ensures
+    c.push_pieces.ensures

@@ -1,4 +1,4 @@
-use Rattle.diagnostics.proofs.ReasonLemmas.{joined}
+use Rattle.diagnostics.proofs.PieceLemmas.{joined}
 use Rattle.diagnostics.proofs.verdicts.reason_text.sums.push_summand.Goals as goal
 
 pub returns : goal.returns

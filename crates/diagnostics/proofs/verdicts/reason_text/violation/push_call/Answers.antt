@@ -1,5 +1,13 @@
-use Rattle.diagnostics.proofs.ReasonLemmas.{joined}
+use Rattle.std.proofs.lemmas.Result.{on_ok_weaker}
+use Rattle.diagnostics.proofs.PieceLemmas.{joined, joined_four}
 use Rattle.diagnostics.proofs.verdicts.reason_text.violation.push_call.Goals as goal
 
-pub returns-in_ok-push_landing-in-Returns : goal.returns-in_ok-push_landing-in-Returns
-returns-in_ok-push_landing-in-Returns g c = rw c.in-Returns.is (joined _ _ _ _ _ c.in_ok-push_returned-in-Returns.ensures c.in_ok-push_landing-in-Returns.ensures)
+pub returns-in_ok-push_text-in-Enters : goal.returns-in_ok-push_text-in-Enters
+returns-in_ok-push_text-in-Enters g c =
+    rw c.in-Enters.is (on_ok_weaker c.push_landing.result (λ is. joined _ _ _ _ _ c.in_ok-push_text-in-Enters.ensures is) c.push_landing.ensures)
+
+pub returns-in_ok-push_text-in-Returns-2 : goal.returns-in_ok-push_text-in-Returns-2
+returns-in_ok-push_text-in-Returns-2 g c =
+    rw c.in-Returns.is (on_ok_weaker c.push_landing-in-Returns.result
+    (λ is. joined_four _ _ _ _ _ _ _ _ _ c.in_ok-push_text-in-Returns.ensures c.in_ok-push_exit_line-in-Returns.ensures c.in_ok-push_text-in-Returns-2.ensures is)
+    c.push_landing-in-Returns.ensures)

@@ -1,3 +1,4 @@
 mod CellLemmas
+mod InputLemmas
 mod RefusalLemmas
 mod TaskLemmas

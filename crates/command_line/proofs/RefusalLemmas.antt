@@ -1,5 +1,5 @@
 -- Why words are refused, from what a function finds wrong with them.
-use Rattle.std.proofs.Common.{◌≡◌, ◌∙◌, ◌+◌, ◌++◌, ◌<◌, ℕ, Bool, true, false, List, [], Option, None, Some, ap, drop, get_or, length, map, refl, subst, sym, true≢false}
+use Rattle.std.proofs.Common.{◌≡◌, ◌∙◌, ◌+◌, ◌++◌, ◌<◌, ℕ, Bool, true, false, List, Option, None, Some, ap, drop, get_or, length, map, refl, subst, sym, true≢false}
 use Rattle.std.proofs.lemmas.List.{append_assoc, drop_more, map-append}
 use Rattle.std.specs.Borrow.{Bor}
 use Rattle.std.specs.List.{list_any}
@@ -14,7 +14,7 @@ use Rattle.command_line.specs.declared.fault.Misuse.{Misuse}
 use Rattle.command_line.specs.declared.place_options.PlaceOptions.{PlaceOptions}
 use Rattle.command_line.specs.declared.program_command.ProgramCommand.{ProgramCommand}
 use Rattle.command_line.specs.declared.program_command.ProgramCommand.TheVariants.{Verify, Watch, Guess, Refute, Declare, Report, Check}
-use Rattle.command_line.specs.Options.{ArePlacesGiven, has_value, named, number_or, sources_given, values}
+use Rattle.command_line.specs.Options.{ArePlacesGiven, named, number_or, sources_given, values}
 use Rattle.command_line.specs.Outputs.{result_name, result_operand}
 use Rattle.command_line.specs.Refusals.{AreInputs, AreInputsBeside, AreOfInputs, IsFoundRefused, IsLineRefused, IsMisused, IsNumberRefused, IsOfParser, IsPlaceMisused, are_distinct, result_options}
 use Rattle.command_line.specs.Requests.{input_names}

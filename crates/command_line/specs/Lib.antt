@@ -3,6 +3,7 @@ pub mod CommandNames
 pub mod CommandLines
 pub mod Machines
 pub mod Outputs
+pub mod Inputs
 pub mod Options
 pub mod OctalPlaces
 pub mod Places

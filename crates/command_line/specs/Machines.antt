@@ -1,5 +1,6 @@
 -- What requests for a tape alone, or for a certificate alone, have of the words that were given.
-use Rattle.std.specs.Prelude.{ℕ, ◌≡◌, Bool, true, false, List, Option, None, Some, Ok, codes, if◌then◌else◌, is_some, option_map}
+use Rattle.std.specs.Prelude.{ℕ, ◌≡◌, ◌∷◌, Bool, true, false, List, [], Option, None, Some, Ok, codes, if◌then◌else◌, is_some, option_map}
+use Rattle.std.specs.Option.{ForSome}
 use Rattle.std.specs.Str.{bytes_eq}
 use Rattle.clap.specs.declared.parser.matches.ArgMatches.{ArgMatches}
 use Rattle.certificate_lines.specs.declared.Version.{Version}
@@ -16,7 +17,8 @@ use Rattle.command_line.specs.declared.tapes.DumpRequest.{DumpRequest}
 use Rattle.command_line.specs.declared.tapes.MigrateRequest.{MigrateRequest}
 use Rattle.command_line.specs.declared.tapes.RunRequest.{RunRequest}
 use Rattle.command_line.specs.declared.tapes.SourceRequest.{SourceRequest}
-use Rattle.command_line.specs.Outputs.{IsResultGiven}
+use Rattle.command_line.specs.Inputs.{AreReadAtMost, IsApart}
+use Rattle.command_line.specs.Outputs.{IsResultGiven, file_of}
 use Rattle.command_line.specs.Places.{AreShownOn, IsStoppedOn}
 use Rattle.command_line.specs.Options.{AreRunOptions, AreSessionOptions, AreTeletypeOptions, IsFlagGiven, machine_given, operand, sources_given, start_given, value, value_or}
 
@@ -29,12 +31,34 @@ tape_unless (Some parts) name = None
 abbrev pub tape_given : ArgMatches → Option (List ℕ)
 tape_given found = tape_unless (sources_given found) (operand found (codes "TAPE"))
 
+-- The operand and the option that give the inputs of a run of a tape without an operator.
+abbrev pub run_inputs : List (List ℕ)
+run_inputs = codes "TAPE" ∷ codes "events" ∷ []
+
+-- The operand and the options that give the inputs of a run of a tape with an operator.
+abbrev pub operated_inputs : List (List ℕ)
+operated_inputs = codes "TAPE" ∷ codes "reader" ∷ codes "keys" ∷ []
+
+-- The operand and the option that give the inputs of a session at the teletype, apart from the keys.
+abbrev pub teletype_inputs : List (List ℕ)
+teletype_inputs = codes "TAPE" ∷ codes "reader" ∷ []
+
+-- The operand and the option that give the inputs of `source`.
+abbrev pub source_inputs : List (List ℕ)
+source_inputs = codes "TAPE" ∷ codes "declaration" ∷ []
+
+-- The operand and the option that give the inputs of `migrate`.
+abbrev pub migrate_inputs : List (List ℕ)
+migrate_inputs = codes "CERTIFICATE" ∷ codes "declaration" ∷ []
+
 -- A run is of the tape and of the list of events that are given, and is made as the options ask, and as the words for cells and places do.
+-- One of these inputs at most is standard input.
 pub record IsRunGiven (found : ArgMatches) (places : PlaceOptions) (run : RunRequest) : Type 0 where
   pub tape : option_map (λ name. name.now) run.tape ≡ tape_given found
   pub events : option_map (λ name. name.now) run.events ≡ value found (codes "events")
   pub options : AreRunOptions found run.options
   pub long : IsFlagGiven found (codes "trace-long") run.long
+  pub once : AreReadAtMost 1 found run_inputs
   pub shown : AreShownOn (is_some run.tape) places run.options.show
   pub stopping : IsStoppedOn (is_some run.tape) places run.stopping
 
@@ -45,12 +69,15 @@ pub record IsSummaryGiven (found : ArgMatches) (apart : Bool) (seen : Bool) (sum
   pub punched : option_map (λ name. name.now) summary.saved_in ≡ value found (codes "punch")
 
 -- A run with an operator is of the tape, the frames and the keys that are given, punches where the option says, and is made as the
--- options ask, and as the words for cells and places do.
+-- options ask, and as the words for cells and places do. One of these inputs at most is standard input, and none is the file for what is
+-- punched.
 pub record IsOperatedRunGiven (found : ArgMatches) (places : PlaceOptions) (session : Session) : Type 0 where
   pub tape : option_map (λ name. name.now) session.tape ≡ tape_given found
   pub reader : option_map (λ name. name.now) session.joined.reader ≡ value found (codes "reader")
   pub keys : option_map (λ name. name.now) session.joined.keys ≡ value found (codes "keys")
   pub punch : option_map (λ name. name.now) session.joined.punch ≡ value found (codes "punch")
+  pub apart : ForSome session.joined.punch (λ name. IsApart found operated_inputs name.now)
+  pub once : AreReadAtMost 1 found operated_inputs
   pub teletype : IsFlagGiven found (codes "teletype") session.joined.teletype
   pub options : AreSessionOptions found session.options
   pub summary : IsSummaryGiven found false session.joined.teletype session.summary
@@ -68,11 +95,14 @@ interrupt_given raw None = Some (if raw then Off else Usual)
 interrupt_given raw (Some text) = interrupt_named text
 
 -- A session at the teletype is of the tape and the frames that are given, punches where the option says, and is held as the options ask.
--- The key of `--interrupt` interrupts it, and its summary tells what was not seen.
+-- The key of `--interrupt` interrupts it, and its summary tells what was not seen. No input is standard input, where the keys come from, and
+-- none is the file for what is punched.
 pub record IsTeletypeGiven (found : ArgMatches) (places : PlaceOptions) (session : TeletypeSession) : Type 0 where
   pub tape : option_map (λ name. name.now) session.tape ≡ tape_given found
   pub reader : option_map (λ name. name.now) session.reader ≡ value found (codes "reader")
   pub punch : option_map (λ name. name.now) session.punch ≡ value found (codes "punch")
+  pub apart : ForSome session.punch (λ name. IsApart found teletype_inputs name.now)
+  pub once : AreReadAtMost 0 found teletype_inputs
   pub options : AreTeletypeOptions found session.options
   pub interrupt : interrupt_given session.options.manner.raw (value found (codes "interrupt")) ≡ Some session.interrupt
   pub summary : IsSummaryGiven found true true session.summary
@@ -86,13 +116,15 @@ pub record IsDumpGiven (found : ArgMatches) (dump : DumpRequest) : Type 0 where
   pub full : IsFlagGiven found (codes "full") dump.full
 
 -- The source is of the tape and of the declaration that are given, for the start and the machine that are requested, and goes where it
--- is said.
+-- is said, which is none of these inputs. One of them at most is standard input.
 pub record IsSourceGiven (found : ArgMatches) (source : SourceRequest) : Type 0 where
   pub tape : source.tape.now ≡ operand found (codes "TAPE")
   pub declaration : option_map (λ name. name.now) source.declaration ≡ value found (codes "declaration")
   pub start : start_given found ≡ Ok source.start
   pub machine : machine_given found ≡ Some source.profile
   pub out : IsResultGiven kind.Source found source.out
+  pub apart : IsApart found source_inputs (file_of source.out)
+  pub once : AreReadAtMost 1 found source_inputs
   pub forced : IsFlagGiven found (codes "force") source.forced
 
 -- The version that `migrate` is asked for by a text. Texts other than 2 and 3 ask for none.
@@ -104,9 +136,12 @@ abbrev pub version_with : Bool → Version
 version_with declared = if declared then Three else Two
 
 -- The certificate that is migrated and the declaration are those that are given, and the result goes where it is said. There is a
--- declaration exactly if version 3 is requested; without `--certificate` version 2 is.
+-- declaration exactly if version 3 is requested; without `--certificate` version 2 is. The result goes to none of these inputs, of which one
+-- at most is standard input.
 pub record IsMigrateGiven (found : ArgMatches) (migrate : MigrateRequest) : Type 0 where
   pub certificate : migrate.certificate.now ≡ operand found (codes "CERTIFICATE")
   pub declaration : option_map (λ name. name.now) migrate.declaration ≡ value found (codes "declaration")
   pub version : migrated_version (value_or found (codes "certificate") (codes "2")) ≡ Some (version_with (is_some migrate.declaration))
   pub out : IsResultGiven kind.Migrate found migrate.out
+  pub apart : IsApart found migrate_inputs (file_of migrate.out)
+  pub once : AreReadAtMost 1 found migrate_inputs

@@ -35,6 +35,10 @@ file_of (MadeLast name) = name.now
 abbrev pub is_taken : List ℕ → List (Bor (List ℕ)) → Bool
 is_taken name others = not (bytes_eq name (codes "-")) && list_any (λ other. is_same_file other.now name) others
 
+-- A file of a result is that of another result; standard output is none.
+abbrev pub is_result_file : Destination → List ℕ → Bool
+is_result_file out name = not (bytes_eq name (codes "-")) && is_same_file (file_of out) name
+
 -- What the name of a source ends in.
 abbrev pub source_endings : List (List ℕ)
 source_endings =
@@ -86,6 +90,19 @@ IsSentTo _ emptied operand _ = ⊥
 -- The result of a command goes where it is said.
 abbrev pub IsResultGiven : CommandName → ArgMatches → Destination → Type 0
 IsResultGiven called found out = IsSentTo (value found (codes "output")) (is_emptied called) (operand found (result_operand called found)) out
+
+-- The endings of the files that `verify --save` may write: that of a declaration is one of them only where none is given.
+abbrev pub saved_endings : Bool → List (List ℕ)
+saved_endings true = codes ".declaration" ∷ codes ".certificate" ∷ codes ".events" ∷ []
+saved_endings false = codes ".certificate" ∷ codes ".events" ∷ []
+
+-- A name is that of the file which another name and this ending make; `./` at the front does not matter.
+abbrev pub is_saved_as : List ℕ → List ℕ → List ℕ → Bool
+is_saved_as saved ending name = ends_in name ending && is_same_file (take (length name - length ending) name) saved
+
+-- One of these is a file that may be saved, as far as the names tell.
+abbrev pub is_saved_over : SaveOptions → List (Bor (List ℕ)) → Bool
+is_saved_over save others = list_any (λ ending. list_any (λ other. is_saved_as save.name.now ending other.now) others) (saved_endings save.proposed)
 
 -- What the names of saved files begin with is the value of `--save`, a declaration may be one of them unless one is given, and they
 -- replace other files only where `--force` is given.

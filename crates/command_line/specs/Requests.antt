@@ -1,6 +1,7 @@
 -- What requests on a program and its declaration have of the words that were given.
 use Rattle.std.specs.Prelude.{ℕ, ◌≡◌, Bool, true, false, is_some, List, [], ◌∷◌, Option, None, Some, codes, if◌then◌else◌, map, option_map, unwrap_or}
 use Rattle.std.specs.Borrow.{Bor}
+use Rattle.std.specs.Option.{ForSome}
 use Rattle.clap.specs.declared.parser.matches.ArgMatches.{ArgMatches}
 use Rattle.command_line.specs.declared.command_name.CommandName.TheVariants as kind
 use Rattle.command_line.specs.declared.program_command.ProgramCommand.{ProgramCommand}
@@ -16,8 +17,8 @@ use Rattle.command_line.specs.declared.programs.Task.{Task}
 use Rattle.command_line.specs.declared.programs.WatchedRunOptions.{WatchedRunOptions}
 use Rattle.command_line.specs.declared.programs.Task.TheVariants.{Verify, Check, Report, Watch, WatchSession, Guess, Refute, Declare}
 use Rattle.command_line.specs.declared.outputs.Destination.{Destination}
-use Rattle.certificate_lines.specs.declared.Version.{Version}
-use Rattle.command_line.specs.Outputs.{IsResultGiven, IsSaveGiven}
+use Rattle.command_line.specs.Inputs.{AreReadAtMost, IsApart, IsSavedApart}
+use Rattle.command_line.specs.Outputs.{IsResultGiven, IsSaveGiven, file_of, is_result_file}
 use Rattle.command_line.specs.Options.{AreDeclareOptions, ArePlacesGiven, AreRefinements, AreRefuteOptions, AreSessionOptions, AreVerifyOptions, IsFlagGiven, IsNumberNamed, IsVersionNamed, IsWatchedWithOperator, is_start_named, operand, sources_given, value}
 use Rattle.command_line.specs.Places.{AreShownOn, IsStoppedOn}
 
@@ -67,6 +68,10 @@ input_names command.Watch sourced =
 input_names command.Check sourced = with_certificate sourced
 input_names command.Report sourced = with_certificate sourced
 input_names _ sourced = if sourced then codes "source" ∷ codes "TAPE" ∷ [] else codes "TAPE" ∷ codes "DECLARATION" ∷ []
+
+-- The same with what is found behind the name of the command.
+abbrev pub inputs_given : ProgramCommand → ArgMatches → List (List ℕ)
+inputs_given called found = input_names called (is_some (sources_given found))
 
 -- The declaration of a command on a source, where this word stands for it after the source: that of `declare` is the value of `--from`.
 abbrev pub declaration_of_source : ProgramCommand → ArgMatches → Option (List ℕ) → Option (List ℕ)
@@ -118,9 +123,11 @@ abbrev pub watched_declaration : ProgramNames → Option (List ℕ) → List ℕ
 watched_declaration (Tape name) declaration = unwrap_or declaration (codes "-")
 watched_declaration (Source names) declaration = []
 
--- The search for an answer is made and what is found is saved as the options ask. A declaration may be saved exactly if none is given.
+-- The search for an answer is made and what is found is saved as the options ask, over none of the inputs. A declaration may be saved
+-- exactly if none is given.
 abbrev pub IsVerifyGiven : ArgMatches → Operands → Task → Type 0
-IsVerifyGiven found operands (Verify save options) = IsSaveGiven found (is_some operands.declaration) save × AreVerifyOptions found options
+IsVerifyGiven found operands (Verify save options) =
+    IsSaveGiven found (is_some operands.declaration) save × AreVerifyOptions found options × ForSome save (IsSavedApart found (inputs_given command.Verify found))
 IsVerifyGiven found operands _ = ⊥
 
 -- A command is `watch` with an operator.
@@ -158,29 +165,39 @@ IsWatchGiven found operands followed (Watch events show stopping) = IsWatchedWit
 IsWatchGiven found operands followed (WatchSession session) = IsWatchedWithOperator found true × IsWatchedRunGiven found operands followed session
 IsWatchGiven found operands followed _ = ⊥
 
+-- The result of a command goes where it is said, and that is none of the inputs.
+pub record IsResultApart (called : ProgramCommand) (found : ArgMatches) (out : Destination) : Type 0 where
+  pub given : IsResultGiven (kind.Program called) found out
+  pub apart : IsApart found (inputs_given called found) (file_of out)
+
+-- The report of a search that is stuck goes where it is said, and that is neither an input nor where the result goes.
+pub record IsReportApart (found : ArgMatches) (out : Destination) (report : Option (Bor (List ℕ))) : Type 0 where
+  pub given : option_map (λ name. name.now) report ≡ value found (codes "report")
+  pub apart : ForSome report (λ name. IsApart found (inputs_given command.Guess found) name.now)
+  pub another : ForSome report (λ name. is_result_file out name.now ≡ false)
+
 -- The search for a certificate is for the version that is requested, and the certificate and the report of a search that is stuck go
 -- where it is said.
 abbrev pub IsGuessGiven : ArgMatches → Task → Type 0
 IsGuessGiven found (Guess out report version) =
-    IsResultGiven (kind.Program command.Guess) found out × (option_map (λ name. name.now) report ≡ value found (codes "report"))
-    × IsVersionNamed (value found (codes "certificate")) version
+    IsResultApart command.Guess found out × IsReportApart found out report × IsVersionNamed (value found (codes "certificate")) version
 IsGuessGiven found _ = ⊥
 
 -- The search for a run is made as the options ask, and the run goes where it is said.
 abbrev pub IsRefuteGiven : ArgMatches → Task → Type 0
-IsRefuteGiven found (Refute out options) = IsResultGiven (kind.Program command.Refute) found out × AreRefuteOptions found options
+IsRefuteGiven found (Refute out options) = IsResultApart command.Refute found out × AreRefuteOptions found options
 IsRefuteGiven found _ = ⊥
 
 -- A declaration is proposed as the options ask, and goes where it is said.
 abbrev pub IsDeclareGiven : ArgMatches → Task → Type 0
 IsDeclareGiven found (Declare out options refinements) =
-    IsResultGiven (kind.Program command.Declare) found out × AreDeclareOptions found options × AreRefinements found refinements
+    IsResultApart command.Declare found out × AreDeclareOptions found options × AreRefinements found refinements
 IsDeclareGiven found _ = ⊥
 
 -- The report is of the certificate that is given last, as text or as a page as the option asks, and goes where it is said.
 abbrev pub IsReportGiven : ArgMatches → Option (List ℕ) → Task → Type 0
 IsReportGiven found last (Report certificate out text) =
-    (certificate.now ≡ unwrap_or last (codes "-")) × IsResultGiven (kind.Program command.Report) found out × IsFlagGiven found (codes "text") text
+    (certificate.now ≡ unwrap_or last (codes "-")) × IsResultApart command.Report found out × IsFlagGiven found (codes "text") text
 IsReportGiven found last _ = ⊥
 
 -- The certificate that is checked is the one that is given last.
@@ -199,7 +216,8 @@ IsTaskGiven command.Report found operands followed task = IsReportGiven found (l
 IsTaskGiven command.Check found operands followed task = IsCheckGiven (last_of operands) task
 
 -- What a command on a program and its declaration is called for, with its operands and as its options ask. The files of the program are
--- those that are given, and so is the declaration: one is proposed for a tape only if none is given to `verify` or `declare`.
+-- those that are given, and so is the declaration: one is proposed for a tape only if none is given to `verify` or `declare`. One input at
+-- most is standard input.
 pub record IsProgramRequestGiven (called : ProgramCommand) (found : ArgMatches) (asked : ProgramRequest) : Type 0 where
   pub operands : Operands
   pub program_is : asked.program ≡ operands.program
@@ -208,6 +226,7 @@ pub record IsProgramRequestGiven (called : ProgramCommand) (found : ArgMatches) 
   pub followed : WatchedRunOptions
   pub followed_is : IsFollowedOn operands.program asked.places followed
   pub task : IsTaskGiven called found operands followed asked.task
+  pub once : AreReadAtMost 1 found (inputs_given called found)
   pub places : ArePlacesGiven found asked.places
   pub named : asked.asked ≡ is_start_named found
   pub explained : IsFlagGiven found (codes "why") asked.explained

@@ -19,7 +19,8 @@ use Rattle.command_line.specs.declared.sources.AssembleRequest.{AssembleRequest}
 use Rattle.command_line.specs.declared.sources.ListRequest.{ListRequest}
 use Rattle.command_line.specs.Machines.{IsDumpGiven, IsOperatedRunGiven, IsRunGiven, IsTeletypeGiven}
 use Rattle.command_line.specs.Options.{ArePlacesGiven, IsFlagGiven, IsRunWithOperator, has_value, machine_given, named, sources_given, value}
-use Rattle.command_line.specs.Outputs.{IsResultGiven}
+use Rattle.command_line.specs.Inputs.{AreReadAtMost, IsApart}
+use Rattle.command_line.specs.Outputs.{IsResultGiven, file_of}
 
 -- The operands that are parts of the source of `assemble`, `list` and `place`: with `-o` the first operand is one of them too.
 abbrev pub part_operands : ArgMatches → List (List ℕ)
@@ -35,17 +36,20 @@ abbrev pub source_operands : ArgMatches → List (List ℕ)
 source_operands found = named found (part_operands found)
 
 -- The source that is assembled has the parts that are given, in their order, for the machine that is requested, and the tape goes where it
--- is said.
+-- is said, which is none of the parts. One part at most is standard input.
 pub record IsAssembleGiven (found : ArgMatches) (assemble : AssembleRequest) : Type 0 where
   pub out : IsResultGiven kind.Assemble found assemble.out
+  pub apart : IsApart found (part_operands found) (file_of assemble.out)
+  pub once : AreReadAtMost 1 found (part_operands found)
   pub sources : map (λ name. name.now) assemble.sources.items ≡ source_operands found
   pub machine : machine_given found ≡ Some assemble.profile
   pub explained : IsFlagGiven found (codes "why") assemble.explained
 
 -- The source that is listed has the parts that are given, in their order, for the machine that is requested, with a table of its symbols or
--- without one.
+-- without one. One part at most is standard input.
 pub record IsListGiven (found : ArgMatches) (listing : ListRequest) : Type 0 where
   pub sources : map (λ name. name.now) listing.sources.items ≡ source_operands found
+  pub once : AreReadAtMost 1 found (part_operands found)
   pub machine : machine_given found ≡ Some listing.profile
   pub explained : IsFlagGiven found (codes "why") listing.explained
   pub crossed : IsFlagGiven found (codes "cross") listing.crossed
@@ -65,11 +69,24 @@ pub record IsOnTape (called : MachineCommand) (found : ArgMatches) (task : Machi
   pub places_are : ArePlacesGiven found places
   pub given : IsMachineTaskGiven called found places task
 
--- The parts of the source are those that are given, in their order, and so are the words that name cells and places of a run.
+-- The operands and options that give the inputs of `run`, `teletype` or `dump` with a source.
+abbrev pub sourced_inputs : MachineCommand → List (List ℕ)
+sourced_inputs command.Run = codes "source" ∷ codes "events" ∷ codes "reader" ∷ codes "keys" ∷ []
+sourced_inputs command.Teletype = codes "source" ∷ codes "reader" ∷ []
+sourced_inputs command.Dump = codes "source" ∷ []
+
+-- How many of these inputs may be standard input: none of those of `teletype`, whose keys come from there.
+abbrev pub standard_inputs_of : MachineCommand → ℕ
+standard_inputs_of command.Teletype = 0
+standard_inputs_of _ = 1
+
+-- The parts of the source are those that are given, in their order, and so are the words that name cells and places of a run. No more of
+-- the inputs are standard input than may be.
 pub record IsSourcedGiven (called : MachineCommand) (found : ArgMatches) (asked : SourceProgramRequest) : Type 0 where
   pub parts : sources_given found ≡ Some (map (λ name. name.now) asked.parts.items)
   pub places : ArePlacesGiven found asked.places
   pub task : IsMachineTaskGiven called found asked.places asked.task
+  pub once : AreReadAtMost (standard_inputs_of called) found (sourced_inputs called)
   pub explained : IsFlagGiven found (codes "why") asked.explained
 
 -- With a source, what is requested is done with that, and otherwise with a tape.
@@ -87,16 +104,18 @@ abbrev pub ArePartsGiven : ArgMatches → ProgramNames → Type 0
 ArePartsGiven found (Source names) = map (λ name. name.now) names.items ≡ source_operands found
 ArePartsGiven found (Tape name) = ⊥
 
--- A declaration is written in numbers, and goes where it is said.
+-- A declaration is written in numbers, and goes where it is said, which is none of the inputs.
 abbrev pub IsPlaceTask : ArgMatches → Task → Type 0
-IsPlaceTask found (Place out) = IsResultGiven kind.Place found out
+IsPlaceTask found (Place out) = IsResultGiven kind.Place found out × IsApart found (placed_operands found) (file_of out)
 IsPlaceTask found _ = ⊥
 
--- The declaration that is written in numbers is the one that is given, for the source whose parts are given.
+-- The declaration that is written in numbers is the one that is given, for the source whose parts are given. One of these inputs at most is
+-- standard input.
 pub record IsPlaceGiven (found : ArgMatches) (asked : ProgramRequest) : Type 0 where
   pub program : ArePartsGiven found asked.program
   pub declaration : option_map (λ name. name.now) asked.declaration ≡ value found (codes "declaration")
   pub task : IsPlaceTask found asked.task
+  pub once : AreReadAtMost 1 found (placed_operands found)
   pub places : ArePlacesGiven found asked.places
   pub named : asked.asked ≡ false
   pub explained : IsFlagGiven found (codes "why") asked.explained

@@ -1,10 +1,10 @@
 //! Where the result of a command goes.
 
-ghost use Rattle.std.specs.Prelude.{◌≡◌, IfErr, IfOk, MatchResult, not, codes, false, option_map};
+ghost use Rattle.std.specs.Prelude.{◌≡◌, IfErr, IfOk, not, codes, false, map, option_map};
 ghost use Rattle.std.specs.Option.{ForSome};
 ghost use Rattle.std.specs.List.{list_any};
 ghost use Rattle.command_line.specs.Options.{value};
-ghost use Rattle.command_line.specs.Outputs.{IsResultGiven, IsSaveGiven, ends_in, file_of, is_emptied, is_same_file, is_source_name, is_taken, result_file, result_operand, without_here};
+ghost use Rattle.command_line.specs.Outputs.{IsResultGiven, IsSaveGiven, ends_in, file_of, is_emptied, is_result_file, is_same_file, is_saved_as, is_saved_over, is_source_name, is_taken, result_file, result_operand, saved_endings, without_here};
 ghost use Rattle.command_line.specs.Refusals.{AreInputs, AreInputsBeside, IsRefused, IsRefusedByAny};
 
 use crate::command_name::CommandName;
@@ -73,6 +73,13 @@ pub fn is_taken(name: &str, others: &[&str]) -> bool
     is_one_of(name, others)
 }
 
+/// Whether a file is the one that a result goes to, as far as the names tell; standard output is none.
+fn is_result_file(name: &str, out: &Destination<'_>) -> bool
+    ensures { result ≡ is_result_file out.now name.now }
+{
+    name != "-" && is_same_file(out.name(), name)
+}
+
 /// What the name of a source ends in.
 const SOURCE_ENDINGS: [&str; 10] = [
     ".pal", ".PAL", ".pa", ".PA", ".pal8", ".PAL8", ".asm", ".ASM", ".src", ".SRC",
@@ -110,12 +117,14 @@ pub fn report_of<'a>(
         value found.now (codes "report")) }
     ensures free { IfOk result (λ name.
         ForSome name (λ it. is_taken it.now others.now ≡ false)) }
+    ensures another { IfOk result (λ name.
+        ForSome name (λ it. is_result_file out.now it.now ≡ false)) }
     ensures refused { IfErr result (IsRefusedByAny found.now) }
 {
     let Some(name) = found.get_str("report") else {
         return Ok(None);
     };
-    if is_taken(name, others) || is_taken(name, &[out.name()]) {
+    if is_taken(name, others) || is_result_file(name, out) {
         return Err(CommandLineFault::Misuse(Misuse::ReportIsTaken));
     }
     if is_source_name(name) {
@@ -232,27 +241,52 @@ pub const CERTIFICATE_ENDING: &str = ".certificate";
 /// The ending of the name of a list of events, as `verify --save` gives it.
 pub const EVENTS_ENDING: &str = ".events";
 
-/// The endings of the files that `verify --save` writes; that of a declaration, which it may only propose, is first.
-const SAVED_ENDINGS: [&str; 3] = [DECLARATION_ENDING, CERTIFICATE_ENDING, EVENTS_ENDING];
-
 impl<'a> SaveOptions<'a> {
     /// The endings of the files that may be written.
-    pub fn endings(&self) -> &'static [&'static str] {
+    pub fn endings(&self) -> &'static [&'static str]
+        ensures { map (λ ending. ending.now) result.now ≡ saved_endings self.now.proposed }
+    {
         if self.proposed {
-            &SAVED_ENDINGS
+            &[DECLARATION_ENDING, CERTIFICATE_ENDING, EVENTS_ENDING]
         } else {
-            &SAVED_ENDINGS[1..]
+            &[CERTIFICATE_ENDING, EVENTS_ENDING]
         }
     }
 
+    /// Whether the file with this ending is one of these inputs, as far as the names tell.
+    fn takes_one(&self, ending: &str, inputs: &[&str]) -> bool
+        ensures { result ≡ list_any (λ input. is_saved_as self.now.name.now ending.now input.now)
+            inputs.now }
+    {
+        inputs
+            .iter()
+            .any(|input| is_saved_as(self.name, ending, input))
+    }
+
+    /// Whether a file with one of these endings is one of these inputs, as far as the names tell.
+    fn takes_any(&self, endings: &[&str], inputs: &[&str]) -> bool
+        ensures { result ≡ list_any (λ ending. list_any (λ input.
+            is_saved_as self.now.name.now ending.now input.now) inputs.now) endings.now }
+    {
+        endings.iter().any(|ending| self.takes_one(ending, inputs))
+    }
+
     /// Whether one of these inputs, as far as the names tell, may be replaced.
-    fn takes(&self, inputs: &[&str]) -> bool {
-        self.endings().iter().any(|ending| inputs.iter().any(|input| match input.strip_suffix(
-            *ending,
-        ) {
-            Some(front) => is_same_file(front, self.name),
-            None => false,
-        }))
+    fn takes(&self, inputs: &[&str]) -> bool
+        ensures { result ≡ is_saved_over self.now inputs.now }
+    {
+        self.takes_any(self.endings(), inputs)
+    }
+}
+
+/// Whether an input is the file that this name and ending make, as far as the names tell.
+fn is_saved_as(name: &str, ending: &str, input: &str) -> bool
+    ensures { result ≡ is_saved_as name.now ending.now input.now }
+{
+    let input = input.as_bytes();
+    match input.strip_suffix(ending.as_bytes()) {
+        Some(front) => without_here(front) == without_here(name.as_bytes()),
+        None => false,
     }
 }
 
@@ -268,8 +302,10 @@ pub fn save_of<'a>(
     inputs: &[&str],
     proposed: bool,
 ) -> Result<Option<SaveOptions<'a>>, CommandLineFault>
-    ensures { MatchResult result (IsSaveGiven found.now (not proposed))
-        (IsRefusedByAny found.now) }
+    ensures given { IfOk result (IsSaveGiven found.now (not proposed)) }
+    ensures free { IfOk result (λ save.
+        ForSome save (λ it. is_saved_over it inputs.now ≡ false)) }
+    ensures refused { IfErr result (IsRefusedByAny found.now) }
 {
     let Some(name) = found.get_str("save") else {
         return Ok(None);

@@ -1,13 +1,16 @@
 //! What may be requested with a program and its declaration: the program is given by its tape, or with `--source` by
 //! its source. It is proved that the files of a program are those that were given.
 
-ghost use Rattle.std.specs.Prelude.{◌≡◌, MatchResult, codes, false, is_some, option_map, unwrap_or, true};
-ghost use Rattle.command_line.specs.Options.{ArePlacesGiven, IsVersionNamed, IsWatchedWithOperator, value, version_named};
+ghost use Rattle.std.specs.Prelude.{◌≡◌, IfErr, IfOk, MatchResult, codes, false, is_some, map, option_map, unwrap_or, true};
+ghost use Rattle.std.specs.Option.{ForSome};
+ghost use Rattle.command_line.specs.Inputs.{AreReadAtMost};
+ghost use Rattle.command_line.specs.Options.{ArePlacesGiven, IsVersionNamed, IsWatchedWithOperator, named, value, version_named};
+ghost use Rattle.command_line.specs.Outputs.{is_taken};
 ghost use Rattle.command_line.specs.Refusals.{AreInputsBeside, IsRefused, IsRefusedByAny};
-ghost use Rattle.command_line.specs.Requests.{IsDeclareGiven, IsFollowedOn, IsGuessGiven, IsOperated, IsWatchedRunGiven, IsProgramRequestGiven, IsRefuteGiven, IsReportGiven, IsTaskGiven, IsVerifyGiven, is_tape, last_of, part_names, watched_declaration, watched_tape};
+ghost use Rattle.command_line.specs.Requests.{IsDeclareGiven, IsFollowedOn, IsGuessGiven, IsOperated, IsWatchedRunGiven, IsProgramRequestGiven, IsRefuteGiven, IsReportGiven, IsTaskGiven, IsVerifyGiven, inputs_given, is_tape, last_of, part_names, watched_declaration, watched_tape};
 ghost use Rattle.command_line.specs.Sources.{IsPlaceGiven};
 ghost use Rattle.command_line.specs.declared.command_name.CommandName.TheVariants.{Place, Program};
-ghost use Rattle.command_line.specs.declared.program_command.ProgramCommand.TheVariants.{Declare, Guess, Refute, Report};
+ghost use Rattle.command_line.specs.declared.program_command.ProgramCommand.TheVariants.{Declare, Guess, Refute, Report, Verify, Watch};
 
 use crate::command_name::CommandName;
 use crate::fault::{CommandLineFault, Misuse};
@@ -266,21 +269,22 @@ fn watched_session_of<'a>(
     followed: WatchedRunOptions,
 ) -> Result<WatchedSession<'a>, CommandLineFault>
     requires operated { IsWatchedWithOperator found.now true }
-    ensures { MatchResult result (IsWatchedRunGiven found.now operands.now followed)
-        (IsRefusedByAny found.now) }
+    ensures given { IfOk result (IsWatchedRunGiven found.now operands.now followed) }
+    ensures once { IfOk result (λ session. AreReadAtMost 1 found.now (inputs_given Watch found.now)) }
+    ensures refused { IfErr result (IsRefusedByAny found.now) }
 {
     if has_value(found, "EVENTS") {
         return Err(CommandLineFault::Misuse(Misuse::ListAndOperator));
     }
-    let is_sourced = operands.program.tape().is_none();
-    if is_sourced {
+    let sourced = is_sourced(found);
+    if sourced {
         read_once(alloc, found, &["reader", "keys"])?;
     } else {
         read_once(alloc, found, input_names(ProgramCommand::Watch, false))?;
     }
     let options = session_options(found, followed.show)?;
     let continues = continues_of(found)?;
-    read_once(alloc, found, input_names(ProgramCommand::Watch, is_sourced))?;
+    read_once(alloc, found, input_names(ProgramCommand::Watch, sourced))?;
     Ok(WatchedSession {
         tape: watched_tape(&operands.program),
         declaration: watched_declaration(operands),
@@ -319,6 +323,18 @@ fn guessed_version(found: &ArgMatches<'_>) -> Result<Option<Version>, CommandLin
     }
 }
 
+/// Whether an output, if there is one, is one of these inputs, as far as the names tell.
+fn is_any_taken(output: &Option<&str>, inputs: &[&str]) -> bool
+    ensures none { result ≡ false →
+        ForSome output.now (λ name. is_taken name.now inputs.now ≡ false) }
+    ensures some { result ≡ true → is_some output.now ≡ true }
+{
+    match output {
+        Some(name) => is_taken(name, inputs),
+        None => false,
+    }
+}
+
 /// The search for a certificate that is requested. Of a search on a tape with a report each input must be a file,
 /// since it is read twice.
 fn guess_task<'a>(
@@ -326,7 +342,8 @@ fn guess_task<'a>(
     operands: &Operands<'a>,
     inputs: &[&'a str],
 ) -> Result<Task<'a>, CommandLineFault>
-    requires { AreInputsBeside (Program Guess) found.now inputs.now }
+    requires inputs { AreInputsBeside (Program Guess) found.now inputs.now }
+    requires given { map (λ input. input.now) inputs.now ≡ named found.now (inputs_given Guess found.now) }
     ensures { MatchResult result (IsGuessGiven found.now)
         (IsRefused (Program Guess) found.now) }
 {
@@ -338,7 +355,7 @@ fn guess_task<'a>(
         operands.declaration.as_slice()
     };
     let report = report_of(found, named, &out)?;
-    if report.is_some_and(|name| is_taken(name, inputs)) {
+    if is_any_taken(&report, inputs) {
         return Err(CommandLineFault::Misuse(Misuse::ReportIsTaken));
     }
     if is_tape && report.is_some() && inputs.iter().any(|input| **input == *"-") {
@@ -358,6 +375,7 @@ fn verify_task<'a>(
     operands: &Operands<'a>,
     inputs: &[&'a str],
 ) -> Result<Task<'a>, CommandLineFault>
+    requires { map (λ input. input.now) inputs.now ≡ named found.now (inputs_given Verify found.now) }
     ensures { MatchResult result (IsVerifyGiven found.now operands.now)
         (IsRefusedByAny found.now) }
 {
@@ -368,7 +386,8 @@ fn verify_task<'a>(
 
 /// To search for a run that violates the declaration.
 fn refute_task<'a>(found: &ArgMatches<'a>, inputs: &[&'a str]) -> Result<Task<'a>, CommandLineFault>
-    requires { AreInputsBeside (Program Refute) found.now inputs.now }
+    requires inputs { AreInputsBeside (Program Refute) found.now inputs.now }
+    requires given { map (λ input. input.now) inputs.now ≡ named found.now (inputs_given Refute found.now) }
     ensures { MatchResult result (IsRefuteGiven found.now)
         (IsRefused (Program Refute) found.now) }
 {
@@ -382,7 +401,8 @@ fn declare_task<'a>(
     found: &ArgMatches<'a>,
     inputs: &[&'a str],
 ) -> Result<Task<'a>, CommandLineFault>
-    requires { AreInputsBeside (Program Declare) found.now inputs.now }
+    requires inputs { AreInputsBeside (Program Declare) found.now inputs.now }
+    requires given { map (λ input. input.now) inputs.now ≡ named found.now (inputs_given Declare found.now) }
     ensures { MatchResult result (IsDeclareGiven found.now)
         (IsRefused (Program Declare) found.now) }
 {
@@ -402,7 +422,8 @@ fn report_task<'a>(
     operands: &Operands<'a>,
     inputs: &[&'a str],
 ) -> Result<Task<'a>, CommandLineFault>
-    requires { AreInputsBeside (Program Report) found.now inputs.now }
+    requires inputs { AreInputsBeside (Program Report) found.now inputs.now }
+    requires given { map (λ input. input.now) inputs.now ≡ named found.now (inputs_given Report found.now) }
     ensures { MatchResult result (IsReportGiven found.now (last_of operands.now))
         (IsRefused (Program Report) found.now) }
 {
@@ -434,6 +455,7 @@ fn task_of<'a>(
     followed: WatchedRunOptions,
 ) -> Result<Task<'a>, CommandLineFault>
     requires inputs { AreInputsBeside (Program called) found.now inputs.now }
+    requires given { map (λ input. input.now) inputs.now ≡ named found.now (inputs_given called found.now) }
     requires operated { IsOperated called found.now false }
     ensures { MatchResult result (IsTaskGiven called found.now operands.now followed)
         (IsRefused (Program called) found.now) }
@@ -496,8 +518,9 @@ fn task_on<'a>(
     operands: &Operands<'a>,
     followed: WatchedRunOptions,
 ) -> Result<Task<'a>, CommandLineFault>
-    ensures { MatchResult result (IsTaskGiven called found.now operands.now followed)
-        (IsRefused (Program called) found.now) }
+    ensures given { IfOk result (IsTaskGiven called found.now operands.now followed) }
+    ensures once { IfOk result (λ task. AreReadAtMost 1 found.now (inputs_given called found.now)) }
+    ensures refused { IfErr result (IsRefused (Program called) found.now) }
 {
     if is_operated(called, found) {
         let session = watched_session_of(alloc, found, operands, followed)?;

@@ -1,10 +1,11 @@
 //! What may be requested with a source in place of a tape, without a declaration.
 
-ghost use Rattle.std.specs.Prelude.{◌≡◌, IfErr, MatchResult, Some, map, option_map};
+ghost use Rattle.std.specs.Prelude.{◌≡◌, IfErr, IfOk, MatchResult, Some, map, option_map};
+ghost use Rattle.command_line.specs.Inputs.{AreReadAtMost};
 ghost use Rattle.command_line.specs.Machines.{tape_given};
 ghost use Rattle.command_line.specs.Options.{ArePlacesGiven, sources_given};
 ghost use Rattle.command_line.specs.Refusals.{IsRefused, IsRefusedByAny};
-ghost use Rattle.command_line.specs.Sources.{IsMachineGiven, IsMachineTaskGiven};
+ghost use Rattle.command_line.specs.Sources.{IsMachineGiven, IsMachineTaskGiven, sourced_inputs, standard_inputs_of};
 ghost use Rattle.command_line.specs.declared.command_name.CommandName.TheVariants.{Machine};
 ghost use Rattle.command_line.specs.declared.command_name.MachineCommand.TheVariants.{Run};
 
@@ -153,7 +154,9 @@ fn check_inputs(
     called: MachineCommand,
     found: &ArgMatches<'_>,
 ) -> Result<(), CommandLineFault>
-    ensures { IfErr result (IsRefused (Machine called) found.now) }
+    ensures once { IfOk result (λ unit. AreReadAtMost (standard_inputs_of called) found.now
+        (sourced_inputs called)) }
+    ensures refused { IfErr result (IsRefused (Machine called) found.now) }
 {
     match called {
         MachineCommand::Teletype => {
@@ -177,9 +180,11 @@ fn source_parts<'a>(
     names: &[&'a str],
 ) -> Result<Vec<&'a str>, CommandLineFault>
     requires { sources_given found.now ≡ Some (map (λ name. name.now) names.now) }
-    ensures { MatchResult result
-        (λ parts. sources_given found.now ≡ Some (map (λ name. name.now) parts.items))
-        (IsRefused (Machine called) found.now) }
+    ensures given { IfOk result
+        (λ parts. sources_given found.now ≡ Some (map (λ name. name.now) parts.items)) }
+    ensures once { IfOk result (λ parts. AreReadAtMost (standard_inputs_of called) found.now
+        (sourced_inputs called)) }
+    ensures refused { IfErr result (IsRefused (Machine called) found.now) }
 {
     check_inputs(alloc, called, found)?;
     let parts = copied(alloc, names)?;

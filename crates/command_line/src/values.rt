@@ -290,6 +290,8 @@ pub(crate) fn read_once<'a>(
     ensures given { IfOk result (λ inputs. map (λ input. input.now) inputs.items ≡
         named found.now (map (λ name. name.now) names.now)) }
     ensures are { IfOk result (λ inputs. AreInputs found.now inputs.items) }
+    ensures once { IfOk result (λ inputs.
+        count_by (λ name. is_standard_input name.now) inputs.items ≤ 1) }
     ensures refused { IfErr result (IsRefusedByAny found.now) }
 {
     let inputs = inputs_of(alloc, found, names)?;
@@ -309,6 +311,8 @@ pub(crate) fn read_beside_keys<'a>(
     ensures given { IfOk result (λ inputs. map (λ input. input.now) inputs.items ≡
         named found.now (map (λ name. name.now) names.now)) }
     ensures are { IfOk result (λ inputs. AreInputs found.now inputs.items) }
+    ensures none { IfOk result (λ inputs.
+        count_by (λ name. is_standard_input name.now) inputs.items ≤ 0) }
     ensures refused { IfErr result (IsRefused (Machine Teletype) found.now) }
 {
     let inputs = inputs_of(alloc, found, names)?;

@@ -10,9 +10,10 @@ returns-in-None c = on_tape c.args.called c.args.found.now c.in_ok-task.task (se
 })
 
 pub returns : goal.returns
-returns c = with_source c.args.called c.args.found.now _ (map (λ name. name.now) c.in_ok-parts-in-Some.parts.items) c.in_ok-parts-in-Some.ensures (record {
-  parts = c.in_ok-parts-in-Some.ensures;
+returns c = with_source c.args.called c.args.found.now _ (map (λ name. name.now) c.in_ok-parts-in-Some.parts.items) c.in_ok-parts-in-Some.ensures.given (record {
+  parts = c.in_ok-parts-in-Some.ensures.given;
   places = c.in_ok-places.ensures;
   task = c.in_ok-task.ensures;
+  once = c.in_ok-parts-in-Some.ensures.once;
   explained = c.is_given.ensures;
 })

@@ -16,6 +16,7 @@ use Rattle.command_line.specs.declared.program_command.ProgramCommand.{ProgramCo
 use Rattle.command_line.specs.declared.program_command.ProgramCommand.TheVariants.{Verify, Watch, Guess, Refute, Declare, Report, Check}
 use Rattle.command_line.specs.Options.{ArePlacesGiven, named, number_or, sources_given, values}
 use Rattle.command_line.specs.Outputs.{result_name, result_operand}
+use Rattle.command_line.specs.OctalPlaces.{NamesNoOctalCells, NamesNoOctalPlace, NamesOctalCells}
 use Rattle.command_line.specs.Refusals.{AreInputs, AreInputsBeside, AreOfInputs, IsFoundRefused, IsLineRefused, IsMisused, IsNumberRefused, IsOfParser, IsPlaceMisused, are_distinct, result_options}
 use Rattle.command_line.specs.Requests.{input_names}
 
@@ -83,8 +84,9 @@ beside_result called found inputs are e = record {
   given = e;
 }
 
--- What is wrong with an option for cells or for a place is wrong with what is found.
-pub place_refused : (found : ArgMatches) (places : PlaceOptions) (wrong : Misuse) → ArePlacesGiven found places → IsPlaceMisused places wrong → IsMisused wrong found
+-- What is wrong with an option for cells or for a place, read as octal digits, is wrong with what is found.
+pub place_refused : (found : ArgMatches) (places : PlaceOptions) (wrong : Misuse) → ArePlacesGiven found places
+    → IsPlaceMisused NamesOctalCells NamesNoOctalCells NamesNoOctalPlace places wrong → IsMisused wrong found
 place_refused found places wrong are (which, e, given) = subst (λ it. IsMisused it found) (sym e) (places, are, given)
 
 -- What an error of the parser becomes is a refusal of the line.

@@ -31,17 +31,21 @@ tape_unless (Some parts) name = None
 abbrev pub tape_given : ArgMatches → Option (List ℕ)
 tape_given found = tape_unless (sources_given found) (operand found (codes "TAPE"))
 
--- The operand and the option that give the inputs of a run of a tape without an operator.
+-- The operand and the options that give the inputs of a run without an operator.
 abbrev pub run_inputs : List (List ℕ)
-run_inputs = codes "TAPE" ∷ codes "events" ∷ []
+run_inputs = codes "source" ∷ codes "TAPE" ∷ codes "events" ∷ []
 
--- The operand and the options that give the inputs of a run of a tape with an operator.
+-- The operand and the options that give the inputs of a run with an operator.
 abbrev pub operated_inputs : List (List ℕ)
-operated_inputs = codes "TAPE" ∷ codes "reader" ∷ codes "keys" ∷ []
+operated_inputs = codes "source" ∷ codes "TAPE" ∷ codes "reader" ∷ codes "keys" ∷ []
 
--- The operand and the option that give the inputs of a session at the teletype, apart from the keys.
+-- The operand and the options that give the inputs of a session at the teletype, apart from the keys.
 abbrev pub teletype_inputs : List (List ℕ)
-teletype_inputs = codes "TAPE" ∷ codes "reader" ∷ []
+teletype_inputs = codes "source" ∷ codes "TAPE" ∷ codes "reader" ∷ []
+
+-- The operand and the option that give the inputs of a list of words.
+abbrev pub dump_inputs : List (List ℕ)
+dump_inputs = codes "source" ∷ codes "TAPE" ∷ []
 
 -- The operand and the option that give the inputs of `source`.
 abbrev pub source_inputs : List (List ℕ)
@@ -109,11 +113,13 @@ pub record IsTeletypeGiven (found : ArgMatches) (places : PlaceOptions) (session
   pub shown : AreShownOn (is_some session.tape) places session.options.show
   pub stopping : IsStoppedOn (is_some session.tape) places session.stopping
 
--- The words are those of the tape that is given, with the names of the machine that is requested.
+-- The words are those of the tape that is given, with the names of the machine that is requested. One of the inputs at most is standard
+-- input.
 pub record IsDumpGiven (found : ArgMatches) (dump : DumpRequest) : Type 0 where
   pub tape : option_map (λ name. name.now) dump.tape ≡ tape_given found
   pub machine : machine_given found ≡ Some dump.profile
   pub full : IsFlagGiven found (codes "full") dump.full
+  pub once : AreReadAtMost 1 found dump_inputs
 
 -- The source is of the tape and of the declaration that are given, for the start and the machine that are requested, and goes where it
 -- is said, which is none of these inputs. One of them at most is standard input.

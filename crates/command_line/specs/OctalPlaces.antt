@@ -27,3 +27,11 @@ NamesOctalCells word set = cells_of_word word ≡ Some (words set)
 -- A word of octal digits names this address.
 abbrev pub NamesOctalPlace : List ℕ → ℕ → Type 0
 NamesOctalPlace word place = octal_word word ≡ Some place
+
+-- A word of octal digits names no cells.
+abbrev pub NamesNoOctalCells : List ℕ → Type 0
+NamesNoOctalCells word = cells_of_word word ≡ None
+
+-- A word of octal digits names no address.
+abbrev pub NamesNoOctalPlace : List ℕ → Type 0
+NamesNoOctalPlace word = octal_word word ≡ None

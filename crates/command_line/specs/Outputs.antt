@@ -35,7 +35,7 @@ file_of (MadeLast name) = name.now
 abbrev pub is_taken : List ℕ → List (Bor (List ℕ)) → Bool
 is_taken name others = not (bytes_eq name (codes "-")) && list_any (λ other. is_same_file other.now name) others
 
--- A file of a result is that of another result; standard output is none.
+-- A file of this name is the one that a result goes to; standard output is no file.
 abbrev pub is_result_file : Destination → List ℕ → Bool
 is_result_file out name = not (bytes_eq name (codes "-")) && is_same_file (file_of out) name
 

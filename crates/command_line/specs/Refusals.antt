@@ -25,8 +25,10 @@ use Rattle.command_line.specs.declared.program_command.ProgramCommand.{ProgramCo
 use Rattle.command_line.specs.declared.program_command.ProgramCommand.TheVariants as command
 use Rattle.command_line.specs.CommandNames.{called_of}
 use Rattle.command_line.specs.Machines.{interrupt_named, migrated_version, version_with}
+use Rattle.command_line.specs.OctalPlaces.{NamesNoOctalCells, NamesNoOctalPlace, NamesOctalCells}
 use Rattle.command_line.specs.Options.{ArePlacesGiven, IsFlagGiven, IsRunWithOperator, IsWatchedWithOperator, has_value, is_start_named, machine_given, named, sources_given, start_given, value, value_or, version_named}
 use Rattle.command_line.specs.Outputs.{is_search, is_source_name, is_standard_input, is_taken, result_file, result_operand}
+use Rattle.command_line.specs.Places.{IsValueRefused}
 use Rattle.command_line.specs.Requests.{last_name}
 use Rattle.command_line.specs.Sources.{source_operands}
 
@@ -123,21 +125,18 @@ is_declared found =
     list_any (has_value found) (codes "DECLARATION" ∷ codes "declaration" ∷ codes "from" ∷ [])
     || (is_some (sources_given found) && has_value found (codes "TAPE"))
 
--- The option for cells or for a place is given.
-abbrev pub IsPlaceGiven : PlaceOption → PlaceOptions → Type 0
-IsPlaceGiven option.Show places = 0 < length places.show.items
-IsPlaceGiven option.Until places = is_some places.until ≡ true
-IsPlaceGiven option.UntilWrite places = 0 < length places.written.items
-IsPlaceGiven option.UntilRead places = 0 < length places.read.items
+-- What is wrong is the value of an option for cells or for a place, by what a reader of addresses knows and refuses.
+abbrev pub IsPlaceMisused : (List ℕ → List ℕ → Type 0) → (List ℕ → Type 0) → (List ℕ → Type 0) → PlaceOptions → Misuse → Type 0
+IsPlaceMisused Names NoCells NoPlace places wrong = (which : PlaceOption) × (wrong ≡ misuse.Place which) × IsValueRefused Names NoCells NoPlace which places
 
--- What is wrong is the value of an option for cells or for a place, which is given.
-abbrev pub IsPlaceMisused : PlaceOptions → Misuse → Type 0
-IsPlaceMisused places wrong = (which : PlaceOption) × (wrong ≡ misuse.Place which) × IsPlaceGiven which places
+-- The value of an option for cells or for a place is refused as octal digits.
+abbrev pub IsOctalRefused : PlaceOption → PlaceOptions → Type 0
+IsOctalRefused which places = IsValueRefused NamesOctalCells NamesNoOctalCells NamesNoOctalPlace which places
 
 -- What is wrong with options and operands that cannot be combined, or with their values, whichever command has them. A word that is not
 -- text, and an output that a file shows to be an input, are never found here.
 abbrev pub IsMisused : Misuse → ArgMatches → Type 0
-IsMisused (misuse.Place which) found = (places : PlaceOptions) × ArePlacesGiven found places × IsPlaceGiven which places
+IsMisused (misuse.Place which) found = (places : PlaceOptions) × ArePlacesGiven found places × IsOctalRefused which places
 IsMisused misuse.Last found = IsNumberRefused 1 1000000 (value found (codes "last"))
 IsMisused misuse.LastAndTrace found = (has_value found (codes "last") ≡ true) × IsTraced found
 IsMisused misuse.LongTrace found = IsFlagGiven found (codes "trace-long") true × (IsFlagGiven found (codes "trace") true ⊎ IsRunWithOperator found true)

@@ -69,7 +69,7 @@ input_names command.Check sourced = with_certificate sourced
 input_names command.Report sourced = with_certificate sourced
 input_names _ sourced = if sourced then codes "source" ∷ codes "TAPE" ∷ [] else codes "TAPE" ∷ codes "DECLARATION" ∷ []
 
--- The same with what is found behind the name of the command.
+-- The operands and options that give the inputs of a command on a program, by what is found behind its name.
 abbrev pub inputs_given : ProgramCommand → ArgMatches → List (List ℕ)
 inputs_given called found = input_names called (is_some (sources_given found))
 

@@ -69,24 +69,11 @@ pub record IsOnTape (called : MachineCommand) (found : ArgMatches) (task : Machi
   pub places_are : ArePlacesGiven found places
   pub given : IsMachineTaskGiven called found places task
 
--- The operands and options that give the inputs of `run`, `teletype` or `dump` with a source.
-abbrev pub sourced_inputs : MachineCommand → List (List ℕ)
-sourced_inputs command.Run = codes "source" ∷ codes "events" ∷ codes "reader" ∷ codes "keys" ∷ []
-sourced_inputs command.Teletype = codes "source" ∷ codes "reader" ∷ []
-sourced_inputs command.Dump = codes "source" ∷ []
-
--- How many of these inputs may be standard input: none of those of `teletype`, whose keys come from there.
-abbrev pub standard_inputs_of : MachineCommand → ℕ
-standard_inputs_of command.Teletype = 0
-standard_inputs_of _ = 1
-
--- The parts of the source are those that are given, in their order, and so are the words that name cells and places of a run. No more of
--- the inputs are standard input than may be.
+-- The parts of the source are those that are given, in their order, and so are the words that name cells and places of a run.
 pub record IsSourcedGiven (called : MachineCommand) (found : ArgMatches) (asked : SourceProgramRequest) : Type 0 where
   pub parts : sources_given found ≡ Some (map (λ name. name.now) asked.parts.items)
   pub places : ArePlacesGiven found asked.places
   pub task : IsMachineTaskGiven called found asked.places asked.task
-  pub once : AreReadAtMost (standard_inputs_of called) found (sourced_inputs called)
   pub explained : IsFlagGiven found (codes "why") asked.explained
 
 -- With a source, what is requested is done with that, and otherwise with a tape.

@@ -190,7 +190,7 @@ pub fn session_of<'a>(
     if is_given(found, "trace-long") {
         return Err(CommandLineFault::Misuse(Misuse::LongTrace));
     }
-    let inputs = read_once(alloc, found, &["TAPE", "reader", "keys"])?;
+    let inputs = read_once(alloc, found, &["source", "TAPE", "reader", "keys"])?;
     let punch = punch_of(found, &inputs)?;
     let teletype = is_given(found, "teletype");
     let show = shown_on(found, tape, places)?;
@@ -301,7 +301,7 @@ pub fn teletype_of<'a>(
     ensures { MatchResult result (IsTeletypeGiven found.now places.now)
         (IsRefused (Machine Teletype) found.now) }
 {
-    let inputs = read_beside_keys(alloc, found, &["TAPE", "reader"])?;
+    let inputs = read_beside_keys(alloc, found, &["source", "TAPE", "reader"])?;
     let punch = punch_of(found, &inputs)?;
     let options = teletype_options(found, tape, places)?;
     let stopping = stopping_on(found, tape, places)?;

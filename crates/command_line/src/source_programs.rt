@@ -1,11 +1,10 @@
 //! What may be requested with a source in place of a tape, without a declaration.
 
 ghost use Rattle.std.specs.Prelude.{◌≡◌, IfErr, IfOk, MatchResult, Some, map, option_map};
-ghost use Rattle.command_line.specs.Inputs.{AreReadAtMost};
 ghost use Rattle.command_line.specs.Machines.{tape_given};
 ghost use Rattle.command_line.specs.Options.{ArePlacesGiven, sources_given};
 ghost use Rattle.command_line.specs.Refusals.{IsRefused, IsRefusedByAny};
-ghost use Rattle.command_line.specs.Sources.{IsMachineGiven, IsMachineTaskGiven, sourced_inputs, standard_inputs_of};
+ghost use Rattle.command_line.specs.Sources.{IsMachineGiven, IsMachineTaskGiven};
 ghost use Rattle.command_line.specs.declared.command_name.CommandName.TheVariants.{Machine};
 ghost use Rattle.command_line.specs.declared.command_name.MachineCommand.TheVariants.{Run};
 
@@ -16,7 +15,7 @@ use crate::operator::{Session, TeletypeSession, has_operator, session_of, telety
 use crate::place_options::{PlaceOptions, places_of};
 use crate::requests::Request;
 use crate::tapes::{DumpRequest, RunRequest, dump_request, run_request, tape_of};
-use crate::values::{copied, has_value, is_given, is_sourced, read_beside_keys, read_once};
+use crate::values::{copied, has_value, is_given, is_sourced};
 use clap::ArgMatches;
 use instruct::Profile;
 use std::alloc::Global;
@@ -116,7 +115,7 @@ fn task_of<'a>(
         MachineCommand::Teletype => {
             Ok(MachineTask::Teletype(teletype_of(alloc, found, tape, places)?))
         }
-        MachineCommand::Dump => Ok(MachineTask::Dump(dump_request(found, tape)?)),
+        MachineCommand::Dump => Ok(MachineTask::Dump(dump_request(alloc, found, tape)?)),
     }
 }
 
@@ -137,7 +136,7 @@ pub(crate) fn machine_request<'a>(
     match found.get_strs("source") {
         None => Ok(Request::Tape(task)),
         Some(names) => {
-            let parts = source_parts(alloc, called, found, names)?;
+            let parts = copied(alloc, names)?;
             Ok(Request::Sourced(SourceProgramRequest {
                 parts,
                 places,
@@ -146,47 +145,4 @@ pub(crate) fn machine_request<'a>(
             }))
         }
     }
-}
-
-/// Ensures that a source and the other inputs are read from standard input once at most.
-fn check_inputs(
-    alloc: Global,
-    called: MachineCommand,
-    found: &ArgMatches<'_>,
-) -> Result<(), CommandLineFault>
-    ensures once { IfOk result (λ unit. AreReadAtMost (standard_inputs_of called) found.now
-        (sourced_inputs called)) }
-    ensures refused { IfErr result (IsRefused (Machine called) found.now) }
-{
-    match called {
-        MachineCommand::Teletype => {
-            read_beside_keys(alloc, found, &["source", "reader"])?;
-        }
-        MachineCommand::Run => {
-            read_once(alloc, found, &["source", "events", "reader", "keys"])?;
-        }
-        MachineCommand::Dump => {
-            read_once(alloc, found, &["source"])?;
-        }
-    }
-    Ok(())
-}
-
-/// The names of the files of a source's parts, in a list of its own.
-fn source_parts<'a>(
-    alloc: Global,
-    called: MachineCommand,
-    found: &ArgMatches<'a>,
-    names: &[&'a str],
-) -> Result<Vec<&'a str>, CommandLineFault>
-    requires { sources_given found.now ≡ Some (map (λ name. name.now) names.now) }
-    ensures given { IfOk result
-        (λ parts. sources_given found.now ≡ Some (map (λ name. name.now) parts.items)) }
-    ensures once { IfOk result (λ parts. AreReadAtMost (standard_inputs_of called) found.now
-        (sourced_inputs called)) }
-    ensures refused { IfErr result (IsRefused (Machine called) found.now) }
-{
-    check_inputs(alloc, called, found)?;
-    let parts = copied(alloc, names)?;
-    Ok(parts)
 }

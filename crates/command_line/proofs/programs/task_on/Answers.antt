@@ -1,5 +1,5 @@
 use Rattle.command_line.specs.Requests.{inputs_given}
-use Rattle.command_line.proofs.InputLemmas.{known_anyway, read_at_most}
+use Rattle.command_line.proofs.InputLemmas.{inputs_are, known_anyway}
 use Rattle.command_line.proofs.RefusalLemmas.{beside_result, of_inputs}
 use Rattle.command_line.proofs.TaskLemmas.{operated, operated_once}
 use Rattle.command_line.proofs.programs.task_on.Goals as goal
@@ -23,5 +23,5 @@ pub task_of-requires-clause-given : goal.task_of-requires-clause-given
 task_of-requires-clause-given c = rw (c.deref.ensures.value, ← c.is_sourced.ensures, ← c.input_names.ensures.given) c.in_ok-inputs.ensures.given
 
 pub returns-clause-once : goal.returns-clause-once
-returns-clause-once c = known_anyway c.task_of.result (read_at_most 1 c.args.found.now (inputs_given c.args.called c.args.found.now) c.in_ok-inputs.inputs.items
+returns-clause-once c = known_anyway c.task_of.result (inputs_are _ c.args.found.now (inputs_given c.args.called c.args.found.now) c.in_ok-inputs.inputs.items
     (rw (← c.is_sourced.ensures, ← c.input_names.ensures.given) c.in_ok-inputs.ensures.given) c.in_ok-inputs.ensures.once)

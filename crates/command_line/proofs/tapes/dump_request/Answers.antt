@@ -1,4 +1,10 @@
+use Rattle.command_line.proofs.InputLemmas.{inputs_are}
 use Rattle.command_line.proofs.tapes.dump_request.Goals as goal
 
 pub returns : goal.returns
-returns c = record { tape = c.requires.tape; machine = c.in_ok-profile.ensures; full = c.is_given-full.ensures }
+returns c = record {
+  tape = c.requires.tape;
+  machine = c.in_ok-profile.ensures;
+  full = c.is_given-full.ensures;
+  once = inputs_are _ c.args.found.now _ _ c.in_ok-read_once.ensures.given c.in_ok-read_once.ensures.once;
+}

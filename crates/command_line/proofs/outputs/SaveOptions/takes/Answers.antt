@@ -1,9 +1,9 @@
 use Rattle.std.proofs.Common.{◌∙◌, ap}
 use Rattle.std.specs.List.{list_any}
 use Rattle.command_line.specs.Outputs.{is_saved_as}
-use Rattle.command_line.proofs.InputLemmas.{any_mapped}
+use Rattle.clap.proofs.WalkLemmas.{list_any-map}
 use Rattle.command_line.proofs.outputs.SaveOptions.takes.Goals as goal
 
 pub returns : goal.returns
-returns c = c.takes_any.ensures ∙ (any_mapped (λ ending. list_any (λ input. is_saved_as c.args.self.now.name.now ending input.now) c.args.inputs.now) (λ it. it.now) c.endings.result.now
+returns c = c.takes_any.ensures ∙ (list_any-map (λ ending. list_any (λ input. is_saved_as c.args.self.now.name.now ending input.now) c.args.inputs.now) (λ it. it.now) c.endings.result.now
     ∙ ap (list_any (λ ending. list_any (λ input. is_saved_as c.args.self.now.name.now ending input.now) c.args.inputs.now)) c.endings.ensures)

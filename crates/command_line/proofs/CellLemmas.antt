@@ -1,13 +1,15 @@
 -- The cells that names name, found one name after another.
-use Rattle.std.proofs.Common.{◌≡◌, ◌||◌, ◌∷◌, ◌∙◌, ◌+◌, ◌<◌, ◌≤◌, ℕ, not, Bool, true, false, List, [], Option, None, ap, drop, get_or, length, map, refl, subst, sym}
+use Rattle.std.proofs.Common.{arith, ◌≡◌, ◌||◌, ◌∷◌, ◌∙◌, ◌+◌, ◌<◌, ◌≤◌, ℕ, not, Bool, true, false, List, [], Option, None, ap, drop, get_or, length, map, refl, subst, sym}
 use Rattle.std.proofs.lemmas.List.{drop_more}
 use Rattle.std.proofs.Math.ListN.{drop_of_length-le}
 use Rattle.std.specs.Borrow.{Bor}
-use Rattle.std.specs.Prelude.{MatchOption}
+use native.Mathlib.Numerals.{unary_clauses}
+use Rattle.std.proofs.lemmas.Grind.{common_steps}
+use Rattle.std.specs.Prelude.{Any, MatchOption}
 use Rattle.std.specs.List.{AllZip, list_any}
 use Rattle.wordset.specs.Lanes.{words}
 use Rattle.wordset.specs.Words.{nothing, union}
-use Rattle.command_line.specs.Places.{AreCellsOf, HasOneThat}
+use Rattle.command_line.specs.Places.{AreCellsOf}
 
 -- A set has the cells of another one and those that some names name.
 pub record AreMoreCells (Names : List ℕ → List ℕ → Type 0) (names : List (List ℕ)) (before : List ℕ) (set : List ℕ) : Type 0 where
@@ -47,12 +49,12 @@ text_before Names texts i none bytes before one after set h same r joined more =
 pub no_text : (Names : List ℕ → List ℕ → Type 0) (texts : List (Bor (List ℕ))) (i : ℕ) (set : List ℕ) → length texts ≤ i → AreMoreCells Names (map (λ it. it.now) (drop i texts)) set set
 no_text Names texts i set h = none_more Names _ set (ap (map (λ (it : Bor (List ℕ)). it.now)) (drop_of_length-le texts h))
 
--- What is not true of a set without words is true of one that has some.
+-- A set that is not empty has some word.
 pub some_of : (b : Bool) → false ≡ not b → b ≡ true
 some_of true e = refl
 some_of false e = e
 
--- What is true of a set without words is not true of one that has some.
+-- A set that is empty has no word.
 pub none_of : (b : Bool) → true ≡ not b → b ≡ false
 none_of true e = e
 none_of false e = refl
@@ -65,31 +67,25 @@ from_none Names names before set e more = record {
   all = λ v. more.all v ∙ ap (λ s. s v || list_any (λ other. words other v) more.sets) e;
 }
 
--- A name of a kind before others is one of all.
-pub one_first : (Is : List ℕ → Type 0) (name : List ℕ) (names all : List (List ℕ)) → all ≡ name ∷ names → Is name → HasOneThat Is all
-one_first Is name names all e is = record { before = []; name = name; behind = names; are = e; is = is }
+-- The first of some names is of a kind.
+pub one_first : (Is : List ℕ → Type 0) (name : List ℕ) (names all : List (List ℕ)) → all ≡ name ∷ names → Is name → Any Is all
+one_first Is name names all e is = subst (Any Is) (sym e) (0, name, grind (arith, common_steps), refl, is)
 
--- What is among the names behind one is among all.
-pub one_behind : (Is : List ℕ → Type 0) (name : List ℕ) (names all : List (List ℕ)) → all ≡ name ∷ names → HasOneThat Is names → HasOneThat Is all
-one_behind Is name names all e one = record {
-  before = name ∷ one.before;
-  name = one.name;
-  behind = one.behind;
-  are = e ∙ ap (λ l. name ∷ l) one.are;
-  is = one.is;
-}
+-- One of the names behind the first is of a kind.
+pub one_behind : (Is : List ℕ → Type 0) (name : List ℕ) (names all : List (List ℕ)) → all ≡ name ∷ names → Any Is names → Any Is all
+one_behind Is name names all e (k, x, h, same, is) = subst (Any Is) (sym e) (k + 1, x, grind (arith, common_steps), simp unary_clauses same, is)
 
--- A text whose bytes are of a kind is one of the texts from it on.
+-- The first of the texts from an index on is of a kind.
 pub text_first : (Is : List ℕ → Type 0) (texts : List (Bor (List ℕ))) (i : ℕ) (none : Bor (List ℕ)) (bytes : List ℕ)
-    → i < length texts → bytes ≡ (get_or texts i none).now → Is bytes → HasOneThat Is (map (λ it. it.now) (drop i texts))
+    → i < length texts → bytes ≡ (get_or texts i none).now → Is bytes → Any Is (map (λ it. it.now) (drop i texts))
 text_first Is texts i none bytes h same is =
     one_first Is (get_or texts i none).now _ _ (ap (map (λ (it : Bor (List ℕ)). it.now)) (drop_more texts i none h)) (subst Is same is)
 
--- What is among the texts behind one is among those from it on.
+-- One of the texts behind an index is of a kind.
 pub text_behind : (Is : List ℕ → Type 0) (texts : List (Bor (List ℕ))) (i : ℕ) (none : Bor (List ℕ)) (bytes : List ℕ)
-    → i < length texts → bytes ≡ (get_or texts i none).now → HasOneThat Is (map (λ it. it.now) (drop (i + 1) texts)) → HasOneThat Is (map (λ it. it.now) (drop i texts))
+    → i < length texts → bytes ≡ (get_or texts i none).now → Any Is (map (λ it. it.now) (drop (i + 1) texts)) → Any Is (map (λ it. it.now) (drop i texts))
 text_behind Is texts i none bytes h same one = one_behind Is (get_or texts i none).now _ _ (ap (map (λ (it : Bor (List ℕ)). it.now)) (drop_more texts i none h)) one
 
--- What is true of a result that is none.
+-- A result that is none meets what is said of one.
 pub none_is : {X : Type 0} (result : Option X) (P : Type 0) (Q : X → Type 0) → result ≡ None → P → MatchOption result P Q
 none_is result P Q e is = subst (λ it. MatchOption it P Q) (sym e) is

@@ -56,7 +56,7 @@ abbrev pub migrate_inputs : List (List ℕ)
 migrate_inputs = codes "CERTIFICATE" ∷ codes "declaration" ∷ []
 
 -- A run is of the tape and of the list of events that are given, and is made as the options ask, and as the words for cells and places do.
--- One of these inputs at most is standard input.
+-- One at most of its inputs, to which the parts of a source belong, is standard input.
 pub record IsRunGiven (found : ArgMatches) (places : PlaceOptions) (run : RunRequest) : Type 0 where
   pub tape : option_map (λ name. name.now) run.tape ≡ tape_given found
   pub events : option_map (λ name. name.now) run.events ≡ value found (codes "events")
@@ -73,8 +73,8 @@ pub record IsSummaryGiven (found : ArgMatches) (apart : Bool) (seen : Bool) (sum
   pub punched : option_map (λ name. name.now) summary.saved_in ≡ value found (codes "punch")
 
 -- A run with an operator is of the tape, the frames and the keys that are given, punches where the option says, and is made as the
--- options ask, and as the words for cells and places do. One of these inputs at most is standard input, and none is the file for what is
--- punched.
+-- options ask, and as the words for cells and places do. One at most of its inputs, to which the parts of a source belong, is standard
+-- input, and none is the file for what is punched.
 pub record IsOperatedRunGiven (found : ArgMatches) (places : PlaceOptions) (session : Session) : Type 0 where
   pub tape : option_map (λ name. name.now) session.tape ≡ tape_given found
   pub reader : option_map (λ name. name.now) session.joined.reader ≡ value found (codes "reader")
@@ -92,15 +92,15 @@ pub record IsOperatedRunGiven (found : ArgMatches) (places : PlaceOptions) (sess
 abbrev pub interrupt_named : List ℕ → Option Interrupt
 interrupt_named text = if bytes_eq text (codes "off") then Some Off else option_map Key (octal_byte text)
 
--- The key that interrupts a session, where the bytes of keys are struck as they come or are not. Without `--interrupt` it is the usual
--- one, and there is none for bytes that are struck as they come.
+-- The key that interrupts a session, given whether the bytes of keys are struck as they come. Without `--interrupt` it is the usual one,
+-- and there is none for bytes that are struck as they come.
 abbrev pub interrupt_given : Bool → Option (List ℕ) → Option Interrupt
 interrupt_given raw None = Some (if raw then Off else Usual)
 interrupt_given raw (Some text) = interrupt_named text
 
 -- A session at the teletype is of the tape and the frames that are given, punches where the option says, and is held as the options ask.
--- The key of `--interrupt` interrupts it, and its summary tells what was not seen. No input is standard input, where the keys come from, and
--- none is the file for what is punched.
+-- The key of `--interrupt` interrupts it, and its summary tells what was not seen. No input, and no part of a source, is standard input, where
+-- the keys come from, and none is the file for what is punched.
 pub record IsTeletypeGiven (found : ArgMatches) (places : PlaceOptions) (session : TeletypeSession) : Type 0 where
   pub tape : option_map (λ name. name.now) session.tape ≡ tape_given found
   pub reader : option_map (λ name. name.now) session.reader ≡ value found (codes "reader")

@@ -1,9 +1,9 @@
 //! The cells and the places that options name.
 
-ghost use Rattle.std.specs.Prelude.{◌≡◌, ◌==◌, MatchOption, MatchResult, Some, codes, is_some, map, option_map, true};
+ghost use Rattle.std.specs.Prelude.{◌≡◌, ◌==◌, Any, None, MatchOption, MatchResult, Some, codes, is_some, map, option_map, true};
 ghost use Rattle.std.specs.List.{position};
-ghost use Rattle.command_line.specs.Options.{ArePlacesGiven, IsNumberNamed, value};
-ghost use Rattle.command_line.specs.Places.{AreCellsOf, AreCellsOfText, AreCellsOfTexts, AreCellsRefused, AreShownOn, AreStopsNamed, AreTextsRefused, HasOneThat, IsFollowed, IsStoppedOn, IsUntilNamed, IsVisitRefused, is_followed};
+ghost use Rattle.command_line.specs.Options.{ArePlacesGiven, IsNumberNamed, sources_given, value};
+ghost use Rattle.command_line.specs.Places.{AreCellsOf, AreCellsOfText, AreCellsOfTexts, AreCellsRefused, AreShownOn, AreStopsNamed, AreTextsRefused, IsFollowed, IsStoppedOn, IsUntilNamed, IsVisitRefused, is_followed};
 ghost use Rattle.command_line.specs.Refusals.{IsPlaceMisused, IsRefusedByAny, IsTraced};
 ghost use Rattle.command_line.specs.declared.fault.Misuse.TheVariants.{Place};
 ghost use Rattle.command_line.specs.OctalPlaces.{cells_between, cells_of_word};
@@ -15,7 +15,7 @@ use crate::fault::{CommandLineFault, Misuse, PlaceOption};
 use crate::values::{is_given, values_of};
 use clap::ArgMatches;
 use command_parts::options::Stops;
-use std::alloc::{AllocError, Global};
+use std::alloc::Global;
 use streams::text::{Words, decimal_between, octal_word};
 use word12::Word;
 use wordset::WordSet;
@@ -78,7 +78,7 @@ pub trait AddressReader {
         ensures { MatchOption result (no_cells self.now word.now)
             (names_cells self.now word.now) };
 
-    /// The address that a word is; none if it is none.
+    /// The address that a word names, or none if it names none.
     fn place(&self, word: &[u8]) -> Option<Word>
         ensures { MatchOption result (no_place self.now word.now)
             (names_place self.now word.now) };
@@ -110,7 +110,7 @@ impl AddressReader for OctalAddresses {
 
 /// The cells of the addresses and ranges that words spell.
 fn cells_of_words<C: AddressReader>(reader: &C, words: Words<'_>) -> Option<WordSet>
-    ensures { MatchOption result (HasOneThat (C.no_cells reader.now) (words_left words.entry))
+    ensures { MatchOption result (Any (C.no_cells reader.now) (words_left words.entry))
         (AreCellsOf (C.names_cells reader.now) (words_left words.entry)) }
 {
     let mut set = WordSet::empty();
@@ -296,7 +296,7 @@ fn visits_of<C: AddressReader>(reader: &C, text: &[u8]) -> Option<StopPlace>
     Some(StopPlace { place, times })
 }
 
-/// How a run is followed that may be stopped.
+/// How a run is followed that may be stopped, or whose last instructions are shown.
 #[derive(Clone, Copy)]
 pub struct StopOptions {
     /// Where it is stopped.
@@ -335,7 +335,8 @@ pub(crate) fn shown_on(
     tape: Option<&str>,
     places: &PlaceOptions<'_>,
 ) -> Result<WordSet, CommandLineFault>
-    requires { ArePlacesGiven found.now places.now }
+    requires places { ArePlacesGiven found.now places.now }
+    requires tape { is_some tape ≡ true → sources_given found.now ≡ None }
     ensures { MatchResult result (AreShownOn (is_some tape.entry) places.now)
         (IsRefusedByAny found.now) }
 {
@@ -348,13 +349,14 @@ pub(crate) fn shown_on(
     }
 }
 
-/// How the run of a tape is followed, if it may be stopped. Of a source that is not known yet.
+/// How the run of a tape is followed, if it may be stopped or its last instructions are requested. Of a source that is not known yet.
 pub(crate) fn stopping_on(
     found: &ArgMatches<'_>,
     tape: Option<&str>,
     places: &PlaceOptions<'_>,
 ) -> Result<Option<StopOptions>, CommandLineFault>
-    requires { ArePlacesGiven found.now places.now }
+    requires places { ArePlacesGiven found.now places.now }
+    requires tape { is_some tape ≡ true → sources_given found.now ≡ None }
     ensures { MatchResult result (IsStoppedOn (is_some tape.entry) places.now)
         (IsRefusedByAny found.now) }
 {

@@ -1,10 +1,10 @@
 //! What may be requested with a source in place of a tape, without a declaration.
 
-ghost use Rattle.std.specs.Prelude.{◌≡◌, IfErr, IfOk, MatchResult, Some, map, option_map};
+ghost use Rattle.std.specs.Prelude.{◌≡◌, MatchResult, option_map};
 ghost use Rattle.command_line.specs.Machines.{tape_given};
-ghost use Rattle.command_line.specs.Options.{ArePlacesGiven, sources_given};
+ghost use Rattle.command_line.specs.Options.{ArePlacesGiven};
 ghost use Rattle.command_line.specs.Refusals.{IsRefused, IsRefusedByAny};
-ghost use Rattle.command_line.specs.Sources.{IsMachineGiven, IsMachineTaskGiven};
+ghost use Rattle.command_line.specs.Sources.{IsMachineGiven, IsMachineTaskGiven, machine_of};
 ghost use Rattle.command_line.specs.declared.command_name.CommandName.TheVariants.{Machine};
 ghost use Rattle.command_line.specs.declared.command_name.MachineCommand.TheVariants.{Run};
 
@@ -25,7 +25,7 @@ use std::alloc::Global;
 pub struct SourceProgramRequest<'a> {
     /// The names of the files of the source's parts, in order.
     pub parts: Vec<&'a str>,
-    /// The cells and places that options name, which may have the symbols of the source.
+    /// The cells and places that options name, by words that may have the symbols of the source.
     pub places: PlaceOptions<'a>,
     /// What is done with the program.
     pub task: MachineTask<'a>,
@@ -67,7 +67,9 @@ impl<'a> MachineTask<'a> {
     }
 
     /// The machine that it is for.
-    pub fn profile(&self) -> Profile {
+    pub fn profile(&self) -> Profile
+        ensures { result ≡ machine_of self.now }
+    {
         match self {
             MachineTask::Run(run) => run.options.profile,
             MachineTask::Session(session) => session.options.run.profile,

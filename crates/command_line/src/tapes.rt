@@ -30,7 +30,7 @@ pub struct RunRequest<'a> {
     pub events: Option<&'a str>,
     /// How it is run.
     pub options: RunOptions,
-    /// How it is followed, if it may be stopped.
+    /// How it is followed, if it may be stopped or its last instructions are requested.
     pub stopping: Option<StopOptions>,
     /// Whether a long line is written for each instruction.
     pub long: bool,

@@ -1,5 +1,6 @@
-use Rattle.std.proofs.Common.{inl, inr, subst, sym}
-use Rattle.command_line.specs.Places.{AreCellsOf, HasOneThat}
+use Rattle.std.proofs.Common.{inl, inr, subst}
+use Rattle.std.specs.Prelude.{Any}
+use Rattle.command_line.specs.Places.{AreCellsOf}
 use Rattle.command_line.proofs.CellLemmas.{none_is, none_of, some_of}
 use Rattle.command_line.proofs.place_options.cells.Goals as goal
 
@@ -17,4 +18,4 @@ returns-then-is_empty g c = inr (record {
 })
 
 pub returns-in_err-set : goal.returns-in_err-set
-returns-in_err-set g c = none_is _ _ _ c.from_residual.ensures (inl (subst (λ names. HasOneThat (g.C.AddressReader.no_cells c.args.reader.now) names) c.of.ensures c.in_err-set.ensures))
+returns-in_err-set g c = none_is _ _ _ c.from_residual.ensures (inl (subst (λ names. Any (g.C.AddressReader.no_cells c.args.reader.now) names) c.of.ensures c.in_err-set.ensures))

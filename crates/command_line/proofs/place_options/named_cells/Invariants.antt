@@ -3,7 +3,7 @@ use Rattle.command_line.specs.Places.{AreCellsOfText, AreCellsOfTexts, AreTextsR
 use Rattle.command_line.proofs.CellLemmas.{AreMoreCells}
 use Rattle.command_line.proofs.place_options.named_cells.Given as goal
 
--- what the texts left add to the cells so far is all, and one of them that is refused is one of all
+-- the cells so far and those that the texts left name are those of all texts, and if one of the texts left is refused, one of all texts is
 abbrev pub invariant-loop-text : goal.invariant-loop-text
 invariant-loop-text g l = ((set : List ℕ) → AreMoreCells (AreCellsOfText (g.C.AddressReader.names_cells l.reader)) (map (λ text. text.now) (drop l.text-index l.texts)) l.set set
     → AreCellsOfTexts (g.C.AddressReader.names_cells l.reader) (map (λ text. text.now) l.texts) set)

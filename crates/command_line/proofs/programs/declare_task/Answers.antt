@@ -1,9 +1,8 @@
-use Rattle.command_line.proofs.InputLemmas.{inputs_are}
 use Rattle.command_line.proofs.programs.declare_task.Goals as goal
 
 pub returns : goal.returns
 returns c = (
-  record { given = c.in_ok-out.ensures.given; apart = inputs_are _ c.args.found.now _ _ c.requires.given c.in_ok-out.ensures.free },
+  record { given = c.in_ok-out.ensures.given; apart = rw (← c.requires.given) c.in_ok-out.ensures.free },
   c.in_ok-options.ensures,
   c.refinements_of-refinements.ensures,
 )

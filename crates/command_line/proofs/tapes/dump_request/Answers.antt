@@ -1,4 +1,3 @@
-use Rattle.command_line.proofs.InputLemmas.{inputs_are}
 use Rattle.command_line.proofs.tapes.dump_request.Goals as goal
 
 pub returns : goal.returns
@@ -6,5 +5,5 @@ returns c = record {
   tape = c.requires.tape;
   machine = c.in_ok-profile.ensures;
   full = c.is_given-full.ensures;
-  once = inputs_are _ c.args.found.now _ _ c.in_ok-read_once.ensures.given c.in_ok-read_once.ensures.once;
+  once = c.in_ok-read_once.ensures.once;
 }

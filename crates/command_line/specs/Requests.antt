@@ -3,6 +3,7 @@ use Rattle.std.specs.Prelude.{ℕ, ◌≡◌, Bool, true, false, is_some, List, 
 use Rattle.std.specs.Borrow.{Bor}
 use Rattle.std.specs.Option.{ForSome}
 use Rattle.clap.specs.declared.parser.matches.ArgMatches.{ArgMatches}
+use Rattle.command_line.specs.declared.command_name.CommandName.{CommandName}
 use Rattle.command_line.specs.declared.command_name.CommandName.TheVariants as kind
 use Rattle.command_line.specs.declared.program_command.ProgramCommand.{ProgramCommand}
 use Rattle.command_line.specs.declared.program_command.ProgramCommand.TheVariants as command
@@ -15,7 +16,7 @@ use Rattle.command_line.specs.declared.place_options.PlaceOptions.{PlaceOptions}
 use Rattle.command_line.specs.declared.place_options.StopOptions.{StopOptions}
 use Rattle.command_line.specs.declared.programs.Task.{Task}
 use Rattle.command_line.specs.declared.programs.WatchedRunOptions.{WatchedRunOptions}
-use Rattle.command_line.specs.declared.programs.Task.TheVariants.{Verify, Check, Report, Watch, WatchSession, Guess, Refute, Declare}
+use Rattle.command_line.specs.declared.programs.Task.TheVariants.{Verify, Check, Report, Watch, WatchSession, Guess, Refute, Declare, Place}
 use Rattle.command_line.specs.declared.outputs.Destination.{Destination}
 use Rattle.command_line.specs.declared.outputs.SaveOptions.{SaveOptions}
 use Rattle.command_line.specs.Inputs.{AreReadAtMost, IsApart, IsSavedApart}
@@ -123,6 +124,18 @@ watched_tape (Source names) = []
 abbrev pub watched_declaration : ProgramNames → Option (List ℕ) → List ℕ
 watched_declaration (Tape name) declaration = unwrap_or declaration (codes "-")
 watched_declaration (Source names) declaration = []
+
+-- The command that asks for a task.
+abbrev pub task_command : Task → CommandName
+task_command (Verify save options) = kind.Program command.Verify
+task_command (Check certificate) = kind.Program command.Check
+task_command (Report certificate out text) = kind.Program command.Report
+task_command (Watch events show stopping) = kind.Program command.Watch
+task_command (WatchSession session) = kind.Program command.Watch
+task_command (Guess out report version) = kind.Program command.Guess
+task_command (Refute out options) = kind.Program command.Refute
+task_command (Declare out options refinements) = kind.Program command.Declare
+task_command (Place out) = kind.Place
 
 -- What a task saves of what it finds, if that is requested: only `verify` saves anything.
 abbrev pub saved_by : Task → Option SaveOptions

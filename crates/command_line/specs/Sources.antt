@@ -64,6 +64,13 @@ IsMachineTaskGiven command.Teletype found places (task.Teletype session) = IsTel
 IsMachineTaskGiven command.Dump found places (task.Dump dump) = IsDumpGiven found dump
 IsMachineTaskGiven _ found places _ = ⊥
 
+-- The command that asks for something that is done with a program.
+abbrev pub machine_task_command : MachineTask → MachineCommand
+machine_task_command (task.Run run) = command.Run
+machine_task_command (task.Session session) = command.Run
+machine_task_command (task.Teletype session) = command.Teletype
+machine_task_command (task.Dump dump) = command.Dump
+
 -- The machine for which something is done with a program.
 abbrev pub machine_of : MachineTask → Profile
 machine_of (task.Run run) = run.options.profile

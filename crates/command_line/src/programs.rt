@@ -7,7 +7,7 @@ ghost use Rattle.command_line.specs.Inputs.{AreReadAtMost};
 ghost use Rattle.command_line.specs.Options.{ArePlacesGiven, IsVersionNamed, IsWatchedWithOperator, named, sources_given, value, version_named};
 ghost use Rattle.command_line.specs.Outputs.{is_taken};
 ghost use Rattle.command_line.specs.Refusals.{AreInputsBeside, IsRefused, IsRefusedByAny};
-ghost use Rattle.command_line.specs.Requests.{IsDeclareGiven, IsFollowedOn, IsGuessGiven, IsOperated, IsWatchedRunGiven, IsProgramRequestGiven, IsRefuteGiven, IsReportGiven, IsTaskGiven, IsVerifyGiven, inputs_given, is_tape, last_of, part_names, saved_by, watched_declaration, watched_tape};
+ghost use Rattle.command_line.specs.Requests.{IsDeclareGiven, IsFollowedOn, IsGuessGiven, IsOperated, IsWatchedRunGiven, IsProgramRequestGiven, IsRefuteGiven, IsReportGiven, IsTaskGiven, IsVerifyGiven, inputs_given, is_tape, last_of, part_names, saved_by, task_command, watched_declaration, watched_tape};
 ghost use Rattle.command_line.specs.Sources.{IsPlaceGiven};
 ghost use Rattle.command_line.specs.declared.command_name.CommandName.TheVariants.{Place, Program};
 ghost use Rattle.command_line.specs.declared.program_command.ProgramCommand.TheVariants.{Declare, Guess, Refute, Report, Verify, Watch};
@@ -164,18 +164,21 @@ impl<'a> ProgramRequest<'a> {
 }
 
 impl<'a> Task<'a> {
-    /// The name of the command.
-    pub fn command(&self) -> &'static str {
-        match self {
-            Task::Verify { .. } => "verify",
-            Task::Check { .. } => "check",
-            Task::Report { .. } => "report",
-            Task::Watch { .. } | Task::WatchSession(_) => "watch",
-            Task::Guess { .. } => "guess",
-            Task::Refute { .. } => "refute",
-            Task::Declare { .. } => "declare",
-            Task::Place { .. } => "place",
-        }
+    /// The command that asks for it.
+    pub fn command(&self) -> CommandName
+        ensures { result ≡ task_command self.now }
+    {
+        let command = match self {
+            Task::Verify { .. } => ProgramCommand::Verify,
+            Task::Check { .. } => ProgramCommand::Check,
+            Task::Report { .. } => ProgramCommand::Report,
+            Task::Watch { .. } | Task::WatchSession(_) => ProgramCommand::Watch,
+            Task::Guess { .. } => ProgramCommand::Guess,
+            Task::Refute { .. } => ProgramCommand::Refute,
+            Task::Declare { .. } => ProgramCommand::Declare,
+            Task::Place { .. } => return CommandName::Place,
+        };
+        CommandName::Program(command)
     }
 
     /// The files for what is found, if it is saved.

@@ -4,7 +4,7 @@ ghost use Rattle.std.specs.Prelude.{◌≡◌, MatchResult, option_map};
 ghost use Rattle.command_line.specs.Machines.{tape_given};
 ghost use Rattle.command_line.specs.Options.{ArePlacesGiven};
 ghost use Rattle.command_line.specs.Refusals.{IsRefused, IsRefusedByAny};
-ghost use Rattle.command_line.specs.Sources.{IsMachineGiven, IsMachineTaskGiven, machine_of};
+ghost use Rattle.command_line.specs.Sources.{IsMachineGiven, IsMachineTaskGiven, machine_of, machine_task_command};
 ghost use Rattle.command_line.specs.declared.command_name.CommandName.TheVariants.{Machine};
 ghost use Rattle.command_line.specs.declared.command_name.MachineCommand.TheVariants.{Run};
 
@@ -47,12 +47,14 @@ pub enum MachineTask<'a> {
 }
 
 impl<'a> MachineTask<'a> {
-    /// The name of the command.
-    pub fn command(&self) -> &'static str {
+    /// The command that asks for it.
+    pub fn command(&self) -> MachineCommand
+        ensures { result ≡ machine_task_command self.now }
+    {
         match self {
-            MachineTask::Run(_) | MachineTask::Session(_) => "run",
-            MachineTask::Teletype(_) => "teletype",
-            MachineTask::Dump(_) => "dump",
+            MachineTask::Run(_) | MachineTask::Session(_) => MachineCommand::Run,
+            MachineTask::Teletype(_) => MachineCommand::Teletype,
+            MachineTask::Dump(_) => MachineCommand::Dump,
         }
     }
 

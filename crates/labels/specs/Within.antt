@@ -70,8 +70,9 @@ reads_on_after (Illegal n) = Ok false
 reads_on_after TooLong = Ok false
 reads_on_after NoMemory = Err alloc_error
 
--- What a part with this number declares, and whether the next one is read after it. A part that is too long or has a statement without
--- a form declares nothing, and ends the source. Another declares by its lines, up to where it ends.
+-- What a part with this number declares, and whether the next one is read after it. A part with a statement without a form
+-- declares nothing and ends the source, and one that is too long may do so too. A part that has a reading may declare by its lines, up to
+-- where it ends.
 pub data PartDeclares (words : List PlacedWord) (part : ℕ) (source : List ℕ) : Bool → List ℕ → Type 0 where
   unread : ((65536 < length source) ⊎ ((line : ℕ) × IsIllegal source line)) → PartDeclares words part source false []
   read : (tokens : List Token) (told : List Statement) (lines : List Line) (ending : Ending) → IsPart source tokens told lines ending → PartDeclares words part source (reads_on ending) (declared_part words part 1 source lines)

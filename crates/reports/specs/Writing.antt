@@ -1,4 +1,4 @@
--- What is written of a report. A writer whose memory was refused has written nothing more.
+-- What is written of a report. Of the bytes of a writer whose memory was refused nothing is said.
 use Rattle.std.specs.Prelude.{ℕ, ◌≡◌, ◌++◌, ◌/◌, ◌%◌, ◌==◌, nat_lt, Bool, true, false, codes, decimal, if◌then◌else◌, IsOk, List, [], ◌∷◌, length}
 use Rattle.word12.specs.Words.{octal_text}
 use Rattle.wordset.specs.Words.{Words}

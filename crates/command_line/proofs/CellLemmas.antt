@@ -1,8 +1,11 @@
 -- The cells that names name, found one name after another.
-use Rattle.std.proofs.Common.{◌≡◌, ◌||◌, ◌∷◌, ◌∙◌, ◌+◌, ◌<◌, ◌≤◌, ℕ, not, Bool, true, false, List, [], ap, drop, get_or, length, map, refl, subst, sym}
+use Rattle.std.proofs.Common.{arith, ◌≡◌, ◌||◌, ◌∷◌, ◌∙◌, ◌+◌, ◌<◌, ◌≤◌, ℕ, not, Bool, true, false, List, [], Option, None, ap, drop, get_or, length, map, refl, subst, sym}
 use Rattle.std.proofs.lemmas.List.{drop_more}
 use Rattle.std.proofs.Math.ListN.{drop_of_length-le}
 use Rattle.std.specs.Borrow.{Bor}
+use native.Mathlib.Numerals.{unary_clauses}
+use Rattle.std.proofs.lemmas.Grind.{common_steps}
+use Rattle.std.specs.Prelude.{Any, MatchOption}
 use Rattle.std.specs.List.{AllZip, list_any}
 use Rattle.wordset.specs.Lanes.{words}
 use Rattle.wordset.specs.Words.{nothing, union}
@@ -46,10 +49,15 @@ text_before Names texts i none bytes before one after set h same r joined more =
 pub no_text : (Names : List ℕ → List ℕ → Type 0) (texts : List (Bor (List ℕ))) (i : ℕ) (set : List ℕ) → length texts ≤ i → AreMoreCells Names (map (λ it. it.now) (drop i texts)) set set
 no_text Names texts i set h = none_more Names _ set (ap (map (λ (it : Bor (List ℕ)). it.now)) (drop_of_length-le texts h))
 
--- What is not true of a set without words is true of one that has some.
+-- A set that is not empty has some word.
 pub some_of : (b : Bool) → false ≡ not b → b ≡ true
 some_of true e = refl
 some_of false e = e
+
+-- A set that is empty has no word.
+pub none_of : (b : Bool) → true ≡ not b → b ≡ false
+none_of true e = e
+none_of false e = refl
 
 -- What is added to no cell is all.
 pub from_none : (Names : List ℕ → List ℕ → Type 0) (names : List (List ℕ)) (before set : List ℕ) → words before ≡ nothing → AreMoreCells Names names before set → AreCellsOf Names names set
@@ -58,3 +66,26 @@ from_none Names names before set e more = record {
   each = more.each;
   all = λ v. more.all v ∙ ap (λ s. s v || list_any (λ other. words other v) more.sets) e;
 }
+
+-- The first of some names is of a kind.
+pub one_first : (Is : List ℕ → Type 0) (name : List ℕ) (names all : List (List ℕ)) → all ≡ name ∷ names → Is name → Any Is all
+one_first Is name names all e is = subst (Any Is) (sym e) (0, name, grind (arith, common_steps), refl, is)
+
+-- One of the names behind the first is of a kind.
+pub one_behind : (Is : List ℕ → Type 0) (name : List ℕ) (names all : List (List ℕ)) → all ≡ name ∷ names → Any Is names → Any Is all
+one_behind Is name names all e (k, x, h, same, is) = subst (Any Is) (sym e) (k + 1, x, grind (arith, common_steps), simp unary_clauses same, is)
+
+-- The first of the texts from an index on is of a kind.
+pub text_first : (Is : List ℕ → Type 0) (texts : List (Bor (List ℕ))) (i : ℕ) (none : Bor (List ℕ)) (bytes : List ℕ)
+    → i < length texts → bytes ≡ (get_or texts i none).now → Is bytes → Any Is (map (λ it. it.now) (drop i texts))
+text_first Is texts i none bytes h same is =
+    one_first Is (get_or texts i none).now _ _ (ap (map (λ (it : Bor (List ℕ)). it.now)) (drop_more texts i none h)) (subst Is same is)
+
+-- One of the texts behind an index is of a kind.
+pub text_behind : (Is : List ℕ → Type 0) (texts : List (Bor (List ℕ))) (i : ℕ) (none : Bor (List ℕ)) (bytes : List ℕ)
+    → i < length texts → bytes ≡ (get_or texts i none).now → Any Is (map (λ it. it.now) (drop (i + 1) texts)) → Any Is (map (λ it. it.now) (drop i texts))
+text_behind Is texts i none bytes h same one = one_behind Is (get_or texts i none).now _ _ (ap (map (λ (it : Bor (List ℕ)). it.now)) (drop_more texts i none h)) one
+
+-- A result that is none meets what is said of one.
+pub none_is : {X : Type 0} (result : Option X) (P : Type 0) (Q : X → Type 0) → result ≡ None → P → MatchOption result P Q
+none_is result P Q e is = subst (λ it. MatchOption it P Q) (sym e) is

@@ -16,6 +16,7 @@ use Rattle.command_line.specs.declared.program_command.ProgramCommand.{ProgramCo
 use Rattle.command_line.specs.declared.program_command.ProgramCommand.TheVariants.{Verify, Watch, Guess, Refute, Declare, Report, Check}
 use Rattle.command_line.specs.Options.{ArePlacesGiven, named, number_or, sources_given, values}
 use Rattle.command_line.specs.Outputs.{result_name, result_operand}
+use Rattle.command_line.specs.OctalPlaces.{NamesNoOctalCells, NamesNoOctalPlace, NamesOctalCells}
 use Rattle.command_line.specs.Refusals.{AreInputs, AreInputsBeside, AreOfInputs, IsFoundRefused, IsLineRefused, IsMisused, IsNumberRefused, IsOfParser, IsPlaceMisused, are_distinct, result_options}
 use Rattle.command_line.specs.Requests.{input_names}
 
@@ -39,8 +40,7 @@ pub of_inputs : (found : ArgMatches) (names : List (List ℕ)) → are_distinct 
 of_inputs found names distinct out = record { distinct = distinct; out = λ is. absurd (true≢false (sym is ∙ out)) }
 
 -- The inputs that a function reads are what these operands and options give.
-pub are_inputs : (found : ArgMatches) (names : List (List ℕ)) (inputs : List (Bor (List ℕ))) → AreOfInputs found names → map (λ input. input.now) inputs ≡ named found names
-    → AreInputs found inputs
+pub are_inputs : (found : ArgMatches) (names inputs : List (List ℕ)) → AreOfInputs found names → inputs ≡ named found names → AreInputs found inputs
 are_inputs found names inputs are e = record { names = names; are = are; given = e }
 
 no_out : (b c : Bool) → (b ≡ true → c ≡ true) → c ≡ false → b ≡ false
@@ -48,7 +48,7 @@ no_out true c h e = absurd (true≢false (sym (h refl) ∙ e))
 no_out false c h e = refl
 
 -- The inputs of a command whose result goes to OUT are beside that operand.
-pub beside_out : (called : CommandName) (found : ArgMatches) (inputs : List (Bor (List ℕ))) → result_operand called found ≡ codes "OUT" → AreInputs found inputs
+pub beside_out : (called : CommandName) (found : ArgMatches) (inputs : List (List ℕ)) → result_operand called found ≡ codes "OUT" → AreInputs found inputs
     → AreInputsBeside called found inputs
 beside_out called found inputs e are = record {
   names = are.names;
@@ -74,8 +74,8 @@ inputs_beside Check true = refl
 inputs_beside Check false = refl
 
 -- The inputs of a command on a program are beside the operand for its result.
-pub beside_result : (called : ProgramCommand) (found : ArgMatches) (inputs : List (Bor (List ℕ))) → AreOfInputs found (input_names called (is_some (sources_given found)))
-    → map (λ input. input.now) inputs ≡ named found (input_names called (is_some (sources_given found))) → AreInputsBeside (kind.Program called) found inputs
+pub beside_result : (called : ProgramCommand) (found : ArgMatches) (inputs : List (List ℕ)) → AreOfInputs found (input_names called (is_some (sources_given found)))
+    → inputs ≡ named found (input_names called (is_some (sources_given found))) → AreInputsBeside (kind.Program called) found inputs
 beside_result called found inputs are e = record {
   names = input_names called (is_some (sources_given found));
   are = are;
@@ -83,9 +83,10 @@ beside_result called found inputs are e = record {
   given = e;
 }
 
--- What is wrong with an option for cells or for a place is wrong with what is found.
-pub place_refused : (found : ArgMatches) (places : PlaceOptions) (wrong : Misuse) → ArePlacesGiven found places → IsPlaceMisused places wrong → IsMisused wrong found
-place_refused found places wrong are (which, e, given) = subst (λ it. IsMisused it found) (sym e) (places, are, given)
+-- What is wrong with an option for cells or for a place, read as octal digits, is wrong with what is found.
+pub place_refused : (found : ArgMatches) (places : PlaceOptions) (wrong : Misuse) → sources_given found ≡ None → ArePlacesGiven found places
+    → IsPlaceMisused NamesOctalCells NamesNoOctalCells NamesNoOctalPlace places wrong → IsMisused wrong found
+place_refused found places wrong without are (which, e, refused) = subst (λ it. IsMisused it found) (sym e) (without, places, are, refused)
 
 -- What an error of the parser becomes is a refusal of the line.
 pub parser_refused : (words : List (List ℕ)) (refused : CommandLineFault) → IsOfParser refused → IsLineRefused words refused

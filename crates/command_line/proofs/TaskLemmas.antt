@@ -13,7 +13,6 @@ use Rattle.command_line.specs.declared.programs.WatchedRunOptions.{WatchedRunOpt
 use Rattle.command_line.specs.declared.requests.Request.TheVariants as request
 use Rattle.command_line.specs.declared.source_programs.MachineTask.{MachineTask}
 use Rattle.command_line.specs.declared.source_programs.SourceProgramRequest.{SourceProgramRequest}
-use Rattle.command_line.specs.Inputs.{AreReadAtMost}
 use Rattle.command_line.specs.Options.{IsWatchedWithOperator, sources_given, value}
 use Rattle.command_line.specs.Requests.{AreAfterSource, IsOperated, IsTaskGiven, IsWatchedRunGiven, declaration_behind, declaration_of_source, inputs_given, last_behind, last_name, last_of}
 use Rattle.command_line.specs.Sources.{IsDoneWith, IsMachineGiven, IsOnTape, IsSourcedGiven}
@@ -28,17 +27,6 @@ operated Refute found operands followed session is given = absurd (true≢false 
 operated Declare found operands followed session is given = absurd (true≢false is)
 operated Report found operands followed session is given = absurd (true≢false is)
 operated Check found operands followed session is given = absurd (true≢false is)
-
--- The inputs of a command with an operator are those of `watch`.
-pub operated_once : (called : ProgramCommand) (found : ArgMatches) → IsOperated called found true → AreReadAtMost 1 found (inputs_given Watch found)
-    → AreReadAtMost 1 found (inputs_given called found)
-operated_once Watch found is once = once
-operated_once Verify found is once = absurd (true≢false is)
-operated_once Guess found is once = absurd (true≢false is)
-operated_once Refute found is once = absurd (true≢false is)
-operated_once Declare found is once = absurd (true≢false is)
-operated_once Report found is once = absurd (true≢false is)
-operated_once Check found is once = absurd (true≢false is)
 
 -- Without an operator, `watch` is given the list of events that stands last.
 pub listed : (called : ProgramCommand) (found : ArgMatches) (operands : Operands) (followed : WatchedRunOptions) (events : Bor (List ℕ))

@@ -13,8 +13,8 @@ use Rattle.command_line.specs.declared.requests.Request.TheVariants as request
 use Rattle.command_line.specs.CommandNames.{called_of}
 use Rattle.command_line.specs.Machines.{IsMigrateGiven, IsSourceGiven}
 use Rattle.command_line.specs.Options.{IsFlagGiven, value}
-use Rattle.command_line.specs.Requests.{IsProgramRequestGiven}
-use Rattle.command_line.specs.Sources.{IsAssembleGiven, IsListGiven, IsMachineGiven, IsPlaceGiven}
+use Rattle.command_line.specs.Requests.{IsProgramRequestGiven, task_command}
+use Rattle.command_line.specs.Sources.{IsAssembleGiven, IsListGiven, IsMachineGiven, IsPlaceGiven, machine_task_command}
 
 -- What is explained has the code and the number that are given.
 pub record IsExplainOf (found : ArgMatches) (code : Option (List ℕ)) (number : Option (List ℕ)) : Type 0 where
@@ -37,6 +37,17 @@ IsRequestGiven name.Place found (request.Program asked) = IsPlaceGiven found ask
 IsRequestGiven name.Explain found requested = IsExplainGiven found requested
 IsRequestGiven (name.Program command) found (request.Program asked) = IsProgramRequestGiven command found asked
 IsRequestGiven _ found _ = ⊥
+
+-- The command that makes a request.
+abbrev pub request_command : Request → CommandName
+request_command (request.Tape task) = name.Machine (machine_task_command task)
+request_command (request.Sourced asked) = name.Machine (machine_task_command asked.task)
+request_command (request.Assemble assemble) = name.Assemble
+request_command (request.Source source) = name.Source
+request_command (request.List listing) = name.List
+request_command (request.Explain code number) = name.Explain
+request_command (request.Migrate migrate) = name.Migrate
+request_command (request.Program asked) = task_command asked.task
 
 -- The request of a command line is that of the command which clap finds in the words, by some table of commands, with the operands and
 -- the options that it finds behind the command's name; and so is the flag `--why`.

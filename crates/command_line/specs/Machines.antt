@@ -31,17 +31,21 @@ tape_unless (Some parts) name = None
 abbrev pub tape_given : ArgMatches → Option (List ℕ)
 tape_given found = tape_unless (sources_given found) (operand found (codes "TAPE"))
 
--- The operand and the option that give the inputs of a run of a tape without an operator.
+-- The operand and the options that give the inputs of a run without an operator.
 abbrev pub run_inputs : List (List ℕ)
-run_inputs = codes "TAPE" ∷ codes "events" ∷ []
+run_inputs = codes "source" ∷ codes "TAPE" ∷ codes "events" ∷ []
 
--- The operand and the options that give the inputs of a run of a tape with an operator.
+-- The operand and the options that give the inputs of a run with an operator.
 abbrev pub operated_inputs : List (List ℕ)
-operated_inputs = codes "TAPE" ∷ codes "reader" ∷ codes "keys" ∷ []
+operated_inputs = codes "source" ∷ codes "TAPE" ∷ codes "reader" ∷ codes "keys" ∷ []
 
--- The operand and the option that give the inputs of a session at the teletype, apart from the keys.
+-- The operand and the options that give the inputs of a session at the teletype, apart from the keys.
 abbrev pub teletype_inputs : List (List ℕ)
-teletype_inputs = codes "TAPE" ∷ codes "reader" ∷ []
+teletype_inputs = codes "source" ∷ codes "TAPE" ∷ codes "reader" ∷ []
+
+-- The operand and the option that give the inputs of a list of words.
+abbrev pub dump_inputs : List (List ℕ)
+dump_inputs = codes "source" ∷ codes "TAPE" ∷ []
 
 -- The operand and the option that give the inputs of `source`.
 abbrev pub source_inputs : List (List ℕ)
@@ -52,7 +56,7 @@ abbrev pub migrate_inputs : List (List ℕ)
 migrate_inputs = codes "CERTIFICATE" ∷ codes "declaration" ∷ []
 
 -- A run is of the tape and of the list of events that are given, and is made as the options ask, and as the words for cells and places do.
--- One of these inputs at most is standard input.
+-- One at most of its inputs, to which the parts of a source belong, is standard input.
 pub record IsRunGiven (found : ArgMatches) (places : PlaceOptions) (run : RunRequest) : Type 0 where
   pub tape : option_map (λ name. name.now) run.tape ≡ tape_given found
   pub events : option_map (λ name. name.now) run.events ≡ value found (codes "events")
@@ -69,8 +73,8 @@ pub record IsSummaryGiven (found : ArgMatches) (apart : Bool) (seen : Bool) (sum
   pub punched : option_map (λ name. name.now) summary.saved_in ≡ value found (codes "punch")
 
 -- A run with an operator is of the tape, the frames and the keys that are given, punches where the option says, and is made as the
--- options ask, and as the words for cells and places do. One of these inputs at most is standard input, and none is the file for what is
--- punched.
+-- options ask, and as the words for cells and places do. One at most of its inputs, to which the parts of a source belong, is standard
+-- input, and none is the file for what is punched.
 pub record IsOperatedRunGiven (found : ArgMatches) (places : PlaceOptions) (session : Session) : Type 0 where
   pub tape : option_map (λ name. name.now) session.tape ≡ tape_given found
   pub reader : option_map (λ name. name.now) session.joined.reader ≡ value found (codes "reader")
@@ -88,15 +92,15 @@ pub record IsOperatedRunGiven (found : ArgMatches) (places : PlaceOptions) (sess
 abbrev pub interrupt_named : List ℕ → Option Interrupt
 interrupt_named text = if bytes_eq text (codes "off") then Some Off else option_map Key (octal_byte text)
 
--- The key that interrupts a session, where the bytes of keys are struck as they come or are not. Without `--interrupt` it is the usual
--- one, and there is none for bytes that are struck as they come.
+-- The key that interrupts a session, given whether the bytes of keys are struck as they come. Without `--interrupt` it is the usual one,
+-- and there is none for bytes that are struck as they come.
 abbrev pub interrupt_given : Bool → Option (List ℕ) → Option Interrupt
 interrupt_given raw None = Some (if raw then Off else Usual)
 interrupt_given raw (Some text) = interrupt_named text
 
 -- A session at the teletype is of the tape and the frames that are given, punches where the option says, and is held as the options ask.
--- The key of `--interrupt` interrupts it, and its summary tells what was not seen. No input is standard input, where the keys come from, and
--- none is the file for what is punched.
+-- The key of `--interrupt` interrupts it, and its summary tells what was not seen. No input, and no part of a source, is standard input, where
+-- the keys come from, and none is the file for what is punched.
 pub record IsTeletypeGiven (found : ArgMatches) (places : PlaceOptions) (session : TeletypeSession) : Type 0 where
   pub tape : option_map (λ name. name.now) session.tape ≡ tape_given found
   pub reader : option_map (λ name. name.now) session.reader ≡ value found (codes "reader")
@@ -109,11 +113,13 @@ pub record IsTeletypeGiven (found : ArgMatches) (places : PlaceOptions) (session
   pub shown : AreShownOn (is_some session.tape) places session.options.show
   pub stopping : IsStoppedOn (is_some session.tape) places session.stopping
 
--- The words are those of the tape that is given, with the names of the machine that is requested.
+-- The words are those of the tape that is given, with the names of the machine that is requested. One of the inputs at most is standard
+-- input.
 pub record IsDumpGiven (found : ArgMatches) (dump : DumpRequest) : Type 0 where
   pub tape : option_map (λ name. name.now) dump.tape ≡ tape_given found
   pub machine : machine_given found ≡ Some dump.profile
   pub full : IsFlagGiven found (codes "full") dump.full
+  pub once : AreReadAtMost 1 found dump_inputs
 
 -- The source is of the tape and of the declaration that are given, for the start and the machine that are requested, and goes where it
 -- is said, which is none of these inputs. One of them at most is standard input.

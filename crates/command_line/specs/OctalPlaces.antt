@@ -27,3 +27,11 @@ NamesOctalCells word set = cells_of_word word ≡ Some (words set)
 -- A word of octal digits names this address.
 abbrev pub NamesOctalPlace : List ℕ → ℕ → Type 0
 NamesOctalPlace word place = octal_word word ≡ Some place
+
+-- A word is neither an address in octal digits nor two of them with a dash between them, the first of which is not above the second.
+abbrev pub NamesNoOctalCells : List ℕ → Type 0
+NamesNoOctalCells word = cells_of_word word ≡ None
+
+-- A word is no address in octal digits.
+abbrev pub NamesNoOctalPlace : List ℕ → Type 0
+NamesNoOctalPlace word = octal_word word ≡ None

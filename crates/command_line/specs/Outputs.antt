@@ -1,6 +1,5 @@
 -- Where results go, and when an output is an input, as far as the names tell.
 use Rattle.std.specs.Prelude.{ℕ, ◌≡◌, Bool, true, false, ◌&&◌, ◌||◌, if◌then◌else◌, is_some, not, codes, drop, length, take, List, [], ◌∷◌, ◌-◌, Option, None, Some, unwrap_or}
-use Rattle.std.specs.Borrow.{Bor}
 use Rattle.std.specs.List.{list_any}
 use Rattle.std.specs.Str.{bytes_eq}
 use Rattle.clap.specs.declared.parser.matches.ArgMatches.{ArgMatches}
@@ -31,11 +30,11 @@ file_of (EmptiedFirst name) = name.now
 file_of (CheckedFirst name) = name.now
 file_of (MadeLast name) = name.now
 
--- The file that an output goes to is one of these, as far as the names tell; standard output is none.
-abbrev pub is_taken : List ℕ → List (Bor (List ℕ)) → Bool
-is_taken name others = not (bytes_eq name (codes "-")) && list_any (λ other. is_same_file other.now name) others
+-- The file that an output goes to is one of these, as far as the names tell; standard output is no file.
+abbrev pub is_taken : List ℕ → List (List ℕ) → Bool
+is_taken name others = not (bytes_eq name (codes "-")) && list_any (λ other. is_same_file other name) others
 
--- A file of a result is that of another result; standard output is none.
+-- A file of this name is the one that a result goes to; standard output is no file.
 abbrev pub is_result_file : Destination → List ℕ → Bool
 is_result_file out name = not (bytes_eq name (codes "-")) && is_same_file (file_of out) name
 
@@ -101,8 +100,8 @@ abbrev pub is_saved_as : List ℕ → List ℕ → List ℕ → Bool
 is_saved_as saved ending name = ends_in name ending && is_same_file (take (length name - length ending) name) saved
 
 -- One of these is a file that may be saved, as far as the names tell.
-abbrev pub is_saved_over : SaveOptions → List (Bor (List ℕ)) → Bool
-is_saved_over save others = list_any (λ ending. list_any (λ other. is_saved_as save.name.now ending other.now) others) (saved_endings save.proposed)
+abbrev pub is_saved_over : SaveOptions → List (List ℕ) → Bool
+is_saved_over save others = list_any (λ ending. list_any (is_saved_as save.name.now ending) others) (saved_endings save.proposed)
 
 -- What the names of saved files begin with is the value of `--save`, a declaration may be one of them unless one is given, and they
 -- replace other files only where `--force` is given.

@@ -1,6 +1,5 @@
 -- When the words behind a command's name are refused: what is wrong with them.
-use Rattle.std.specs.Prelude.{ℕ, ⊤, ◌≡◌, ◌<◌, ◌++◌, ◌&&◌, ◌||◌, ◌⊎◌, Bool, true, false, not, is_some, List, [], ◌∷◌, Option, None, Some, Err, codes, count_by, length, map, option_map}
-use Rattle.std.specs.Borrow.{Bor}
+use Rattle.std.specs.Prelude.{ℕ, ⊤, ◌≡◌, ◌<◌, ◌++◌, ◌&&◌, ◌||◌, ◌⊎◌, Bool, true, false, not, is_some, List, [], ◌∷◌, Option, None, Some, Err, codes, count_by, map, option_map}
 use Rattle.std.specs.List.{list_any}
 use Rattle.std.specs.Str.{bytes_eq}
 use Rattle.clap.specs.Matches.{found_of, subcommand_name_of}
@@ -25,8 +24,10 @@ use Rattle.command_line.specs.declared.program_command.ProgramCommand.{ProgramCo
 use Rattle.command_line.specs.declared.program_command.ProgramCommand.TheVariants as command
 use Rattle.command_line.specs.CommandNames.{called_of}
 use Rattle.command_line.specs.Machines.{interrupt_named, migrated_version, version_with}
+use Rattle.command_line.specs.OctalPlaces.{NamesNoOctalCells, NamesNoOctalPlace, NamesOctalCells}
 use Rattle.command_line.specs.Options.{ArePlacesGiven, IsFlagGiven, IsRunWithOperator, IsWatchedWithOperator, has_value, is_start_named, machine_given, named, sources_given, start_given, value, value_or, version_named}
 use Rattle.command_line.specs.Outputs.{is_search, is_source_name, is_standard_input, is_taken, result_file, result_operand}
+use Rattle.command_line.specs.Places.{IsValueRefused}
 use Rattle.command_line.specs.Requests.{last_name}
 use Rattle.command_line.specs.Sources.{source_operands}
 
@@ -51,33 +52,33 @@ pub record AreOfInputs (found : ArgMatches) (names : List (List ℕ)) : Type 0 w
   pub out : list_any (bytes_eq (codes "OUT")) names ≡ true → has_value found (codes "output") ≡ true
 
 -- These inputs are what such operands and options give.
-pub record AreInputs (found : ArgMatches) (inputs : List (Bor (List ℕ))) : Type 0 where
+pub record AreInputs (found : ArgMatches) (inputs : List (List ℕ)) : Type 0 where
   pub names : List (List ℕ)
   pub are : AreOfInputs found names
-  pub given : map (λ input. input.now) inputs ≡ named found names
+  pub given : inputs ≡ named found names
 
 -- The operand for the result of a command is none of those that give these inputs, unless the result goes to the value of `-o`.
-pub record AreInputsBeside (called : CommandName) (found : ArgMatches) (inputs : List (Bor (List ℕ))) : Type 0 where
+pub record AreInputsBeside (called : CommandName) (found : ArgMatches) (inputs : List (List ℕ)) : Type 0 where
   pub names : List (List ℕ)
   pub are : AreOfInputs found names
   pub beside : has_value found (codes "output") ≡ false → list_any (bytes_eq (result_operand called found)) names ≡ false
-  pub given : map (λ input. input.now) inputs ≡ named found names
+  pub given : inputs ≡ named found names
 
 -- More than so many inputs are standard input.
 pub record IsReadOften (most : ℕ) (found : ArgMatches) : Type 0 where
-  pub inputs : List (Bor (List ℕ))
+  pub inputs : List (List ℕ)
   pub are : AreInputs found inputs
-  pub often : most < count_by (λ name. is_standard_input name.now) inputs
+  pub often : most < count_by is_standard_input inputs
 
 -- The result goes to a file that is an input, as far as the names tell.
 pub record IsResultTaken (called : CommandName) (found : ArgMatches) : Type 0 where
-  pub inputs : List (Bor (List ℕ))
+  pub inputs : List (List ℕ)
   pub are : AreInputsBeside called found inputs
   pub taken : is_taken (result_file called found) inputs ≡ true
 
 -- The file of an option is an input, as far as the names tell.
 pub record IsFileTaken (found : ArgMatches) (given_by : List ℕ) : Type 0 where
-  pub inputs : List (Bor (List ℕ))
+  pub inputs : List (List ℕ)
   pub are : AreInputs found inputs
   pub file : List ℕ
   pub file_is : value found given_by ≡ Some file
@@ -123,21 +124,19 @@ is_declared found =
     list_any (has_value found) (codes "DECLARATION" ∷ codes "declaration" ∷ codes "from" ∷ [])
     || (is_some (sources_given found) && has_value found (codes "TAPE"))
 
--- The option for cells or for a place is given.
-abbrev pub IsPlaceGiven : PlaceOption → PlaceOptions → Type 0
-IsPlaceGiven option.Show places = 0 < length places.show.items
-IsPlaceGiven option.Until places = is_some places.until ≡ true
-IsPlaceGiven option.UntilWrite places = 0 < length places.written.items
-IsPlaceGiven option.UntilRead places = 0 < length places.read.items
+-- What is wrong is that a value of an option for cells or for a place is refused, where these three say which cells a word names, and which
+-- words are refused as names of cells and of a place.
+abbrev pub IsPlaceMisused : (List ℕ → List ℕ → Type 0) → (List ℕ → Type 0) → (List ℕ → Type 0) → PlaceOptions → Misuse → Type 0
+IsPlaceMisused Names NoCells NoPlace places wrong = (which : PlaceOption) × (wrong ≡ misuse.Place which) × IsValueRefused Names NoCells NoPlace which places
 
--- What is wrong is the value of an option for cells or for a place, which is given.
-abbrev pub IsPlaceMisused : PlaceOptions → Misuse → Type 0
-IsPlaceMisused places wrong = (which : PlaceOption) × (wrong ≡ misuse.Place which) × IsPlaceGiven which places
+-- A value of this option is refused by what octal digits name.
+abbrev pub IsOctalRefused : PlaceOption → PlaceOptions → Type 0
+IsOctalRefused which places = IsValueRefused NamesOctalCells NamesNoOctalCells NamesNoOctalPlace which places
 
 -- What is wrong with options and operands that cannot be combined, or with their values, whichever command has them. A word that is not
 -- text, and an output that a file shows to be an input, are never found here.
 abbrev pub IsMisused : Misuse → ArgMatches → Type 0
-IsMisused (misuse.Place which) found = (places : PlaceOptions) × ArePlacesGiven found places × IsPlaceGiven which places
+IsMisused (misuse.Place which) found = (sources_given found ≡ None) × (places : PlaceOptions) × ArePlacesGiven found places × IsOctalRefused which places
 IsMisused misuse.Last found = IsNumberRefused 1 1000000 (value found (codes "last"))
 IsMisused misuse.LastAndTrace found = (has_value found (codes "last") ≡ true) × IsTraced found
 IsMisused misuse.LongTrace found = IsFlagGiven found (codes "trace-long") true × (IsFlagGiven found (codes "trace") true ⊎ IsRunWithOperator found true)
@@ -160,12 +159,16 @@ IsMisused misuse.SaveIsFolder found = has_value found (codes "save") ≡ true
 IsMisused misuse.SaveIsTaken found = has_value found (codes "save") ≡ true
 IsMisused _ found = ⊥
 
+-- So many steps may be requested at most: a million of a run, or a hundred million of a search.
+abbrev pub IsStepLimit : ℕ → Type 0
+IsStepLimit most = (most ≡ 1000000) ⊎ (most ≡ 100000000)
+
 -- Why words are refused whichever command has them, apart from want of memory.
 abbrev pub IsRefusedByAny : ArgMatches → CommandLineFault → Type 0
 IsRefusedByAny found (fault.Misuse what) = IsMisused what found
 IsRefusedByAny found (fault.Start wrong) = start_given found ≡ Err wrong
 IsRefusedByAny found (fault.Switches wrong) = IsWordRefused (value found (codes "switches")) wrong
-IsRefusedByAny found (fault.Steps most) = IsNumberRefused 1 most (value found (codes "steps"))
+IsRefusedByAny found (fault.Steps most) = IsStepLimit most × IsNumberRefused 1 most (value found (codes "steps"))
 IsRefusedByAny found (fault.NoOperand name) = ⊥
 IsRefusedByAny found (fault.CommandLine error) = ⊥
 IsRefusedByAny found fault.Memory = ⊤
@@ -207,6 +210,13 @@ pub record HasNoEvents (found : ArgMatches) : Type 0 where
   pub list : has_value found (codes "EVENTS") ≡ false
   pub operator : IsWatchedWithOperator found false
 
+-- The result of a command is a source, or stands before sources: that of `source`, `assemble` and `place`.
+abbrev pub is_sourced_result : CommandName → Bool
+is_sourced_result kind.Source = true
+is_sourced_result kind.Assemble = true
+is_sourced_result kind.Place = true
+is_sourced_result _ = false
+
 -- What is wrong with the operands and options of this command only.
 abbrev pub IsMisusedBy : Misuse → CommandName → ArgMatches → Type 0
 IsMisusedBy misuse.TapeAndSource (kind.Machine called) found = (is_some (sources_given found) ≡ true) × (has_value found (codes "TAPE") ≡ true)
@@ -219,9 +229,9 @@ IsMisusedBy misuse.VersionAndDeclaration kind.Migrate found =
     migrated_version (value_or found (codes "certificate") (codes "2")) ≡ Some (version_with (not (has_value found (codes "declaration"))))
 IsMisusedBy misuse.BothStandardInput (kind.Machine machine.Teletype) found = IsReadOften 0 found
 IsMisusedBy misuse.OutputIsInput called found = IsResultTaken called found
-IsMisusedBy misuse.OutputIsSource called found = is_source_name (result_file called found) ≡ true
-IsMisusedBy misuse.PlacedIsSource called found = is_source_name (result_file called found) ≡ true
-IsMisusedBy misuse.ResultIsSource called found = is_source_name (result_file called found) ≡ true
+IsMisusedBy misuse.OutputIsSource kind.Assemble found = is_source_name (result_file kind.Assemble found) ≡ true
+IsMisusedBy misuse.PlacedIsSource kind.Place found = is_source_name (result_file kind.Place found) ≡ true
+IsMisusedBy misuse.ResultIsSource called found = (is_sourced_result called ≡ false) × (is_source_name (result_file called found) ≡ true)
 IsMisusedBy _ called found = ⊥
 
 -- A command needs a last input of this name, and there is none after the source.

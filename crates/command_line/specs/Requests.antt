@@ -3,6 +3,7 @@ use Rattle.std.specs.Prelude.{ℕ, ◌≡◌, Bool, true, false, is_some, List, 
 use Rattle.std.specs.Borrow.{Bor}
 use Rattle.std.specs.Option.{ForSome}
 use Rattle.clap.specs.declared.parser.matches.ArgMatches.{ArgMatches}
+use Rattle.command_line.specs.declared.command_name.CommandName.{CommandName}
 use Rattle.command_line.specs.declared.command_name.CommandName.TheVariants as kind
 use Rattle.command_line.specs.declared.program_command.ProgramCommand.{ProgramCommand}
 use Rattle.command_line.specs.declared.program_command.ProgramCommand.TheVariants as command
@@ -15,8 +16,9 @@ use Rattle.command_line.specs.declared.place_options.PlaceOptions.{PlaceOptions}
 use Rattle.command_line.specs.declared.place_options.StopOptions.{StopOptions}
 use Rattle.command_line.specs.declared.programs.Task.{Task}
 use Rattle.command_line.specs.declared.programs.WatchedRunOptions.{WatchedRunOptions}
-use Rattle.command_line.specs.declared.programs.Task.TheVariants.{Verify, Check, Report, Watch, WatchSession, Guess, Refute, Declare}
+use Rattle.command_line.specs.declared.programs.Task.TheVariants.{Verify, Check, Report, Watch, WatchSession, Guess, Refute, Declare, Place}
 use Rattle.command_line.specs.declared.outputs.Destination.{Destination}
+use Rattle.command_line.specs.declared.outputs.SaveOptions.{SaveOptions}
 use Rattle.command_line.specs.Inputs.{AreReadAtMost, IsApart, IsSavedApart}
 use Rattle.command_line.specs.Outputs.{IsResultGiven, IsSaveGiven, file_of, is_result_file}
 use Rattle.command_line.specs.Options.{AreDeclareOptions, ArePlacesGiven, AreRefinements, AreRefuteOptions, AreSessionOptions, AreVerifyOptions, IsFlagGiven, IsNumberNamed, IsVersionNamed, IsWatchedWithOperator, is_start_named, operand, sources_given, value}
@@ -69,7 +71,7 @@ input_names command.Check sourced = with_certificate sourced
 input_names command.Report sourced = with_certificate sourced
 input_names _ sourced = if sourced then codes "source" ∷ codes "TAPE" ∷ [] else codes "TAPE" ∷ codes "DECLARATION" ∷ []
 
--- The same with what is found behind the name of the command.
+-- The operands and options that give the inputs of a command on a program, by what is found behind its name.
 abbrev pub inputs_given : ProgramCommand → ArgMatches → List (List ℕ)
 inputs_given called found = input_names called (is_some (sources_given found))
 
@@ -86,12 +88,12 @@ pub record AreAfterSource (called : ProgramCommand) (found : ArgMatches) (declar
       (value found (codes "DECLARATION")))
   pub last_is : last ≡ last_behind (is_some (last_name operated called)) (value found (codes "TAPE")) (value found (codes "DECLARATION"))
 
--- The program, the declaration and the last input of a command are those that are given: the files of a program are that of its tape, or
--- those of the parts of its source, in order. Without a declaration the lines of a source are the declaration, and for a tape one is
+-- The program, the declaration and the last input of a command are those that are given: the file of its tape where no source is given, or
+-- the files of the parts of its source, in order. Without a declaration the lines of a source are the declaration, and for a tape one is
 -- proposed.
 abbrev pub AreInputsGiven : ProgramCommand → ArgMatches → ProgramNames → Option (List ℕ) → Option (List ℕ) → Type 0
 AreInputsGiven called found (Tape name) declaration last =
-    (name.now ≡ operand found (codes "TAPE")) × (declaration ≡ declaration_given called found) × (last ≡ last_with_tape called found)
+    (sources_given found ≡ None) × (name.now ≡ operand found (codes "TAPE")) × (declaration ≡ declaration_given called found) × (last ≡ last_with_tape called found)
 AreInputsGiven called found (Source names) declaration last =
     (sources_given found ≡ Some (map (λ name. name.now) names.items)) × AreAfterSource called found declaration last
 
@@ -122,6 +124,23 @@ watched_tape (Source names) = []
 abbrev pub watched_declaration : ProgramNames → Option (List ℕ) → List ℕ
 watched_declaration (Tape name) declaration = unwrap_or declaration (codes "-")
 watched_declaration (Source names) declaration = []
+
+-- The command that asks for a task.
+abbrev pub task_command : Task → CommandName
+task_command (Verify save options) = kind.Program command.Verify
+task_command (Check certificate) = kind.Program command.Check
+task_command (Report certificate out text) = kind.Program command.Report
+task_command (Watch events show stopping) = kind.Program command.Watch
+task_command (WatchSession session) = kind.Program command.Watch
+task_command (Guess out report version) = kind.Program command.Guess
+task_command (Refute out options) = kind.Program command.Refute
+task_command (Declare out options refinements) = kind.Program command.Declare
+task_command (Place out) = kind.Place
+
+-- What a task saves of what it finds, if that is requested: only `verify` saves anything.
+abbrev pub saved_by : Task → Option SaveOptions
+saved_by (Verify save options) = save
+saved_by _ = None
 
 -- The search for an answer is made and what is found is saved as the options ask, over none of the inputs. A declaration may be saved
 -- exactly if none is given.

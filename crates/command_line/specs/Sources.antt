@@ -1,6 +1,7 @@
 -- What requests for a source, and requests to run a program, have of the words that were given.
 use Rattle.std.specs.Prelude.{ℕ, ◌≡◌, ◌∷◌, true, false, List, [], Option, None, Some, codes, if◌then◌else◌, map, option_map}
 use Rattle.clap.specs.declared.parser.matches.ArgMatches.{ArgMatches}
+use Rattle.instruct.specs.declared.Profile.{Profile}
 use Rattle.command_line.specs.declared.command_name.CommandName.TheVariants as kind
 use Rattle.command_line.specs.declared.command_name.MachineCommand.{MachineCommand}
 use Rattle.command_line.specs.declared.command_name.MachineCommand.TheVariants as command
@@ -63,30 +64,32 @@ IsMachineTaskGiven command.Teletype found places (task.Teletype session) = IsTel
 IsMachineTaskGiven command.Dump found places (task.Dump dump) = IsDumpGiven found dump
 IsMachineTaskGiven _ found places _ = ⊥
 
--- A request is done with a tape as its operands and options ask, and as words do that name cells and places as the options say.
+-- The command that asks for something that is done with a program.
+abbrev pub machine_task_command : MachineTask → MachineCommand
+machine_task_command (task.Run run) = command.Run
+machine_task_command (task.Session session) = command.Run
+machine_task_command (task.Teletype session) = command.Teletype
+machine_task_command (task.Dump dump) = command.Dump
+
+-- The machine for which something is done with a program.
+abbrev pub machine_of : MachineTask → Profile
+machine_of (task.Run run) = run.options.profile
+machine_of (task.Session session) = session.options.run.profile
+machine_of (task.Teletype session) = session.options.profile
+machine_of (task.Dump dump) = dump.profile
+
+-- A request is done with a tape as its operands and options ask; the words for cells and places are those that the options give.
 pub record IsOnTape (called : MachineCommand) (found : ArgMatches) (task : MachineTask) : Type 0 where
   pub places : PlaceOptions
   pub places_are : ArePlacesGiven found places
   pub given : IsMachineTaskGiven called found places task
 
--- The operands and options that give the inputs of `run`, `teletype` or `dump` with a source.
-abbrev pub sourced_inputs : MachineCommand → List (List ℕ)
-sourced_inputs command.Run = codes "source" ∷ codes "events" ∷ codes "reader" ∷ codes "keys" ∷ []
-sourced_inputs command.Teletype = codes "source" ∷ codes "reader" ∷ []
-sourced_inputs command.Dump = codes "source" ∷ []
-
--- How many of these inputs may be standard input: none of those of `teletype`, whose keys come from there.
-abbrev pub standard_inputs_of : MachineCommand → ℕ
-standard_inputs_of command.Teletype = 0
-standard_inputs_of _ = 1
-
--- The parts of the source are those that are given, in their order, and so are the words that name cells and places of a run. No more of
--- the inputs are standard input than may be.
+-- The parts of the source are those that are given, in their order, and so are the words for cells and places of a run. What is done is what
+-- the options ask for, and more is said of a fault exactly if `--why` is given.
 pub record IsSourcedGiven (called : MachineCommand) (found : ArgMatches) (asked : SourceProgramRequest) : Type 0 where
   pub parts : sources_given found ≡ Some (map (λ name. name.now) asked.parts.items)
   pub places : ArePlacesGiven found asked.places
   pub task : IsMachineTaskGiven called found asked.places asked.task
-  pub once : AreReadAtMost (standard_inputs_of called) found (sourced_inputs called)
   pub explained : IsFlagGiven found (codes "why") asked.explained
 
 -- With a source, what is requested is done with that, and otherwise with a tape.

@@ -7,7 +7,7 @@ use crate::program_command::{ProgramCommand, command_of};
 
 /// A command on a machine without a declaration.
 #[derive(Clone, Copy, PartialEq, Eq)]
-pub(crate) enum MachineCommand {
+pub enum MachineCommand {
     /// `run`.
     Run,
     /// `teletype`.
@@ -18,7 +18,7 @@ pub(crate) enum MachineCommand {
 
 /// A command.
 #[derive(Clone, Copy, PartialEq, Eq)]
-pub(crate) enum CommandName {
+pub enum CommandName {
     /// `run`, `teletype` or `dump`.
     Machine(MachineCommand),
     /// `assemble`.
@@ -52,5 +52,31 @@ pub(crate) fn called_of(name: &str) -> CommandName
         "place" => CommandName::Place,
         "explain" => CommandName::Explain,
         _ => CommandName::Program(command_of(name)),
+    }
+}
+
+impl CommandName {
+    /// The name by which the command is called.
+    pub fn text(self) -> &'static str
+        ensures { called_of result.now ≡ self }
+    {
+        match self {
+            CommandName::Machine(MachineCommand::Run) => "run",
+            CommandName::Machine(MachineCommand::Teletype) => "teletype",
+            CommandName::Machine(MachineCommand::Dump) => "dump",
+            CommandName::Assemble => "assemble",
+            CommandName::List => "list",
+            CommandName::Source => "source",
+            CommandName::Migrate => "migrate",
+            CommandName::Place => "place",
+            CommandName::Explain => "explain",
+            CommandName::Program(ProgramCommand::Verify) => "verify",
+            CommandName::Program(ProgramCommand::Watch) => "watch",
+            CommandName::Program(ProgramCommand::Guess) => "guess",
+            CommandName::Program(ProgramCommand::Refute) => "refute",
+            CommandName::Program(ProgramCommand::Declare) => "declare",
+            CommandName::Program(ProgramCommand::Report) => "report",
+            CommandName::Program(ProgramCommand::Check) => "check",
+        }
     }
 }

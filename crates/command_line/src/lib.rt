@@ -20,6 +20,7 @@ mod tapes;
 pub mod tips;
 mod values;
 
+pub use command_name::{CommandName, MachineCommand};
 pub use fault::{CommandLineFault, Misuse, PlaceOption};
 pub use names::FileNames;
 pub use operator::{DeviceConnections, Interrupt, Session, TeletypeSession, WatchedSession};
@@ -27,6 +28,7 @@ pub use outputs::{
     CERTIFICATE_ENDING, DECLARATION_ENDING, Destination, EVENTS_ENDING, SaveOptions, is_source_name,
 };
 pub use place_options::{AddressReader, PlaceOptions, StopOptions};
+pub use program_command::ProgramCommand;
 pub use programs::{ProgramNames, ProgramRequest, Task};
 pub use requests::{CommandLine, Request, parse_arguments};
 pub use source_programs::{MachineTask, SourceProgramRequest};

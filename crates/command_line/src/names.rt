@@ -1,5 +1,9 @@
-//! The names of the files that a command works on.
+//! The command of a request, and the names of the files that it works on.
 
+ghost use Rattle.std.specs.Prelude.{◌≡◌};
+ghost use Rattle.command_line.specs.CommandLines.{request_command};
+
+use crate::command_name::CommandName;
 use crate::requests::Request;
 
 /// The names of a request's inputs and of its outputs; `-` stands for a standard stream, and the value of `--save`
@@ -51,16 +55,18 @@ impl<'a> FileNames<'a> {
 }
 
 impl<'a> Request<'a> {
-    /// The name of its command.
-    pub fn command(&self) -> &'static str {
+    /// Its command.
+    pub fn command(&self) -> CommandName
+        ensures { result ≡ request_command self.now }
+    {
         match self {
-            Request::Tape(task) => task.command(),
-            Request::Sourced(asked) => asked.task.command(),
-            Request::Assemble(_) => "assemble",
-            Request::Source(_) => "source",
-            Request::List(_) => "list",
-            Request::Explain { .. } => "explain",
-            Request::Migrate(_) => "migrate",
+            Request::Tape(task) => CommandName::Machine(task.command()),
+            Request::Sourced(asked) => CommandName::Machine(asked.task.command()),
+            Request::Assemble(_) => CommandName::Assemble,
+            Request::Source(_) => CommandName::Source,
+            Request::List(_) => CommandName::List,
+            Request::Explain { .. } => CommandName::Explain,
+            Request::Migrate(_) => CommandName::Migrate,
             Request::Program(asked) => asked.task.command(),
         }
     }

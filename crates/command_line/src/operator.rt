@@ -1,8 +1,8 @@
 //! The options of a run with an operator.
 
-ghost use Rattle.std.specs.Prelude.{◌≡◌, ◌||◌, IfErr, IfOk, MatchResult, Some, codes, is_some, option_map, true};
+ghost use Rattle.std.specs.Prelude.{◌≡◌, ◌||◌, IfErr, IfOk, MatchResult, None, Some, codes, is_some, option_map, true};
 ghost use Rattle.command_line.specs.Machines.{IsOperatedRunGiven, IsTeletypeGiven, interrupt_given, interrupt_named, tape_given};
-ghost use Rattle.command_line.specs.Options.{ArePlacesGiven, AreSessionOptions, AreTeletypeOptions, IsRunWithOperator, IsWatchedWithOperator, IsWordNamed, value};
+ghost use Rattle.command_line.specs.Options.{ArePlacesGiven, AreSessionOptions, AreTeletypeOptions, IsRunWithOperator, IsWatchedWithOperator, IsWordNamed, sources_given, value};
 ghost use Rattle.command_line.specs.Places.{AreShownOn};
 ghost use Rattle.command_line.specs.Refusals.{IsRefused, IsRefusedByAny};
 ghost use Rattle.command_line.specs.declared.command_name.CommandName.TheVariants.{Machine};
@@ -33,7 +33,7 @@ pub struct Session<'a> {
     pub options: SessionOptions,
     /// What the summary tells.
     pub summary: SummaryForm<'a>,
-    /// How the run is followed, if it may be stopped.
+    /// How the run is followed, if it may be stopped or its last instructions are requested.
     pub stopping: Option<StopOptions>,
 }
 
@@ -65,7 +65,7 @@ pub struct WatchedSession<'a> {
     pub options: SessionOptions,
     /// How often CONTINUE is pressed at declared pauses at most, if it may be.
     pub continues: Option<u32>,
-    /// How the run is followed, if it may be stopped.
+    /// How the run is followed, if it may be stopped or its last instructions are requested.
     pub stopping: Option<StopOptions>,
     /// Whether it is said what violates a rule.
     pub explained: bool,
@@ -108,7 +108,7 @@ pub struct TeletypeSession<'a> {
     pub options: TeletypeOptions,
     /// What the summary tells.
     pub summary: SummaryForm<'a>,
-    /// How it is followed, if it may be stopped.
+    /// How it is followed, if it may be stopped or its last instructions are requested.
     pub stopping: Option<StopOptions>,
     /// The key that interrupts it.
     pub interrupt: Interrupt,
@@ -135,7 +135,7 @@ pub struct DeviceConnections<'a> {
     pub punch: Option<&'a str>,
     /// The name of the file of the keys.
     pub keys: Option<&'a str>,
-    /// What is printed goes to standard output.
+    /// Whether what is printed goes to standard output.
     pub teletype: bool,
 }
 
@@ -190,7 +190,7 @@ pub fn session_of<'a>(
     if is_given(found, "trace-long") {
         return Err(CommandLineFault::Misuse(Misuse::LongTrace));
     }
-    let inputs = read_once(alloc, found, &["TAPE", "reader", "keys"])?;
+    let inputs = read_once(alloc, found, &["source", "TAPE", "reader", "keys"])?;
     let punch = punch_of(found, &inputs)?;
     let teletype = is_given(found, "teletype");
     let show = shown_on(found, tape, places)?;
@@ -240,6 +240,7 @@ fn teletype_options(
     places: &PlaceOptions<'_>,
 ) -> Result<TeletypeOptions, CommandLineFault>
     requires places { ArePlacesGiven found.now places.now }
+    requires tape { is_some tape ≡ true → sources_given found.now ≡ None }
     ensures options { IfOk result (AreTeletypeOptions found.now) }
     ensures shown { IfOk result (λ options.
         AreShownOn (is_some tape.entry) places.now options.show) }
@@ -274,7 +275,7 @@ fn interrupt_named(text: &str) -> Option<Interrupt>
     }
 }
 
-/// The key that interrupts a session, where the bytes of keys are struck as they come or are not.
+/// The key that interrupts a session, given whether the bytes of keys are struck as they come.
 fn interrupt_of(found: &ArgMatches<'_>, raw: bool) -> Result<Interrupt, CommandLineFault>
     ensures { MatchResult result (λ interrupt.
         interrupt_given raw (value found.now (codes "interrupt")) ≡ Some interrupt) (IsRefusedByAny found.now) }
@@ -301,7 +302,7 @@ pub fn teletype_of<'a>(
     ensures { MatchResult result (IsTeletypeGiven found.now places.now)
         (IsRefused (Machine Teletype) found.now) }
 {
-    let inputs = read_beside_keys(alloc, found, &["TAPE", "reader"])?;
+    let inputs = read_beside_keys(alloc, found, &["source", "TAPE", "reader"])?;
     let punch = punch_of(found, &inputs)?;
     let options = teletype_options(found, tape, places)?;
     let stopping = stopping_on(found, tape, places)?;

@@ -65,7 +65,7 @@ fn is_one_of(name: &str, others: &[&str]) -> bool
 
 /// Whether the file that an output goes to is one of these; standard output is none.
 pub fn is_taken(name: &str, others: &[&str]) -> bool
-    ensures { result ≡ is_taken name.now others.now }
+    ensures { result ≡ is_taken name.now (map (λ other. other.now) others.now) }
 {
     if name == "-" {
         return false;
@@ -116,7 +116,7 @@ pub fn report_of<'a>(
     ensures named { IfOk result (λ name. option_map (λ it. it.now) name ≡
         value found.now (codes "report")) }
     ensures free { IfOk result (λ name.
-        ForSome name (λ it. is_taken it.now others.now ≡ false)) }
+        ForSome name (λ it. is_taken it.now (map (λ other. other.now) others.now) ≡ false)) }
     ensures another { IfOk result (λ name.
         ForSome name (λ it. is_result_file out.now it.now ≡ false)) }
     ensures refused { IfErr result (IsRefusedByAny found.now) }
@@ -138,12 +138,12 @@ pub fn punch_of<'a>(
     found: &ArgMatches<'a>,
     inputs: &[&str],
 ) -> Result<Option<&'a str>, CommandLineFault>
-    requires { AreInputs found.now inputs.now }
+    requires { AreInputs found.now (map (λ input. input.now) inputs.now) }
     ensures refused { IfErr result (IsRefusedByAny found.now) }
     ensures named { IfOk result (λ name. option_map (λ it. it.now) name ≡
         value found.now (codes "punch")) }
     ensures free { IfOk result (λ name.
-        ForSome name (λ it. is_taken it.now inputs.now ≡ false)) }
+        ForSome name (λ it. is_taken it.now (map (λ input. input.now) inputs.now) ≡ false)) }
 {
     let Some(name) = found.get_str("punch") else {
         return Ok(None);
@@ -201,9 +201,9 @@ pub(crate) fn result_of<'a>(
     found: &ArgMatches<'a>,
     inputs: &[&str],
 ) -> Result<Destination<'a>, CommandLineFault>
-    requires { AreInputsBeside called found.now inputs.now }
+    requires { AreInputsBeside called found.now (map (λ input. input.now) inputs.now) }
     ensures given { IfOk result (IsResultGiven called found.now) }
-    ensures free { IfOk result (λ out. is_taken (file_of out) inputs.now ≡ false) }
+    ensures free { IfOk result (λ out. is_taken (file_of out) (map (λ input. input.now) inputs.now) ≡ false) }
     ensures refused { IfErr result (IsRefused called found.now) }
 {
     let out = destination_of(called, found);
@@ -273,7 +273,7 @@ impl<'a> SaveOptions<'a> {
 
     /// Whether one of these inputs, as far as the names tell, may be replaced.
     fn takes(&self, inputs: &[&str]) -> bool
-        ensures { result ≡ is_saved_over self.now inputs.now }
+        ensures { result ≡ is_saved_over self.now (map (λ input. input.now) inputs.now) }
     {
         self.takes_any(self.endings(), inputs)
     }
@@ -304,7 +304,7 @@ pub fn save_of<'a>(
 ) -> Result<Option<SaveOptions<'a>>, CommandLineFault>
     ensures given { IfOk result (IsSaveGiven found.now (not proposed)) }
     ensures free { IfOk result (λ save.
-        ForSome save (λ it. is_saved_over it inputs.now ≡ false)) }
+        ForSome save (λ it. is_saved_over it (map (λ input. input.now) inputs.now) ≡ false)) }
     ensures refused { IfErr result (IsRefusedByAny found.now) }
 {
     let Some(name) = found.get_str("save") else {

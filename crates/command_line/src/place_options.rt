@@ -1,9 +1,9 @@
 //! The cells and the places that options name.
 
-ghost use Rattle.std.specs.Prelude.{◌≡◌, ◌==◌, ◌<◌, IfSome, MatchResult, length, Some, codes, is_some, map, option_map, true};
+ghost use Rattle.std.specs.Prelude.{◌≡◌, ◌==◌, Any, None, MatchOption, MatchResult, Some, codes, is_some, map, option_map, true};
 ghost use Rattle.std.specs.List.{position};
-ghost use Rattle.command_line.specs.Options.{ArePlacesGiven, IsNumberNamed, value};
-ghost use Rattle.command_line.specs.Places.{AreCellsOf, AreCellsOfText, AreCellsOfTexts, AreShownOn, AreStopsNamed, IsFollowed, IsStoppedOn, IsUntilNamed, is_followed};
+ghost use Rattle.command_line.specs.Options.{ArePlacesGiven, IsNumberNamed, sources_given, value};
+ghost use Rattle.command_line.specs.Places.{AreCellsOf, AreCellsOfText, AreCellsOfTexts, AreCellsRefused, AreShownOn, AreStopsNamed, AreTextsRefused, IsFollowed, IsStoppedOn, IsUntilNamed, IsVisitRefused, is_followed};
 ghost use Rattle.command_line.specs.Refusals.{IsPlaceMisused, IsRefusedByAny, IsTraced};
 ghost use Rattle.command_line.specs.declared.fault.Misuse.TheVariants.{Place};
 ghost use Rattle.command_line.specs.OctalPlaces.{cells_between, cells_of_word};
@@ -15,7 +15,7 @@ use crate::fault::{CommandLineFault, Misuse, PlaceOption};
 use crate::values::{is_given, values_of};
 use clap::ArgMatches;
 use command_parts::options::Stops;
-use std::alloc::{AllocError, Global};
+use std::alloc::Global;
 use streams::text::{Words, decimal_between, octal_word};
 use word12::Word;
 use wordset::WordSet;
@@ -67,13 +67,21 @@ pub trait AddressReader {
     // A word names a place.
     ghost names_place: { Self → List ℕ → ℕ → Type 0 } = { λ _ _ _. ⊤ };
 
+    // A word is refused as a name of cells.
+    ghost no_cells: { Self → List ℕ → Type 0 } = { λ _ _. ⊤ };
+
+    // A word is refused as a name of a place.
+    ghost no_place: { Self → List ℕ → Type 0 } = { λ _ _. ⊤ };
+
     /// The cells of an address or a range; none if a word is neither.
     fn cells(&self, word: &[u8]) -> Option<WordSet>
-        ensures { IfSome result (names_cells self.now word.now) };
+        ensures { MatchOption result (no_cells self.now word.now)
+            (names_cells self.now word.now) };
 
-    /// The address that a word is; none if it is none.
+    /// The address that a word names, or none if it names none.
     fn place(&self, word: &[u8]) -> Option<Word>
-        ensures { IfSome result (names_place self.now word.now) };
+        ensures { MatchOption result (no_place self.now word.now)
+            (names_place self.now word.now) };
 }
 
 /// Reads addresses in octal digits.
@@ -81,11 +89,15 @@ pub trait AddressReader {
 pub struct OctalAddresses;
 
 impl AddressReader for OctalAddresses {
-    ghost use Rattle.command_line.specs.OctalPlaces.{NamesOctalCells, NamesOctalPlace};
+    ghost use Rattle.command_line.specs.OctalPlaces.{NamesNoOctalCells, NamesNoOctalPlace, NamesOctalCells, NamesOctalPlace};
 
     ghost names_cells = { λ _. NamesOctalCells };
 
     ghost names_place = { λ _. NamesOctalPlace };
+
+    ghost no_cells = { λ _. NamesNoOctalCells };
+
+    ghost no_place = { λ _. NamesNoOctalPlace };
 
     fn cells(&self, word: &[u8]) -> Option<WordSet> {
         range(word)
@@ -98,7 +110,8 @@ impl AddressReader for OctalAddresses {
 
 /// The cells of the addresses and ranges that words spell.
 fn cells_of_words<C: AddressReader>(reader: &C, words: Words<'_>) -> Option<WordSet>
-    ensures { IfSome result (AreCellsOf (C.names_cells reader.now) (words_left words.entry)) }
+    ensures { MatchOption result (Any (C.no_cells reader.now) (words_left words.entry))
+        (AreCellsOf (C.names_cells reader.now) (words_left words.entry)) }
 {
     let mut set = WordSet::empty();
     let mut rest = words;
@@ -111,7 +124,9 @@ fn cells_of_words<C: AddressReader>(reader: &C, words: Words<'_>) -> Option<Word
 
 /// The cells of addresses and ranges, one or more, as a line of a declaration spells them.
 fn cells<C: AddressReader>(reader: &C, text: &[u8]) -> Option<WordSet>
-    ensures { IfSome result (AreCellsOfText (C.names_cells reader.now) text.now) }
+    ensures { MatchOption result
+        (AreCellsRefused (C.names_cells reader.now) (C.no_cells reader.now) text.now)
+        (AreCellsOfText (C.names_cells reader.now) text.now) }
 {
     let set = cells_of_words(reader, Words::of(text))?;
     if set.is_empty() { None } else { Some(set) }
@@ -125,7 +140,8 @@ fn named_cells<C: AddressReader>(
 ) -> Result<WordSet, Misuse>
     ensures { MatchResult result (AreCellsOfTexts (C.names_cells reader.now)
         (map (λ text. text.now) texts.now))
-        (λ misuse. (misuse ≡ Place option) × (0 < length texts.now)) }
+        (λ misuse. (misuse ≡ Place option) × AreTextsRefused (C.names_cells reader.now)
+        (C.no_cells reader.now) (map (λ text. text.now) texts.now)) }
 {
     let mut set = WordSet::empty();
     for text in texts {
@@ -181,7 +197,8 @@ impl PlaceOptions<'_> {
     /// What is wrong with a value.
     pub fn shown<C: AddressReader>(&self, reader: &C) -> Result<WordSet, Misuse>
         ensures { MatchResult result (AreCellsOfTexts (C.names_cells reader.now)
-            (map (λ text. text.now) self.now.show.items)) (IsPlaceMisused self.now) }
+            (map (λ text. text.now) self.now.show.items)) (IsPlaceMisused (C.names_cells reader.now)
+            (C.no_cells reader.now) (C.no_place reader.now) self.now) }
     {
         named_cells(reader, &self.show, PlaceOption::Show)
     }
@@ -193,7 +210,8 @@ impl PlaceOptions<'_> {
     /// What is wrong with a value.
     pub fn stops<C: AddressReader>(&self, reader: &C) -> Result<Stops, Misuse>
         ensures { MatchResult result (AreStopsNamed (C.names_place reader.now)
-            (C.names_cells reader.now) self.now) (IsPlaceMisused self.now) }
+            (C.names_cells reader.now) self.now) (IsPlaceMisused (C.names_cells reader.now)
+            (C.no_cells reader.now) (C.no_place reader.now) self.now) }
     {
         let written = named_cells(reader, &self.written, PlaceOption::UntilWrite)?;
         let read = named_cells(reader, &self.read, PlaceOption::UntilRead)?;
@@ -210,7 +228,8 @@ impl PlaceOptions<'_> {
     fn stop_place<C: AddressReader>(&self, reader: &C) -> Result<StopPlace, Misuse>
         ensures { MatchResult result (λ stop. IsUntilNamed (C.names_place reader.now)
             (option_map (λ text. text.now) self.now.until) stop.place stop.times)
-            (IsPlaceMisused self.now) }
+            (IsPlaceMisused (C.names_cells reader.now)
+            (C.no_cells reader.now) (C.no_place reader.now) self.now) }
     {
         match self.until {
             None => Ok(StopPlace {
@@ -231,7 +250,8 @@ impl PlaceOptions<'_> {
     /// What is wrong with a value.
     pub fn stopping<C: AddressReader>(&self, reader: &C) -> Result<Option<StopOptions>, Misuse>
         ensures { MatchResult result (IsFollowed (C.names_place reader.now)
-            (C.names_cells reader.now) self.now) (IsPlaceMisused self.now) }
+            (C.names_cells reader.now) self.now) (IsPlaceMisused (C.names_cells reader.now)
+            (C.no_cells reader.now) (C.no_place reader.now) self.now) }
     {
         if !self.is_followed() {
             return Ok(None);
@@ -263,7 +283,8 @@ struct StopPlace {
 
 /// The address and the number of a `PLACE` or a `PLACE,N`.
 fn visits_of<C: AddressReader>(reader: &C, text: &[u8]) -> Option<StopPlace>
-    ensures { IfSome result (λ stop. IsUntilNamed (C.names_place reader.now) (Some text.now)
+    ensures { MatchOption result (IsVisitRefused (C.no_place reader.now) text.now)
+        (λ stop. IsUntilNamed (C.names_place reader.now) (Some text.now)
         stop.place stop.times) }
 {
     let Some(at) = place_of(b',', text) else {
@@ -275,7 +296,7 @@ fn visits_of<C: AddressReader>(reader: &C, text: &[u8]) -> Option<StopPlace>
     Some(StopPlace { place, times })
 }
 
-/// How a run is followed that may be stopped.
+/// How a run is followed that may be stopped, or whose last instructions are shown.
 #[derive(Clone, Copy)]
 pub struct StopOptions {
     /// Where it is stopped.
@@ -314,7 +335,8 @@ pub(crate) fn shown_on(
     tape: Option<&str>,
     places: &PlaceOptions<'_>,
 ) -> Result<WordSet, CommandLineFault>
-    requires { ArePlacesGiven found.now places.now }
+    requires places { ArePlacesGiven found.now places.now }
+    requires tape { is_some tape ≡ true → sources_given found.now ≡ None }
     ensures { MatchResult result (AreShownOn (is_some tape.entry) places.now)
         (IsRefusedByAny found.now) }
 {
@@ -327,13 +349,14 @@ pub(crate) fn shown_on(
     }
 }
 
-/// How the run of a tape is followed, if it may be stopped. Of a source that is not known yet.
+/// How the run of a tape is followed, if it may be stopped or its last instructions are requested. Of a source that is not known yet.
 pub(crate) fn stopping_on(
     found: &ArgMatches<'_>,
     tape: Option<&str>,
     places: &PlaceOptions<'_>,
 ) -> Result<Option<StopOptions>, CommandLineFault>
-    requires { ArePlacesGiven found.now places.now }
+    requires places { ArePlacesGiven found.now places.now }
+    requires tape { is_some tape ≡ true → sources_given found.now ≡ None }
     ensures { MatchResult result (IsStoppedOn (is_some tape.entry) places.now)
         (IsRefusedByAny found.now) }
 {

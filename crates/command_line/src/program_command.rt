@@ -6,7 +6,7 @@ ghost use Rattle.command_line.specs.ProgramCommands.{command_of};
 
 /// A command on a program and its declaration.
 #[derive(Clone, Copy, PartialEq, Eq)]
-pub(crate) enum ProgramCommand {
+pub enum ProgramCommand {
     /// `verify`.
     Verify,
     /// `watch`.

@@ -1,13 +1,13 @@
 //! What may be requested with a program and its declaration: the program is given by its tape, or with `--source` by
 //! its source. It is proved that the files of a program are those that were given.
 
-ghost use Rattle.std.specs.Prelude.{◌≡◌, IfErr, IfOk, MatchResult, codes, false, is_some, map, option_map, unwrap_or, true};
+ghost use Rattle.std.specs.Prelude.{◌≡◌, IfErr, IfOk, MatchResult, None, codes, false, is_some, map, option_map, unwrap_or, true};
 ghost use Rattle.std.specs.Option.{ForSome};
 ghost use Rattle.command_line.specs.Inputs.{AreReadAtMost};
-ghost use Rattle.command_line.specs.Options.{ArePlacesGiven, IsVersionNamed, IsWatchedWithOperator, named, value, version_named};
+ghost use Rattle.command_line.specs.Options.{ArePlacesGiven, IsVersionNamed, IsWatchedWithOperator, named, sources_given, value, version_named};
 ghost use Rattle.command_line.specs.Outputs.{is_taken};
 ghost use Rattle.command_line.specs.Refusals.{AreInputsBeside, IsRefused, IsRefusedByAny};
-ghost use Rattle.command_line.specs.Requests.{IsDeclareGiven, IsFollowedOn, IsGuessGiven, IsOperated, IsWatchedRunGiven, IsProgramRequestGiven, IsRefuteGiven, IsReportGiven, IsTaskGiven, IsVerifyGiven, inputs_given, is_tape, last_of, part_names, watched_declaration, watched_tape};
+ghost use Rattle.command_line.specs.Requests.{IsDeclareGiven, IsFollowedOn, IsGuessGiven, IsOperated, IsWatchedRunGiven, IsProgramRequestGiven, IsRefuteGiven, IsReportGiven, IsTaskGiven, IsVerifyGiven, inputs_given, is_tape, last_of, part_names, saved_by, task_command, watched_declaration, watched_tape};
 ghost use Rattle.command_line.specs.Sources.{IsPlaceGiven};
 ghost use Rattle.command_line.specs.declared.command_name.CommandName.TheVariants.{Place, Program};
 ghost use Rattle.command_line.specs.declared.program_command.ProgramCommand.TheVariants.{Declare, Guess, Refute, Report, Verify, Watch};
@@ -88,7 +88,7 @@ pub enum Task<'a> {
         events: &'a str,
         /// The cells whose words are shown when the run of a tape is over.
         show: WordSet,
-        /// How the run of a tape is followed, if it may be stopped.
+        /// How the run of a tape is followed, if it may be stopped or its last instructions are requested.
         stopping: Option<StopOptions>,
     },
     /// To watch a run with an operator.
@@ -164,22 +164,27 @@ impl<'a> ProgramRequest<'a> {
 }
 
 impl<'a> Task<'a> {
-    /// The name of the command.
-    pub fn command(&self) -> &'static str {
-        match self {
-            Task::Verify { .. } => "verify",
-            Task::Check { .. } => "check",
-            Task::Report { .. } => "report",
-            Task::Watch { .. } | Task::WatchSession(_) => "watch",
-            Task::Guess { .. } => "guess",
-            Task::Refute { .. } => "refute",
-            Task::Declare { .. } => "declare",
-            Task::Place { .. } => "place",
-        }
+    /// The command that asks for it.
+    pub fn command(&self) -> CommandName
+        ensures { result ≡ task_command self.now }
+    {
+        let command = match self {
+            Task::Verify { .. } => ProgramCommand::Verify,
+            Task::Check { .. } => ProgramCommand::Check,
+            Task::Report { .. } => ProgramCommand::Report,
+            Task::Watch { .. } | Task::WatchSession(_) => ProgramCommand::Watch,
+            Task::Guess { .. } => ProgramCommand::Guess,
+            Task::Refute { .. } => ProgramCommand::Refute,
+            Task::Declare { .. } => ProgramCommand::Declare,
+            Task::Place { .. } => return CommandName::Place,
+        };
+        CommandName::Program(command)
     }
 
     /// The files for what is found, if it is saved.
-    pub fn save(&self) -> Option<SaveOptions<'a>> {
+    pub fn save(&self) -> Option<SaveOptions<'a>>
+        ensures { result ≡ saved_by self.now }
+    {
         match self {
             Task::Verify { save, .. } => *save,
             _ => None,
@@ -261,30 +266,21 @@ fn watched_declaration<'a>(operands: &Operands<'a>) -> &'a str
     }
 }
 
-/// The watched run with an operator that is requested. Each of its inputs is another file.
+/// The watched run with an operator that is requested.
 fn watched_session_of<'a>(
-    alloc: Global,
     found: &ArgMatches<'a>,
     operands: &Operands<'a>,
     followed: WatchedRunOptions,
 ) -> Result<WatchedSession<'a>, CommandLineFault>
     requires operated { IsWatchedWithOperator found.now true }
-    ensures given { IfOk result (IsWatchedRunGiven found.now operands.now followed) }
-    ensures once { IfOk result (λ session. AreReadAtMost 1 found.now (inputs_given Watch found.now)) }
-    ensures refused { IfErr result (IsRefusedByAny found.now) }
+    ensures { MatchResult result (IsWatchedRunGiven found.now operands.now followed)
+        (IsRefusedByAny found.now) }
 {
     if has_value(found, "EVENTS") {
         return Err(CommandLineFault::Misuse(Misuse::ListAndOperator));
     }
-    let sourced = is_sourced(found);
-    if sourced {
-        read_once(alloc, found, &["reader", "keys"])?;
-    } else {
-        read_once(alloc, found, input_names(ProgramCommand::Watch, false))?;
-    }
     let options = session_options(found, followed.show)?;
     let continues = continues_of(found)?;
-    read_once(alloc, found, input_names(ProgramCommand::Watch, sourced))?;
     Ok(WatchedSession {
         tape: watched_tape(&operands.program),
         declaration: watched_declaration(operands),
@@ -326,7 +322,7 @@ fn guessed_version(found: &ArgMatches<'_>) -> Result<Option<Version>, CommandLin
 /// Whether an output, if there is one, is one of these inputs, as far as the names tell.
 fn is_any_taken(output: &Option<&str>, inputs: &[&str]) -> bool
     ensures none { result ≡ false →
-        ForSome output.now (λ name. is_taken name.now inputs.now ≡ false) }
+        ForSome output.now (λ name. is_taken name.now (map (λ input. input.now) inputs.now) ≡ false) }
     ensures some { result ≡ true → is_some output.now ≡ true }
 {
     match output {
@@ -342,7 +338,7 @@ fn guess_task<'a>(
     operands: &Operands<'a>,
     inputs: &[&'a str],
 ) -> Result<Task<'a>, CommandLineFault>
-    requires inputs { AreInputsBeside (Program Guess) found.now inputs.now }
+    requires inputs { AreInputsBeside (Program Guess) found.now (map (λ input. input.now) inputs.now) }
     requires given { map (λ input. input.now) inputs.now ≡ named found.now (inputs_given Guess found.now) }
     ensures { MatchResult result (IsGuessGiven found.now)
         (IsRefused (Program Guess) found.now) }
@@ -386,7 +382,7 @@ fn verify_task<'a>(
 
 /// To search for a run that violates the declaration.
 fn refute_task<'a>(found: &ArgMatches<'a>, inputs: &[&'a str]) -> Result<Task<'a>, CommandLineFault>
-    requires inputs { AreInputsBeside (Program Refute) found.now inputs.now }
+    requires inputs { AreInputsBeside (Program Refute) found.now (map (λ input. input.now) inputs.now) }
     requires given { map (λ input. input.now) inputs.now ≡ named found.now (inputs_given Refute found.now) }
     ensures { MatchResult result (IsRefuteGiven found.now)
         (IsRefused (Program Refute) found.now) }
@@ -401,7 +397,7 @@ fn declare_task<'a>(
     found: &ArgMatches<'a>,
     inputs: &[&'a str],
 ) -> Result<Task<'a>, CommandLineFault>
-    requires inputs { AreInputsBeside (Program Declare) found.now inputs.now }
+    requires inputs { AreInputsBeside (Program Declare) found.now (map (λ input. input.now) inputs.now) }
     requires given { map (λ input. input.now) inputs.now ≡ named found.now (inputs_given Declare found.now) }
     ensures { MatchResult result (IsDeclareGiven found.now)
         (IsRefused (Program Declare) found.now) }
@@ -422,7 +418,7 @@ fn report_task<'a>(
     operands: &Operands<'a>,
     inputs: &[&'a str],
 ) -> Result<Task<'a>, CommandLineFault>
-    requires inputs { AreInputsBeside (Program Report) found.now inputs.now }
+    requires inputs { AreInputsBeside (Program Report) found.now (map (λ input. input.now) inputs.now) }
     requires given { map (λ input. input.now) inputs.now ≡ named found.now (inputs_given Report found.now) }
     ensures { MatchResult result (IsReportGiven found.now (last_of operands.now))
         (IsRefused (Program Report) found.now) }
@@ -454,7 +450,7 @@ fn task_of<'a>(
     inputs: &[&'a str],
     followed: WatchedRunOptions,
 ) -> Result<Task<'a>, CommandLineFault>
-    requires inputs { AreInputsBeside (Program called) found.now inputs.now }
+    requires inputs { AreInputsBeside (Program called) found.now (map (λ input. input.now) inputs.now) }
     requires given { map (λ input. input.now) inputs.now ≡ named found.now (inputs_given called found.now) }
     requires operated { IsOperated called found.now false }
     ensures { MatchResult result (IsTaskGiven called found.now operands.now followed)
@@ -490,7 +486,8 @@ fn followed_on(
     operands: &Operands<'_>,
     places: &PlaceOptions<'_>,
 ) -> Result<WatchedRunOptions, CommandLineFault>
-    requires { ArePlacesGiven found.now places.now }
+    requires places { ArePlacesGiven found.now places.now }
+    requires tape { is_tape operands.now.program ≡ true → sources_given found.now ≡ None }
     ensures { MatchResult result (IsFollowedOn operands.now.program places.now)
         (IsRefusedByAny found.now) }
 {
@@ -522,11 +519,11 @@ fn task_on<'a>(
     ensures once { IfOk result (λ task. AreReadAtMost 1 found.now (inputs_given called found.now)) }
     ensures refused { IfErr result (IsRefused (Program called) found.now) }
 {
+    let inputs = read_once(alloc, found, input_names(called, is_sourced(found)))?;
     if is_operated(called, found) {
-        let session = watched_session_of(alloc, found, operands, followed)?;
+        let session = watched_session_of(found, operands, followed)?;
         return Ok(Task::WatchSession(session));
     }
-    let inputs = read_once(alloc, found, input_names(called, is_sourced(found)))?;
     start_once(found)?;
     task_of(called, found, operands, &inputs, followed)
 }

@@ -1,11 +1,10 @@
 //! What may be requested with a source in place of a tape, without a declaration.
 
-ghost use Rattle.std.specs.Prelude.{◌≡◌, IfErr, IfOk, MatchResult, Some, map, option_map};
-ghost use Rattle.command_line.specs.Inputs.{AreReadAtMost};
+ghost use Rattle.std.specs.Prelude.{◌≡◌, MatchResult, option_map};
 ghost use Rattle.command_line.specs.Machines.{tape_given};
-ghost use Rattle.command_line.specs.Options.{ArePlacesGiven, sources_given};
+ghost use Rattle.command_line.specs.Options.{ArePlacesGiven};
 ghost use Rattle.command_line.specs.Refusals.{IsRefused, IsRefusedByAny};
-ghost use Rattle.command_line.specs.Sources.{IsMachineGiven, IsMachineTaskGiven, sourced_inputs, standard_inputs_of};
+ghost use Rattle.command_line.specs.Sources.{IsMachineGiven, IsMachineTaskGiven, machine_of, machine_task_command};
 ghost use Rattle.command_line.specs.declared.command_name.CommandName.TheVariants.{Machine};
 ghost use Rattle.command_line.specs.declared.command_name.MachineCommand.TheVariants.{Run};
 
@@ -16,7 +15,7 @@ use crate::operator::{Session, TeletypeSession, has_operator, session_of, telety
 use crate::place_options::{PlaceOptions, places_of};
 use crate::requests::Request;
 use crate::tapes::{DumpRequest, RunRequest, dump_request, run_request, tape_of};
-use crate::values::{copied, has_value, is_given, is_sourced, read_beside_keys, read_once};
+use crate::values::{copied, has_value, is_given, is_sourced};
 use clap::ArgMatches;
 use instruct::Profile;
 use std::alloc::Global;
@@ -26,7 +25,7 @@ use std::alloc::Global;
 pub struct SourceProgramRequest<'a> {
     /// The names of the files of the source's parts, in order.
     pub parts: Vec<&'a str>,
-    /// The cells and places that options name, which may have the symbols of the source.
+    /// The cells and places that options name, by words that may have the symbols of the source.
     pub places: PlaceOptions<'a>,
     /// What is done with the program.
     pub task: MachineTask<'a>,
@@ -48,12 +47,14 @@ pub enum MachineTask<'a> {
 }
 
 impl<'a> MachineTask<'a> {
-    /// The name of the command.
-    pub fn command(&self) -> &'static str {
+    /// The command that asks for it.
+    pub fn command(&self) -> MachineCommand
+        ensures { result ≡ machine_task_command self.now }
+    {
         match self {
-            MachineTask::Run(_) | MachineTask::Session(_) => "run",
-            MachineTask::Teletype(_) => "teletype",
-            MachineTask::Dump(_) => "dump",
+            MachineTask::Run(_) | MachineTask::Session(_) => MachineCommand::Run,
+            MachineTask::Teletype(_) => MachineCommand::Teletype,
+            MachineTask::Dump(_) => MachineCommand::Dump,
         }
     }
 
@@ -68,7 +69,9 @@ impl<'a> MachineTask<'a> {
     }
 
     /// The machine that it is for.
-    pub fn profile(&self) -> Profile {
+    pub fn profile(&self) -> Profile
+        ensures { result ≡ machine_of self.now }
+    {
         match self {
             MachineTask::Run(run) => run.options.profile,
             MachineTask::Session(session) => session.options.run.profile,
@@ -116,7 +119,7 @@ fn task_of<'a>(
         MachineCommand::Teletype => {
             Ok(MachineTask::Teletype(teletype_of(alloc, found, tape, places)?))
         }
-        MachineCommand::Dump => Ok(MachineTask::Dump(dump_request(found, tape)?)),
+        MachineCommand::Dump => Ok(MachineTask::Dump(dump_request(alloc, found, tape)?)),
     }
 }
 
@@ -137,7 +140,7 @@ pub(crate) fn machine_request<'a>(
     match found.get_strs("source") {
         None => Ok(Request::Tape(task)),
         Some(names) => {
-            let parts = source_parts(alloc, called, found, names)?;
+            let parts = copied(alloc, names)?;
             Ok(Request::Sourced(SourceProgramRequest {
                 parts,
                 places,
@@ -146,47 +149,4 @@ pub(crate) fn machine_request<'a>(
             }))
         }
     }
-}
-
-/// Ensures that a source and the other inputs are read from standard input once at most.
-fn check_inputs(
-    alloc: Global,
-    called: MachineCommand,
-    found: &ArgMatches<'_>,
-) -> Result<(), CommandLineFault>
-    ensures once { IfOk result (λ unit. AreReadAtMost (standard_inputs_of called) found.now
-        (sourced_inputs called)) }
-    ensures refused { IfErr result (IsRefused (Machine called) found.now) }
-{
-    match called {
-        MachineCommand::Teletype => {
-            read_beside_keys(alloc, found, &["source", "reader"])?;
-        }
-        MachineCommand::Run => {
-            read_once(alloc, found, &["source", "events", "reader", "keys"])?;
-        }
-        MachineCommand::Dump => {
-            read_once(alloc, found, &["source"])?;
-        }
-    }
-    Ok(())
-}
-
-/// The names of the files of a source's parts, in a list of its own.
-fn source_parts<'a>(
-    alloc: Global,
-    called: MachineCommand,
-    found: &ArgMatches<'a>,
-    names: &[&'a str],
-) -> Result<Vec<&'a str>, CommandLineFault>
-    requires { sources_given found.now ≡ Some (map (λ name. name.now) names.now) }
-    ensures given { IfOk result
-        (λ parts. sources_given found.now ≡ Some (map (λ name. name.now) parts.items)) }
-    ensures once { IfOk result (λ parts. AreReadAtMost (standard_inputs_of called) found.now
-        (sourced_inputs called)) }
-    ensures refused { IfErr result (IsRefused (Machine called) found.now) }
-{
-    check_inputs(alloc, called, found)?;
-    let parts = copied(alloc, names)?;
-    Ok(parts)
 }

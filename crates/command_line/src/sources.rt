@@ -1,7 +1,7 @@
 //! What may be requested with a source that is assembled.
 
-ghost use Rattle.std.specs.Prelude.{◌≡◌, ◌≤◌, IfErr, IfOk, MatchResult, count_by, map};
-ghost use Rattle.command_line.specs.Outputs.{is_standard_input};
+ghost use Rattle.std.specs.Prelude.{◌≡◌, IfErr, IfOk, MatchResult, map};
+ghost use Rattle.command_line.specs.Inputs.{AreReadAtMost};
 ghost use Rattle.command_line.specs.Refusals.{AreInputs, AreOfInputs, ArePartsRefused, IsRefused};
 ghost use Rattle.command_line.specs.Sources.{IsAssembleGiven, IsListGiven, part_operands, placed_operands, source_operands};
 ghost use Rattle.command_line.specs.declared.command_name.CommandName.TheVariants.{Assemble, List as ListSource};
@@ -81,9 +81,9 @@ pub(crate) fn source_names<'a>(
 ) -> Result<Vec<&'a str>, CommandLineFault>
     ensures given { IfOk result (λ names. map (λ name. name.now) names.items ≡
         source_operands found.now) }
-    ensures are { IfOk result (λ names. AreInputs found.now names.items) }
-    ensures once { IfOk result (λ names.
-        count_by (λ name. is_standard_input name.now) names.items ≤ 1) }
+    ensures are { IfOk result (λ names.
+        AreInputs found.now (map (λ name. name.now) names.items)) }
+    ensures once { IfOk result (λ names. AreReadAtMost 1 found.now (part_operands found.now)) }
     ensures refused { IfErr result (ArePartsRefused found.now) }
 {
     let names = read_once(alloc, found, part_operands(found))?;

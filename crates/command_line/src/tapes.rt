@@ -30,7 +30,7 @@ pub struct RunRequest<'a> {
     pub events: Option<&'a str>,
     /// How it is run.
     pub options: RunOptions,
-    /// How it is followed, if it may be stopped.
+    /// How it is followed, if it may be stopped or its last instructions are requested.
     pub stopping: Option<StopOptions>,
     /// Whether a long line is written for each instruction.
     pub long: bool,
@@ -68,7 +68,7 @@ pub(crate) fn run_request<'a>(
     requires places { ArePlacesGiven found.now places.now }
     ensures { MatchResult result (IsRunGiven found.now places.now) (IsRefusedByAny found.now) }
 {
-    read_once(alloc, found, &["TAPE", "events"])?;
+    read_once(alloc, found, &["source", "TAPE", "events"])?;
     let long = is_given(found, "trace-long");
     if long && is_given(found, "trace") {
         return Err(CommandLineFault::Misuse(Misuse::LongTrace));
@@ -108,12 +108,14 @@ impl<'a> DumpRequest<'a> {
 
 /// The list of words that is requested.
 pub(crate) fn dump_request<'a>(
+    alloc: Global,
     found: &ArgMatches<'a>,
     tape: Option<&'a str>,
 ) -> Result<DumpRequest<'a>, CommandLineFault>
     requires tape { option_map (λ name. name.now) tape ≡ tape_given found.now }
     ensures { MatchResult result (IsDumpGiven found.now) (IsRefusedByAny found.now) }
 {
+    read_once(alloc, found, &["source", "TAPE"])?;
     let profile = profile_of(found)?;
     let full = is_given(found, "full");
     Ok(DumpRequest {

@@ -2,6 +2,7 @@
 
 ghost use Rattle.std.specs.Prelude.{◌≡◌, ◌≤◌, ◌||◌, IfErr, IfOk, MatchResult, Ok, Some, is_some, map, codes};
 ghost use Rattle.std.specs.List.{count_by, list_any};
+ghost use Rattle.command_line.specs.Inputs.{AreReadAtMost};
 ghost use Rattle.command_line.specs.Outputs.{is_standard_input};
 ghost use Rattle.command_line.specs.Refusals.{AreInputs, AreOfInputs, IsRefused, IsRefusedByAny, is_declared};
 ghost use Rattle.command_line.specs.declared.command_name.CommandName.TheVariants.{Machine};
@@ -275,7 +276,7 @@ fn is_standard_input(name: &str) -> bool
 
 /// How many of these inputs are standard input.
 fn standard_inputs(names: &[&str]) -> usize
-    ensures { result ≡ count_by (λ name. is_standard_input name.now) names.now }
+    ensures { result ≡ count_by is_standard_input (map (λ name. name.now) names.now) }
 {
     names.iter().filter(|name| is_standard_input(name)).count()
 }
@@ -289,9 +290,10 @@ pub(crate) fn read_once<'a>(
     requires names { AreOfInputs found.now (map (λ name. name.now) names.now) }
     ensures given { IfOk result (λ inputs. map (λ input. input.now) inputs.items ≡
         named found.now (map (λ name. name.now) names.now)) }
-    ensures are { IfOk result (λ inputs. AreInputs found.now inputs.items) }
+    ensures are { IfOk result (λ inputs.
+        AreInputs found.now (map (λ input. input.now) inputs.items)) }
     ensures once { IfOk result (λ inputs.
-        count_by (λ name. is_standard_input name.now) inputs.items ≤ 1) }
+        AreReadAtMost 1 found.now (map (λ name. name.now) names.now)) }
     ensures refused { IfErr result (IsRefusedByAny found.now) }
 {
     let inputs = inputs_of(alloc, found, names)?;
@@ -310,9 +312,10 @@ pub(crate) fn read_beside_keys<'a>(
     requires names { AreOfInputs found.now (map (λ name. name.now) names.now) }
     ensures given { IfOk result (λ inputs. map (λ input. input.now) inputs.items ≡
         named found.now (map (λ name. name.now) names.now)) }
-    ensures are { IfOk result (λ inputs. AreInputs found.now inputs.items) }
+    ensures are { IfOk result (λ inputs.
+        AreInputs found.now (map (λ input. input.now) inputs.items)) }
     ensures none { IfOk result (λ inputs.
-        count_by (λ name. is_standard_input name.now) inputs.items ≤ 0) }
+        AreReadAtMost 0 found.now (map (λ name. name.now) names.now)) }
     ensures refused { IfErr result (IsRefused (Machine Teletype) found.now) }
 {
     let inputs = inputs_of(alloc, found, names)?;

@@ -3,7 +3,7 @@
 
 use crate::file_kinds::{Kind, kind_of};
 use crate::files::{bytes_of, is_read_once};
-use command_line::{CommandLine, FileNames};
+use command_line::{CommandLine, CommandName, FileNames, MachineCommand, ProgramCommand};
 use command_parts::status::Fault;
 use command_parts::visible::visible_text;
 use std::alloc::{AllocError, Global};
@@ -13,8 +13,8 @@ use std::rt::Files;
 /// A command, the files that it is given, and whether it explains what it finds.
 #[derive(Clone, Copy)]
 pub struct CommandFiles<'p, 'a> {
-    /// The name of the command.
-    pub(crate) command: &'static str,
+    /// The command.
+    pub(crate) command: CommandName,
     /// The names of the parts of its source, if it has one.
     pub(crate) parts: &'p [&'a str],
     /// The names of its other files.
@@ -24,35 +24,49 @@ pub struct CommandFiles<'p, 'a> {
 }
 
 /// Whether a command takes `--source`, in place of a tape.
-fn takes_source(command: &str) -> bool {
-    takes_declaration(command) || matches!(command, "declare" | "run" | "teletype" | "dump")
+fn takes_source(command: CommandName) -> bool {
+    matches!(command, CommandName::Machine(_) | CommandName::Program(_))
 }
 
 /// Whether a command takes a declaration after a tape or a source.
-fn takes_declaration(command: &str) -> bool {
-    matches!(command, "verify" | "guess" | "refute" | "watch") || takes_certificate(command)
+fn takes_declaration(command: CommandName) -> bool {
+    match command {
+        CommandName::Program(called) => called != ProgramCommand::Declare,
+        _ => false,
+    }
 }
 
 /// Whether a command takes a certificate after a declaration.
-fn takes_certificate(command: &str) -> bool {
-    matches!(command, "check" | "report")
+fn takes_certificate(command: CommandName) -> bool {
+    match command {
+        CommandName::Program(called) => {
+            matches!(called, ProgramCommand::Check | ProgramCommand::Report)
+        }
+        _ => false,
+    }
 }
 
 /// Whether a command writes its result to a file, whose name comes after those of the inputs.
-fn writes_result(command: &str) -> bool {
-    matches!(
-        command,
-        "declare" | "guess" | "refute" | "report" | "source"
-    )
+fn writes_result(command: CommandName) -> bool {
+    match command {
+        CommandName::Program(called) => matches!(
+            called,
+            ProgramCommand::Declare
+                | ProgramCommand::Guess
+                | ProgramCommand::Refute
+                | ProgramCommand::Report
+        ),
+        _ => command == CommandName::Source,
+    }
 }
 
 /// The option before the name of a declaration that comes after a tape: empty if the declaration is an operand, and
 /// `None` if the command takes no declaration.
-fn option_of_declaration(command: &str) -> Option<&'static str> {
+fn option_of_declaration(command: CommandName) -> Option<&'static str> {
     match command {
-        "declare" => Some("--from "),
-        "source" => Some("--declaration "),
-        _ if takes_declaration(command) => Some(""),
+        CommandName::Program(ProgramCommand::Declare) => Some("--from "),
+        CommandName::Program(_) => Some(""),
+        CommandName::Source => Some("--declaration "),
         _ => None,
     }
 }
@@ -100,10 +114,15 @@ impl<'p, 'a> CommandFiles<'p, 'a> {
         for name in self.names.inputs() {
             inputs.extend_from_slice(name.as_slice())?;
         }
-        if self.command == "teletype" {
+        if self.command == CommandName::Machine(MachineCommand::Teletype) {
             inputs.push("-")?;
         }
         Ok(inputs)
+    }
+
+    /// Whether the command is `watch`.
+    fn is_watch(&self) -> bool {
+        self.command == CommandName::Program(ProgramCommand::Watch)
     }
 
     /// What is expected in the file that a fault is about, and the name of that file.
@@ -142,7 +161,7 @@ impl<'p, 'a> CommandFiles<'p, 'a> {
                 "{name} is a certificate, not a tape: it comes after the tape and the declaration",
             Kind::Certificate =>
                 "{name} is a certificate, not a tape: use pdp8 check TAPE {declaration|DECLARATION} {name} to judge it",
-            Kind::Events if command == "watch" =>
+            Kind::Events if self.is_watch() =>
                 "{name} is a list of events, not a tape: it comes after the tape and the declaration",
             Kind::Events =>
                 "{name} is a list of events, not a tape: use pdp8 run {events|TAPE} --events {name} to run a tape with these events",
@@ -205,7 +224,7 @@ impl<'p, 'a> CommandFiles<'p, 'a> {
 
     /// What is said about a file that was given as a list of events, if it is not one.
     fn events_hint(&self, found: Kind) -> &'static str {
-        let is_watch = self.command == "watch";
+        let is_watch = self.is_watch();
         match found {
             Kind::Events | Kind::OtherText | Kind::OtherBytes => "",
             Kind::Certificate =>
@@ -227,7 +246,7 @@ impl<'p, 'a> CommandFiles<'p, 'a> {
 
     /// What a message says about where the command takes a tape, if it takes one.
     fn place_of_tape(&self) -> &'static str {
-        if matches!(self.command, "migrate" | "place") {
+        if matches!(self.command, CommandName::Migrate | CommandName::Place) {
             "this command takes no tape"
         } else if self.parts.is_empty() {
             "the tape comes before the declaration"
@@ -263,7 +282,7 @@ impl<'p, 'a> CommandFiles<'p, 'a> {
             let _ = write!(text, " {option}{declaration}");
         }
         push_after(text, " ", self.names.certificate);
-        if self.command == "watch" {
+        if self.is_watch() {
             push_after(text, " ", self.names.events);
         }
         self.push_output(text);
@@ -280,7 +299,7 @@ impl<'p, 'a> CommandFiles<'p, 'a> {
             "declared" => return push_after(text, " ", names.declaration),
             "declaration" => text.push_str(names.declaration.unwrap_or(missing)),
             "events" => text.push_str(names.events.unwrap_or(missing)),
-            "command" => text.push_str(self.command),
+            "command" => text.push_str(self.command.text()),
             "option" => text.push_str(option_of_declaration(self.command).unwrap_or("")),
             "place" => text.push_str(self.place_of_tape()),
             "stem" => text.push_str(stem_of(name)),

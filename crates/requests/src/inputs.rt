@@ -3,7 +3,7 @@
 
 use crate::files::is_foreign;
 use crate::hints::CommandFiles;
-use command_line::{Misuse, Request, is_source_name};
+use command_line::{CommandName, Misuse, Request, is_source_name};
 use std::alloc::{AllocError, Global};
 use std::fs;
 use std::os::unix::fs::MetadataExt;
@@ -56,7 +56,7 @@ fn misused_output<R: Files>(
     }
     let second = output_of(rt, files.names.second_output)?;
     let is_taken = names_file(rt, inputs, second);
-    if matches!(files.command, "run" | "teletype") {
+    if matches!(files.command, CommandName::Machine(_)) {
         return if is_taken {
             Some(Misuse::PunchIsTaken)
         } else {

@@ -1,5 +1,5 @@
 use Rattle.std.proofs.Common.{refl}
-use Rattle.command_line.proofs.InputLemmas.{read_at_most, some_apart}
+use Rattle.command_line.proofs.InputLemmas.{tape_alone}
 use Rattle.command_line.proofs.operator.session_of.Goals as goal
 
 pub returns : goal.returns
@@ -8,8 +8,8 @@ returns c = record {
   reader = c.get_str.ensures;
   keys = c.get_str-2.ensures;
   punch = c.in_ok-punch.ensures.named;
-  apart = some_apart c.args.found.now _ _ _ c.in_ok-inputs.ensures.given (rw (← c.deref.ensures.value) c.in_ok-punch.ensures.free);
-  once = read_at_most 1 c.args.found.now _ _ c.in_ok-inputs.ensures.given c.in_ok-inputs.ensures.once;
+  apart = rw (← c.in_ok-inputs.ensures.given, ← c.deref.ensures.value) c.in_ok-punch.ensures.free;
+  once = c.in_ok-inputs.ensures.once;
   teletype = c.is_given-teletype.ensures;
   options = c.in_ok-options.ensures.options;
   summary = record { line = refl; printed = refl; punched = c.in_ok-punch.ensures.named };
@@ -19,3 +19,9 @@ returns c = record {
 
 pub punch_of-requires : goal.punch_of-requires
 punch_of-requires c = rw c.deref.ensures.value c.in_ok-inputs.ensures.are
+
+pub shown_on-requires-clause-tape : goal.shown_on-requires-clause-tape
+shown_on-requires-clause-tape c = λ is. tape_alone _ _ _ c.requires.tape is
+
+pub stopping_on-requires-clause-tape : goal.stopping_on-requires-clause-tape
+stopping_on-requires-clause-tape c = λ is. tape_alone _ _ _ c.requires.tape is

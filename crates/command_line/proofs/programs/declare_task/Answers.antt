@@ -1,9 +1,8 @@
-use Rattle.command_line.proofs.InputLemmas.{result_apart}
 use Rattle.command_line.proofs.programs.declare_task.Goals as goal
 
 pub returns : goal.returns
 returns c = (
-  record { given = c.in_ok-out.ensures.given; apart = result_apart c.args.found.now _ _ _ c.requires.given c.in_ok-out.ensures.free },
+  record { given = c.in_ok-out.ensures.given; apart = rw (← c.requires.given) c.in_ok-out.ensures.free },
   c.in_ok-options.ensures,
   c.refinements_of-refinements.ensures,
 )

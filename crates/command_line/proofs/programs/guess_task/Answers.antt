@@ -1,15 +1,14 @@
 use Rattle.std.proofs.Common.{◌∙◌, ap, inl, refl, sym}
 use Rattle.std.specs.Prelude.{is_some}
-use Rattle.command_line.proofs.InputLemmas.{result_apart, some_apart}
 use Rattle.command_line.proofs.TaskLemmas.{some_now}
 use Rattle.command_line.proofs.programs.guess_task.Goals as goal
 
 pub returns : goal.returns
 returns c = (
-  record { given = c.in_ok-out.ensures.given; apart = result_apart c.args.found.now _ _ _ c.requires.given c.in_ok-out.ensures.free },
+  record { given = c.in_ok-out.ensures.given; apart = rw (← c.requires.given) c.in_ok-out.ensures.free },
   record {
     given = c.in_ok-report.ensures.named;
-    apart = some_apart c.args.found.now _ _ _ c.requires.given (c.if-is_any_taken.ensures.none refl);
+    apart = rw (← c.requires.given) (c.if-is_any_taken.ensures.none refl);
     another = c.in_ok-report.ensures.another;
   },
   c.in_ok-version.ensures,

@@ -1,8 +1,5 @@
 use Rattle.std.proofs.Common.{refl}
 use Rattle.command_line.specs.declared.command_name.CommandName.TheVariants as kind
-use Rattle.command_line.specs.Outputs.{file_of}
-use Rattle.command_line.specs.Sources.{placed_operands}
-use Rattle.command_line.proofs.InputLemmas.{read_at_most, result_apart}
 use Rattle.command_line.proofs.RefusalLemmas.{beside_out}
 use Rattle.command_line.proofs.programs.place_request.Goals as goal
 
@@ -12,9 +9,9 @@ returns c = record {
   declaration = c.get_str.ensures;
   task = (
     c.in_ok-out.ensures.given,
-    result_apart c.args.found.now (placed_operands c.args.found.now) c.in_ok-inputs.inputs.items (file_of c.in_ok-out.out) (rw (← c.placed_operands.ensures.given) c.in_ok-inputs.ensures.given) (rw (← c.deref.ensures.value) c.in_ok-out.ensures.free),
+    rw (← c.placed_operands.ensures.given, ← c.in_ok-inputs.ensures.given, ← c.deref.ensures.value) c.in_ok-out.ensures.free,
   );
-  once = read_at_most 1 c.args.found.now (placed_operands c.args.found.now) c.in_ok-inputs.inputs.items (rw (← c.placed_operands.ensures.given) c.in_ok-inputs.ensures.given) c.in_ok-inputs.ensures.once;
+  once = rw (← c.placed_operands.ensures.given) c.in_ok-inputs.ensures.once;
   places = c.in_ok-places.ensures;
   named = refl;
   explained = c.is_given.ensures;

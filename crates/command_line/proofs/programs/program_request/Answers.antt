@@ -1,4 +1,5 @@
 use Rattle.std.proofs.Common.{refl}
+use Rattle.command_line.proofs.InputLemmas.{tape_only}
 use Rattle.command_line.proofs.programs.program_request.Goals as goal
 
 pub returns : goal.returns
@@ -15,3 +16,6 @@ returns c = record {
   named = c.is_start_named.ensures;
   explained = c.is_given.ensures;
 }
+
+pub followed_on-requires-clause-tape : goal.followed_on-requires-clause-tape
+followed_on-requires-clause-tape c = λ is. tape_only c.args.called c.args.found.now _ _ _ c.in_ok-operands.ensures is

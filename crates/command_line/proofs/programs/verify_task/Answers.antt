@@ -1,5 +1,4 @@
-use Rattle.command_line.proofs.InputLemmas.{saved_apart}
 use Rattle.command_line.proofs.programs.verify_task.Goals as goal
 
 pub returns : goal.returns
-returns c = (rw c.is_none.ensures c.in_ok-save.ensures.given, c.in_ok-options.ensures, saved_apart c.args.found.now _ _ _ c.requires c.in_ok-save.ensures.free)
+returns c = (rw c.is_none.ensures c.in_ok-save.ensures.given, c.in_ok-options.ensures, rw (← c.requires) c.in_ok-save.ensures.free)

@@ -1,11 +1,8 @@
 use Rattle.std.proofs.Common.{refl}
-use Rattle.command_line.specs.declared.program_command.ProgramCommand.TheVariants.{Watch}
-use Rattle.command_line.specs.Requests.{inputs_given}
-use Rattle.command_line.proofs.InputLemmas.{read_at_most}
 use Rattle.command_line.proofs.programs.watched_session_of.Goals as goal
 
-pub returns-clause-given : goal.returns-clause-given
-returns-clause-given c = record {
+pub returns : goal.returns
+returns c = record {
   options = c.in_ok-options.ensures.options;
   reader = c.get_str.ensures;
   keys = c.get_str-2.ensures;
@@ -16,7 +13,3 @@ returns-clause-given c = record {
   shown = c.in_ok-options.ensures.shown;
   stopped = refl;
 }
-
-pub returns-clause-once : goal.returns-clause-once
-returns-clause-once c = read_at_most 1 c.args.found.now (inputs_given Watch c.args.found.now) c.in_ok-read_once-3.field-0.items
-    (rw (← c.is_sourced-sourced.ensures, ← c.input_names-2.ensures.given) c.in_ok-read_once-3.ensures.given) c.in_ok-read_once-3.ensures.once

@@ -1,4 +1,5 @@
-use Rattle.std.proofs.Common.{map, rules}
+use Rattle.std.proofs.Common.{◌≡◌, Some, map, rules}
+use Rattle.command_line.specs.Options.{sources_given}
 use Rattle.command_line.proofs.TaskLemmas.{on_tape, with_source}
 use Rattle.command_line.proofs.source_programs.machine_request.Goals as goal
 
@@ -10,10 +11,11 @@ returns-in-None c = on_tape c.args.called c.args.found.now c.in_ok-task.task (se
 })
 
 pub returns : goal.returns
-returns c = with_source c.args.called c.args.found.now _ (map (λ name. name.now) c.in_ok-parts-in-Some.parts.items) c.in_ok-parts-in-Some.ensures.given (record {
-  parts = c.in_ok-parts-in-Some.ensures.given;
-  places = c.in_ok-places.ensures;
-  task = c.in_ok-task.ensures;
-  once = c.in_ok-parts-in-Some.ensures.once;
-  explained = c.is_given.ensures;
-})
+returns c =
+    let given : sources_given c.args.found.now ≡ Some (map (λ name. name.now) c.in_ok-parts-in-Some.parts.items) = rw c.in_ok-parts-in-Some.ensures (search rules) in
+    with_source c.args.called c.args.found.now _ (map (λ name. name.now) c.in_ok-parts-in-Some.parts.items) given (record {
+      parts = given;
+      places = c.in_ok-places.ensures;
+      task = c.in_ok-task.ensures;
+      explained = c.is_given.ensures;
+    })

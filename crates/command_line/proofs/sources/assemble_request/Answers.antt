@@ -1,14 +1,13 @@
 use Rattle.std.proofs.Common.{refl}
 use Rattle.command_line.specs.declared.command_name.CommandName.TheVariants as kind
-use Rattle.command_line.proofs.InputLemmas.{read_at_most, result_apart}
 use Rattle.command_line.proofs.RefusalLemmas.{beside_out}
 use Rattle.command_line.proofs.sources.assemble_request.Goals as goal
 
 pub returns : goal.returns
 returns c = record {
   out = c.in_ok-out.ensures.given;
-  apart = result_apart c.args.found.now _ _ _ c.in_ok-sources.ensures.given (rw (← c.deref.ensures.value) c.in_ok-out.ensures.free);
-  once = read_at_most 1 c.args.found.now _ _ c.in_ok-sources.ensures.given c.in_ok-sources.ensures.once;
+  apart = rw (← c.in_ok-sources.ensures.given, ← c.deref.ensures.value) c.in_ok-out.ensures.free;
+  once = c.in_ok-sources.ensures.once;
   sources = c.in_ok-sources.ensures.given;
   machine = c.in_ok-profile.ensures;
   explained = c.is_given.ensures;

@@ -1,6 +1,5 @@
 use Rattle.std.proofs.Common.{refl}
 use Rattle.command_line.specs.declared.command_name.CommandName.TheVariants as kind
-use Rattle.command_line.proofs.InputLemmas.{read_at_most, result_apart}
 use Rattle.command_line.proofs.RefusalLemmas.{beside_out}
 use Rattle.command_line.proofs.tapes.migrate_request.Goals as goal
 
@@ -10,8 +9,8 @@ returns c = record {
   declaration = c.in_ok-declaration.ensures.named;
   version = c.in_ok-declaration.ensures.version;
   out = c.in_ok-out.ensures.given;
-  apart = result_apart c.args.found.now _ _ _ c.in_ok-inputs.ensures.given (rw (← c.deref.ensures.value) c.in_ok-out.ensures.free);
-  once = read_at_most 1 c.args.found.now _ _ c.in_ok-inputs.ensures.given c.in_ok-inputs.ensures.once;
+  apart = rw (← c.in_ok-inputs.ensures.given, ← c.deref.ensures.value) c.in_ok-out.ensures.free;
+  once = c.in_ok-inputs.ensures.once;
 }
 
 pub result_of-requires : goal.result_of-requires

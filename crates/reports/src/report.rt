@@ -1,6 +1,6 @@
 //! What a report is made of.
 
-ghost use Rattle.std.specs.Prelude.{◌≡◌};
+ghost use Rattle.std.specs.Prelude.{◌≡◌, IfOk};
 ghost use Rattle.wordset.specs.Lanes.{words};
 ghost use Rattle.declaration.specs.DeclarationInCode.{meaning};
 ghost use Rattle.reports.specs.FactItems.{setting_of};
@@ -131,7 +131,12 @@ impl<'a, A: Allocator + Copy, D: Allocator, C: Allocator> Report<'a, A, D, C> {
         failing: &'a str,
         files: &'a [u8],
         notes: Option<&'a SourceNotes<A>>,
-    ) -> Result<Report<'a, A, D, C>, AllocError> {
+    ) -> Result<Report<'a, A, D, C>, AllocError>
+        ensures finding { IfOk result (λ report. report.finding ≡ finding) }
+        ensures program { IfOk result (λ report.
+            (report.image.now ≡ image.now) × (report.declaration.now ≡ declaration.now)) }
+        ensures certificate { IfOk result (λ report. report.certificate.now ≡ certificate.now) }
+    {
         let mut facts = WordSet::empty();
         let held = held_of(alloc, image, declaration, certificate, &mut facts)?;
         Ok(Report {

@@ -15,6 +15,38 @@ use std::rt::Files;
 use streams::put;
 use streams::standard::StdWriter;
 
+/// The page about what a search had found when it got stuck, with what the source, if there is one, says about the
+/// addresses.
+fn stuck_page<R: Files>(
+    rt: &R,
+    alloc: Global,
+    files: &CommandFiles<'_, '_>,
+    stuck: &StuckSearch<'_>,
+    source: Option<&AssembledSource>,
+) -> Result<Vec<u8>, Fault> {
+    let why = match source {
+        Some(source) => Some(rest_with_source_lines(
+            alloc,
+            source,
+            &stuck_explanation(alloc, stuck)?,
+            0,
+        )?),
+        None => None,
+    };
+    let names = NamedFiles::of(rt, alloc, files)?;
+    Ok(draft_page(
+        alloc,
+        stuck.image,
+        stuck.declaration,
+        stuck.draft,
+        stuck.at,
+        ReportForm::Page,
+        names.names(),
+        source.map(|source| &source.notes),
+        why.as_ref().map(|lines| lines.as_slice()),
+    )?)
+}
+
 /// Writes to a file what a search had found when it got stuck, with what the source, if there is one, says about the
 /// addresses.
 ///
@@ -30,29 +62,9 @@ pub fn write_stuck_report<R: Files + Print>(
     name: &str,
     source: Option<&AssembledSource>,
 ) -> Result<(), Fault> {
-    let why = match source {
-        Some(source) => Some(rest_with_source_lines(
-            alloc,
-            source,
-            &stuck_explanation(alloc, stuck)?,
-            0,
-        )?),
-        None => None,
-    };
-    let names = NamedFiles::of(rt, alloc, files)?;
+    let page = stuck_page(rt, alloc, files, stuck, source)?;
     let mut file = open_output(rt, alloc, Destination::MadeLast(name))?;
-    let bytes = draft_page(
-        alloc,
-        stuck.image,
-        stuck.declaration,
-        stuck.draft,
-        stuck.at,
-        ReportForm::Page,
-        names.names(),
-        source.map(|source| &source.notes),
-        why.as_ref().map(|lines| lines.as_slice()),
-    )?;
-    put(&mut StdWriter::new(&mut file), &bytes)?;
+    put(&mut StdWriter::new(&mut file), &page)?;
     let _status = finish(&mut file, Status::Done)?;
     Ok(())
 }

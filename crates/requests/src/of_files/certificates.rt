@@ -1,5 +1,7 @@
 //! Commands that work on a certificate alone.
 
+ghost use Rattle.std.specs.Prelude.{◌≡◌, false};
+
 use crate::files::{finish, open_input, open_output};
 use crate::standard_error::open_input_if;
 use command_line::MigrateRequest;
@@ -8,6 +10,44 @@ use search_commands::migrating::{migrate, migrate_with_sites};
 use std::alloc::Global;
 use std::rt::Files;
 use streams::standard::StdWriter;
+use streams::{ByteSink, ByteSource};
+
+/// Migrates a certificate: to version 3 if there is a declaration, otherwise to version 2.
+fn migrate_to<D: ByteSource, T: ByteSource, W: ByteSink>(
+    alloc: Global,
+    is_declared: bool,
+    declaration: &mut D,
+    text: &mut T,
+    out: &mut W,
+) -> Result<Status, Fault>
+    requires readable { D.mark declaration.old ≡ false }
+    requires text_readable { T.mark text.old ≡ false }
+    requires writable { W.mark out.old ≡ false }
+{
+    if is_declared {
+        migrate_with_sites(alloc, declaration, text, out)
+    } else {
+        migrate(alloc, text, out)
+    }
+}
+
+/// Migrates a certificate from these inputs to a file.
+fn migrate_into<R: Files + Print, D: ByteSource, T: ByteSource>(
+    rt: &R,
+    alloc: Global,
+    request: &MigrateRequest<'_>,
+    declaration: &mut D,
+    text: &mut T,
+) -> Result<Status, Fault>
+    requires readable { D.mark declaration.old ≡ false }
+    requires text_readable { T.mark text.old ≡ false }
+{
+    let mut file = open_output(rt, alloc, request.out)?;
+    let is_declared = request.declaration.is_some();
+    let mut out = StdWriter::new(&mut file);
+    let status = migrate_to(alloc, is_declared, declaration, text, &mut out)?;
+    finish(&mut file, status)
+}
 
 /// Migrates the certificate in a file: to version 3 if there is a declaration, which is opened first, otherwise to
 /// version 2.
@@ -23,12 +63,5 @@ pub fn migrate_from<R: Files + Input + Print>(
 ) -> Result<Status, Fault> {
     let mut declaration = open_input_if(rt, request.declaration)?;
     let mut text = open_input(rt, request.certificate)?;
-    let mut file = open_output(rt, alloc, request.out)?;
-    let mut out = StdWriter::new(&mut file);
-    let status = if request.declaration.is_some() {
-        migrate_with_sites(alloc, &mut declaration, &mut text, &mut out)?
-    } else {
-        migrate(alloc, &mut text, &mut out)?
-    };
-    finish(&mut file, status)
+    migrate_into(rt, alloc, request, &mut declaration, &mut text)
 }

@@ -94,6 +94,44 @@ fn form_with<'n>(form: SummaryForm<'_>, name: &'n Option<String>) -> SummaryForm
     }
 }
 
+/// Runs the tape of these frames with an operator who has these frames for the reader and these keys.
+fn hold_session_with<R: Files + Print + Eprint, S: ByteSource, F: ByteSource, K: ByteSource>(
+    rt: &R,
+    alloc: Global,
+    session: &Session<'_>,
+    frames: &mut S,
+    reader: &mut F,
+    keys: &mut K,
+) -> Result<Status, Fault>
+    requires readable { S.mark frames.old ≡ false }
+    requires reader_readable { F.mark reader.old ≡ false }
+    requires keys_readable { K.mark keys.old ≡ false }
+{
+    let joined = &session.joined;
+    let name = shown_name(alloc, joined.punch)?;
+    let form = form_with(session.summary, &name);
+    let mut punch = open_punch(rt, alloc, joined.punch)?;
+    let mut outputs = Outputs {
+        report: report_to(rt, joined.teletype),
+        teletype: type_to(rt, joined.teletype),
+        punch: StdWriter::new(&mut punch),
+    };
+    let stopping = stops_of(&session.stopping);
+    let answer = run_session(
+        alloc,
+        frames,
+        reader,
+        keys,
+        session.options,
+        &stopping.stops,
+        stopping.last,
+        form,
+        &mut outputs,
+    );
+    let failed = outputs.punch.failed();
+    finish_punch(&mut punch, failed, answer)
+}
+
 /// Runs the tape of these frames with an operator. The reader's frames are opened first and then the keys; after that,
 /// it is checked that the file for the punch can be written.
 ///
@@ -109,33 +147,9 @@ pub(crate) fn hold_session_on<R: Files + Input + Print + Eprint, S: ByteSource>(
 ) -> Result<Status, Fault>
     requires { S.mark frames.old ≡ false }
 {
-    let joined = &session.joined;
-    let name = shown_name(alloc, joined.punch)?;
-    let form = form_with(session.summary, &name);
-    let mut reader = open_input_if(rt, joined.reader)?;
-    let mut keys = open_input_if(rt, joined.keys)?;
-    let mut punch = open_punch(rt, alloc, joined.punch)?;
-    let mut outputs = Outputs {
-        report: report_to(rt, joined.teletype),
-        teletype: type_to(rt, joined.teletype),
-        punch: StdWriter::new(&mut punch),
-    };
-    let options = session.options;
-    let out = &mut outputs;
-    let stopping = stops_of(&session.stopping);
-    let answer = run_session(
-        alloc,
-        frames,
-        &mut reader,
-        &mut keys,
-        options,
-        &stopping.stops,
-        stopping.last,
-        form,
-        out,
-    );
-    let failed = outputs.punch.failed();
-    finish_punch(&mut punch, failed, answer)
+    let mut reader = open_input_if(rt, session.joined.reader)?;
+    let mut keys = open_input_if(rt, session.joined.keys)?;
+    hold_session_with(rt, alloc, session, frames, &mut reader, &mut keys)
 }
 
 /// Runs the tape in a file with an operator. The tape is opened first.
@@ -185,32 +199,36 @@ fn report_interrupt_key<R: Eprint>(rt: &R, key: Option<u8>) {
 /// requested, and shows its last instructions if that is requested.
 #[inline(never)]
 fn hold_typed<
-    R: ByteSource,
+    R: Files + Print + Eprint,
+    S: ByteSource,
     F: ByteSource + Drop,
     K: ByteSource + OperatorPresence + Drop,
-    W: ByteSink,
-    T: ByteSink,
-    P: ByteSink,
 >(
+    rt: &R,
     alloc: Global,
-    frames: &mut R,
+    session: &TeletypeSession<'_>,
+    frames: &mut S,
     reader: F,
     keys: K,
-    session: &TeletypeSession<'_>,
-    form: SummaryForm<'_>,
-    out: &mut Outputs<W, T, P>,
 ) -> Result<Status, Fault>
-    requires readable { R.mark frames.old ≡ false }
+    requires readable { S.mark frames.old ≡ false }
     requires reader_readable { F.mark reader ≡ false }
     requires keys_readable { K.mark keys ≡ false }
-    requires writable { W.mark out.old.report ≡ false }
-    requires typable { T.mark out.old.teletype ≡ false }
-    requires punchable { P.mark out.old.punch ≡ false }
 {
+    let name = shown_name(alloc, session.punch)?;
+    let form = form_with(session.summary, &name);
+    let mut punch = open_punch(rt, alloc, session.punch)?;
+    let mut outputs = Outputs {
+        report: tell_to(rt),
+        teletype: StdWriter::new(io::writer(rt)),
+        punch: StdWriter::new(&mut punch),
+    };
     let mut typist = Typist::new(reader, keys, session.options);
     let stopping = stops_of(&session.stopping);
     let (stops, last) = (&stopping.stops, stopping.last);
-    teletype(alloc, frames, &mut typist, stops, last, form, out)
+    let answer = teletype(alloc, frames, &mut typist, stops, last, form, &mut outputs);
+    let failed = outputs.punch.failed();
+    finish_punch(&mut punch, failed, answer)
 }
 
 /// Holds a session at the teletype with the tape of these frames: keys come from standard input, what is printed goes
@@ -234,26 +252,15 @@ pub(crate) fn hold_teletype_session_on<R: Files + Input + Print + Eprint, S: Byt
     if at_terminal {
         report_interrupt_key(rt, key);
     }
-    let name = shown_name(alloc, session.punch)?;
-    let form = form_with(session.summary, &name);
     let reader = open_input_if(rt, session.reader)?;
     let keys = StdReader::new(rt.reader());
-    let mut punch = open_punch(rt, alloc, session.punch)?;
-    let mut outputs = Outputs {
-        report: tell_to(rt),
-        teletype: StdWriter::new(io::writer(rt)),
-        punch: StdWriter::new(&mut punch),
-    };
-    let out = &mut outputs;
-    let answer = match key {
-        None => hold_typed(alloc, frames, reader, keys, session, form, out),
+    match key {
+        None => hold_typed(rt, alloc, session, frames, reader, keys),
         Some(_) => {
             let keys = InterruptibleKeys::new(keys, key);
-            hold_typed(alloc, frames, reader, keys, session, form, out)
+            hold_typed(rt, alloc, session, frames, reader, keys)
         }
-    };
-    let failed = outputs.punch.failed();
-    finish_punch(&mut punch, failed, answer)
+    }
 }
 
 /// Holds a session at the teletype with the tape in a file, which is opened first.

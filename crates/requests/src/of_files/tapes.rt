@@ -6,6 +6,7 @@ use crate::files::{finish, open_input, open_output};
 use crate::of_machine::places::stops_of;
 use crate::of_machine::words::words_of;
 use crate::standard_error::open_input_if;
+use bin_tape::Image;
 use command_line::{DumpRequest, RunRequest, SourceRequest, StopOptions};
 use command_parts::inputs::{events_from, tape_from};
 use command_parts::status::{Fault, Status};
@@ -20,6 +21,24 @@ use std::rt::Files;
 use streams::standard::StdWriter;
 use streams::{ByteSource, put};
 
+/// Lists the words of the tape of these frames with their names.
+fn dump_on<R: Print, S: ByteSource>(
+    rt: &R,
+    alloc: Global,
+    request: &DumpRequest<'_>,
+    frames: &mut S,
+) -> Result<Status, Fault>
+    requires { S.mark frames.old ≡ false }
+{
+    let mut out = StdWriter::new(io::writer(rt));
+    if !request.full {
+        return dump(alloc, frames, request.profile, &mut out);
+    }
+    let image = tape_from(frames)?;
+    put(&mut out, &words_of(alloc, &image, request.profile, None)?)?;
+    Ok(Status::Done)
+}
+
 /// Lists the words of the tape in a file with their names.
 ///
 /// # Errors
@@ -32,13 +51,26 @@ pub fn dump_from<R: Files + Input + Print>(
     request: &DumpRequest<'_>,
 ) -> Result<Status, Fault> {
     let mut frames = open_input(rt, request.tape.unwrap_or("-"))?;
+    dump_on(rt, alloc, request, &mut frames)
+}
+
+/// Makes a run of an image until it is stopped, and shows its last instructions, or each of them in a long trace, as
+/// requested.
+fn run_course<R: Print, N: Statements>(
+    rt: &R,
+    alloc: Global,
+    request: &RunRequest<'_>,
+    image: &Image,
+    course: &Course<'_>,
+    statements: &N,
+) -> Result<Status, Fault> {
+    let options = &request.options;
+    let StopOptions { stops, last } = stops_of(&request.stopping);
     let mut out = StdWriter::new(io::writer(rt));
-    if !request.full {
-        return dump(alloc, &mut frames, request.profile, &mut out);
+    if request.long {
+        return run_with_long_trace(alloc, image, options, &stops, course, statements, &mut out);
     }
-    let image = tape_from(&mut frames)?;
-    put(&mut out, &words_of(alloc, &image, request.profile, None)?)?;
-    Ok(Status::Done)
+    run_with_stops(alloc, image, options, &stops, last, course, &mut out)
 }
 
 /// Runs the tape of these frames, in rounds or with the events of a file, until it is stopped, and shows its last
@@ -60,19 +92,11 @@ fn run_to_stop<R: Files + Input + Print, S: ByteSource, N: Statements>(
         None => None,
         Some(_) => Some(events_from(alloc, &mut list)?),
     };
-    let options = &request.options;
     let course = match &events {
-        None => Course::Rounds(options.rounds),
+        None => Course::Rounds(request.options.rounds),
         Some(events) => Course::Listed(events),
     };
-    let StopOptions { stops, last } = stops_of(&request.stopping);
-    let mut out = StdWriter::new(io::writer(rt));
-    if request.long {
-        return run_with_long_trace(
-            alloc, &image, options, &stops, &course, statements, &mut out,
-        );
-    }
-    run_with_stops(alloc, &image, options, &stops, last, &course, &mut out)
+    run_course(rt, alloc, request, &image, &course, statements)
 }
 
 /// Runs the tape of these frames, in rounds or with the events of a file, and with stops if they are requested. A long
@@ -120,6 +144,27 @@ pub fn run_from<R: Files + Input + Print>(
     run_on(rt, alloc, request, &mut frames, &statements)
 }
 
+/// Writes a source for the tape of these frames, with a declaration if one is given.
+fn write_source<R: Files + Print, S: ByteSource, D: ByteSource>(
+    rt: &R,
+    alloc: Global,
+    request: &SourceRequest<'_>,
+    frames: &mut S,
+    declaration: &mut D,
+) -> Result<Status, Fault>
+    requires readable { S.mark frames.old ≡ false }
+    requires declaration_readable { D.mark declaration.old ≡ false }
+{
+    let mut file = open_output(rt, alloc, request.out)?;
+    let mut text = StdWriter::new(&mut file);
+    let status = if request.declaration.is_some() {
+        declared_source(alloc, frames, declaration, &mut text)?
+    } else {
+        source(alloc, frames, request.start, request.profile, &mut text)?
+    };
+    finish(&mut file, status)
+}
+
 /// Writes a source for the tape in a file. A declaration, if there is one, is opened before the file for the source.
 ///
 /// # Errors
@@ -133,18 +178,5 @@ pub fn source_from<R: Files + Input + Print>(
 ) -> Result<Status, Fault> {
     let mut frames = open_input(rt, request.tape)?;
     let mut declaration = open_input_if(rt, request.declaration)?;
-    let mut file = open_output(rt, alloc, request.out)?;
-    let mut text = StdWriter::new(&mut file);
-    let status = if request.declaration.is_some() {
-        declared_source(alloc, &mut frames, &mut declaration, &mut text)?
-    } else {
-        source(
-            alloc,
-            &mut frames,
-            request.start,
-            request.profile,
-            &mut text,
-        )?
-    };
-    finish(&mut file, status)
+    write_source(rt, alloc, request, &mut frames, &mut declaration)
 }

@@ -1,5 +1,7 @@
 //! What is done with a program that is open. The other files of a command are opened before the program is read.
 
+ghost use Rattle.std.specs.Prelude.{◌≡◌, false};
+
 use crate::files::{finish, open_input, open_output};
 use crate::named_files::NamedFiles;
 use crate::of_machine::places::{ResolvedPlaces, resolve_places, stops_of};
@@ -15,7 +17,7 @@ use command_line::{Destination, Misuse, SaveOptions, StopOptions, Task, WatchedS
 use command_parts::inputs::{bytes_from, events_from};
 use command_parts::message::Message;
 use command_parts::options::VerifyOptions;
-use command_parts::outcome::deliver;
+use command_parts::outcome::{CommandResult, deliver};
 use command_parts::programs::ProgramWithDeclaration;
 use command_parts::status::{Fault, Status};
 use diagnostics::verdicts::certificates::{ProgramWithCertificate, certificate_from};
@@ -29,8 +31,8 @@ use search_commands::messages::{verify_message, verify_proposed_message};
 use std::alloc::Global;
 use std::io::{self, Read};
 use std::rt::Files;
-use streams::put;
 use streams::standard::StdWriter;
+use streams::{ByteSource, put};
 use wordset::WordSet;
 
 /// The options for watching a run.
@@ -103,20 +105,35 @@ impl<R: Files + Input + Print + Eprint, I: Read + Drop> OpenProgram<'_, '_, R, I
         Ok(status)
     }
 
+    /// The program with the certificate that this input contains. The program is read first.
+    fn certified_by<C: ByteSource>(
+        &mut self,
+        claims: &mut C,
+    ) -> Result<ProgramWithCertificate<Global>, Fault>
+        requires { C.mark claims.old ≡ false }
+    {
+        let program = self.read()?;
+        let certificate = certificate_from(self.alloc, claims)?;
+        Ok(ProgramWithCertificate {
+            program,
+            certificate,
+        })
+    }
+
     /// Checks the certificate in a file and, if that is requested, says why the verdict is no.
     #[inline(never)]
     fn check(&mut self, certificate: &str) -> Result<Status, Fault> {
+        let mut claims = open_input(self.rt, certificate)?;
+        let certified = self.certified_by(&mut claims)?;
+        self.tell_verdict(&certified)
+    }
+
+    /// Writes the verdict on a certificate and, if that is requested, says why it is no.
+    fn tell_verdict(&self, certified: &ProgramWithCertificate<Global>) -> Result<Status, Fault> {
         let (rt, alloc) = (self.rt, self.alloc);
-        let mut claims = open_input(rt, certificate)?;
-        let program = self.read()?;
-        let certificate = certificate_from(alloc, &mut claims)?;
-        let certified = ProgramWithCertificate {
-            program,
-            certificate,
-        };
         if !self.request.explained {
             let mut out = StdWriter::new(io::writer(rt));
-            return deliver(verdict_of(alloc, &certified), &mut out);
+            return deliver(verdict_of(alloc, certified), &mut out);
         }
         let ProgramWithDeclaration { image, declaration } = &certified.program;
         let verdict = check_message(alloc, image, declaration, &certified.certificate)?;
@@ -132,20 +149,25 @@ impl<R: Files + Input + Print + Eprint, I: Read + Drop> OpenProgram<'_, '_, R, I
         out: Destination<'_>,
         form: ReportForm,
     ) -> Result<Status, Fault> {
-        let (rt, alloc) = (self.rt, self.alloc);
-        let mut claims = open_input(rt, certificate)?;
-        let mut file = open_output(rt, alloc, out)?;
-        let notes = self.source.map(|source| &source.notes);
-        let program = self.read()?;
-        let found = certificate_from(alloc, &mut claims)?;
-        let certified = ProgramWithCertificate {
-            program,
-            certificate: found,
-        };
-        let files = NamedFiles::of(rt, alloc, self.files)?;
-        let page = report_of(alloc, &certified, form, files.names(), notes);
-        let status = deliver(page, &mut StdWriter::new(&mut file))?;
+        let mut claims = open_input(self.rt, certificate)?;
+        let mut file = open_output(self.rt, self.alloc, out)?;
+        let page = self.page_of(&mut claims, form)?;
+        let status = deliver(Ok(page), &mut StdWriter::new(&mut file))?;
         finish(&mut file, status)
+    }
+
+    /// A report on what the certificate of this input says.
+    fn page_of<C: ByteSource>(
+        &mut self,
+        claims: &mut C,
+        form: ReportForm,
+    ) -> Result<CommandResult<Global>, Fault>
+        requires { C.mark claims.old ≡ false }
+    {
+        let certified = self.certified_by(claims)?;
+        let files = NamedFiles::of(self.rt, self.alloc, self.files)?;
+        let notes = self.source.map(|source| &source.notes);
+        report_of(self.alloc, &certified, form, files.names(), notes)
     }
 
     /// The cells that are shown of a watched run, and where it is stopped. If the program is given as a source, they may
@@ -172,14 +194,25 @@ impl<R: Files + Input + Print + Eprint, I: Read + Drop> OpenProgram<'_, '_, R, I
         show: &WordSet,
         stopping: &Option<StopOptions>,
     ) -> Result<Status, Fault> {
-        let (alloc, explained) = (self.alloc, self.request.explained);
         let places = match self.places(show, stopping) {
             Ok(places) => places,
             Err(misuse) => return Ok(tell_misuse(self.rt, &misuse)),
         };
         let mut list = open_input(self.rt, events)?;
+        self.watch_list(&mut list, &places)
+    }
+
+    /// Watches a run with the events of this list, after the program is read.
+    fn watch_list<E: ByteSource>(
+        &mut self,
+        list: &mut E,
+        places: &ResolvedPlaces,
+    ) -> Result<Status, Fault>
+        requires { E.mark list.old ≡ false }
+    {
+        let (alloc, explained) = (self.alloc, self.request.explained);
         let ProgramWithDeclaration { image, declaration } = self.read()?;
-        let events = events_from(alloc, &mut list)?;
+        let events = events_from(alloc, list)?;
         let stopping = stops_of(&places.stopping);
         let options = watch_options(&stopping, explained, &places.show);
         let run = watch_message_to_stop(alloc, &image, &declaration, &events, &options)?;

@@ -129,6 +129,11 @@ is_declared found =
 abbrev pub IsPlaceMisused : (List ℕ → List ℕ → Type 0) → (List ℕ → Type 0) → (List ℕ → Type 0) → PlaceOptions → Misuse → Type 0
 IsPlaceMisused Names NoCells NoPlace places wrong = (which : PlaceOption) × (wrong ≡ misuse.Place which) × IsValueRefused Names NoCells NoPlace which places
 
+-- What is wrong with a value that may have the symbols of a source, where it would be wrong by octal digits alone.
+abbrev pub with_symbols : Misuse → Misuse
+with_symbols (misuse.Place which) = misuse.PlaceOfSource which
+with_symbols wrong = wrong
+
 -- A value of this option is refused by what octal digits name.
 abbrev pub IsOctalRefused : PlaceOption → PlaceOptions → Type 0
 IsOctalRefused which places = IsValueRefused NamesOctalCells NamesNoOctalCells NamesNoOctalPlace which places

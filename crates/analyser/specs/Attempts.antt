@@ -31,7 +31,8 @@ pub record StandsRight (d : Declaration) (c : Certificate) (a : ℕ) : Type 0 wh
   pub routine : c.listed a ≡ true → d.entry a ≡ true
   pub exits : has_exits c a ≡ true → d.entry a ≡ true
 
--- A draft's lines are where they may be. Where it is stuck it has a fact; or an exit, where what is declared of a return is not shown.
+-- A draft's lines are where they may be. Where it is stuck it has a fact, or an exit of the routine of this
+-- entry.
 pub record IsDraft (d : Declaration) (at : ℕ) (c : Certificate) : Type 0 where
   pub stands : (a : ℕ) → a < 4096 → StandsRight d c a
   pub there : (has_any (c.facts at) || has_exits c at) ≡ true

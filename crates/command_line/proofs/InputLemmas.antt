@@ -1,5 +1,5 @@
 -- That inputs are read once and that outputs are apart from them, from what functions find of the names.
-use Rattle.std.proofs.Common.{◌≡◌, ◌+◌, ◌∙◌, ℕ, Bool, true, false, List, Option, None, Some, ap, cond, count_by, map, option_map, refl, sym, true≢false}
+use Rattle.std.proofs.Common.{◌≡◌, ◌+◌, ℕ, Bool, true, false, List, Option, None, Some, ap, cond, count_by, map, option_map, refl, sym, true≢false}
 use Rattle.std.proofs.lemmas.List.Folds.{fold-map}
 use Rattle.std.specs.Prelude.{IfOk, Result, Ok, Err, is_some}
 use Rattle.std.specs.Borrow.{Bor}

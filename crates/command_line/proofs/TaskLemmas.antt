@@ -14,7 +14,7 @@ use Rattle.command_line.specs.declared.requests.Request.TheVariants as request
 use Rattle.command_line.specs.declared.source_programs.MachineTask.{MachineTask}
 use Rattle.command_line.specs.declared.source_programs.SourceProgramRequest.{SourceProgramRequest}
 use Rattle.command_line.specs.Options.{IsWatchedWithOperator, sources_given, value}
-use Rattle.command_line.specs.Requests.{AreAfterSource, IsOperated, IsTaskGiven, IsWatchedRunGiven, declaration_behind, declaration_of_source, inputs_given, last_behind, last_name, last_of}
+use Rattle.command_line.specs.Requests.{AreAfterSource, IsOperated, IsTaskGiven, IsWatchedRunGiven, declaration_behind, declaration_of_source, last_behind, last_name, last_of}
 use Rattle.command_line.specs.Sources.{IsDoneWith, IsMachineGiven, IsOnTape, IsSourcedGiven}
 
 -- A command with an operator is `watch`, and is given the run that its operands and options ask for.

@@ -1,5 +1,6 @@
 -- What a command line asks for: the request of the command that it names, with the words that were given.
-use Rattle.std.specs.Prelude.{ℕ, ◌≡◌, List, Option, Some, codes, option_map}
+use Rattle.std.specs.Prelude.{ℕ, ◌≡◌, List, [], Option, Some, codes, option_map}
+use Rattle.std.specs.Borrow.{Bor}
 use Rattle.clap.specs.Matches.{found_of, subcommand_name_of}
 use Rattle.clap.specs.Simple.{HasMatchesOf, app_of, subcommand_rows_of}
 use Rattle.clap.specs.Walk.{rows_of}
@@ -13,7 +14,7 @@ use Rattle.command_line.specs.declared.requests.Request.TheVariants as request
 use Rattle.command_line.specs.CommandNames.{called_of}
 use Rattle.command_line.specs.Machines.{IsMigrateGiven, IsSourceGiven}
 use Rattle.command_line.specs.Options.{IsFlagGiven, value}
-use Rattle.command_line.specs.Requests.{IsProgramRequestGiven, task_command}
+use Rattle.command_line.specs.Requests.{IsProgramRequestGiven, part_names, task_command}
 use Rattle.command_line.specs.Sources.{IsAssembleGiven, IsListGiven, IsMachineGiven, IsPlaceGiven, machine_task_command}
 
 -- What is explained has the code and the number that are given.
@@ -48,6 +49,14 @@ request_command (request.List listing) = name.List
 request_command (request.Explain code number) = name.Explain
 request_command (request.Migrate migrate) = name.Migrate
 request_command (request.Program asked) = task_command asked.task
+
+-- The names of the parts of a source from which a request is made, if it is.
+abbrev pub request_parts : Request → List (Bor (List ℕ))
+request_parts (request.Assemble assemble) = assemble.sources.items
+request_parts (request.List listing) = listing.sources.items
+request_parts (request.Sourced asked) = asked.parts.items
+request_parts (request.Program asked) = part_names asked.program
+request_parts _ = []
 
 -- The request of a command line is that of the command which clap finds in the words, by some table of commands, with the operands and
 -- the options that it finds behind the command's name; and so is the flag `--why`.

@@ -1,5 +1,5 @@
 -- When the words behind a command's name are refused: what is wrong with them.
-use Rattle.std.specs.Prelude.{ℕ, ⊤, ◌≡◌, ◌<◌, ◌++◌, ◌&&◌, ◌||◌, ◌⊎◌, Bool, true, false, not, is_some, List, [], ◌∷◌, Option, None, Some, Err, codes, count_by, map, option_map}
+use Rattle.std.specs.Prelude.{ℕ, ⊤, ◌≡◌, ◌<◌, ◌++◌, ◌&&◌, ◌||◌, ◌⊎◌, Bool, true, false, not, is_some, List, [], ◌∷◌, Option, None, Some, Err, codes, count_by, option_map}
 use Rattle.std.specs.List.{list_any}
 use Rattle.std.specs.Str.{bytes_eq}
 use Rattle.clap.specs.Matches.{found_of, subcommand_name_of}
@@ -128,6 +128,11 @@ is_declared found =
 -- words are refused as names of cells and of a place.
 abbrev pub IsPlaceMisused : (List ℕ → List ℕ → Type 0) → (List ℕ → Type 0) → (List ℕ → Type 0) → PlaceOptions → Misuse → Type 0
 IsPlaceMisused Names NoCells NoPlace places wrong = (which : PlaceOption) × (wrong ≡ misuse.Place which) × IsValueRefused Names NoCells NoPlace which places
+
+-- What is wrong with a value that may have the symbols of a source, where it would be wrong by octal digits alone.
+abbrev pub with_symbols : Misuse → Misuse
+with_symbols (misuse.Place which) = misuse.PlaceOfSource which
+with_symbols wrong = wrong
 
 -- A value of this option is refused by what octal digits name.
 abbrev pub IsOctalRefused : PlaceOption → PlaceOptions → Type 0

@@ -1,7 +1,9 @@
 //! The commands, by their names.
 
-ghost use Rattle.std.specs.Prelude.{◌≡◌};
+ghost use Rattle.std.specs.Prelude.{◌≡◌, codes};
 ghost use Rattle.command_line.specs.CommandNames.{called_of};
+ghost use Rattle.command_line.specs.declared.command_name.CommandName.TheVariants.{Program};
+ghost use Rattle.command_line.specs.declared.program_command.ProgramCommand.TheVariants.{Check};
 
 use crate::program_command::{ProgramCommand, command_of};
 
@@ -58,7 +60,8 @@ pub(crate) fn called_of(name: &str) -> CommandName
 impl CommandName {
     /// The name by which the command is called.
     pub fn text(self) -> &'static str
-        ensures { called_of result.now ≡ self }
+        ensures called { called_of result.now ≡ self }
+        ensures check { self ≡ Program Check → result.now ≡ codes "check" }
     {
         match self {
             CommandName::Machine(MachineCommand::Run) => "run",

@@ -1,7 +1,7 @@
 //! Why a command line is not carried out.
 
 ghost use Rattle.std.specs.Prelude.{◌≡◌};
-ghost use Rattle.command_line.specs.Refusals.{IsOfParser};
+ghost use Rattle.command_line.specs.Refusals.{IsOfParser, with_symbols};
 ghost use Rattle.command_line.specs.declared.fault.CommandLineFault.TheVariants.{Memory};
 
 use clap::Error;
@@ -114,7 +114,9 @@ pub enum Misuse {
 
 impl Misuse {
     /// What is wrong where a value may have the symbols of a source.
-    pub fn with_symbols(self) -> Misuse {
+    pub fn with_symbols(self) -> Misuse
+        ensures { result ≡ with_symbols self }
+    {
         match self {
             Misuse::Place(option) => Misuse::PlaceOfSource(option),
             other => other,

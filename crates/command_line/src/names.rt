@@ -1,7 +1,7 @@
 //! The command of a request, and the names of the files that it works on.
 
-ghost use Rattle.std.specs.Prelude.{◌≡◌};
-ghost use Rattle.command_line.specs.CommandLines.{request_command};
+ghost use Rattle.std.specs.Prelude.{◌≡◌, [], ◌∷◌};
+ghost use Rattle.command_line.specs.CommandLines.{request_command, request_parts};
 
 use crate::command_name::CommandName;
 use crate::requests::Request;
@@ -42,7 +42,10 @@ impl<'a> FileNames<'a> {
     };
 
     /// The names of the inputs, in the order in which they are read.
-    pub fn inputs(&self) -> [Option<&'a str>; 6] {
+    pub fn inputs(&self) -> [Option<&'a str>; 6]
+        ensures { result ≡ self.now.tape ∷ self.now.declaration ∷ self.now.certificate ∷
+            self.now.events ∷ self.now.reader ∷ self.now.keys ∷ [] }
+    {
         [
             self.tape,
             self.declaration,
@@ -72,7 +75,9 @@ impl<'a> Request<'a> {
     }
 
     /// The names of the parts of its source, if it has one.
-    pub fn parts(&self) -> &[&'a str] {
+    pub fn parts(&self) -> &[&'a str]
+        ensures { result.now ≡ request_parts self.now }
+    {
         match self {
             Request::Assemble(asked) => &asked.sources,
             Request::List(asked) => &asked.sources,

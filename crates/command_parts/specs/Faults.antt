@@ -143,7 +143,8 @@ abbrev pub IsEventRunFault : Input → Input → Fault → Type 0
 IsEventRunFault tape text fault =
     IsTapeInputFault tape fault ⊎ (IsGoodTape tape.had × (IsEventsInputFault text fault ⊎ (IsGoodEvents text.had × IsRunFault fault)))
 
--- Why a session has no result: each input is looked at where those before it are good, and so many frames and keys at most.
+-- Why a session has no result: the tape's fault; or after a good tape a fault of the frames or of the keys, of which so many are read at
+-- most, or of the run.
 abbrev pub IsSessionFault : ℕ → Input → Input → Input → Fault → Type 0
 IsSessionFault most tape reader keys fault =
     IsTapeInputFault tape fault ⊎ (IsGoodTape tape.had × (IsBytesFault most reader fault

@@ -14,7 +14,7 @@ code_of status.Usage = 2
 code_of status.Device = 3
 code_of status.Memory = 4
 
--- A file or a stream failed, memory was refused, or an input was.
+-- The status of a fault: a file or a stream failed, memory was refused, or an input was refused or a search found nothing.
 abbrev pub status_of_fault : Fault → Status
 status_of_fault (Device fault) = status.Device
 status_of_fault fault.NoMemory = status.Memory

@@ -191,7 +191,8 @@ HasNoPointer image d at = (cell : ℕ) → IsPointer image d at cell → ⊥
 abbrev pub HasNoBound : List (Option ℕ) → Declaration → Certificate → ℕ → Type 0
 HasNoBound image d draft at = HasNoPointer image d at ⊎ (length (draft.facts at) ≡ 0)
 
--- A text became this one by the lines on the pointer of the instruction at an address, or by nothing where there is nothing to say. That
+-- A text became this one by the lines on the pointer of the instruction at an address, where the draft has a fact, or by nothing where there
+-- is nothing to say. That
 -- the words that are named are those that the draft leaves to the pointer is tested.
 abbrev pub SaysBound : List (Option ℕ) → Declaration → Certificate → ℕ → List ℕ → List ℕ → Type 0
-SaysBound image d draft at old new = ((new ≡ old) × HasNoBound image d draft at) ⊎ SaysPointer image d at old new
+SaysBound image d draft at old new = ((new ≡ old) × HasNoBound image d draft at) ⊎ ((0 < length (draft.facts at)) × SaysPointer image d at old new)

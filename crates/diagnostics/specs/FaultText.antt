@@ -16,7 +16,8 @@ use Rattle.command_parts.specs.declared.status.Fault.TheVariants as fault
 abbrev pub four_digits : ℕ → List ℕ
 four_digits n = padded_integral (format_spec 32 0 4 4 (2 ^ 64 - 1)) false [] (digits 8 false n)
 
--- A text became this one by the name of a file and the number of a line, and by more: the line, and which form it is to have.
+-- A text became this one by the name of a file and the number of a line, and by more; that this is the line and the form that it
+-- is to have is only tested.
 pub record SaysLine (name : List ℕ) (number : ℕ) (old new : List ℕ) : Type 0 where
   pub rest : List ℕ
   pub is : new ≡ old ++ ((name ++ codes ":" ++ decimal number ++ codes ": ") ++ rest)
@@ -50,7 +51,8 @@ SaysDeclared (declared.HaltNotInBody at) name old new = SaysAddress name (codes 
 SaysDeclared (declared.Misplaced at) name old new = SaysAddress name [] at old new
 SaysDeclared declared.NoMemory name old new = new ≡ old
 
--- A text became this one by the name of a file, the number of a frame, and more: what the frame is, and what may stand there.
+-- A text became this one by the name of a file, the number of a frame, and more; that this is what the frame is and what
+-- may stand there is only tested.
 pub record SaysFrame (name : List ℕ) (place : ℕ) (old new : List ℕ) : Type 0 where
   pub rest : List ℕ
   pub is : new ≡ old ++ ((name ++ codes ": frame " ++ decimal place ++ codes ", counted from 0") ++ rest)

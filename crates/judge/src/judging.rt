@@ -34,8 +34,8 @@ pub struct Refusal {
 ///
 /// The first condition that fails, and where. V1 is asked first, at the start; then, by rising
 /// address, at each address that a routine, fact or exit line has, the others in the order V2, V3,
-/// V5, V14, V6, V13, V7, V8, V9, V10, V12, V11, V4, V15, each of all facts at the address. A refusal
-/// says that the claims do not show the program safe, not that it is unsafe.
+/// V5, V14, V6, V13, V7, V8, V9, V10, V12, V11, V4, V15, V16, each of all facts at the address, and V16 also
+/// of the exits of the entry there. A refusal says that the claims do not show the program safe, not that it is unsafe.
 ///
 /// Facts are put into the rooms that are lent, whatever stands there. No memory is taken, so none can be refused.
 pub fn judge<A: Allocator, C: Claims, M: Allocator>(

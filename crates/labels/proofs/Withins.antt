@@ -1,8 +1,9 @@
 -- The declaration that stands within parts, part by part.
-use Rattle.std.proofs.Common.{ℕ, ◌≡◌, ◌<◌, ◌≤◌, ◌+◌, ◌∙◌, sym, ap, subst, append_assoc, List, [], ◌∷◌, ◌++◌, length, get_or, drop, Bool, true, false, Option, Result, Ok, Err, inl, inr}
+use Rattle.std.proofs.Common.{ℕ, ◌≡◌, ◌<◌, ◌≤◌, ◌+◌, ◌∙◌, sym, ap, subst, true≢false, ⊎_elim, is_ok, append_assoc, List, [], ◌∷◌, ◌++◌, length, get_or, drop, Bool, true, false, Option, Result, Ok, Err, inl, inr}
 use Rattle.std.specs.Prelude.{IfOk, ◌↔◌, slice_range}
 use Rattle.std.specs.Borrow.{Bor}
 use Rattle.std.specs.declared.alloc.AllocError.{AllocError}
+use Rattle.std.proofs.lemmas.Bool.{cases_lt}
 use Rattle.std.proofs.lemmas.List.{drop_more, drop_all, append-nil}
 use Rattle.pal_text.specs.declared.tokens.Token.{Token}
 use Rattle.pal_text.specs.declared.statement.Statement.{Statement}
@@ -29,13 +30,17 @@ line_on words part n text new source lines i d h e =
 pub no_line_on : (words : List PlacedWord) (part n : ℕ) (text source : List ℕ) (lines : List Line) (i : ℕ) → length lines ≤ i → text ≡ text ++ declared_part words part n source (drop i lines)
 no_line_on words part n text source lines i h = sym (append-nil text) ∙ ap (λ x. text ++ declared_part words part n source x) (sym (drop_all i lines h))
 
+-- a part that is not refused is not too long
+pub short_part : {X : Type 0} (s : Result X TextFault) (found : X) (source : List ℕ) → s ≡ Ok found → ((s ≡ Err TooLong) ↔ (65536 < length source)) → length source ≤ 65536
+short_part s found source e long = ⊎_elim (λ more. absurd (true≢false (sym (ap is_ok e) ∙ ap is_ok (long.1 more)))) (λ short. short) (cases_lt 65536 (length source))
+
 -- a part that was read
-pub read_adds : (words : List PlacedWord) (part : ℕ) (source : List ℕ) (tokens : List Token) (told : List Statement) (lines shown : List Line) (ending : Ending) (on : Bool) (old new : List ℕ) → IsPart source tokens told lines ending → shown ≡ lines → on ≡ reads_on ending → new ≡ old ++ declared_part words part 1 source shown
+pub read_adds : (words : List PlacedWord) (part : ℕ) (source : List ℕ) (tokens : List Token) (told : List Statement) (lines shown : List Line) (ending : Ending) (on : Bool) (old new : List ℕ) → length source ≤ 65536 → IsPart source tokens told lines ending → shown ≡ lines → on ≡ reads_on ending → new ≡ old ++ declared_part words part 1 source shown
     → Adds words part source on old new
-read_adds words part source tokens told lines shown ending on old new is s o e =
+read_adds words part source tokens told lines shown ending on old new short is s o e =
     let P : List ℕ → Type 0 = λ x. PartDeclares words part source (reads_on ending) x in
     let Q : Bool → Type 0 = λ x. PartDeclares words part source x (declared_part words part 1 source shown) in
-    let there : PartDeclares words part source (reads_on ending) (declared_part words part 1 source lines) = read tokens told lines ending is in
+    let there : PartDeclares words part source (reads_on ending) (declared_part words part 1 source lines) = read tokens told lines ending short is in
     record { text = declared_part words part 1 source shown; says = subst Q (sym o) (subst P (ap (declared_part words part 1 source) (sym s)) there); added = e }
 
 -- a part that was refused

@@ -1,5 +1,5 @@
 -- The lines of a declaration that stand within a source, and the machine that a declaration names.
-use Rattle.std.specs.Prelude.{ℕ, ◌≡◌, ◌<◌, ◌+◌, ◌%◌, ◌==◌, Bool, true, false, ◌&&◌, if◌then◌else◌, List, [], ◌∷◌, ◌++◌, length, slice_range, codes, Option, Result, Ok, Err, alloc_error, ◌⊎◌}
+use Rattle.std.specs.Prelude.{ℕ, ◌≡◌, ◌<◌, ◌≤◌, ◌+◌, ◌%◌, ◌==◌, Bool, true, false, ◌&&◌, if◌then◌else◌, List, [], ◌∷◌, ◌++◌, length, slice_range, codes, Option, Result, Ok, Err, alloc_error, ◌⊎◌}
 use Rattle.std.specs.declared.alloc.AllocError.{AllocError}
 use Rattle.instruct.specs.declared.Profile.{Profile}
 use Rattle.instruct.specs.declared.Profile.TheVariants.{Pdp8I, Pdp8E}
@@ -74,7 +74,7 @@ reads_on_after NoMemory = Err alloc_error
 -- a form declares nothing, and ends the source. Another declares by its lines, up to where it ends.
 pub data PartDeclares (words : List PlacedWord) (part : ℕ) (source : List ℕ) : Bool → List ℕ → Type 0 where
   unread : ((65536 < length source) ⊎ ((line : ℕ) × IsIllegal source line)) → PartDeclares words part source false []
-  read : (tokens : List Token) (told : List Statement) (lines : List Line) (ending : Ending) → IsPart source tokens told lines ending → PartDeclares words part source (reads_on ending) (declared_part words part 1 source lines)
+  read : (tokens : List Token) (told : List Statement) (lines : List Line) (ending : Ending) → length source ≤ 65536 → IsPart source tokens told lines ending → PartDeclares words part source (reads_on ending) (declared_part words part 1 source lines)
 
 -- This text stands as a declaration within these parts, the first of which has this number, where lines that leave out their address
 -- have that of one of these words.

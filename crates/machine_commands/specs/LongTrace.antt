@@ -16,7 +16,7 @@ pub record Appended (old new : Option (List ℕ)) : Type 0 where
 abbrev pub quiet : RunOptions → RunOptions
 quiet options = record options { trace = false }
 
--- The text is some lines, and after them that of the run of these events without a trace, up to where it is stopped.
+-- The text is any text, and after it that of the run of these events without a trace, up to where it is stopped.
 pub record IsRunBehind (options : RunOptions) (stops : Stops) (ends_at_halt : Bool) (events : List Event) (image : List (Option ℕ)) (text : List ℕ) (status : Status) : Type 0 where
   pub lines : List ℕ
   pub rest : List ℕ

@@ -15,7 +15,8 @@ pub record IsRunWithStops (options : RunOptions) (stops : Stops) (shown : Option
   pub is_cut : IsCut stops options ends_at_halt events cut (fresh image options.start) stopped
   pub is : IsRunTold options shown stopped ends_at_halt cut image text status
 
--- What such a run may be about to write: its whole text, or where a trace is requested and no last lines are, that of some first events.
+-- What such a run may be about to write: its whole text; or, where a trace is requested and no last lines are, the trace of some first
+-- events of the run without stops, which may go on behind the stop.
 abbrev pub IsPartWithStops : RunOptions → Stops → Option ℕ → Bool → List Event → List (Option ℕ) → List ℕ → Type 0
 IsPartWithStops options stops shown ends_at_halt events image text =
     ((status : Status) × IsRunWithStops options stops shown ends_at_halt events image text status)

@@ -229,7 +229,7 @@ pub fn run_with_stops<A: Allocator + Copy, W: ByteSink>(
         image.now text status)
         (W.taken out.old) (W.taken out.new)) }
     ensures faults { IfErr result IsRunFault }
-    // If a write failed, a prefix of that went out,
+    // If a write failed, a prefix of that went out, or with a trace a prefix of the trace without stops,
     ensures front { W.mark out.new ≡ true → FrontOf
         (IsPartWithStops options.now stops.now last (ends_at_halt course.now) (events_in course.now)
         image.now)

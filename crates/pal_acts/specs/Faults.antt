@@ -44,12 +44,12 @@ abbrev pub Refuses : List (Name × ℕ) → ℕ → List PlacedAct → ActsFault
 Refuses permanent limit acts (Fault place code) = IsRefused permanent limit acts place code
 Refuses permanent limit acts NoMemory = AsksForMemory permanent limit acts
 
--- Memory is requested an act's word, and the words before it have no fault.
+-- Memory is requested for an act's word, and the words before it have no fault.
 abbrev pub AsksForWord : Values → List PlacedAct → Type 0
 AsksForWord σ acts = Meets acts (λ before next. Encodes σ before × ((w : ℕ) × (word_of σ (location σ before) next.terms next.act ≡ Some (Ok w))))
 
 -- A source of which the words are kept is refused so: by its fault, or where memory is refused at an act that asks for
--- some; and once all symbols have their values, memory is requested each word before the first one that has a fault.
+-- some; and once all symbols have their values, memory is requested for each word before the first one that has a fault.
 abbrev pub RefusesKeeping : List (Name × ℕ) → ℕ → List PlacedAct → ActsFault → Type 0
 RefusesKeeping permanent limit acts (Fault place code) = IsRefused permanent limit acts place code
 RefusesKeeping permanent limit acts NoMemory = AsksForMemory permanent limit acts ⊎ ((own : List (Name × ℕ)) × Defines permanent limit (reverse acts) own × AsksForWord (known permanent own) acts)

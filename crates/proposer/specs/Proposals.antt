@@ -53,7 +53,7 @@ IsTold _ = ⊤
 abbrev pub IsSpentUp : {A : Type 0} → Count → Verdict A → Type 0
 IsSpentUp turns v = v ≡ TurnsSpent → turns.spent ≡ turns.limit
 
--- With a certificate the declaration lists the cells that may be read, and without one it lists none.
+-- With a certificate the declaration has a list of reads, and without one it has none.
 abbrev pub IsListed : {A : Type 0} → Kept → Verdict A → Type 0
 IsListed d (Safe c) = is_some (meaning d).reads ≡ true
 IsListed d _ = (meaning d).reads ≡ None

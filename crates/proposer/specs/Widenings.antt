@@ -22,8 +22,8 @@ pub record Supersedes {A : Type 0} (image : List (Option ℕ)) (given : Kept) (p
   pub wide : IsAsWide (meaning given) (meaning p.declaration)
   pub shown : IsShown image p.declaration p.verdict
 
--- What is wider is such a proposal. If no declaration allows what runs do, that is so of the run of these events. Of what is
--- unclear nothing is said.
+-- What is wider is such a proposal. If it is said that no declaration allows what runs do, so much is true of the reason as
+-- `IsObstacle` says of the run of these events. Of what is unclear nothing is said.
 abbrev pub IsWidened : {A : Type 0} → List (Option ℕ) → Kept → List Event → Widening A → Type 0
 IsWidened image given events (Wider p) = Supersedes image given p
 IsWidened image given events (Never o) = IsObstacle image (meaning given) events o

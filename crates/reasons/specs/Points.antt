@@ -25,7 +25,7 @@ use Rattle.reasons.specs.declared.reason.Reason.{Reason}
 use Rattle.reasons.specs.declared.filter.ReasonFilter.{ReasonFilter}
 use Rattle.reasons.specs.declared.filter.ReasonFilter.TheVariants.{Any, NotOfLines}
 
--- A line that is missing or too narrow counts among the reasons that are looked for.
+-- A line that is missing, misplaced or too narrow, or that lets too much be written, counts among the reasons that are looked for.
 abbrev pub counts_lines : ReasonFilter → Bool
 counts_lines Any = true
 counts_lines NotOfLines = false

@@ -37,7 +37,7 @@ is_return_of_lines return.OtherRoutine = false
 is_return_of_lines (return.NotDeclared o) = false
 is_return_of_lines _ = true
 
--- The word violates the condition since a line is missing or too narrow.
+-- The word violates the condition since a line is missing or too narrow, or lets the callee write the caller's entry.
 abbrev pub is_word_of_lines : Violation → Bool
 is_word_of_lines (breach.WritesUnlisted c) = true
 is_word_of_lines (breach.Calls e b) = is_call_of_lines b

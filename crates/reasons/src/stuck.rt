@@ -67,10 +67,10 @@ pub fn why_stuck<A: Allocator, C: Claims, M: Allocator>(
         found.0.condition found.0.address found.1) }
     // It is told of that address, and is not that a line is missing or too narrow.
     ensures place { IfSome result (λ found. IsToldOf at found.0 found.1) }
-    // It is the first: none that is asked before it fails there, but for want of lines.
+    // It is the first: none that is asked before it fails there, but by lines alone.
     ensures first { IfSome result (λ found. NoneFailsBefore
         (judged image.now declaration.now (C.claims claims.now)) at found.0.condition) }
-    // Where nothing is told no condition fails there, but for want of lines.
+    // Where nothing is told no condition fails there, but by lines alone.
     ensures none { IfNone result (EachFailsByLinesAlone
         (judged image.now declaration.now (C.claims claims.now)) at) }
 {

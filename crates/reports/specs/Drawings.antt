@@ -12,7 +12,7 @@ colour_text place =
     else if place % 6 == 3 then codes "r3"
     else if place % 6 == 4 then codes "r4" else codes "r5"
 
--- The class of the colour of a cell by what stands there: each kind has its own, and a routine that of its place.
+-- The class of the colour of a cell by what stands there: each kind has its own, and a routine one of six.
 abbrev pub class_is : CellKind → List ℕ → Type 0
 class_is kind.Entry class = class ≡ codes "e"
 class_is kind.Main class = class ≡ codes "m"

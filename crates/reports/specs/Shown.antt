@@ -18,7 +18,7 @@ use Rattle.reports.specs.declared.report.CellKind.{CellKind}
 use Rattle.reports.specs.declared.report.CellKind.TheVariants as kind
 
 -- A fact is shown as it is claimed, with the sites that it has by the rules, and as conditions are checked for it; of a fact that
--- no state satisfies none is asked. Its row tells of certain cells.
+-- no state satisfies none is asked, and then `shown.fact` may be any. Its row tells of certain cells.
 pub record ShowsFact (rules : Rules) (image : Image) (sites : Words) (f : Fact) (shown : KnownFact) : Type 0 where
   pub claimed : fact_in_code shown.claimed ≡ sited_one rules sites f
   pub asked_is : asked rules image (sited_one rules sites f ∷ []) ≡ (if shown.is_possible then fact_in_code shown.fact ∷ [] else [])

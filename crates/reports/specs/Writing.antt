@@ -1,6 +1,7 @@
--- What is written of a report. A writer whose memory was refused has written nothing more.
-use Rattle.std.specs.Prelude.{ℕ, ◌≡◌, ◌++◌, ◌/◌, ◌%◌, ◌==◌, nat_lt, Bool, true, false, codes, decimal, if◌then◌else◌, IsOk, List, [], ◌∷◌, length}
+-- What is written of a report. Of the bytes of a writer whose memory was refused nothing is said.
+use Rattle.std.specs.Prelude.{ℕ, ◌≡◌, ◌++◌, ◌==◌, Bool, true, false, codes, if◌then◌else◌, IsOk, List, [], ◌∷◌, length}
 use Rattle.word12.specs.Words.{octal_text}
+use Rattle.diagnostics.specs.Pieces.{offset_text as octal_offset}
 use Rattle.wordset.specs.Words.{Words}
 use Rattle.wordset.specs.Lanes.{words}
 use Rattle.reports.specs.Html.{escaped_text}
@@ -86,7 +87,7 @@ said text form = if form.is_page then plain (escaped_text text) form else plain 
 
 -- How far a return word is incremented, in octal digits.
 abbrev pub offset_text : ℕ → Text
-offset_text offset = plain ((if nat_lt offset 8 then [] else decimal (offset / 8)) ++ decimal (offset % 8))
+offset_text offset = plain (octal_offset offset)
 
 -- The four octal digits of a word.
 abbrev pub word_text : ℕ → Text

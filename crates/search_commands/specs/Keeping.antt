@@ -40,13 +40,14 @@ ends_word (c ∷ rest) = is_end c
 abbrev pub mark : List ℕ
 mark = codes " / added"
 
--- The comment that marks what is added and names it: ranges and, after the word `returns`, offsets.
+-- The comment that marks what is added. It may list ranges and, after the word `returns`, offsets; that they are those that were added
+-- is not said.
 pub data IsMark : List ℕ → Type 0 where
   ranges : (named : List ℕ) → list_all is_spaced named ≡ true → IsMark (mark ++ named)
   offsets : (named behind : List ℕ) → list_all is_spaced named ≡ true → list_all is_spaced behind ≡ true → IsMark (mark ++ (named ++ (codes "returns" ++ behind)))
 
 -- The second line is the first one with ranges and offsets inserted before its comment, each of them after a space and
--- where a word has ended, and with the comment that marks and names them at the very end. So each word of the first
+-- where a word has ended, and with the comment that marks what is added at the very end. So each word of the first
 -- line is in the second one too, unchanged and in the same order, and the comment of the first line is unchanged.
 pub data Grows : List ℕ → List ℕ → Type 0 where
   same : (c : ℕ) (old new : List ℕ) → (c == 47) ≡ false → Grows old new → Grows (c ∷ old) (c ∷ new)

@@ -8,13 +8,13 @@ use Rattle.command_parts.specs.Faults.{IsDeclarationFault}
 use Rattle.command_parts.specs.declared.status.Fault.{Fault}
 use Rattle.command_parts.specs.declared.status.Fault.TheVariants.{Guess, Declare, Declared}
 
--- The inputs are good; nothing was found, or memory was refused.
+-- Nothing was found, or memory was refused.
 abbrev pub IsSearchFault : Fault → Type 0
 IsSearchFault (Guess guess_fault.NoMemory) = ⊥
 IsSearchFault (Guess fault) = Unit {0}
 IsSearchFault fault = IsMemoryFault fault
 
--- The inputs are good; what was found cannot be declared, or memory was refused.
+-- What was found cannot be declared, or memory was refused.
 abbrev pub IsProposeFault : Fault → Type 0
 IsProposeFault (Declare propose_fault.NoMemory) = ⊥
 IsProposeFault (Declare (propose_fault.Undeclarable declaration_fault.NoMemory)) = ⊥

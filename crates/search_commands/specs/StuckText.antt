@@ -1,4 +1,4 @@
--- What `guess --why` reports about a search that is stuck: the line of the fault, and then the lines of `check --why`.
+-- The lines that say why a search is stuck, as those of `check --why` do.
 use Rattle.std.specs.Prelude.{ℕ, ◌≡◌, List, [], Option, Some, None, IfNone, IfSome, Err}
 use Rattle.instruct.specs.declared.Profile.{Profile}
 use Rattle.certificate_lines.specs.Reading.{Text}
@@ -19,9 +19,9 @@ told_text profile image None = []
 told_text profile image (Some found) = why_text profile image (Err found.0) (Some found.1) found.2
 
 -- This is reported about an address at which a search is stuck, given the draft of a certificate. The condition fails
--- for the draft at that address because what is reported is true, and not because a line is missing or too narrow; no
--- condition that is checked before it fails there, except for that reason. If no condition is reported, each one that
--- fails there does so for that reason alone.
+-- for the draft at that address because what is reported is true, and not by a line alone, which is missing, misplaced or
+-- too narrow, or lets too much be written; no condition that is asked before it fails there, except by lines alone. If no
+-- condition is reported, each one that fails there does so by lines alone.
 pub record IsTold (j : Case) (at : ℕ) (told : Option (Refusal × Reason × ReasonContext)) : Type 0 where
   pub why : IfSome told (λ found. Explains j found.0.condition found.0.address found.1)
   pub place : IfSome told (λ found. IsToldOf at found.0 found.1)

@@ -28,7 +28,7 @@ abbrev pub halted : ℕ → Meaning → Words
 halted at (Group2 w) a = is_halt w && (a == at)
 halted at _ a = false
 
--- A JMP through this pointer is a return: the pointer is an entry.
+-- A JMP through this pointer is a return: the pointer is an entry, or that of the running routine.
 abbrev pub is_return : Place → Bool → ℕ → Bool
 is_return pl i c = i && (pl.declaration.entry c || is_routine pl.routine c)
 

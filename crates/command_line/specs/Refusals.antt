@@ -164,19 +164,32 @@ IsMisused misuse.SaveIsFolder found = has_value found (codes "save") ≡ true
 IsMisused misuse.SaveIsTaken found = has_value found (codes "save") ≡ true
 IsMisused _ found = ⊥
 
--- So many steps may be requested at most: a million of a run, or a hundred million of a search.
-abbrev pub IsStepLimit : ℕ → Type 0
-IsStepLimit most = (most ≡ 1000000) ⊎ (most ≡ 100000000)
+-- What is given is no number of steps that may be requested, where these are so many at most, and that is told.
+abbrev pub AreStepsRefused : ℕ → ArgMatches → CommandLineFault → Type 0
+AreStepsRefused most found (fault.Steps told) = (told ≡ most) × IsNumberRefused 1 most (value found (codes "steps"))
+AreStepsRefused most found _ = ⊥
 
 -- Why words are refused whichever command has them, apart from want of memory.
 abbrev pub IsRefusedByAny : ArgMatches → CommandLineFault → Type 0
 IsRefusedByAny found (fault.Misuse what) = IsMisused what found
 IsRefusedByAny found (fault.Start wrong) = start_given found ≡ Err wrong
 IsRefusedByAny found (fault.Switches wrong) = IsWordRefused (value found (codes "switches")) wrong
-IsRefusedByAny found (fault.Steps most) = IsStepLimit most × IsNumberRefused 1 most (value found (codes "steps"))
+IsRefusedByAny found (fault.Steps most) = ⊥
 IsRefusedByAny found (fault.NoOperand name) = ⊥
 IsRefusedByAny found (fault.CommandLine error) = ⊥
 IsRefusedByAny found fault.Memory = ⊤
+
+-- Why words are refused whichever command has them, if at most so many steps may be requested of it.
+abbrev pub IsRefusedWithin : ℕ → ArgMatches → CommandLineFault → Type 0
+IsRefusedWithin most found refused = IsRefusedByAny found refused ⊎ AreStepsRefused most found refused
+
+-- How many steps may be requested at most of a command that makes steps: of a run a million, of a search a hundred million.
+abbrev pub step_limit : CommandName → Option ℕ
+step_limit (kind.Machine machine.Run) = Some 1000000
+step_limit (kind.Program command.Watch) = Some 1000000
+step_limit (kind.Program command.Verify) = Some 100000000
+step_limit (kind.Program command.Refute) = Some 100000000
+step_limit _ = None
 
 -- The result of the command needs `-o` after a source.
 abbrev pub needs_output : ProgramCommand → Bool
@@ -259,6 +272,7 @@ IsOperandMissing _ found name = ⊥
 abbrev pub IsRefusedBy : CommandName → ArgMatches → CommandLineFault → Type 0
 IsRefusedBy called found (fault.Misuse what) = IsMisusedBy what called found
 IsRefusedBy called found (fault.NoOperand name) = IsOperandMissing called found name.now
+IsRefusedBy called found (fault.Steps most) = (step_limit called ≡ Some most) × IsNumberRefused 1 most (value found (codes "steps"))
 IsRefusedBy called found _ = ⊥
 
 -- Why the words behind the name of a command are refused, apart from want of memory.

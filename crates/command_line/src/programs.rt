@@ -274,7 +274,7 @@ fn watched_session_of<'a>(
 ) -> Result<WatchedSession<'a>, CommandLineFault>
     requires operated { IsWatchedWithOperator found.now true }
     ensures { MatchResult result (IsWatchedRunGiven found.now operands.now followed)
-        (IsRefusedByAny found.now) }
+        (IsRefused (Program Watch) found.now) }
 {
     if has_value(found, "EVENTS") {
         return Err(CommandLineFault::Misuse(Misuse::ListAndOperator));
@@ -373,7 +373,7 @@ fn verify_task<'a>(
 ) -> Result<Task<'a>, CommandLineFault>
     requires { map (λ input. input.now) inputs.now ≡ named found.now (inputs_given Verify found.now) }
     ensures { MatchResult result (IsVerifyGiven found.now operands.now)
-        (IsRefusedByAny found.now) }
+        (IsRefused (Program Verify) found.now) }
 {
     let save = save_of(found, inputs, operands.declaration.is_none())?;
     let options = verify_options(found)?;
@@ -457,7 +457,7 @@ fn task_of<'a>(
         (IsRefused (Program called) found.now) }
 {
     match called {
-        ProgramCommand::Verify => Ok(verify_task(found, operands, inputs)?),
+        ProgramCommand::Verify => verify_task(found, operands, inputs),
         ProgramCommand::Watch => Ok(Task::Watch {
             events: name_or_input(&operands.last),
             show: followed.show,

@@ -91,7 +91,7 @@ fn run_task<'a>(
     requires tape { option_map (λ name. name.now) tape ≡ tape_given found.now }
     requires places { ArePlacesGiven found.now places.now }
     ensures { MatchResult result (IsMachineTaskGiven Run found.now places.now)
-        (IsRefusedByAny found.now) }
+        (IsRefused (Machine Run) found.now) }
 {
     if has_operator(found) {
         let session = session_of(alloc, found, tape, places)?;
@@ -115,7 +115,7 @@ fn task_of<'a>(
         (IsRefused (Machine called) found.now) }
 {
     match called {
-        MachineCommand::Run => Ok(run_task(alloc, found, tape, places)?),
+        MachineCommand::Run => run_task(alloc, found, tape, places),
         MachineCommand::Teletype => {
             Ok(MachineTask::Teletype(teletype_of(alloc, found, tape, places)?))
         }

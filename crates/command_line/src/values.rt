@@ -4,7 +4,7 @@ ghost use Rattle.std.specs.Prelude.{◌≡◌, ◌≤◌, ◌||◌, IfErr, IfOk,
 ghost use Rattle.std.specs.List.{count_by, list_any};
 ghost use Rattle.command_line.specs.Inputs.{AreReadAtMost};
 ghost use Rattle.command_line.specs.Outputs.{is_standard_input};
-ghost use Rattle.command_line.specs.Refusals.{AreInputs, AreOfInputs, IsRefused, IsRefusedByAny, is_declared};
+ghost use Rattle.command_line.specs.Refusals.{AreInputs, AreOfInputs, IsRefused, IsRefusedByAny, IsRefusedWithin, is_declared};
 ghost use Rattle.command_line.specs.declared.command_name.CommandName.TheVariants.{Machine};
 ghost use Rattle.command_line.specs.declared.command_name.MachineCommand.TheVariants.{Teletype};
 ghost use Rattle.command_line.specs.Options.{AreDeclareOptions, AreRefinements, AreRefuteOptions, AreRunOptions, AreVerifyOptions, IsFlagGiven, IsNumberNamed, has_value, is_start_named, machine_given, machine_named, named, number_or, operand, sources_given, start_given, value, value_or, values};
@@ -197,7 +197,7 @@ pub(crate) fn run_options(
 ) -> Result<RunOptions, CommandLineFault>
     ensures options { IfOk result (AreRunOptions found.now) }
     ensures shown { IfOk result (λ options. options.show ≡ show) }
-    ensures refused { IfErr result (IsRefusedByAny found.now) }
+    ensures refused { IfErr result (IsRefusedWithin 1000000 found.now) }
 {
     let start = start_of(found)?;
     let Some(rounds) = number_or(found, "steps", 1, MOST_ROUNDS, ROUNDS) else {
@@ -238,7 +238,7 @@ pub(crate) fn refinements_of(found: &ArgMatches<'_>) -> Refinements
 
 /// How a run that violates a declaration is searched for.
 pub(crate) fn refute_options(found: &ArgMatches<'_>) -> Result<RefuteOptions, CommandLineFault>
-    ensures { MatchResult result (AreRefuteOptions found.now) (IsRefusedByAny found.now) }
+    ensures { MatchResult result (AreRefuteOptions found.now) (IsRefusedWithin 100000000 found.now) }
 {
     let Some(steps) = number_or(found, "steps", 1, MOST_SEARCH_STEPS, SEARCH_STEPS) else {
         return Err(CommandLineFault::Steps(MOST_SEARCH_STEPS));
@@ -255,7 +255,7 @@ pub(crate) fn refute_options(found: &ArgMatches<'_>) -> Result<RefuteOptions, Co
 
 /// How it is found out whether a program complies with its declaration.
 pub(crate) fn verify_options(found: &ArgMatches<'_>) -> Result<VerifyOptions, CommandLineFault>
-    ensures { MatchResult result (AreVerifyOptions found.now) (IsRefusedByAny found.now) }
+    ensures { MatchResult result (AreVerifyOptions found.now) (IsRefusedWithin 100000000 found.now) }
 {
     let start = start_of(found)?;
     let profile = profile_of(found)?;

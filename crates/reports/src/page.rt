@@ -1,5 +1,7 @@
 //! The page: what the verdict means, memory, routines, variables, and the listing.
 
+ghost use Rattle.reports.specs.ReportText.{IsTrue};
+
 use crate::listing::ClaimCache;
 use crate::promises::{write_assertions, write_moves, write_returns};
 use crate::report::{Finding, Report};
@@ -207,7 +209,9 @@ pub fn page_below<A: Allocator + Copy, D: Allocator, C: Allocator>(
     alloc: A,
     report: &Report<'_, A, D, C>,
     why: &[u8],
-) -> Result<Vec<u8, A>, AllocError> {
+) -> Result<Vec<u8, A>, AllocError>
+    requires { IsTrue report.now }
+{
     let mut writer = ReportWriter::new(alloc, ReportForm::Page, &report.lines(), report.notes);
     report.write_verdict(&mut writer, why);
     report.write_map(&mut writer);

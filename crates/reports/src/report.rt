@@ -133,6 +133,7 @@ impl<'a, A: Allocator + Copy, D: Allocator, C: Allocator> Report<'a, A, D, C> {
         notes: Option<&'a SourceNotes<A>>,
     ) -> Result<Report<'a, A, D, C>, AllocError>
         ensures finding { IfOk result (λ report. report.finding ≡ finding) }
+        ensures failing { IfOk result (λ report. report.failing.now ≡ failing.now) }
         ensures program { IfOk result (λ report.
             (report.image.now ≡ image.now) × (report.declaration.now ≡ declaration.now)) }
         ensures certificate { IfOk result (λ report. report.certificate.now ≡ certificate.now) }

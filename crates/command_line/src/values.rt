@@ -4,10 +4,10 @@ ghost use Rattle.std.specs.Prelude.{◌≡◌, ◌≤◌, ◌||◌, IfErr, IfOk,
 ghost use Rattle.std.specs.List.{count_by, list_any};
 ghost use Rattle.command_line.specs.Inputs.{AreReadAtMost};
 ghost use Rattle.command_line.specs.Outputs.{is_standard_input};
-ghost use Rattle.command_line.specs.Refusals.{AreInputs, AreOfInputs, IsRefused, IsRefusedByAny, IsRefusedWithin, is_declared};
+ghost use Rattle.command_line.specs.Refusals.{AreInputs, AreOfInputs, IsRefused, IsRefusedByAny, IsRefusedWithin};
 ghost use Rattle.command_line.specs.declared.command_name.CommandName.TheVariants.{Machine};
 ghost use Rattle.command_line.specs.declared.command_name.MachineCommand.TheVariants.{Teletype};
-ghost use Rattle.command_line.specs.Options.{AreDeclareOptions, AreRefinements, AreRefuteOptions, AreRunOptions, AreVerifyOptions, IsFlagGiven, IsNumberNamed, has_value, is_start_named, machine_given, machine_named, named, number_or, operand, sources_given, start_given, value, value_or, values};
+ghost use Rattle.command_line.specs.Options.{AreDeclareOptions, AreRefinements, AreRefuteOptions, AreRunOptions, AreVerifyOptions, IsFlagGiven, IsNumberNamed, IsStartOnce, has_value, is_declared, is_start_named, machine_given, machine_named, named, number_or, operand, sources_given, start_given, value, value_or, values};
 
 use crate::fault::{CommandLineFault, Misuse};
 use clap::ArgMatches;
@@ -347,7 +347,8 @@ fn is_declared(found: &ArgMatches<'_>) -> bool
 
 /// Ensures that a declaration which is given determines the start and the machine.
 pub(crate) fn start_once(found: &ArgMatches<'_>) -> Result<(), CommandLineFault>
-    ensures { IfErr result (IsRefusedByAny found.now) }
+    ensures once { IfOk result (λ _. IsStartOnce found.now) }
+    ensures refused { IfErr result (IsRefusedByAny found.now) }
 {
     if is_declared(found) && is_start_named(found) {
         return Err(CommandLineFault::Misuse(Misuse::DeclarationAndStart));

@@ -70,11 +70,6 @@ pub enum Product {
     },
 }
 
-/// Names, if they are needed.
-fn names_if<'n, 's>(is_needed: bool, names: &'n [&'s str]) -> Option<&'n [&'s str]> {
-    if is_needed { Some(names) } else { None }
-}
-
 /// Makes a tape or a listing of the source whose parts are in the files of a command. If a fault is to be explained, it
 /// is reported, and its status is returned, which is never `Done`.
 fn translate<R: Files + Input + Print + Eprint>(
@@ -92,7 +87,7 @@ fn translate<R: Files + Input + Print + Eprint>(
         let name = unopened_part(&shown, parts.len());
         return report_if(rt, alloc, files.explained, fault, name, "cannot be opened");
     }
-    let names = names_if(files.explained, &shown);
+    let names = files.explained.then_some(shown.as_slice());
     let mut lines = String::new(alloc);
     let mut out = StdWriter::new(&mut *file);
     let answer = match product {

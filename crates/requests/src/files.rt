@@ -136,10 +136,8 @@ pub fn open_output<'r, R: Files + Print>(
         Destination::CheckedFirst(_) => file.check(),
         Destination::MadeLast(_) => Ok(()),
     };
-    match opened {
-        Ok(()) => Ok(Either::Right(file)),
-        Err(_) => Err(Fault::Device(DeviceFault::Write)),
-    }
+    opened.map_err(|_| Fault::Device(DeviceFault::Write))?;
+    Ok(Either::Right(file))
 }
 
 /// Puts a completely written result in its place, and returns the given status. If nothing was written, nothing is done

@@ -99,10 +99,6 @@ impl<'p, 'a> CommandFiles<'p, 'a> {
 
     /// The names of the inputs, beginning with the parts of the source. A session at the teletype also reads keys from
     /// standard input.
-    ///
-    /// # Errors
-    ///
-    /// `AllocError` if memory was refused.
     pub(crate) fn inputs(&self, alloc: Global) -> Result<Vec<&'a str>, AllocError> {
         let mut inputs = Vec::new(alloc);
         inputs.extend_from_slice(self.parts)?;

@@ -34,10 +34,8 @@ fn open_punch<'r, R: Files>(
         return Ok(Either::Right(NullSink));
     };
     let mut file = ResultFile::new(rt, alloc, name)?;
-    match file.check() {
-        Ok(()) => Ok(Either::Left(file)),
-        Err(_) => Err(Fault::Device(DeviceFault::Write)),
-    }
+    file.check().map_err(|_| Fault::Device(DeviceFault::Write))?;
+    Ok(Either::Left(file))
 }
 
 /// Puts what was punched in its place. It is written in one piece before the summary, so it is complete even if the
@@ -57,10 +55,8 @@ fn finish_punch<R: Files>(
         Ok(_) => file.finish_or_empty(),
         Err(_) => file.finish(),
     };
-    match done {
-        Ok(()) => answer,
-        Err(_) => Err(Fault::Device(DeviceFault::Write)),
-    }
+    done.map_err(|_| Fault::Device(DeviceFault::Write))?;
+    answer
 }
 
 /// Where the characters that a session prints go: to standard output, or nowhere.

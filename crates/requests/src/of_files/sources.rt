@@ -99,15 +99,12 @@ fn translate<R: Files + Input + Print + Eprint>(
         }
     };
     match answer {
-        Ok(status) => Ok(status),
-        Err(fault) => {
-            if !files.explained {
-                return Err(fault);
-            }
+        Err(fault) if files.explained => {
             let status = report_fault(rt, alloc, fault, files, &shown, &parts, &lines);
             tell_lines(rt, &hint_line(rt, alloc, &fault, files));
             Ok(status)
         }
+        _ => answer,
     }
 }
 

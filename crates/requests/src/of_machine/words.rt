@@ -30,10 +30,6 @@ fn push_note(text: &mut Vec<u8>, note: SourceNote<'_>) -> Result<(), AllocError>
 
 /// A line for each word of an image, in order of address: the address, the word, its name with a full address, and what
 /// the source, if there is one, says about it.
-///
-/// # Errors
-///
-/// `AllocError` if memory was refused.
 pub(crate) fn words_of(
     alloc: Global,
     image: &Image,

@@ -124,10 +124,8 @@ impl<'p, 'a> CommandFiles<'p, 'a> {
             Fault::Certificate(_) => (Kind::Certificate, self.names.certificate),
             Fault::Events(_) => (Kind::Events, self.names.events),
             Fault::Source(fault) => {
-                (
-                    Kind::Source,
-                    self.parts.get(fault.part.wrapping_sub(1)).copied(),
-                )
+                let part = self.parts.get(fault.part.wrapping_sub(1));
+                (Kind::Source, part.copied())
             }
             _ => return None,
         };

@@ -23,12 +23,10 @@ fn stuck_page<R: Files>(
     source: Option<&AssembledSource>,
 ) -> Result<Vec<u8>, Fault> {
     let why = match source {
-        Some(source) => Some(rest_with_source_lines(
-            alloc,
-            source,
-            &stuck_explanation(alloc, stuck)?,
-            0,
-        )?),
+        Some(source) => {
+            let message = stuck_explanation(alloc, stuck)?;
+            Some(rest_with_source_lines(alloc, source, &message, 0)?)
+        }
         None => None,
     };
     let names = NamedFiles::of(rt, alloc, files)?;

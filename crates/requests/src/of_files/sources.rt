@@ -42,13 +42,8 @@ fn report_fault<R: Eprint, S: ByteSource>(
         Fault::Source(_) => tell_with(rt, fault, lines),
         Fault::EmptyImage => tell_with(rt, fault, NO_WORD),
         Fault::Device(DeviceFault::Read) => {
-            report_file_fault(
-                rt,
-                alloc,
-                fault,
-                failed_part(shown, parts),
-                "cannot be read",
-            )
+            let name = failed_part(shown, parts);
+            report_file_fault(rt, alloc, fault, name, "cannot be read")
         }
         Fault::Device(DeviceFault::Write) => {
             let name = output_name(files.names.output.unwrap_or("-"));

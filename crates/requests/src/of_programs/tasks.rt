@@ -2,7 +2,7 @@
 
 ghost use Rattle.std.specs.Prelude.{◌≡◌, false};
 
-use crate::files::{finish, open_input, open_output, write_result};
+use crate::files::{finish, open_input, open_output};
 use crate::named_files::NamedFiles;
 use crate::of_machine::places::{ResolvedPlaces, resolve_places, stops_of};
 use crate::of_programs::open::OpenProgram;
@@ -253,11 +253,11 @@ impl<R: Files + Input + Print + Eprint, I: Read + Drop> OpenProgram<'_, '_, R, I
     /// Writes the declaration of a source in numbers.
     #[inline(never)]
     fn place(&self, out: Destination<'_>) -> Result<Status, Fault> {
-        let text: &[u8] = match self.source {
-            Some(source) => &source.shown,
-            None => b"",
-        };
-        write_result(self.rt, self.alloc, out, text)
+        let mut file = open_output(self.rt, self.alloc, out)?;
+        if let Some(source) = self.source {
+            put(&mut StdWriter::new(&mut file), &source.shown)?;
+        }
+        finish(&mut file, Status::Done)
     }
 
     /// Carries out the request. Each command has a stack frame of its own, since these frames are large.

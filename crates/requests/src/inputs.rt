@@ -13,20 +13,13 @@ use std::rt::Files;
 static SOURCE_PREFIX: &[u8] = b"/From a tape, for the PDP-8/";
 
 /// The identity of a plain file, whatever its name: its device, and its inode number there.
-#[derive(Clone, Copy, PartialEq, Eq)]
-struct Identity {
-    device: u64,
-    number: u64,
-}
+type Identity = (u64, u64);
 
 /// The identity of the plain file with this name, if it exists; `-` stands for standard input.
 fn identity_of<R: Files>(rt: &R, name: &str) -> Option<Identity> {
     let name = if name == "-" { "/dev/stdin" } else { name };
     match fs::metadata(rt, name) {
-        Ok(found) if found.is_file() => Some(Identity {
-            device: found.dev(),
-            number: found.ino(),
-        }),
+        Ok(found) if found.is_file() => Some((found.dev(), found.ino())),
         _ => None,
     }
 }
@@ -56,17 +49,12 @@ fn misused_output<R: Files>(
     }
     let second = output_of(rt, files.names.second_output)?;
     let is_taken = names_file(rt, inputs, second);
-    if matches!(files.command, CommandName::Machine(_)) {
-        return if is_taken {
-            Some(Misuse::PunchIsTaken)
-        } else {
-            None
-        };
+    match files.command {
+        CommandName::Machine(_) if is_taken => Some(Misuse::PunchIsTaken),
+        CommandName::Machine(_) => None,
+        _ if is_taken || output == Some(second) => Some(Misuse::ReportIsTaken),
+        _ => None,
     }
-    if is_taken || output == Some(second) {
-        return Some(Misuse::ReportIsTaken);
-    }
-    None
 }
 
 /// Whether a file that the request may save is one of its inputs.
@@ -83,9 +71,7 @@ fn saves_over<R: Files>(
         return Ok(false);
     };
     for ending in save.endings() {
-        let mut path = String::new(alloc);
-        path.push_str(save.name)?;
-        path.push_str(ending)?;
+        let path = [save.name, *ending].concat(alloc)?;
         if identity_of(rt, &path).is_some_and(|file| names_file(rt, inputs, file)) {
             return Ok(true);
         }

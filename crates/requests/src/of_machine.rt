@@ -14,8 +14,7 @@ use crate::of_sources::assembled::{AssembledSource, assemble_source};
 use crate::of_sources::reading::DeclarationUse;
 use crate::of_sources::source_messages::report_source;
 use crate::telling::{tell_lines, tell_misuse};
-use command_line::{MachineTask, RunRequest, Session, SourceProgramRequest, TeletypeSession};
-use command_parts::options::{RunOptions, SessionOptions, TeletypeOptions};
+use command_line::{MachineTask, SourceProgramRequest};
 use command_parts::status::{Fault, Status};
 use std::alloc::Global;
 use std::io;
@@ -23,43 +22,25 @@ use std::rt::Files;
 use streams::put;
 use streams::standard::{StdReader, StdWriter};
 
-/// The same run, with these cells shown and these stops.
-fn run_of<'a>(run: &RunRequest<'a>, places: &ResolvedPlaces) -> RunRequest<'a> {
-    RunRequest {
-        options: RunOptions {
-            show: places.show,
-            ..run.options
-        },
-        stopping: places.stopping,
-        ..*run
+/// The same task, with these cells shown and these stops.
+fn task_with<'a>(task: &MachineTask<'a>, places: &ResolvedPlaces) -> MachineTask<'a> {
+    let mut task = *task;
+    match &mut task {
+        MachineTask::Run(run) => {
+            run.options.show = places.show;
+            run.stopping = places.stopping;
+        }
+        MachineTask::Session(session) => {
+            session.options.run.show = places.show;
+            session.stopping = places.stopping;
+        }
+        MachineTask::Teletype(session) => {
+            session.options.show = places.show;
+            session.stopping = places.stopping;
+        }
+        MachineTask::Dump(_) => {}
     }
-}
-
-/// The same run with an operator, with these cells shown and these stops.
-fn session_of<'a>(session: &Session<'a>, places: &ResolvedPlaces) -> Session<'a> {
-    Session {
-        options: SessionOptions {
-            run: RunOptions {
-                show: places.show,
-                ..session.options.run
-            },
-            ..session.options
-        },
-        stopping: places.stopping,
-        ..*session
-    }
-}
-
-/// The same session at the teletype, with these cells shown and these stops.
-fn teletype_of<'a>(session: &TeletypeSession<'a>, places: &ResolvedPlaces) -> TeletypeSession<'a> {
-    TeletypeSession {
-        options: TeletypeOptions {
-            show: places.show,
-            ..session.options
-        },
-        stopping: places.stopping,
-        ..*session
-    }
+    task
 }
 
 /// Carries out the request on the program of an assembled source, with the cells and the stops that its symbols name.
@@ -76,18 +57,15 @@ fn carry_out_machine_task<R: Files + Input + Print + Eprint>(
         Err(misuse) => return Ok(tell_misuse(rt, &misuse)),
     };
     let mut frames = StdReader::new(source.numbered.tape.as_slice());
-    match &request.task {
+    match &task_with(&request.task, &places) {
         MachineTask::Run(run) => {
             let profile = run.options.profile;
             let statements = SourceStatements { source, profile };
-            run_on(rt, alloc, &run_of(run, &places), &mut frames, &statements)
+            run_on(rt, alloc, run, &mut frames, &statements)
         }
-        MachineTask::Session(session) => {
-            hold_session_on(rt, alloc, &session_of(session, &places), &mut frames)
-        }
+        MachineTask::Session(session) => hold_session_on(rt, alloc, session, &mut frames),
         MachineTask::Teletype(session) => {
-            let session = teletype_of(session, &places);
-            hold_teletype_session_on(rt, alloc, &session, at_terminal, &mut frames)
+            hold_teletype_session_on(rt, alloc, session, at_terminal, &mut frames)
         }
         MachineTask::Dump(dump) => {
             let image = source.numbered.map.image();

@@ -34,10 +34,8 @@ fn open_punch<'r, R: Files>(
         return Ok(Either::Right(NullSink));
     };
     let mut file = ResultFile::new(rt, alloc, name)?;
-    match file.check() {
-        Ok(()) => Ok(Either::Left(file)),
-        Err(_) => Err(Fault::Device(DeviceFault::Write)),
-    }
+    file.check().map_err(|_| Fault::Device(DeviceFault::Write))?;
+    Ok(Either::Left(file))
 }
 
 /// Puts what was punched in its place. It is written in one piece before the summary, so it is complete even if the
@@ -57,10 +55,8 @@ fn finish_punch<R: Files>(
         Ok(_) => file.finish_or_empty(),
         Err(_) => file.finish(),
     };
-    match done {
-        Ok(()) => answer,
-        Err(_) => Err(Fault::Device(DeviceFault::Write)),
-    }
+    done.map_err(|_| Fault::Device(DeviceFault::Write))?;
+    answer
 }
 
 /// Where the characters that a session prints go: to standard output, or nowhere.
@@ -83,14 +79,10 @@ fn shown_name(alloc: Global, name: Option<&str>) -> Result<Option<String>, Alloc
 }
 
 /// The same form of a summary, with this name for the file of the punch.
-fn form_with<'n>(form: SummaryForm<'_>, name: &'n Option<String>) -> SummaryForm<'n> {
+fn form_with<'n>(form: SummaryForm<'n>, name: &'n Option<String>) -> SummaryForm<'n> {
     SummaryForm {
-        apart: form.apart,
-        seen: form.seen,
-        saved_in: match name {
-            Some(name) => Some(name.as_str()),
-            None => None,
-        },
+        saved_in: name.as_deref(),
+        ..form
     }
 }
 
@@ -184,15 +176,12 @@ fn report_interrupt_key<R: Eprint>(rt: &R, key: Option<u8>) {
     let Some(byte) = key else {
         return;
     };
-    let written = if byte < 0o40 {
+    let _ = if byte < 0o40 {
         let letter = char::from(byte + 0o100);
         eprintln!(rt; "^{letter} ends the session when the program asks for a key")
     } else {
         eprintln!(rt; "key {byte:03o} ends the session when the program asks for a key")
     };
-    match written {
-        Ok(()) | Err(_) => {}
-    }
 }
 
 /// Holds a session at the teletype with the frames of this reader and with these keys, until it is stopped if that is

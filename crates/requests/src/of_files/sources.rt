@@ -42,13 +42,8 @@ fn report_fault<R: Eprint, S: ByteSource>(
         Fault::Source(_) => tell_with(rt, fault, lines),
         Fault::EmptyImage => tell_with(rt, fault, NO_WORD),
         Fault::Device(DeviceFault::Read) => {
-            report_file_fault(
-                rt,
-                alloc,
-                fault,
-                failed_part(shown, parts),
-                "cannot be read",
-            )
+            let name = failed_part(shown, parts);
+            report_file_fault(rt, alloc, fault, name, "cannot be read")
         }
         Fault::Device(DeviceFault::Write) => {
             let name = output_name(files.names.output.unwrap_or("-"));
@@ -70,11 +65,6 @@ pub enum Product {
     },
 }
 
-/// Names, if they are needed.
-fn names_if<'n, 's>(is_needed: bool, names: &'n [&'s str]) -> Option<&'n [&'s str]> {
-    if is_needed { Some(names) } else { None }
-}
-
 /// Makes a tape or a listing of the source whose parts are in the files of a command. If a fault is to be explained, it
 /// is reported, and its status is returned, which is never `Done`.
 fn translate<R: Files + Input + Print + Eprint>(
@@ -92,7 +82,7 @@ fn translate<R: Files + Input + Print + Eprint>(
         let name = unopened_part(&shown, parts.len());
         return report_if(rt, alloc, files.explained, fault, name, "cannot be opened");
     }
-    let names = names_if(files.explained, &shown);
+    let names = files.explained.then_some(shown.as_slice());
     let mut lines = String::new(alloc);
     let mut out = StdWriter::new(&mut *file);
     let answer = match product {
@@ -104,15 +94,12 @@ fn translate<R: Files + Input + Print + Eprint>(
         }
     };
     match answer {
-        Ok(status) => Ok(status),
-        Err(fault) => {
-            if !files.explained {
-                return Err(fault);
-            }
+        Err(fault) if files.explained => {
             let status = report_fault(rt, alloc, fault, files, &shown, &parts, &lines);
             tell_lines(rt, &hint_line(rt, alloc, &fault, files));
             Ok(status)
         }
+        _ => answer,
     }
 }
 

@@ -189,7 +189,7 @@ needs_output _ = false
 abbrev pub has_result_behind : ProgramCommand → ArgMatches → Bool
 has_result_behind called found =
     is_search called && (has_value found (codes "TAPE")
-        && list_any (has_value found) (codes "DECLARATION" ∷ codes "CERTIFICATE" ∷ codes "EVENTS" ∷ codes "OUT" ∷ []))
+    && list_any (has_value found) (codes "DECLARATION" ∷ codes "CERTIFICATE" ∷ codes "EVENTS" ∷ codes "OUT" ∷ []))
 
 -- The program is given by its source, and there are more operands than the command takes.
 pub record HasMoreOperands (called : ProgramCommand) (found : ArgMatches) : Type 0 where

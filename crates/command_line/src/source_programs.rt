@@ -124,10 +124,7 @@ fn task_of<'a>(
 }
 
 /// Ensures that a program is not given by both its tape and its source.
-fn tape_or_source(
-    called: MachineCommand,
-    found: &ArgMatches<'_>,
-) -> Result<(), CommandLineFault>
+fn tape_or_source(called: MachineCommand, found: &ArgMatches<'_>) -> Result<(), CommandLineFault>
     ensures alone { IfOk result (λ _.
         (is_some (sources_given found.now) && has_value found.now (codes "TAPE")) ≡ false) }
     ensures refused { IfErr result (IsRefused (Machine called) found.now) }

@@ -13,13 +13,20 @@ use std::rt::Files;
 static SOURCE_PREFIX: &[u8] = b"/From a tape, for the PDP-8/";
 
 /// The identity of a plain file, whatever its name: its device, and its inode number there.
-type Identity = (u64, u64);
+#[derive(Clone, Copy, PartialEq, Eq)]
+struct Identity {
+    device: u64,
+    number: u64,
+}
 
 /// The identity of the plain file with this name, if it exists; `-` stands for standard input.
 fn identity_of<R: Files>(rt: &R, name: &str) -> Option<Identity> {
     let name = if name == "-" { "/dev/stdin" } else { name };
     match fs::metadata(rt, name) {
-        Ok(found) if found.is_file() => Some((found.dev(), found.ino())),
+        Ok(found) if found.is_file() => Some(Identity {
+            device: found.dev(),
+            number: found.ino(),
+        }),
         _ => None,
     }
 }

@@ -87,6 +87,10 @@ fn read_parts<R: Files + Input>(
 }
 
 /// The bytes of the parts, as slices.
+///
+/// # Errors
+///
+/// `AllocError` if memory was refused.
 pub fn byte_slices<'t>(alloc: Global, parts: &'t [Vec<u8>]) -> Result<Vec<&'t [u8]>, AllocError> {
     parts.iter().map(|part| part.as_slice()).collect(alloc)
 }

@@ -119,6 +119,10 @@ pub(crate) fn rest_with_source_lines(
 
 /// A text for people with what the source says about its addresses. Its first line, which is the line of the answer,
 /// comes first and is unchanged.
+///
+/// # Errors
+///
+/// `AllocError` if memory was refused.
 pub fn with_source_lines(
     alloc: Global,
     source: &AssembledSource,
@@ -147,6 +151,10 @@ fn plain_text(alloc: Global, told: &Message<Global>) -> Result<Vec<u8>, AllocErr
 
 /// A text for people, with what the source, if there is one, says about its addresses. Its first line, which is the
 /// line of the answer, comes first and is unchanged.
+///
+/// # Errors
+///
+/// `AllocError` if memory was refused.
 pub fn lines_of(
     alloc: Global,
     source: Option<&AssembledSource>,

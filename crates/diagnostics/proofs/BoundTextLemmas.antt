@@ -1,21 +1,25 @@
 -- What is told of the pointer of an instruction.
 use Rattle.std.proofs.Common.{ℕ, ◌≡◌, ◌+◌, ◌<◌, ◌∙◌, List, ◌++◌, Option, Some, sym, ap, subst, refl}
-use Rattle.std.specs.Prelude.{codes, true, false, Bool, None, ◌&&◌, ◌==◌}
+use Rattle.std.specs.Prelude.{codes, true, false, Bool, None, not, ◌&&◌, ◌==◌}
 use Rattle.word12.specs.Words.{octal_text}
 use Rattle.std.proofs.lemmas.Bool.{true≢false}
-use Rattle.wordset.specs.Words.{Words, HasNoneFrom, IsFirstFrom, meet}
+use Rattle.wordset.specs.Words.{Words, HasNoneFrom, IsFirstFrom, has_some, meet}
 use Rattle.wordset.specs.Lanes.{words}
 use Rattle.wordset.specs.Ranging.{IsLastFrom}
 use Rattle.instruct.specs.Operates.{MqOperate, Mql, Mqa, Swp, Cam, ClaMqa, ClaSwp, mq_operate_if}
 use Rattle.instruct.specs.declared.Profile.{Profile}
 use Rattle.bin_tape.specs.Image.{word_at}
-use Rattle.declaration.specs.Declaration.{Declaration}
+use Rattle.declaration.specs.Declaration.{Declaration, IsListed}
 use Rattle.diagnostics.specs.BoundText.{AddsRanges, AddsSet, AreEnough, IsNextTest, IsPointer, IsTestOf, LosesBound, NamesNoTest, NamesTest, SaysEnough, SaysLost, SaysPointer, SaysSufficient, SaysTest, all_ranges, behind, ends_computation, first_range, further_range, is_test, last_passed, later_test, next_test, no_range, place_text, range_text, replaces_by_mq, some_ranges}
 use Rattle.diagnostics.proofs.PieceLemmas.{joined, joined_three}
 
 both_true : (b c : Bool) → (b && c) ≡ true → (b ≡ true) × (c ≡ true)
 both_true true c e = (refl, e)
 both_true false c e = absurd (true≢false (sym e))
+
+not_false : (b : Bool) → not b ≡ false → b ≡ true
+not_false true e = refl
+not_false false e = absurd (true≢false e)
 
 -- The first range of a set is told.
 pub first_told : (lanes set : List ℕ) (from after low high : ℕ) (old new : List ℕ) → set ≡ lanes → from ≡ 0 → IsFirstFrom from (words set) low
@@ -70,13 +74,16 @@ pub none_named : (old mid new more : List ℕ) → mid ≡ old ++ codes "no skip
 none_named old mid new more first second = record { rest = more; is = joined old mid new (codes "no skip in this body ") more first second }
 
 -- The lines on the words that would be enough.
-pub enough_said : (image : List (Option ℕ)) (d : Declaration) (at cell word : ℕ) (known found set : Words) (old begun told ended new : List ℕ) → word_at image at ≡ Some word
+pub enough_said : (image : List (Option ℕ)) (d : Declaration) (at cell word : ℕ) (known found set : Words) (empty : Bool) (old begun told ended new : List ℕ)
+    → word_at image at ≡ Some word → IsListed d.reads cell → empty ≡ not (has_some set) → empty ≡ false
     → AreEnough d at word found → set ≡ meet found known → begun ≡ old ++ codes "for this instruction, it would be enough if the pointer held only "
     → AddsSet set begun told → ended ≡ told ++ codes "\n" → SaysTest image d at cell ended new → SaysEnough image d at cell known old new
-enough_said image d at cell word known found set old begun told ended new is enough both begins adds ends test = record {
+enough_said image d at cell word known found set empty old begun told ended new is read lacks found_some enough both begins adds ends test = record {
   word = word;
   is = is;
+  read = read;
   set = set;
+  some = not_false (has_some set) (sym lacks ∙ found_some);
   enough = λ held inside. enough held (both_true (found held) (known held) (sym (ap (λ (s : Words). s held) both) ∙ inside)).0;
   among = λ held inside. (both_true (found held) (known held) (sym (ap (λ (s : Words). s held) both) ∙ inside)).1;
   told = told;

@@ -2,7 +2,7 @@
 -- that would be enough are permitted ones, and the skip that could show it follows an instruction of the same body that adds the pointer.
 use Rattle.std.specs.Prelude.{ℕ, ◌≡◌, ◌+◌, ◌%◌, ◌<◌, ◌==◌, ◌&&◌, ◌||◌, ◌⊎◌, ◌++◌, Bool, true, false, not, codes, if◌then◌else◌, List, [], length, Option, Some, None}
 use Rattle.word12.specs.Words.{octal_text}
-use Rattle.wordset.specs.Words.{Words, HasNoneFrom, IsFirstFrom}
+use Rattle.wordset.specs.Words.{Words, HasNoneFrom, IsFirstFrom, has_some}
 use Rattle.wordset.specs.Ranging.{IsLastFrom}
 use Rattle.instruct.specs.Bits.{has_bit, is_indirect, named_cell}
 use Rattle.instruct.specs.Instructions.{Clears, DeviceAction, Takes, device_action, format_of, is_group2, operation_of, refers_to_memory}
@@ -167,12 +167,15 @@ pub record NamesNoTest (old new : List ℕ) : Type 0 where
 abbrev pub SaysTest : List (Option ℕ) → Declaration → ℕ → ℕ → List ℕ → List ℕ → Type 0
 SaysTest image d at cell old new = NamesTest image d at cell old new ⊎ NamesNoTest old new
 
--- The line of words that would be enough, and the line on what could show them: each of these words is among those that the pointer may
--- hold, and with each the instruction refers to a cell to which it may refer.
+-- The line of words that would be enough, and the line on what could show them: there are such words, each of them is among those that the
+-- pointer may hold, and with each the instruction refers to a cell to which it may refer. The pointer itself, which the instruction reads,
+-- may be read.
 pub record SaysEnough (image : List (Option ℕ)) (d : Declaration) (at cell : ℕ) (known : Words) (old new : List ℕ) : Type 0 where
   pub word : ℕ
   pub is : word_at image at ≡ Some word
+  pub read : IsListed d.reads cell
   pub set : Words
+  pub some : has_some set ≡ true
   pub enough : AreEnough d at word set
   pub among : (held : ℕ) → set held ≡ true → known held ≡ true
   pub told : List ℕ

@@ -19,3 +19,17 @@ IsKind image d a (kind.Routine e) = (d.entry a ≡ false) × (d.body (Some e) a 
 IsKind image d a kind.Variable = IsOutside d a × (d.variable a ≡ true)
 IsKind image d a kind.Other = IsOutside d a × (d.variable a ≡ false) × (is_some (word_at image a) ≡ true)
 IsKind image d a kind.Unset = IsOutside d a × (d.variable a ≡ false) × (word_at image a ≡ None)
+
+-- The routine in whose body an address of this kind is; main, if it is in the body of none.
+abbrev pub routine_in : CellKind → Routine
+routine_in kind.Entry = None
+routine_in kind.Main = None
+routine_in (kind.Routine e) = Some e
+routine_in kind.Variable = None
+routine_in kind.Other = None
+routine_in kind.Unset = None
+
+-- The address is in the body of the routine with this entry; or, as for main, in that of no routine with an entry.
+abbrev pub IsOfRoutine : Declaration → ℕ → Routine → Type 0
+IsOfRoutine d a None = (e : ℕ) → d.body (Some e) a ≡ false
+IsOfRoutine d a (Some e) = d.body (Some e) a ≡ true

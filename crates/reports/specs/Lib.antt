@@ -20,3 +20,4 @@ pub mod ToldCells
 pub mod KnownText
 pub mod ReportSetting
 pub mod Items
+pub mod RoutineClaims

@@ -1,11 +1,12 @@
 //! What a report is made of.
 
-ghost use Rattle.std.specs.Prelude.{◌≡◌, IfOk};
+ghost use Rattle.std.specs.Prelude.{◌≡◌, IfOk, Some};
 ghost use Rattle.wordset.specs.Lanes.{words};
 ghost use Rattle.declaration.specs.DeclarationInCode.{meaning};
 ghost use Rattle.reports.specs.FactItems.{setting_of};
-ghost use Rattle.reports.specs.Kinds.{IsKind, IsOutside};
+ghost use Rattle.reports.specs.Kinds.{IsKind, IsOutside, routine_in};
 ghost use Rattle.reports.specs.ReportSetting.{report_setting};
+ghost use Rattle.reports.specs.RoutineClaims.{IsClaim, IsUnclaimed};
 
 use crate::fact_context::FactContext;
 use crate::source_notes::{SourceNote, SourceNotes};
@@ -97,8 +98,10 @@ fn kind_at<D: Allocator>(image: &Image, declaration: &Declaration<D>, at: Word) 
     }
 }
 
-/// A routine that is called from nowhere and writes nothing.
-pub(crate) fn unclaimed() -> RoutineClaim {
+/// A routine of rank 0 that is called from nowhere and writes nothing, as nothing is claimed about it.
+pub(crate) fn unclaimed() -> RoutineClaim
+    ensures { IsUnclaimed result }
+{
     RoutineClaim {
         rank: 0,
         sites: WordSet::empty(),
@@ -107,10 +110,23 @@ pub(crate) fn unclaimed() -> RoutineClaim {
 }
 
 /// What is claimed about a routine, or that it is called from nowhere and writes nothing.
-pub(crate) fn claimed_of<C: Allocator>(certificate: &Certificate<C>, entry: Word) -> RoutineClaim {
+pub(crate) fn claimed_of<C: Claims>(certificate: &C, entry: Word) -> RoutineClaim
+    ensures { IsClaim (C.claims certificate.now) (Some entry) result }
+{
     match certificate.routine(entry) {
         Some(routine) => routine,
         None => unclaimed(),
+    }
+}
+
+/// What is claimed about the routine in whose body an address of this kind is; nothing if it is in none, or in main's.
+pub(crate) fn claimed_in<C: Claims>(certificate: &C, kind: &CellKind) -> RoutineClaim
+    ensures { IsClaim (C.claims certificate.now) (routine_in kind.now) result }
+{
+    match kind {
+        CellKind::Routine(entry) => claimed_of(certificate, *entry),
+        CellKind::Entry | CellKind::Main | CellKind::Variable | CellKind::Other | CellKind::Unset =>
+            unclaimed(),
     }
 }
 

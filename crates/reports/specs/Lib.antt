@@ -21,3 +21,5 @@ pub mod KnownText
 pub mod ReportSetting
 pub mod Items
 pub mod RoutineClaims
+pub mod MapText
+pub mod Marks

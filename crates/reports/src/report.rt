@@ -1,10 +1,12 @@
 //! What a report is made of.
 
-ghost use Rattle.std.specs.Prelude.{◌≡◌, IfOk, Some};
+ghost use Rattle.std.specs.Prelude.{◌≡◌, ◌==◌, IfOk, Some};
 ghost use Rattle.wordset.specs.Lanes.{words};
 ghost use Rattle.declaration.specs.DeclarationInCode.{meaning};
 ghost use Rattle.reports.specs.FactItems.{setting_of};
-ghost use Rattle.reports.specs.Kinds.{IsKind, IsOutside, routine_in};
+ghost use Rattle.reports.specs.Kinds.{IsKind, IsOutside, routine_in, tells_instruction};
+ghost use Rattle.reports.specs.Labels.{label_in};
+ghost use Rattle.reports.specs.Marks.{is_marked_by};
 ghost use Rattle.reports.specs.ReportSetting.{report_setting};
 ghost use Rattle.reports.specs.RoutineClaims.{IsClaim, IsUnclaimed};
 
@@ -184,9 +186,11 @@ impl<A: Allocator, D: Allocator, C: Allocator> Report<'_, A, D, C> {
     }
 
     /// The label of an address; empty where the source says none.
-    pub(crate) fn label_at(&self, at: Word) -> &[u8] {
-        match self.note_at(at) {
-            Some(note) => note.label,
+    pub(crate) fn label_at(&self, at: Word) -> &[u8]
+        ensures { result.now ≡ label_in self.now.notes at }
+    {
+        match self.notes {
+            Some(notes) => notes.label(at),
             None => b"",
         }
     }
@@ -227,7 +231,14 @@ impl<A: Allocator, D: Allocator, C: Allocator> Report<'_, A, D, C> {
 
     /// Whether the word at an address is told as an instruction: in a body, or where there is a fact.
     pub(crate) fn is_code(&self, at: Word) -> bool {
-        match self.kind_of(at) {
+        self.is_code_in(&self.kind_of(at), at)
+    }
+
+    /// Whether the word at an address of this kind is told as an instruction.
+    pub(crate) fn is_code_in(&self, kind: &CellKind, at: Word) -> bool
+        ensures { result ≡ tells_instruction kind.now (words self.now.facts at) }
+    {
+        match kind {
             CellKind::Main | CellKind::Routine(_) => true,
             CellKind::Entry | CellKind::Variable | CellKind::Other | CellKind::Unset => self
                 .facts
@@ -235,8 +246,17 @@ impl<A: Allocator, D: Allocator, C: Allocator> Report<'_, A, D, C> {
         }
     }
 
+    /// Whether a run begins at an address.
+    pub(crate) fn is_start(&self, at: Word) -> bool
+        ensures { result ≡ ((meaning self.now.declaration.now).start == at) }
+    {
+        self.declaration.start() == at
+    }
+
     /// Whether an address is that at which the verdict is no or the search is stuck.
-    pub(crate) fn is_marked(&self, at: Word) -> bool {
+    pub(crate) fn is_marked(&self, at: Word) -> bool
+        ensures { result ≡ is_marked_by self.now.finding at }
+    {
         match self.finding {
             Finding::Shown => false,
             Finding::Refused(place) | Finding::Stuck(place) => place == at,

@@ -23,3 +23,7 @@ pub mod Items
 pub mod RoutineClaims
 pub mod MapText
 pub mod Marks
+pub mod DeclaredText
+pub mod RoutineText
+pub mod FindingText
+pub mod CallLines

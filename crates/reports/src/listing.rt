@@ -8,11 +8,13 @@ ghost use Rattle.peripherals.specs.Loading.{image_of};
 ghost use Rattle.declaration.specs.DeclarationInCode.{meaning};
 ghost use Rattle.certificate_lines.specs.CertificateInCode.{claims};
 ghost use Rattle.reports.specs.AbsenceText.{SaysAbsence};
+ghost use Rattle.reports.specs.DeclaredText.{declared_text};
 ghost use Rattle.reports.specs.FactItems.{BeginsWithFact, SaysFact, by_nothing};
 ghost use Rattle.reports.specs.Kinds.{IsKind, routine_in};
 ghost use Rattle.reports.specs.KnownText.{SaysKnown};
 ghost use Rattle.reports.specs.ReportSetting.{report_setting, setting_in};
 ghost use Rattle.reports.specs.Shown.{ShowsFact, fact_of, is_even, unknown_of};
+ghost use Rattle.reports.specs.Writing.{Writes};
 
 use crate::cases::FactDifferences;
 use crate::fact_context::{ShownFact, write_apart, write_fact};
@@ -207,20 +209,14 @@ impl<A: Allocator, D: Allocator, C: Allocator> Report<'_, A, D, C> {
     }
 
     /// Writes what is declared of an address.
-    fn write_declared(&self, writer: &mut ReportWriter<'_, A>, at: Word) {
+    fn write_declared(&self, writer: &mut ReportWriter<'_, A>, at: Word)
+        ensures { Writes writer.old writer.new (declared_text (meaning self.now.declaration.now) at) }
+    {
         let declaration = self.declaration;
-        if declaration.start() == at {
-            writer.item(b"start");
-        }
-        if declaration.is_stop(at) {
-            writer.item(b"stop");
-        }
-        if declaration.is_pause(at) {
-            writer.item(b"pause");
-        }
-        if declaration.is_entry(at) {
-            writer.item(b"entry");
-        }
+        writer.item_if(self.is_start(at), b"start");
+        writer.item_if(declaration.is_stop(at), b"stop");
+        writer.item_if(declaration.is_pause(at), b"pause");
+        writer.item_if(declaration.is_entry(at), b"entry");
     }
 
     /// Writes which words a variable may hold, and where nothing is known about it.

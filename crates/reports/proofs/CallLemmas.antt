@@ -1,5 +1,5 @@
 -- Lines from callers, written one after another.
-use Rattle.std.proofs.Common.{ℕ, ◌≡◌, ◌<◌, ◌≤◌, ◌+◌, List, ◌∷◌, length, drop, get_or, subst, sym}
+use Rattle.std.proofs.Common.{ℕ, ◌<◌, ◌≤◌, ◌+◌, List, length, drop, get_or, subst, sym}
 use Rattle.std.proofs.lemmas.List.{at_drop_all, drop_more}
 use Rattle.wordset.specs.Words.{Words}
 use Rattle.declaration.specs.DeclarationInCode.{subroutine_of}

@@ -1,5 +1,5 @@
 -- What a report says about a routine.
-use Rattle.std.specs.Prelude.{ℕ, ◌≡◌, if◌then◌else◌, not, codes, decimal, List}
+use Rattle.std.specs.Prelude.{ℕ, if◌then◌else◌, not, codes, decimal}
 use Rattle.wordset.specs.Words.{Words, has_some}
 use Rattle.certificate_lines.specs.Certificate.{Certificate}
 use Rattle.certificate_lines.specs.CertificateInCode.{claims}

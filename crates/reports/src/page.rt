@@ -1,5 +1,7 @@
 //! The page: what the verdict means, memory, routines, variables, and the listing.
 
+ghost use Rattle.std.specs.Prelude.{◌≡◌};
+ghost use Rattle.reports.specs.FindingText.{listed_text};
 ghost use Rattle.reports.specs.ReportText.{IsTrue};
 
 use crate::listing::ClaimCache;
@@ -187,7 +189,9 @@ fn write_files<A: Allocator>(writer: &mut ReportWriter<'_, A>, files: &[u8]) {
 }
 
 /// What stands beside an instruction; after a no it is only claimed.
-fn listed_text(finding: Finding) -> &'static [u8] {
+fn listed_text(finding: Finding) -> &'static [u8]
+    ensures { result.now ≡ listed_text finding }
+{
     match finding {
         Finding::Shown => b"what is known in every run <b>before</b> it is executed",
         Finding::Refused(_) => {

@@ -1,5 +1,5 @@
 -- Lines from callers, written one after another.
-use Rattle.std.proofs.Common.{ℕ, ◌<◌, ◌≤◌, ◌+◌, List, length, drop, get_or, subst, sym}
+use Rattle.std.proofs.Common.{ℕ, ◌≡◌, ◌<◌, ◌≤◌, ◌+◌, List, length, drop, get_or, subst, sym}
 use Rattle.std.proofs.lemmas.List.{at_drop_all, drop_more}
 use Rattle.wordset.specs.Words.{Words}
 use Rattle.declaration.specs.DeclarationInCode.{subroutine_of}
@@ -18,13 +18,16 @@ pub all_lines_left : {A : Type 0} {boxes : List BoxPlace} {callee : BoxPlace} {s
     LinesLeft boxes callee sites rs old old 0
 all_lines_left = record { leads = λ new writes. writes }
 
-pub line_written : {A : Type 0} {boxes : List BoxPlace} {callee : BoxPlace} {sites : Words} {rs : List Routine} {old now next : ReportWriter A} {i : ℕ} (d : Routine) →
-    LinesLeft boxes callee sites rs old now i → i < length rs → Writes now next (call_line callee sites (box_at boxes i) (subroutine_of (get_or rs i d)).body) →
-    LinesLeft boxes callee sites rs old next (i + 1)
-line_written {boxes = boxes} {callee = callee} {sites = sites} {rs = rs} {now = now} {i = i} d left inside written = record {
-  leads = λ new rest. left.leads new (subst (λ (ys : List Routine). Writes now new (lines_from boxes callee sites i ys)) (sym (drop_more rs i d inside))
-      (writes_both written rest));
+pub line_written : {A : Type 0} {boxes : List BoxPlace} {callee : BoxPlace} {sites : Words} {rs : List Routine} {old now next : ReportWriter A} {i : ℕ} (x : Routine) (caller : BoxPlace)
+    (body : Words) → LinesLeft boxes callee sites rs old now i → i < length rs → x ≡ get_or rs i x → caller ≡ box_at boxes i → body ≡ (subroutine_of x).body →
+    Writes now next (call_line callee sites caller body) → LinesLeft boxes callee sites rs old next (i + 1)
+line_written {boxes = boxes} {callee = callee} {sites = sites} {rs = rs} {now = now} {next = next} {i = i} x caller body left inside there from of written = record {
+  leads = λ new rest. left.leads new (subst (λ (ys : List Routine). Writes now new (lines_from boxes callee sites i ys)) (sym (drop_more rs i x inside)) (writes_both placed rest));
 }
+where
+  placed : Writes now next (call_line callee sites (box_at boxes i) (subroutine_of (get_or rs i x)).body)
+  placed = subst (λ (y : Routine). Writes now next (call_line callee sites (box_at boxes i) (subroutine_of y).body)) there
+      (subst (λ (b : Words). Writes now next (call_line callee sites (box_at boxes i) b)) of (subst (λ (p : BoxPlace). Writes now next (call_line callee sites p body)) from written))
 
 pub no_line_left : {A : Type 0} {boxes : List BoxPlace} {callee : BoxPlace} {sites : Words} {rs : List Routine} {old now : ReportWriter A} {i : ℕ} →
     LinesLeft boxes callee sites rs old now i → length rs ≤ i → Writes old now (lines_from boxes callee sites 0 rs)

@@ -18,16 +18,21 @@ pub all_lines_left : {A : Type 0} {boxes : List BoxPlace} {callee : BoxPlace} {s
     LinesLeft boxes callee sites rs old old 0
 all_lines_left = record { leads = λ new writes. writes }
 
+-- the line from a caller whose box and body are known by other names
+named_line : {A : Type 0} (boxes : List BoxPlace) (callee : BoxPlace) (sites : Words) (now next : ReportWriter A) (i : ℕ) (x y : Routine) (caller : BoxPlace) (body : Words) → x ≡ y →
+    caller ≡ box_at boxes i → body ≡ (subroutine_of x).body → Writes now next (call_line callee sites caller body) →
+    Writes now next (call_line callee sites (box_at boxes i) (subroutine_of y).body)
+named_line boxes callee sites now next i x y caller body there from of written =
+    subst (λ (r : Routine). Writes now next (call_line callee sites (box_at boxes i) (subroutine_of r).body)) there
+    (subst (λ (b : Words). Writes now next (call_line callee sites (box_at boxes i) b)) of (subst (λ (p : BoxPlace). Writes now next (call_line callee sites p body)) from written))
+
 pub line_written : {A : Type 0} {boxes : List BoxPlace} {callee : BoxPlace} {sites : Words} {rs : List Routine} {old now next : ReportWriter A} {i : ℕ} (x : Routine) (caller : BoxPlace)
     (body : Words) → LinesLeft boxes callee sites rs old now i → i < length rs → x ≡ get_or rs i x → caller ≡ box_at boxes i → body ≡ (subroutine_of x).body →
     Writes now next (call_line callee sites caller body) → LinesLeft boxes callee sites rs old next (i + 1)
 line_written {boxes = boxes} {callee = callee} {sites = sites} {rs = rs} {now = now} {next = next} {i = i} x caller body left inside there from of written = record {
-  leads = λ new rest. left.leads new (subst (λ (ys : List Routine). Writes now new (lines_from boxes callee sites i ys)) (sym (drop_more rs i x inside)) (writes_both placed rest));
+  leads = λ new rest. left.leads new (subst (λ (ys : List Routine). Writes now new (lines_from boxes callee sites i ys)) (sym (drop_more rs i x inside))
+      (writes_both (named_line boxes callee sites now next i x (get_or rs i x) caller body there from of written) rest));
 }
-where
-  placed : Writes now next (call_line callee sites (box_at boxes i) (subroutine_of (get_or rs i x)).body)
-  placed = subst (λ (y : Routine). Writes now next (call_line callee sites (box_at boxes i) (subroutine_of y).body)) there
-      (subst (λ (b : Words). Writes now next (call_line callee sites (box_at boxes i) b)) of (subst (λ (p : BoxPlace). Writes now next (call_line callee sites p body)) from written))
 
 pub no_line_left : {A : Type 0} {boxes : List BoxPlace} {callee : BoxPlace} {sites : Words} {rs : List Routine} {old now : ReportWriter A} {i : ℕ} →
     LinesLeft boxes callee sites rs old now i → length rs ≤ i → Writes old now (lines_from boxes callee sites 0 rs)

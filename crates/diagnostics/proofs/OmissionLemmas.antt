@@ -1,5 +1,5 @@
 -- What is told of what a declaration leaves out.
-use Rattle.std.proofs.Common.{ℕ, ◌≡◌, ◌∙◌, ◌+◌, ◌%◌, List, ◌++◌, sym, ap, append_assoc}
+use Rattle.std.proofs.Common.{ℕ, ◌≡◌, ◌∙◌, ◌+◌, ◌%◌, List, ◌++◌, sym, subst, ap, append_assoc}
 use Rattle.std.specs.Prelude.{Bool, Option, Some, codes, false, true}
 use Rattle.instruct.specs.Instructions.{reference}
 use Rattle.instruct.specs.Skips.{may_skip, skip_condition_of}

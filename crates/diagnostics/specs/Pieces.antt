@@ -19,10 +19,15 @@ piece_text (piece.Digit link) = link_text link
 piece_text (piece.Decimal n) = decimal n
 piece_text (piece.Offset o) = offset_text o
 
+-- A text, and behind it pieces, one after another.
+abbrev pub followed_by : List ℕ → List Piece → List ℕ
+followed_by text [] = text
+followed_by text (p ∷ ps) = followed_by (text ++ piece_text p) ps
+
 -- Pieces, one after another.
 abbrev pub pieces_text : List Piece → List ℕ
 pieces_text [] = []
-pieces_text (p ∷ ps) = piece_text p ++ pieces_text ps
+pieces_text (p ∷ ps) = followed_by (piece_text p) ps
 
 -- A text, an address in four octal digits, and a text.
 abbrev pub around : List ℕ → ℕ → List ℕ → List ℕ

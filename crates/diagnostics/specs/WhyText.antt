@@ -224,15 +224,12 @@ abbrev pub exit_line : Rules → ℕ → List ℕ → ℕ → List ℕ
 exit_line OfEquations o between i = offset_text o
 exit_line OfSums o between i = offset_text o ++ between ++ decimal (from_one i)
 
--- That a routine's rank is not below that of its caller.
-abbrev pub not_lower_text : ℕ → ℕ → List ℕ
-not_lower_text rank own = codes ", whose rank " ++ decimal rank ++ codes " is not below the caller's rank " ++ decimal own
-
 -- What a call violates.
 abbrev pub call_text : Rules → CallViolation → List ℕ
 call_text rules call.NoEntry = codes ", which is not an entry"
 call_text rules call.NotListed = codes ", which has no routine line"
-call_text rules (call.NotLower rank own) = not_lower_text rank own
+call_text rules (call.NotLower rank own) =
+    codes ", whose rank " ++ decimal rank ++ codes " is not below the caller's rank " ++ decimal own
 call_text rules (call.Writes c) = around (codes ", which may write ") c (codes ", a cell that the caller's written set does not contain")
 call_text rules call.EntryNotWritten = codes ", which the caller's written set does not contain"
 call_text rules call.WritesCaller = codes ", which may write the caller's entry"

@@ -2,7 +2,7 @@
 
 ghost use Rattle.std.specs.Prelude.{◌≡◌, ◌++◌, codes, OnOk};
 ghost use Rattle.diagnostics.specs.Pieces.{around};
-ghost use Rattle.diagnostics.specs.WhyText.{advised_text, breach_text, call_text, counting_text, denied_text, exit_line, landing_text, moving_text, not_lower_text, return_text, subject_text, subject_word, too_high_text, undeclared_text};
+ghost use Rattle.diagnostics.specs.WhyText.{advised_text, breach_text, call_text, counting_text, denied_text, exit_line, landing_text, moving_text, return_text, subject_text, subject_word, too_high_text, undeclared_text};
 
 use crate::pieces::Piece::{Address, Advised, Decimal, Octal, Offset, Text};
 use crate::pieces::{push_around, push_pieces};
@@ -48,21 +48,6 @@ pub fn push_exit_line<L: MessageWriter>(
     }
 }
 
-/// Adds that a routine's rank is not below that of its caller.
-fn push_not_lower<L: MessageWriter>(text: &mut L, rank: usize, own: usize) -> Result<(), AllocError>
-    ensures { OnOk result (L.text text.new ≡ L.text text.old ++ not_lower_text rank own) }
-{
-    push_pieces(
-        text,
-        &[
-            Text(b", whose rank "),
-            Decimal(rank),
-            Text(b" is not below the caller's rank "),
-            Decimal(own),
-        ],
-    )
-}
-
 /// Adds what a call violates.
 fn push_call<L: MessageWriter>(
     text: &mut L,
@@ -74,7 +59,15 @@ fn push_call<L: MessageWriter>(
     match breach {
         CallViolation::NoEntry => text.push_text(b", which is not an entry"),
         CallViolation::NotListed => text.push_text(b", which has no routine line"),
-        CallViolation::NotLower(rank, own) => push_not_lower(text, *rank, *own),
+        CallViolation::NotLower(rank, own) => push_pieces(
+            text,
+            &[
+                Text(b", whose rank "),
+                Decimal(*rank),
+                Text(b" is not below the caller's rank "),
+                Decimal(*own),
+            ],
+        ),
         CallViolation::Writes(cell) => push_around(
             text,
             b", which may write ",

@@ -1,5 +1,5 @@
 -- What the lines say that explain an answer.
-use Rattle.std.proofs.Common.{ℕ, ◌≡◌, ◌⊎◌, List, [], Option, inl, inr}
+use Rattle.std.proofs.Common.{ℕ, ◌≡◌, ◌⊎◌, List, [], Option, inr}
 use Rattle.declaration.specs.Declaration.{Declaration}
 use Rattle.certificate_lines.specs.CertificateInCode.{Kept, meaning}
 use Rattle.search_commands.specs.StuckText.{IsToldOfDraft}

@@ -1,8 +1,8 @@
-use Rattle.std.proofs.Common.{◌++◌, ◌∙◌, List, ℕ, ap, rules}
+use Rattle.std.proofs.Common.{◌++◌, ◌∙◌, List, ℕ, ap}
 use Rattle.declaration.specs.DeclarationInCode.{meaning}
 use Rattle.command_parts.specs.Messages.{plain}
-use Rattle.search_commands.specs.VerifyText.{IsAnswer, proposed_text}
-use Rattle.search_commands.specs.WidenedText.{HasReason, reason_text}
+use Rattle.search_commands.specs.VerifyText.{proposed_text}
+use Rattle.search_commands.specs.WidenedText.{reason_text}
 use Rattle.search_commands.proofs.messages.verify_proposed_message.Goals as goal
 
 pub returns-clause-told : goal.returns-clause-told

@@ -19,6 +19,7 @@ returns-clause-told g c =
       is = record {
         why = plain c.in_ok-told.told.why;
         plain = c.in_ok-told.ensures.plain;
+        explains = c.in_ok-told.ensures.why;
         told_is = ap (λ (t : List ℕ). t ++ plain c.in_ok-told.told.why) (c.in_ok-lines.ensures ∙ ap (λ (t : List ℕ). t ++ reason_text c.in_ok-last.last.obstacle) first);
       };
     }

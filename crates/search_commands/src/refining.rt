@@ -1,12 +1,13 @@
 //! What `declare` makes of a declaration for which a certificate is found: it leaves out what is unnecessary, and adds
 //! what routines return with.
 
-ghost use Rattle.std.specs.Prelude.{ℕ, List, Option, IfOk, IfErr, IfSome};
+ghost use Rattle.std.specs.Prelude.{ℕ, ◌≡◌, ◌++◌, true, List, Option, IfOk, IfErr, IfSome};
 ghost use Rattle.command_parts.specs.Answers.{IsMemoryFault};
 ghost use Rattle.declaration.specs.DeclarationInCode.{meaning};
 ghost use Rattle.declaration.specs.Text.{Declares};
+ghost use Rattle.declaration.specs.declared.ReturnAssertion.{ReturnAssertion};
 ghost use Rattle.search_commands.specs.Keeping.{KeepsLines};
-ghost use Rattle.search_commands.specs.Refining.{IsRefined};
+ghost use Rattle.search_commands.specs.Refining.{IsRefined, KeepsAssertions};
 ghost use Rattle.search_commands.specs.SearchFaults.{IsRefineFault};
 
 use crate::adding::is_no_wider;
@@ -20,7 +21,7 @@ use crate::verifying::certificate_for;
 use bin_tape::Image;
 use command_parts::message::{Message, MessageWriter};
 use command_parts::status::Fault;
-use declaration::{Declaration, DeclarationFault};
+use declaration::{Declaration, DeclarationFault, PlaceAssertion, ReturnAssertion};
 use diagnostics::verdicts::surplus_text::{push_cells, push_routine_offsets};
 use std::alloc::{AllocError, Allocator};
 use wordset::WordSet;
@@ -58,13 +59,36 @@ pub struct Refinement<A: Allocator> {
     pub told: Message<A>,
 }
 
+/// Whether two lists of assertions about places are the same.
+fn are_same(left: &[PlaceAssertion], right: &[PlaceAssertion]) -> bool
+    ensures { result ≡ true → left.now ≡ right.now }
+{
+    left == right
+}
+
+/// Whether a list of assertions about returns begins with another one.
+fn begins_with(lines: &[ReturnAssertion], first: &[ReturnAssertion]) -> bool
+    ensures { result ≡ true → (others : List ReturnAssertion) × (lines.now ≡ first.now ++ others) }
+{
+    lines.starts_with(first)
+}
+
 /// Whether a declaration requires the same to hold at places as another one, and at returns first what that one requires
 /// there.
 fn keeps_assertions<A: Allocator, B: Allocator>(
     given: &Declaration<A>,
     less: &Declaration<B>,
-) -> bool {
-    less.holds() == given.holds() && less.returns().starts_with(given.returns())
+) -> bool
+    ensures { result ≡ true → KeepsAssertions (meaning given.now) (meaning less.now) }
+{
+    let places = given.holds();
+    let kept_places = less.holds();
+    if !are_same(kept_places, places) {
+        return false;
+    }
+    let lines = given.returns();
+    let kept_lines = less.returns();
+    begins_with(kept_lines, lines)
 }
 
 /// What a text declares, if that is no wider than what a given text declares, and a certificate is found for it.

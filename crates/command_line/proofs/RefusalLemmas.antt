@@ -1,5 +1,5 @@
 -- Why words are refused, from what a function finds wrong with them.
-use Rattle.std.proofs.Common.{◌≡◌, ◌∙◌, ◌+◌, ◌++◌, ◌<◌, ℕ, Bool, true, false, List, Option, None, Some, ap, drop, get_or, length, map, refl, subst, sym, true≢false}
+use Rattle.std.proofs.Common.{◌≡◌, ◌∙◌, ◌+◌, ◌++◌, ◌<◌, ℕ, Bool, true, false, List, Option, None, Some, inl, inr, ap, drop, get_or, length, map, refl, subst, sym, true≢false}
 use Rattle.std.proofs.lemmas.List.{append_assoc, drop_more, map-append}
 use Rattle.std.specs.Borrow.{Bor}
 use Rattle.std.specs.List.{list_any}
@@ -14,11 +14,11 @@ use Rattle.command_line.specs.declared.fault.Misuse.{Misuse}
 use Rattle.command_line.specs.declared.place_options.PlaceOptions.{PlaceOptions}
 use Rattle.command_line.specs.declared.program_command.ProgramCommand.{ProgramCommand}
 use Rattle.command_line.specs.declared.program_command.ProgramCommand.TheVariants.{Verify, Watch, Guess, Refute, Declare, Report, Check}
-use Rattle.command_line.specs.Options.{ArePlacesGiven, named, number_or, sources_given, values}
+use Rattle.command_line.specs.Options.{ArePlacesGiven, named, number_or, sources_given, value, values}
 use Rattle.command_line.specs.Outputs.{result_name, result_operand}
 use Rattle.command_line.specs.OctalPlaces.{NamesNoOctalCells, NamesNoOctalPlace, NamesOctalCells}
-use Rattle.command_line.specs.Refusals.{AreInputs, AreInputsBeside, AreOfInputs, IsFoundRefused, IsLineRefused, IsMisused, IsNumberRefused, IsOfParser, IsPlaceMisused, are_distinct, result_options}
-use Rattle.command_line.specs.Requests.{input_names}
+use Rattle.command_line.specs.Refusals.{AreInputs, AreInputsBeside, AreOfInputs, AreStepsRefused, IsFoundRefused, IsLineRefused, IsMisused, IsNumberRefused, IsOfParser, IsPlaceMisused, IsRefused, IsRefusedBy, IsRefusedWithin, are_distinct, result_options, step_limit}
+use Rattle.command_line.specs.Requests.{IsOperated, input_names}
 
 -- What one more operand or option gives stands behind the inputs so far.
 pub named_more : (found : ArgMatches) (names : List (Bor (List ℕ))) (i : ℕ) (none : Bor (List ℕ)) (inputs more : List (Bor (List ℕ)))
@@ -107,3 +107,29 @@ found_refused words (fault.Start wrong) is = is
 found_refused words (fault.Switches wrong) is = is
 found_refused words (fault.NoOperand name) is = is
 found_refused words (fault.Steps most) is = is
+
+-- A number of steps is refused by the command of which at most so many may be requested.
+pub steps_refused : (called : CommandName) (most : ℕ) (found : ArgMatches) (refused : CommandLineFault) → step_limit called ≡ Some most → AreStepsRefused most found refused → IsRefusedBy called found refused
+steps_refused called most found (fault.Steps told) limit is = (limit ∙ ap Some (sym is.0), subst (λ n. IsNumberRefused 1 n (value found (codes "steps"))) (sym is.0) is.1)
+steps_refused called most found (fault.CommandLine error) limit is = absurd is
+steps_refused called most found fault.Memory limit is = absurd is
+steps_refused called most found (fault.Misuse wrong) limit is = absurd is
+steps_refused called most found (fault.Start wrong) limit is = absurd is
+steps_refused called most found (fault.Switches wrong) limit is = absurd is
+steps_refused called most found (fault.NoOperand name) limit is = absurd is
+
+-- What is refused whichever command it is, if at most so many steps may be requested of it, is refused by such a command.
+pub refused_within : (called : CommandName) (most : ℕ) (found : ArgMatches) (refused : CommandLineFault) → step_limit called ≡ Some most → IsRefusedWithin most found refused → IsRefused called found refused
+refused_within called most found refused limit (inl any) = inl any
+refused_within called most found refused limit (inr steps) = inr (steps_refused called most found refused limit steps)
+
+-- What `watch` refuses is refused by a command with an operator.
+pub operated_refused : (called : ProgramCommand) (found : ArgMatches) (refused : CommandLineFault) → IsOperated called found true → IsRefused (kind.Program Watch) found refused
+    → IsRefused (kind.Program called) found refused
+operated_refused Watch found refused is by = by
+operated_refused Verify found refused is by = absurd (true≢false is)
+operated_refused Guess found refused is by = absurd (true≢false is)
+operated_refused Refute found refused is by = absurd (true≢false is)
+operated_refused Declare found refused is by = absurd (true≢false is)
+operated_refused Report found refused is by = absurd (true≢false is)
+operated_refused Check found refused is by = absurd (true≢false is)

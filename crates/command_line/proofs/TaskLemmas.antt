@@ -14,7 +14,7 @@ use Rattle.command_line.specs.declared.requests.Request.TheVariants as request
 use Rattle.command_line.specs.declared.source_programs.MachineTask.{MachineTask}
 use Rattle.command_line.specs.declared.source_programs.SourceProgramRequest.{SourceProgramRequest}
 use Rattle.command_line.specs.Options.{IsWatchedWithOperator, sources_given, value}
-use Rattle.command_line.specs.Requests.{AreAfterSource, IsOperated, IsTaskGiven, IsWatchedRunGiven, declaration_behind, declaration_of_source, last_behind, last_name, last_of}
+use Rattle.command_line.specs.Requests.{AreAfterSource, IsOperated, IsTaskGiven, IsWatchedRunGiven, declaration_behind, declaration_of_source, has_more_operands, last_behind, last_name, last_of, takes_second}
 use Rattle.command_line.specs.Sources.{IsDoneWith, IsMachineGiven, IsOnTape, IsSourcedGiven}
 
 -- A command with an operator is `watch`, and is given the run that its operands and options ask for.
@@ -55,10 +55,11 @@ some_now (Some name) = refl
 pub after_source : (called : ProgramCommand) (found : ArgMatches) (operated needed : Bool) (first second behind declaration last : Option (List ℕ))
     → IsWatchedWithOperator found operated → needed ≡ is_some (last_name operated called) → first ≡ value found (codes "TAPE") → second ≡ value found (codes "DECLARATION")
     → behind ≡ declaration_behind needed first second → last ≡ last_behind needed first second → declaration ≡ declaration_of_source called found behind
-    → AreAfterSource called found declaration last
-after_source called found operated needed first second behind declaration last watched n f s b l d = record {
+    → has_more_operands called (takes_second called operated found) found ≡ false → AreAfterSource called found declaration last
+after_source called found operated needed first second behind declaration last watched n f s b l d others = record {
   operated = operated;
   watched = watched;
+  others = others;
   declaration_is = d ∙ ap (declaration_of_source called found) (b ∙ (ap (λ n. declaration_behind n first second) n
       ∙ (ap (λ f. declaration_behind (is_some (last_name operated called)) f second) f ∙ ap (declaration_behind (is_some (last_name operated called)) (value found (codes "TAPE"))) s)));
   last_is = l ∙ (ap (λ n. last_behind n first second) n

@@ -18,9 +18,9 @@ use Rattle.command_line.specs.declared.tapes.MigrateRequest.{MigrateRequest}
 use Rattle.command_line.specs.declared.tapes.RunRequest.{RunRequest}
 use Rattle.command_line.specs.declared.tapes.SourceRequest.{SourceRequest}
 use Rattle.command_line.specs.Inputs.{AreReadAtMost, IsApart}
-use Rattle.command_line.specs.Outputs.{IsResultGiven, file_of}
+use Rattle.command_line.specs.Outputs.{IsResultGiven, file_of, is_source_name}
 use Rattle.command_line.specs.Places.{AreShownOn, IsStoppedOn}
-use Rattle.command_line.specs.Options.{AreRunOptions, AreSessionOptions, AreTeletypeOptions, IsFlagGiven, machine_given, operand, sources_given, start_given, value, value_or}
+use Rattle.command_line.specs.Options.{AreRunOptions, AreSessionOptions, AreTeletypeOptions, IsFlagGiven, IsStartOnce, has_value, machine_given, operand, sources_given, start_given, value, value_or}
 
 -- The tape that is given, unless a source takes its place.
 abbrev pub tape_unless : Option (List (List ℕ)) → List ℕ → Option (List ℕ)
@@ -74,13 +74,16 @@ pub record IsSummaryGiven (found : ArgMatches) (apart : Bool) (seen : Bool) (sum
 
 -- A run with an operator is of the tape, the frames and the keys that are given, punches where the option says, and is made as the
 -- options ask, and as the words for cells and places do. One at most of its inputs, to which the parts of a source belong, is standard
--- input, and none is the file for what is punched.
+-- input, and none is the file for what is punched, which is not named like a source. No events are given, and no long trace is requested.
 pub record IsOperatedRunGiven (found : ArgMatches) (places : PlaceOptions) (session : Session) : Type 0 where
   pub tape : option_map (λ name. name.now) session.tape ≡ tape_given found
   pub reader : option_map (λ name. name.now) session.joined.reader ≡ value found (codes "reader")
   pub keys : option_map (λ name. name.now) session.joined.keys ≡ value found (codes "keys")
   pub punch : option_map (λ name. name.now) session.joined.punch ≡ value found (codes "punch")
   pub apart : ForSome session.joined.punch (λ name. IsApart found operated_inputs name.now)
+  pub unlike : ForSome session.joined.punch (λ name. is_source_name name.now ≡ false)
+  pub events : has_value found (codes "events") ≡ false
+  pub long : IsFlagGiven found (codes "trace-long") false
   pub once : AreReadAtMost 1 found operated_inputs
   pub teletype : IsFlagGiven found (codes "teletype") session.joined.teletype
   pub options : AreSessionOptions found session.options
@@ -100,12 +103,13 @@ interrupt_given raw (Some text) = interrupt_named text
 
 -- A session at the teletype is of the tape and the frames that are given, punches where the option says, and is held as the options ask.
 -- The key of `--interrupt` interrupts it, and its summary tells what was not seen. No input, and no part of a source, is standard input, where
--- the keys come from, and none is the file for what is punched.
+-- the keys come from, and none is the file for what is punched, which is not named like a source.
 pub record IsTeletypeGiven (found : ArgMatches) (places : PlaceOptions) (session : TeletypeSession) : Type 0 where
   pub tape : option_map (λ name. name.now) session.tape ≡ tape_given found
   pub reader : option_map (λ name. name.now) session.reader ≡ value found (codes "reader")
   pub punch : option_map (λ name. name.now) session.punch ≡ value found (codes "punch")
   pub apart : ForSome session.punch (λ name. IsApart found teletype_inputs name.now)
+  pub unlike : ForSome session.punch (λ name. is_source_name name.now ≡ false)
   pub once : AreReadAtMost 0 found teletype_inputs
   pub options : AreTeletypeOptions found session.options
   pub interrupt : interrupt_given session.options.manner.raw (value found (codes "interrupt")) ≡ Some session.interrupt
@@ -122,7 +126,7 @@ pub record IsDumpGiven (found : ArgMatches) (dump : DumpRequest) : Type 0 where
   pub once : AreReadAtMost 1 found dump_inputs
 
 -- The source is of the tape and of the declaration that are given, for the start and the machine that are requested, and goes where it
--- is said, which is none of these inputs. One of them at most is standard input.
+-- is said, which is none of these inputs. One of them at most is standard input. A start or a machine is named only without a declaration.
 pub record IsSourceGiven (found : ArgMatches) (source : SourceRequest) : Type 0 where
   pub tape : source.tape.now ≡ operand found (codes "TAPE")
   pub declaration : option_map (λ name. name.now) source.declaration ≡ value found (codes "declaration")
@@ -131,6 +135,7 @@ pub record IsSourceGiven (found : ArgMatches) (source : SourceRequest) : Type 0 
   pub out : IsResultGiven kind.Source found source.out
   pub apart : IsApart found source_inputs (file_of source.out)
   pub once : AreReadAtMost 1 found source_inputs
+  pub start_once : IsStartOnce found
   pub forced : IsFlagGiven found (codes "force") source.forced
 
 -- The version that `migrate` is asked for by a text. Texts other than 2 and 3 ask for none.

@@ -1,5 +1,5 @@
 -- What options ask for: the numbers, machines and flags that their words spell, and what holds where they are left out.
-use Rattle.std.specs.Prelude.{ℕ, ◌≡◌, ◌||◌, Bool, true, false, is_some, List, [], ◌∷◌, Option, None, Some, Result, Ok, codes, flat_map, if◌then◌else◌, map, option_map, unwrap_or}
+use Rattle.std.specs.Prelude.{ℕ, ◌≡◌, ◌||◌, ◌&&◌, Bool, true, false, is_some, List, [], ◌∷◌, Option, None, Some, Result, Ok, codes, flat_map, if◌then◌else◌, map, option_map, unwrap_or}
 use Rattle.std.specs.List.{list_any}
 use Rattle.std.specs.Str.{bytes_eq}
 use Rattle.clap.specs.Matches.{first_value, found_of, matched_of, one_text, raw_values}
@@ -151,16 +151,36 @@ pub record IsRunWithOperator (found : ArgMatches) (is : Bool) : Type 0 where
 abbrev pub is_start_named : ArgMatches → Bool
 is_start_named found = has_value found (codes "start") || has_value found (codes "profile")
 
+-- A declaration is given: as an operand of its own, by an option, or as the first operand after a source.
+abbrev pub is_declared : ArgMatches → Bool
+is_declared found =
+    list_any (has_value found) (codes "DECLARATION" ∷ codes "declaration" ∷ codes "from" ∷ [])
+    || (is_some (sources_given found) && has_value found (codes "TAPE"))
+
+-- A declaration is given, or a start or a machine is named, but not both: a declaration determines both.
+abbrev pub IsStartOnce : ArgMatches → Type 0
+IsStartOnce found = (is_declared found && is_start_named found) ≡ false
+
 -- A run that is watched has an operator where an option for one is given.
 pub record IsWatchedWithOperator (found : ArgMatches) (is : Bool) : Type 0 where
   pub mark : Bool
   pub flag : IsFlagGiven found (codes "mark") mark
   pub any : is ≡ (list_any (has_value found) (codes "reader" ∷ codes "keys" ∷ codes "switches" ∷ codes "steps" ∷ codes "continue" ∷ []) || mark)
 
--- The cells and the places that options of a run name are the words that were given, and so is the number of last instructions.
+-- A line is written for each instruction, a short one or a long one, or none is.
+pub record IsTraced (found : ArgMatches) (is : Bool) : Type 0 where
+  pub trace : Bool
+  pub trace_is : IsFlagGiven found (codes "trace") trace
+  pub long : Bool
+  pub long_is : IsFlagGiven found (codes "trace-long") long
+  pub any : (trace || long) ≡ is
+
+-- The cells and the places that options of a run name are the words that were given, and so is the number of last instructions, which is
+-- given only where no line is written for each instruction.
 pub record ArePlacesGiven (found : ArgMatches) (places : PlaceOptions) : Type 0 where
   pub show : map (λ text. text.now) places.show.items ≡ values found (codes "show")
   pub until : option_map (λ text. text.now) places.until ≡ value found (codes "until")
   pub written : map (λ text. text.now) places.written.items ≡ values found (codes "until-write")
   pub read : map (λ text. text.now) places.read.items ≡ values found (codes "until-read")
   pub last : IsNumberNamed 1 1000000 (value found (codes "last")) places.last
+  pub alone : is_some places.last ≡ true → IsTraced found false

@@ -87,8 +87,13 @@ IsSentTo None false operand (CheckedFirst file) = file.now ≡ operand
 IsSentTo _ emptied operand _ = ⊥
 
 -- The result of a command goes where it is said.
-abbrev pub IsResultGiven : CommandName → ArgMatches → Destination → Type 0
-IsResultGiven called found out = IsSentTo (value found (codes "output")) (is_emptied called) (operand found (result_operand called found)) out
+abbrev pub IsSent : CommandName → ArgMatches → Destination → Type 0
+IsSent called found out = IsSentTo (value found (codes "output")) (is_emptied called) (operand found (result_operand called found)) out
+
+-- The result of a command goes where it is said, and has the name of a source only if it is the result of `source`.
+pub record IsResultGiven (called : CommandName) (found : ArgMatches) (out : Destination) : Type 0 where
+  pub sent : IsSent called found out
+  pub unlike : is_source_name (file_of out) ≡ true → called ≡ kind.Source
 
 -- The endings of the files that `verify --save` may write: that of a declaration is one of them only where none is given.
 abbrev pub saved_endings : Bool → List (List ℕ)

@@ -25,10 +25,10 @@ use Rattle.command_line.specs.declared.program_command.ProgramCommand.TheVariant
 use Rattle.command_line.specs.CommandNames.{called_of}
 use Rattle.command_line.specs.Machines.{interrupt_named, migrated_version, version_with}
 use Rattle.command_line.specs.OctalPlaces.{NamesNoOctalCells, NamesNoOctalPlace, NamesOctalCells}
-use Rattle.command_line.specs.Options.{ArePlacesGiven, IsFlagGiven, IsRunWithOperator, IsWatchedWithOperator, has_value, is_start_named, machine_given, named, sources_given, start_given, value, value_or, version_named}
+use Rattle.command_line.specs.Options.{ArePlacesGiven, IsFlagGiven, IsRunWithOperator, IsTraced, IsWatchedWithOperator, has_value, is_declared, is_start_named, machine_given, named, sources_given, start_given, value, value_or, version_named}
 use Rattle.command_line.specs.Outputs.{is_search, is_source_name, is_standard_input, is_taken, result_file, result_operand}
 use Rattle.command_line.specs.Places.{IsValueRefused}
-use Rattle.command_line.specs.Requests.{last_name}
+use Rattle.command_line.specs.Requests.{has_more_operands, last_name, takes_second}
 use Rattle.command_line.specs.Sources.{source_operands}
 
 -- What an error of the parser becomes: that error, or want of memory.
@@ -110,20 +110,6 @@ abbrev pub IsVersionRefused : Option (List ℕ) → Type 0
 IsVersionRefused None = ⊥
 IsVersionRefused (Some text) = version_named text ≡ None
 
--- A line is written for each instruction, a short one or a long one.
-pub record IsTraced (found : ArgMatches) : Type 0 where
-  pub trace : Bool
-  pub trace_is : IsFlagGiven found (codes "trace") trace
-  pub long : Bool
-  pub long_is : IsFlagGiven found (codes "trace-long") long
-  pub any : (trace || long) ≡ true
-
--- A declaration is given: as an operand of its own, by an option, or as the first operand after a source.
-abbrev pub is_declared : ArgMatches → Bool
-is_declared found =
-    list_any (has_value found) (codes "DECLARATION" ∷ codes "declaration" ∷ codes "from" ∷ [])
-    || (is_some (sources_given found) && has_value found (codes "TAPE"))
-
 -- What is wrong is that a value of an option for cells or for a place is refused, where these three say which cells a word names, and which
 -- words are refused as names of cells and of a place.
 abbrev pub IsPlaceMisused : (List ℕ → List ℕ → Type 0) → (List ℕ → Type 0) → (List ℕ → Type 0) → PlaceOptions → Misuse → Type 0
@@ -143,7 +129,7 @@ IsOctalRefused which places = IsValueRefused NamesOctalCells NamesNoOctalCells N
 abbrev pub IsMisused : Misuse → ArgMatches → Type 0
 IsMisused (misuse.Place which) found = (sources_given found ≡ None) × (places : PlaceOptions) × ArePlacesGiven found places × IsOctalRefused which places
 IsMisused misuse.Last found = IsNumberRefused 1 1000000 (value found (codes "last"))
-IsMisused misuse.LastAndTrace found = (has_value found (codes "last") ≡ true) × IsTraced found
+IsMisused misuse.LastAndTrace found = (has_value found (codes "last") ≡ true) × IsTraced found true
 IsMisused misuse.LongTrace found = IsFlagGiven found (codes "trace-long") true × (IsFlagGiven found (codes "trace") true ⊎ IsRunWithOperator found true)
 IsMisused misuse.EventsAndOperator found = (has_value found (codes "events") ≡ true) × IsRunWithOperator found true
 IsMisused misuse.ListAndOperator found = (has_value found (codes "EVENTS") ≡ true) × IsWatchedWithOperator found true
@@ -164,19 +150,32 @@ IsMisused misuse.SaveIsFolder found = has_value found (codes "save") ≡ true
 IsMisused misuse.SaveIsTaken found = has_value found (codes "save") ≡ true
 IsMisused _ found = ⊥
 
--- So many steps may be requested at most: a million of a run, or a hundred million of a search.
-abbrev pub IsStepLimit : ℕ → Type 0
-IsStepLimit most = (most ≡ 1000000) ⊎ (most ≡ 100000000)
+-- What is given is no number of steps that may be requested, where these are so many at most, and that is told.
+abbrev pub AreStepsRefused : ℕ → ArgMatches → CommandLineFault → Type 0
+AreStepsRefused most found (fault.Steps told) = (told ≡ most) × IsNumberRefused 1 most (value found (codes "steps"))
+AreStepsRefused most found _ = ⊥
 
 -- Why words are refused whichever command has them, apart from want of memory.
 abbrev pub IsRefusedByAny : ArgMatches → CommandLineFault → Type 0
 IsRefusedByAny found (fault.Misuse what) = IsMisused what found
 IsRefusedByAny found (fault.Start wrong) = start_given found ≡ Err wrong
 IsRefusedByAny found (fault.Switches wrong) = IsWordRefused (value found (codes "switches")) wrong
-IsRefusedByAny found (fault.Steps most) = IsStepLimit most × IsNumberRefused 1 most (value found (codes "steps"))
+IsRefusedByAny found (fault.Steps most) = ⊥
 IsRefusedByAny found (fault.NoOperand name) = ⊥
 IsRefusedByAny found (fault.CommandLine error) = ⊥
 IsRefusedByAny found fault.Memory = ⊤
+
+-- Why words are refused whichever command has them, if at most so many steps may be requested of it.
+abbrev pub IsRefusedWithin : ℕ → ArgMatches → CommandLineFault → Type 0
+IsRefusedWithin most found refused = IsRefusedByAny found refused ⊎ AreStepsRefused most found refused
+
+-- How many steps may be requested at most of a command that makes steps: of a run a million, of a search a hundred million.
+abbrev pub step_limit : CommandName → Option ℕ
+step_limit (kind.Machine machine.Run) = Some 1000000
+step_limit (kind.Program command.Watch) = Some 1000000
+step_limit (kind.Program command.Verify) = Some 100000000
+step_limit (kind.Program command.Refute) = Some 100000000
+step_limit _ = None
 
 -- The result of the command needs `-o` after a source.
 abbrev pub needs_output : ProgramCommand → Bool
@@ -186,21 +185,11 @@ needs_output command.Refute = true
 needs_output command.Declare = true
 needs_output _ = false
 
--- The command takes a declaration after a source.
-abbrev pub takes_declaration : ProgramCommand → Bool
-takes_declaration command.Declare = false
-takes_declaration _ = true
-
--- The command takes two operands after a source: the second one is the last input that it needs, or the result of a search without `-o`.
-abbrev pub takes_second : ProgramCommand → Bool → ArgMatches → Bool
-takes_second called operated found = (is_search called && not (has_value found (codes "output"))) || is_some (last_name operated called)
-
--- There are more operands after a source than the command takes. clap takes them for a tape and what stands behind it.
-abbrev pub has_more_operands : ProgramCommand → Bool → ArgMatches → Bool
-has_more_operands called second found =
-    list_any (has_value found) (codes "CERTIFICATE" ∷ codes "EVENTS" ∷ codes "OUT" ∷ [])
-    || (not second && has_value found (codes "DECLARATION"))
-    || (not (takes_declaration called) && has_value found (codes "TAPE"))
+-- Two operands stand after a source, and the second one is the result of a search. clap takes them for those of a tape.
+abbrev pub has_result_behind : ProgramCommand → ArgMatches → Bool
+has_result_behind called found =
+    is_search called && (has_value found (codes "TAPE")
+    && list_any (has_value found) (codes "DECLARATION" ∷ codes "CERTIFICATE" ∷ codes "EVENTS" ∷ codes "OUT" ∷ []))
 
 -- The program is given by its source, and there are more operands than the command takes.
 pub record HasMoreOperands (called : ProgramCommand) (found : ArgMatches) : Type 0 where
@@ -227,7 +216,7 @@ abbrev pub IsMisusedBy : Misuse → CommandName → ArgMatches → Type 0
 IsMisusedBy misuse.TapeAndSource (kind.Machine called) found = (is_some (sources_given found) ≡ true) × (has_value found (codes "TAPE") ≡ true)
 IsMisusedBy misuse.TapeAndSource (kind.Program called) found = HasMoreOperands called found
 IsMisusedBy misuse.NoOutput (kind.Program called) found =
-    (needs_output called ≡ true) × (is_some (sources_given found) ≡ true) × (has_value found (codes "output") ≡ false)
+    (needs_output called ≡ true) × (is_some (sources_given found) ≡ true) × (has_value found (codes "output") ≡ false) × (has_result_behind called found ≡ false)
 IsMisusedBy misuse.NoEvents (kind.Program command.Watch) found = HasNoEvents found
 IsMisusedBy misuse.Version kind.Migrate found = migrated_version (value_or found (codes "certificate") (codes "2")) ≡ None
 IsMisusedBy misuse.VersionAndDeclaration kind.Migrate found =
@@ -250,15 +239,16 @@ pub record IsLastMissing (called : ProgramCommand) (found : ArgMatches) (name : 
 -- An operand of this command is missing that the parser does not ask for.
 abbrev pub IsOperandMissing : CommandName → ArgMatches → List ℕ → Type 0
 IsOperandMissing (kind.Program called) found name = IsLastMissing called found name
-IsOperandMissing kind.Assemble found name = source_operands found ≡ []
-IsOperandMissing kind.List found name = source_operands found ≡ []
-IsOperandMissing kind.Place found name = source_operands found ≡ []
+IsOperandMissing kind.Assemble found name = (name ≡ codes "SOURCE") × (source_operands found ≡ [])
+IsOperandMissing kind.List found name = (name ≡ codes "SOURCE") × (source_operands found ≡ [])
+IsOperandMissing kind.Place found name = (name ≡ codes "SOURCE") × (source_operands found ≡ [])
 IsOperandMissing _ found name = ⊥
 
 -- Why words are refused that only this command has, or that only this command refuses.
 abbrev pub IsRefusedBy : CommandName → ArgMatches → CommandLineFault → Type 0
 IsRefusedBy called found (fault.Misuse what) = IsMisusedBy what called found
 IsRefusedBy called found (fault.NoOperand name) = IsOperandMissing called found name.now
+IsRefusedBy called found (fault.Steps most) = (step_limit called ≡ Some most) × IsNumberRefused 1 most (value found (codes "steps"))
 IsRefusedBy called found _ = ⊥
 
 -- Why the words behind the name of a command are refused, apart from want of memory.

@@ -1,6 +1,7 @@
 -- What requests on a program and its declaration have of the words that were given.
-use Rattle.std.specs.Prelude.{ℕ, ◌≡◌, Bool, true, false, is_some, List, [], ◌∷◌, Option, None, Some, codes, if◌then◌else◌, map, option_map, unwrap_or}
+use Rattle.std.specs.Prelude.{ℕ, ◌≡◌, ◌&&◌, ◌||◌, not, Bool, true, false, is_some, List, [], ◌∷◌, Option, None, Some, codes, if◌then◌else◌, map, option_map, unwrap_or}
 use Rattle.std.specs.Borrow.{Bor}
+use Rattle.std.specs.List.{list_any}
 use Rattle.std.specs.Option.{ForSome}
 use Rattle.clap.specs.declared.parser.matches.ArgMatches.{ArgMatches}
 use Rattle.command_line.specs.declared.command_name.CommandName.{CommandName}
@@ -20,8 +21,8 @@ use Rattle.command_line.specs.declared.programs.Task.TheVariants.{Verify, Check,
 use Rattle.command_line.specs.declared.outputs.Destination.{Destination}
 use Rattle.command_line.specs.declared.outputs.SaveOptions.{SaveOptions}
 use Rattle.command_line.specs.Inputs.{AreReadAtMost, IsApart, IsSavedApart}
-use Rattle.command_line.specs.Outputs.{IsResultGiven, IsSaveGiven, file_of, is_result_file}
-use Rattle.command_line.specs.Options.{AreDeclareOptions, ArePlacesGiven, AreRefinements, AreRefuteOptions, AreSessionOptions, AreVerifyOptions, IsFlagGiven, IsNumberNamed, IsVersionNamed, IsWatchedWithOperator, is_start_named, operand, sources_given, value}
+use Rattle.command_line.specs.Outputs.{IsResultGiven, IsSaveGiven, file_of, is_result_file, is_search, is_source_name}
+use Rattle.command_line.specs.Options.{AreDeclareOptions, ArePlacesGiven, AreRefinements, AreRefuteOptions, AreSessionOptions, AreVerifyOptions, IsFlagGiven, IsNumberNamed, IsStartOnce, IsVersionNamed, IsWatchedWithOperator, has_value, is_start_named, operand, sources_given, value}
 use Rattle.command_line.specs.Places.{AreShownOn, IsStoppedOn}
 
 -- The declaration that a command on a tape is given. Where `verify` and `declare` are given none, there is none, and so one is
@@ -80,13 +81,31 @@ abbrev pub declaration_of_source : ProgramCommand → ArgMatches → Option (Lis
 declaration_of_source command.Declare found behind = value found (codes "from")
 declaration_of_source _ found behind = behind
 
--- The declaration and the last input of a command on a source are the words that stand after it, as far as the command needs them.
+-- The command takes a declaration after a source.
+abbrev pub takes_declaration : ProgramCommand → Bool
+takes_declaration command.Declare = false
+takes_declaration _ = true
+
+-- The command takes two operands after a source: the second one is the last input that it needs, or the result of a search without `-o`.
+abbrev pub takes_second : ProgramCommand → Bool → ArgMatches → Bool
+takes_second called operated found = (is_search called && not (has_value found (codes "output"))) || is_some (last_name operated called)
+
+-- There are more operands after a source than the command takes. clap takes them for a tape and what stands behind it.
+abbrev pub has_more_operands : ProgramCommand → Bool → ArgMatches → Bool
+has_more_operands called second found =
+    list_any (has_value found) (codes "CERTIFICATE" ∷ codes "EVENTS" ∷ codes "OUT" ∷ [])
+    || (not second && has_value found (codes "DECLARATION"))
+    || (not (takes_declaration called) && has_value found (codes "TAPE"))
+
+-- The declaration and the last input of a command on a source are the words that stand after it, as far as the command needs them, and no
+-- others stand there.
 pub record AreAfterSource (called : ProgramCommand) (found : ArgMatches) (declaration : Option (List ℕ)) (last : Option (List ℕ)) : Type 0 where
   pub operated : Bool
   pub watched : IsWatchedWithOperator found operated
   pub declaration_is : declaration ≡ declaration_of_source called found (declaration_behind (is_some (last_name operated called)) (value found (codes "TAPE"))
       (value found (codes "DECLARATION")))
   pub last_is : last ≡ last_behind (is_some (last_name operated called)) (value found (codes "TAPE")) (value found (codes "DECLARATION"))
+  pub others : has_more_operands called (takes_second called operated found) found ≡ false
 
 -- The program, the declaration and the last input of a command are those that are given: the file of its tape where no source is given, or
 -- the files of the parts of its source, in order. Without a declaration the lines of a source are the declaration, and for a tape one is
@@ -159,7 +178,8 @@ pub record IsFollowedOn (program : ProgramNames) (places : PlaceOptions) (follow
   pub shown : AreShownOn (is_tape program) places followed.show
   pub stopped : IsStoppedOn (is_tape program) places followed.stopping
 
--- A watched run with an operator is the one that the operands and the options ask for, shows these cells and is followed so.
+-- A watched run with an operator is the one that the operands and the options ask for, shows these cells and is followed so. No list of
+-- events is given.
 pub record IsWatchedRunGiven (found : ArgMatches) (operands : Operands) (followed : WatchedRunOptions) (session : WatchedSession) : Type 0 where
   pub options : AreSessionOptions found session.options
   pub reader : option_map (λ name. name.now) session.reader ≡ value found (codes "reader")
@@ -170,6 +190,7 @@ pub record IsWatchedRunGiven (found : ArgMatches) (operands : Operands) (followe
   pub declaration : session.declaration.now ≡ watched_declaration operands.program (option_map (λ name. name.now) operands.declaration)
   pub shown : session.options.run.show ≡ followed.show
   pub stopped : session.stopping ≡ followed.stopping
+  pub list : has_value found (codes "EVENTS") ≡ false
 
 -- A run is watched by the list of events that is given last, shows these cells and is followed so.
 pub record IsListWatched (operands : Operands) (followed : WatchedRunOptions) (events : List ℕ) (show : List ℕ) (stopping : Option StopOptions) : Type 0 where
@@ -189,11 +210,13 @@ pub record IsResultApart (called : ProgramCommand) (found : ArgMatches) (out : D
   pub given : IsResultGiven (kind.Program called) found out
   pub apart : IsApart found (inputs_given called found) (file_of out)
 
--- The report of a search that is stuck goes where it is said, and that is neither an input nor where the result goes.
+-- The report of a search that is stuck goes where it is said, and that is neither an input nor where the result goes, and is not named like
+-- a source.
 pub record IsReportApart (found : ArgMatches) (out : Destination) (report : Option (Bor (List ℕ))) : Type 0 where
   pub given : option_map (λ name. name.now) report ≡ value found (codes "report")
   pub apart : ForSome report (λ name. IsApart found (inputs_given command.Guess found) name.now)
   pub another : ForSome report (λ name. is_result_file out name.now ≡ false)
+  pub unlike : ForSome report (λ name. is_source_name name.now ≡ false)
 
 -- The search for a certificate is for the version that is requested, and the certificate and the report of a search that is stuck go
 -- where it is said.
@@ -236,7 +259,7 @@ IsTaskGiven command.Check found operands followed task = IsCheckGiven (last_of o
 
 -- What a command on a program and its declaration is called for, with its operands and as its options ask. The files of the program are
 -- those that are given, and so is the declaration: one is proposed for a tape only if none is given to `verify` or `declare`. One input at
--- most is standard input.
+-- most is standard input. A start or a machine is named only without a declaration.
 pub record IsProgramRequestGiven (called : ProgramCommand) (found : ArgMatches) (asked : ProgramRequest) : Type 0 where
   pub operands : Operands
   pub program_is : asked.program ≡ operands.program
@@ -248,4 +271,5 @@ pub record IsProgramRequestGiven (called : ProgramCommand) (found : ArgMatches) 
   pub once : AreReadAtMost 1 found (inputs_given called found)
   pub places : ArePlacesGiven found asked.places
   pub named : asked.asked ≡ is_start_named found
+  pub start : IsStartOnce found
   pub explained : IsFlagGiven found (codes "why") asked.explained

@@ -85,12 +85,13 @@ pub record IsOnTape (called : MachineCommand) (found : ArgMatches) (task : Machi
   pub given : IsMachineTaskGiven called found places task
 
 -- The parts of the source are those that are given, in their order, and so are the words for cells and places of a run. What is done is what
--- the options ask for, and more is said of a fault exactly if `--why` is given.
+-- the options ask for, and more is said of a fault exactly if `--why` is given. No tape is given.
 pub record IsSourcedGiven (called : MachineCommand) (found : ArgMatches) (asked : SourceProgramRequest) : Type 0 where
   pub parts : sources_given found ≡ Some (map (λ name. name.now) asked.parts.items)
   pub places : ArePlacesGiven found asked.places
   pub task : IsMachineTaskGiven called found asked.places asked.task
   pub explained : IsFlagGiven found (codes "why") asked.explained
+  pub tape : has_value found (codes "TAPE") ≡ false
 
 -- With a source, what is requested is done with that, and otherwise with a tape.
 abbrev pub IsDoneWith : Option (List (List ℕ)) → MachineCommand → ArgMatches → Request → Type 0

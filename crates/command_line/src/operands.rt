@@ -1,12 +1,12 @@
 //! The operands of commands on a program and its declaration: those of a tape, or those that stand after a source. It is
 //! proved that they are the words that were given.
 
-ghost use Rattle.std.specs.Prelude.{◌≡◌, ◌++◌, IfErr, MatchResult, None, Some, codes, false, is_some, map, option_map, true};
+ghost use Rattle.std.specs.Prelude.{◌≡◌, ◌++◌, IfErr, IfOk, MatchResult, None, Some, codes, false, is_some, map, option_map, true};
 ghost use Rattle.std.specs.List.{list_any};
 ghost use Rattle.std.specs.Str.{bytes_eq};
 ghost use Rattle.command_line.specs.Options.{IsWatchedWithOperator, has_value, sources_given, value};
-ghost use Rattle.command_line.specs.Refusals.{IsRefused, are_distinct, has_more_operands, needs_output, result_options, takes_declaration, takes_second};
-ghost use Rattle.command_line.specs.Requests.{AreOperandsGiven, declaration_behind, declaration_given, declaration_of_source, input_names, last_behind, last_name, last_with_tape};
+ghost use Rattle.command_line.specs.Refusals.{IsRefused, are_distinct, has_result_behind, needs_output, result_options};
+ghost use Rattle.command_line.specs.Requests.{AreOperandsGiven, declaration_behind, declaration_given, declaration_of_source, has_more_operands, input_names, last_behind, last_name, last_with_tape, takes_declaration, takes_second};
 ghost use Rattle.command_line.specs.declared.command_name.CommandName.TheVariants.{Program};
 
 use crate::fault::{CommandLineFault, Misuse};
@@ -102,7 +102,8 @@ fn operands_behind<'a>(
 /// of two operands. A single operand might be meant for the declaration.
 fn lacks_output(called: ProgramCommand, found: &ArgMatches<'_>) -> bool
     ensures { result ≡ true → (needs_output called ≡ true)
-        × (has_value found.now (codes "output") ≡ false) }
+        × (has_value found.now (codes "output") ≡ false)
+        × (has_result_behind called found.now ≡ false) }
 {
     if has_value(found, "output") {
         return false;
@@ -156,7 +157,9 @@ fn check_operands(
 ) -> Result<(), CommandLineFault>
     requires sourced { is_some (sources_given found.now) ≡ true }
     requires operated { IsWatchedWithOperator found.now operated }
-    ensures { IfErr result (IsRefused (Program called) found.now) }
+    ensures others { IfOk result (λ _.
+        has_more_operands called (takes_second called operated found.now) found.now ≡ false) }
+    ensures refused { IfErr result (IsRefused (Program called) found.now) }
 {
     if lacks_output(called, found) {
         return Err(CommandLineFault::Misuse(Misuse::NoOutput));

@@ -4,9 +4,9 @@ ghost use Rattle.std.specs.Prelude.{◌≡◌, ◌||◌, IfErr, IfOk, MatchResul
 ghost use Rattle.command_line.specs.Machines.{IsOperatedRunGiven, IsTeletypeGiven, interrupt_given, interrupt_named, tape_given};
 ghost use Rattle.command_line.specs.Options.{ArePlacesGiven, AreSessionOptions, AreTeletypeOptions, IsRunWithOperator, IsWatchedWithOperator, IsWordNamed, sources_given, value};
 ghost use Rattle.command_line.specs.Places.{AreShownOn};
-ghost use Rattle.command_line.specs.Refusals.{IsRefused, IsRefusedByAny};
+ghost use Rattle.command_line.specs.Refusals.{IsRefused, IsRefusedByAny, IsRefusedWithin};
 ghost use Rattle.command_line.specs.declared.command_name.CommandName.TheVariants.{Machine};
-ghost use Rattle.command_line.specs.declared.command_name.MachineCommand.TheVariants.{Teletype};
+ghost use Rattle.command_line.specs.declared.command_name.MachineCommand.TheVariants.{Run, Teletype};
 
 use crate::fault::{CommandLineFault, Misuse};
 use crate::names::FileNames;
@@ -182,7 +182,7 @@ pub fn session_of<'a>(
     requires places { ArePlacesGiven found.now places.now }
     requires operated { IsRunWithOperator found.now true }
     ensures { MatchResult result (IsOperatedRunGiven found.now places.now)
-        (IsRefusedByAny found.now) }
+        (IsRefused (Machine Run) found.now) }
 {
     if has_value(found, "events") {
         return Err(CommandLineFault::Misuse(Misuse::EventsAndOperator));
@@ -222,7 +222,7 @@ pub(crate) fn session_options(
 ) -> Result<SessionOptions, CommandLineFault>
     ensures options { IfOk result (AreSessionOptions found.now) }
     ensures shown { IfOk result (λ options. options.run.show ≡ show) }
-    ensures refused { IfErr result (IsRefusedByAny found.now) }
+    ensures refused { IfErr result (IsRefusedWithin 1000000 found.now) }
 {
     let run = run_options(found, show)?;
     let switches = switches_of(found)?;

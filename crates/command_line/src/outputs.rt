@@ -4,7 +4,7 @@ ghost use Rattle.std.specs.Prelude.{◌≡◌, IfErr, IfOk, not, codes, false, m
 ghost use Rattle.std.specs.Option.{ForSome};
 ghost use Rattle.std.specs.List.{list_any};
 ghost use Rattle.command_line.specs.Options.{value};
-ghost use Rattle.command_line.specs.Outputs.{IsResultGiven, IsSaveGiven, ends_in, file_of, is_emptied, is_result_file, is_same_file, is_saved_as, is_saved_over, is_source_name, is_taken, result_file, result_operand, saved_endings, without_here};
+ghost use Rattle.command_line.specs.Outputs.{IsResultGiven, IsSaveGiven, IsSent, ends_in, file_of, is_emptied, is_result_file, is_same_file, is_saved_as, is_saved_over, is_source_name, is_taken, result_file, result_operand, saved_endings, without_here};
 ghost use Rattle.command_line.specs.Refusals.{AreInputs, AreInputsBeside, IsRefused, IsRefusedByAny};
 
 use crate::command_name::CommandName;
@@ -119,6 +119,8 @@ pub fn report_of<'a>(
         ForSome name (λ it. is_taken it.now (map (λ other. other.now) others.now) ≡ false)) }
     ensures another { IfOk result (λ name.
         ForSome name (λ it. is_result_file out.now it.now ≡ false)) }
+    ensures unlike { IfOk result (λ name.
+        ForSome name (λ it. is_source_name it.now ≡ false)) }
     ensures refused { IfErr result (IsRefusedByAny found.now) }
 {
     let Some(name) = found.get_str("report") else {
@@ -144,6 +146,8 @@ pub fn punch_of<'a>(
         value found.now (codes "punch")) }
     ensures free { IfOk result (λ name.
         ForSome name (λ it. is_taken it.now (map (λ input. input.now) inputs.now) ≡ false)) }
+    ensures unlike { IfOk result (λ name.
+        ForSome name (λ it. is_source_name it.now ≡ false)) }
 {
     let Some(name) = found.get_str("punch") else {
         return Ok(None);
@@ -172,7 +176,7 @@ fn result_operand(called: CommandName, found: &ArgMatches<'_>) -> &'static str
 
 /// Where the result of a command goes: to the value of `-o`, and without it to the operand.
 fn destination_of<'a>(called: CommandName, found: &ArgMatches<'a>) -> Destination<'a>
-    ensures given { IsResultGiven called found.now result }
+    ensures sent { IsSent called found.now result }
     ensures file { file_of result ≡ result_file called found.now }
 {
     let operand = operand_of(found, result_operand(called, found));

@@ -1,10 +1,10 @@
 //! The cells and the places that options name.
 
-ghost use Rattle.std.specs.Prelude.{◌≡◌, ◌==◌, Any, None, MatchOption, MatchResult, Some, codes, is_some, map, option_map, true};
+ghost use Rattle.std.specs.Prelude.{◌≡◌, ◌==◌, Any, IfErr, IfOk, None, MatchOption, MatchResult, Some, codes, is_some, map, option_map, false, true};
 ghost use Rattle.std.specs.List.{position};
-ghost use Rattle.command_line.specs.Options.{ArePlacesGiven, IsNumberNamed, sources_given, value};
+ghost use Rattle.command_line.specs.Options.{ArePlacesGiven, IsNumberNamed, IsTraced, sources_given, value};
 ghost use Rattle.command_line.specs.Places.{AreCellsOf, AreCellsOfText, AreCellsOfTexts, AreCellsRefused, AreShownOn, AreStopsNamed, AreTextsRefused, IsFollowed, IsStoppedOn, IsUntilNamed, IsVisitRefused, is_followed};
-ghost use Rattle.command_line.specs.Refusals.{IsPlaceMisused, IsRefusedByAny, IsTraced};
+ghost use Rattle.command_line.specs.Refusals.{IsPlaceMisused, IsRefusedByAny};
 ghost use Rattle.command_line.specs.declared.fault.Misuse.TheVariants.{Place};
 ghost use Rattle.command_line.specs.OctalPlaces.{cells_between, cells_of_word};
 ghost use Rattle.streams.specs.Text.{octal_word};
@@ -307,7 +307,7 @@ pub struct StopOptions {
 
 /// Whether a line is written for each instruction.
 fn is_traced(found: &ArgMatches<'_>) -> bool
-    ensures { result ≡ true → IsTraced found.now }
+    ensures { IsTraced found.now result }
 {
     let trace = is_given(found, "trace");
     let long = is_given(found, "trace-long");
@@ -316,7 +316,9 @@ fn is_traced(found: &ArgMatches<'_>) -> bool
 
 /// How many of the last instructions are shown, if that is requested.
 fn last_of(found: &ArgMatches<'_>) -> Result<Option<u32>, CommandLineFault>
-    ensures { MatchResult result (IsNumberNamed 1 1000000 (value found.now (codes "last"))) (IsRefusedByAny found.now) }
+    ensures last { IfOk result (IsNumberNamed 1 1000000 (value found.now (codes "last"))) }
+    ensures alone { IfOk result (λ last. is_some last ≡ true → IsTraced found.now false) }
+    ensures refused { IfErr result (IsRefusedByAny found.now) }
 {
     let is_traced = is_traced(found);
     match found.get_str("last") {

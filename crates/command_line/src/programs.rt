@@ -4,7 +4,7 @@
 ghost use Rattle.std.specs.Prelude.{◌≡◌, IfErr, IfOk, MatchResult, None, codes, false, is_some, map, option_map, unwrap_or, true};
 ghost use Rattle.std.specs.Option.{ForSome};
 ghost use Rattle.command_line.specs.Inputs.{AreReadAtMost};
-ghost use Rattle.command_line.specs.Options.{ArePlacesGiven, IsVersionNamed, IsWatchedWithOperator, named, sources_given, value, version_named};
+ghost use Rattle.command_line.specs.Options.{ArePlacesGiven, IsStartOnce, IsVersionNamed, IsWatchedWithOperator, named, sources_given, value, version_named};
 ghost use Rattle.command_line.specs.Outputs.{is_taken};
 ghost use Rattle.command_line.specs.Refusals.{AreInputsBeside, IsRefused, IsRefusedByAny};
 ghost use Rattle.command_line.specs.Requests.{IsDeclareGiven, IsFollowedOn, IsGuessGiven, IsOperated, IsWatchedRunGiven, IsProgramRequestGiven, IsRefuteGiven, IsReportGiven, IsTaskGiven, IsVerifyGiven, inputs_given, is_tape, last_of, part_names, saved_by, task_command, watched_declaration, watched_tape};
@@ -274,7 +274,7 @@ fn watched_session_of<'a>(
 ) -> Result<WatchedSession<'a>, CommandLineFault>
     requires operated { IsWatchedWithOperator found.now true }
     ensures { MatchResult result (IsWatchedRunGiven found.now operands.now followed)
-        (IsRefusedByAny found.now) }
+        (IsRefused (Program Watch) found.now) }
 {
     if has_value(found, "EVENTS") {
         return Err(CommandLineFault::Misuse(Misuse::ListAndOperator));
@@ -373,7 +373,7 @@ fn verify_task<'a>(
 ) -> Result<Task<'a>, CommandLineFault>
     requires { map (λ input. input.now) inputs.now ≡ named found.now (inputs_given Verify found.now) }
     ensures { MatchResult result (IsVerifyGiven found.now operands.now)
-        (IsRefusedByAny found.now) }
+        (IsRefused (Program Verify) found.now) }
 {
     let save = save_of(found, inputs, operands.declaration.is_none())?;
     let options = verify_options(found)?;
@@ -457,7 +457,7 @@ fn task_of<'a>(
         (IsRefused (Program called) found.now) }
 {
     match called {
-        ProgramCommand::Verify => Ok(verify_task(found, operands, inputs)?),
+        ProgramCommand::Verify => verify_task(found, operands, inputs),
         ProgramCommand::Watch => Ok(Task::Watch {
             events: name_or_input(&operands.last),
             show: followed.show,
@@ -517,14 +517,15 @@ fn task_on<'a>(
 ) -> Result<Task<'a>, CommandLineFault>
     ensures given { IfOk result (IsTaskGiven called found.now operands.now followed) }
     ensures once { IfOk result (λ task. AreReadAtMost 1 found.now (inputs_given called found.now)) }
+    ensures start { IfOk result (λ task. IsStartOnce found.now) }
     ensures refused { IfErr result (IsRefused (Program called) found.now) }
 {
     let inputs = read_once(alloc, found, input_names(called, is_sourced(found)))?;
+    start_once(found)?;
     if is_operated(called, found) {
         let session = watched_session_of(found, operands, followed)?;
         return Ok(Task::WatchSession(session));
     }
-    start_once(found)?;
     task_of(called, found, operands, &inputs, followed)
 }
 

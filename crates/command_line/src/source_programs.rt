@@ -1,9 +1,9 @@
 //! What may be requested with a source in place of a tape, without a declaration.
 
-ghost use Rattle.std.specs.Prelude.{◌≡◌, MatchResult, option_map};
+ghost use Rattle.std.specs.Prelude.{◌≡◌, ◌&&◌, IfErr, IfOk, MatchResult, codes, false, is_some, option_map};
 ghost use Rattle.command_line.specs.Machines.{tape_given};
-ghost use Rattle.command_line.specs.Options.{ArePlacesGiven};
-ghost use Rattle.command_line.specs.Refusals.{IsRefused, IsRefusedByAny};
+ghost use Rattle.command_line.specs.Options.{ArePlacesGiven, has_value, sources_given};
+ghost use Rattle.command_line.specs.Refusals.{IsRefused};
 ghost use Rattle.command_line.specs.Sources.{IsMachineGiven, IsMachineTaskGiven, machine_of, machine_task_command};
 ghost use Rattle.command_line.specs.declared.command_name.CommandName.TheVariants.{Machine};
 ghost use Rattle.command_line.specs.declared.command_name.MachineCommand.TheVariants.{Run};
@@ -91,7 +91,7 @@ fn run_task<'a>(
     requires tape { option_map (λ name. name.now) tape ≡ tape_given found.now }
     requires places { ArePlacesGiven found.now places.now }
     ensures { MatchResult result (IsMachineTaskGiven Run found.now places.now)
-        (IsRefusedByAny found.now) }
+        (IsRefused (Machine Run) found.now) }
 {
     if has_operator(found) {
         let session = session_of(alloc, found, tape, places)?;
@@ -115,12 +115,24 @@ fn task_of<'a>(
         (IsRefused (Machine called) found.now) }
 {
     match called {
-        MachineCommand::Run => Ok(run_task(alloc, found, tape, places)?),
+        MachineCommand::Run => run_task(alloc, found, tape, places),
         MachineCommand::Teletype => {
             Ok(MachineTask::Teletype(teletype_of(alloc, found, tape, places)?))
         }
         MachineCommand::Dump => Ok(MachineTask::Dump(dump_request(alloc, found, tape)?)),
     }
+}
+
+/// Ensures that a program is not given by both its tape and its source.
+fn tape_or_source(called: MachineCommand, found: &ArgMatches<'_>) -> Result<(), CommandLineFault>
+    ensures alone { IfOk result (λ _.
+        (is_some (sources_given found.now) && has_value found.now (codes "TAPE")) ≡ false) }
+    ensures refused { IfErr result (IsRefused (Machine called) found.now) }
+{
+    if is_sourced(found) && has_value(found, "TAPE") {
+        return Err(CommandLineFault::Misuse(Misuse::TapeAndSource));
+    }
+    Ok(())
 }
 
 /// The request of `run`, `teletype` or `dump`.
@@ -133,9 +145,7 @@ pub(crate) fn machine_request<'a>(
         (IsRefused (Machine called) found.now) }
 {
     let places = places_of(alloc, found)?;
-    if is_sourced(found) && has_value(found, "TAPE") {
-        return Err(CommandLineFault::Misuse(Misuse::TapeAndSource));
-    }
+    tape_or_source(called, found)?;
     let task = task_of(alloc, called, found, tape_of(found), &places)?;
     match found.get_strs("source") {
         None => Ok(Request::Tape(task)),

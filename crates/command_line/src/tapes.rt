@@ -4,7 +4,8 @@ ghost use Rattle.std.specs.Prelude.{◌≡◌, IfErr, IfOk, MatchResult, Some, c
 ghost use Rattle.command_line.specs.Machines.{IsDumpGiven, IsMigrateGiven, IsRunGiven, IsSourceGiven, migrated_version, tape_given, version_with};
 ghost use Rattle.command_line.specs.Refusals.{IsRefused, IsRefusedByAny};
 ghost use Rattle.command_line.specs.Options.{ArePlacesGiven, value, value_or};
-ghost use Rattle.command_line.specs.declared.command_name.CommandName.TheVariants.{Migrate, Source};
+ghost use Rattle.command_line.specs.declared.command_name.CommandName.TheVariants.{Machine, Migrate, Source};
+ghost use Rattle.command_line.specs.declared.command_name.MachineCommand.TheVariants.{Run};
 
 use crate::command_name::CommandName;
 use crate::fault::{CommandLineFault, Misuse};
@@ -66,7 +67,7 @@ pub(crate) fn run_request<'a>(
 ) -> Result<RunRequest<'a>, CommandLineFault>
     requires tape { option_map (λ name. name.now) tape ≡ tape_given found.now }
     requires places { ArePlacesGiven found.now places.now }
-    ensures { MatchResult result (IsRunGiven found.now places.now) (IsRefusedByAny found.now) }
+    ensures { MatchResult result (IsRunGiven found.now places.now) (IsRefused (Machine Run) found.now) }
 {
     read_once(alloc, found, &["source", "TAPE", "events"])?;
     let long = is_given(found, "trace-long");

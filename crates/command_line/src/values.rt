@@ -4,10 +4,10 @@ ghost use Rattle.std.specs.Prelude.{◌≡◌, ◌≤◌, ◌||◌, IfErr, IfOk,
 ghost use Rattle.std.specs.List.{count_by, list_any};
 ghost use Rattle.command_line.specs.Inputs.{AreReadAtMost};
 ghost use Rattle.command_line.specs.Outputs.{is_standard_input};
-ghost use Rattle.command_line.specs.Refusals.{AreInputs, AreOfInputs, IsRefused, IsRefusedByAny, is_declared};
+ghost use Rattle.command_line.specs.Refusals.{AreInputs, AreOfInputs, IsRefused, IsRefusedByAny, IsRefusedWithin};
 ghost use Rattle.command_line.specs.declared.command_name.CommandName.TheVariants.{Machine};
 ghost use Rattle.command_line.specs.declared.command_name.MachineCommand.TheVariants.{Teletype};
-ghost use Rattle.command_line.specs.Options.{AreDeclareOptions, AreRefinements, AreRefuteOptions, AreRunOptions, AreVerifyOptions, IsFlagGiven, IsNumberNamed, has_value, is_start_named, machine_given, machine_named, named, number_or, operand, sources_given, start_given, value, value_or, values};
+ghost use Rattle.command_line.specs.Options.{AreDeclareOptions, AreRefinements, AreRefuteOptions, AreRunOptions, AreVerifyOptions, IsFlagGiven, IsNumberNamed, IsStartOnce, has_value, is_declared, is_start_named, machine_given, machine_named, named, number_or, operand, sources_given, start_given, value, value_or, values};
 
 use crate::fault::{CommandLineFault, Misuse};
 use clap::ArgMatches;
@@ -197,7 +197,7 @@ pub(crate) fn run_options(
 ) -> Result<RunOptions, CommandLineFault>
     ensures options { IfOk result (AreRunOptions found.now) }
     ensures shown { IfOk result (λ options. options.show ≡ show) }
-    ensures refused { IfErr result (IsRefusedByAny found.now) }
+    ensures refused { IfErr result (IsRefusedWithin 1000000 found.now) }
 {
     let start = start_of(found)?;
     let Some(rounds) = number_or(found, "steps", 1, MOST_ROUNDS, ROUNDS) else {
@@ -238,7 +238,7 @@ pub(crate) fn refinements_of(found: &ArgMatches<'_>) -> Refinements
 
 /// How a run that violates a declaration is searched for.
 pub(crate) fn refute_options(found: &ArgMatches<'_>) -> Result<RefuteOptions, CommandLineFault>
-    ensures { MatchResult result (AreRefuteOptions found.now) (IsRefusedByAny found.now) }
+    ensures { MatchResult result (AreRefuteOptions found.now) (IsRefusedWithin 100000000 found.now) }
 {
     let Some(steps) = number_or(found, "steps", 1, MOST_SEARCH_STEPS, SEARCH_STEPS) else {
         return Err(CommandLineFault::Steps(MOST_SEARCH_STEPS));
@@ -255,7 +255,7 @@ pub(crate) fn refute_options(found: &ArgMatches<'_>) -> Result<RefuteOptions, Co
 
 /// How it is found out whether a program complies with its declaration.
 pub(crate) fn verify_options(found: &ArgMatches<'_>) -> Result<VerifyOptions, CommandLineFault>
-    ensures { MatchResult result (AreVerifyOptions found.now) (IsRefusedByAny found.now) }
+    ensures { MatchResult result (AreVerifyOptions found.now) (IsRefusedWithin 100000000 found.now) }
 {
     let start = start_of(found)?;
     let profile = profile_of(found)?;
@@ -347,7 +347,8 @@ fn is_declared(found: &ArgMatches<'_>) -> bool
 
 /// Ensures that a declaration which is given determines the start and the machine.
 pub(crate) fn start_once(found: &ArgMatches<'_>) -> Result<(), CommandLineFault>
-    ensures { IfErr result (IsRefusedByAny found.now) }
+    ensures once { IfOk result (λ _. IsStartOnce found.now) }
+    ensures refused { IfErr result (IsRefusedByAny found.now) }
 {
     if is_declared(found) && is_start_named(found) {
         return Err(CommandLineFault::Misuse(Misuse::DeclarationAndStart));

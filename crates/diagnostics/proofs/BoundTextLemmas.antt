@@ -1,19 +1,25 @@
 -- What is told of the pointer of an instruction.
 use Rattle.std.proofs.Common.{ℕ, ◌≡◌, ◌+◌, ◌<◌, ◌∙◌, List, ◌++◌, Option, Some, sym, ap, subst, refl}
-use Rattle.std.specs.Prelude.{codes, true, false, Bool, ◌&&◌}
+use Rattle.std.specs.Prelude.{codes, true, false, Bool, None, not, ◌&&◌, ◌==◌}
 use Rattle.word12.specs.Words.{octal_text}
 use Rattle.std.proofs.lemmas.Bool.{true≢false}
-use Rattle.wordset.specs.Words.{Words, HasNoneFrom, IsFirstFrom, meet}
+use Rattle.wordset.specs.Words.{Words, HasNoneFrom, IsFirstFrom, has_some, meet}
 use Rattle.wordset.specs.Lanes.{words}
 use Rattle.wordset.specs.Ranging.{IsLastFrom}
+use Rattle.instruct.specs.Operates.{MqOperate, Mql, Mqa, Swp, Cam, ClaMqa, ClaSwp, mq_operate_if}
+use Rattle.instruct.specs.declared.Profile.{Profile}
 use Rattle.bin_tape.specs.Image.{word_at}
-use Rattle.declaration.specs.Declaration.{Declaration}
-use Rattle.diagnostics.specs.BoundText.{AddsRanges, AddsSet, AreEnough, IsNextTest, IsPointer, IsTestOf, LosesBound, NamesNoTest, NamesTest, SaysEnough, SaysLost, SaysPointer, SaysSufficient, SaysTest, all_ranges, behind, ends_computation, first_range, further_range, is_test, later_test, next_test, no_range, place_text, range_text, some_ranges}
+use Rattle.declaration.specs.Declaration.{Declaration, IsListed}
+use Rattle.diagnostics.specs.BoundText.{AddsRanges, AddsSet, AreEnough, IsNextTest, IsPointer, IsTestOf, LosesBound, NamesNoTest, NamesTest, SaysEnough, SaysLost, SaysPointer, SaysSufficient, SaysTest, all_ranges, behind, ends_computation, first_range, further_range, is_test, last_passed, later_test, next_test, no_range, place_text, range_text, replaces_by_mq, some_ranges}
 use Rattle.diagnostics.proofs.PieceLemmas.{joined, joined_three}
 
 both_true : (b c : Bool) → (b && c) ≡ true → (b ≡ true) × (c ≡ true)
 both_true true c e = (refl, e)
 both_true false c e = absurd (true≢false (sym e))
+
+not_false : (b : Bool) → not b ≡ false → b ≡ true
+not_false true e = refl
+not_false false e = absurd (true≢false e)
 
 -- The first range of a set is told.
 pub first_told : (lanes set : List ℕ) (from after low high : ℕ) (old new : List ℕ) → set ≡ lanes → from ≡ 0 → IsFirstFrom from (words set) low
@@ -68,13 +74,16 @@ pub none_named : (old mid new more : List ℕ) → mid ≡ old ++ codes "no skip
 none_named old mid new more first second = record { rest = more; is = joined old mid new (codes "no skip in this body ") more first second }
 
 -- The lines on the words that would be enough.
-pub enough_said : (image : List (Option ℕ)) (d : Declaration) (at cell word : ℕ) (known found set : Words) (old begun told ended new : List ℕ) → word_at image at ≡ Some word
+pub enough_said : (image : List (Option ℕ)) (d : Declaration) (at cell word : ℕ) (known found set : Words) (empty : Bool) (old begun told ended new : List ℕ)
+    → word_at image at ≡ Some word → IsListed d.reads cell → empty ≡ not (has_some set) → empty ≡ false
     → AreEnough d at word found → set ≡ meet found known → begun ≡ old ++ codes "for this instruction, it would be enough if the pointer held only "
     → AddsSet set begun told → ended ≡ told ++ codes "\n" → SaysTest image d at cell ended new → SaysEnough image d at cell known old new
-enough_said image d at cell word known found set old begun told ended new is enough both begins adds ends test = record {
+enough_said image d at cell word known found set empty old begun told ended new is read lacks found_some enough both begins adds ends test = record {
   word = word;
   is = is;
+  read = read;
   set = set;
+  some = not_false (has_some set) (sym lacks ∙ found_some);
   enough = λ held inside. enough held (both_true (found held) (known held) (sym (ap (λ (s : Words). s held) both) ∙ inside)).0;
   among = λ held inside. (both_true (found held) (known held) (sym (ap (λ (s : Words). s held) both) ∙ inside)).1;
   told = told;
@@ -98,18 +107,30 @@ pointer_said image d at cell known old begun told ended enough new pointer first
 }
 
 -- The word behind an address is a test.
-pub test_reached : (image : List (Option ℕ)) (at here step word : ℕ) (held : Option ℕ) (tests : Bool) → ((t : ℕ) → IsNextTest image here t → IsNextTest image at t)
-    → step ≡ behind here → held ≡ word_at image step → held ≡ Some word → tests ≡ is_test word → tests ≡ true → IsNextTest image at step
-test_reached image at here step word held tests before same had is says so =
+pub test_reached : (image : List (Option ℕ)) (profile : Profile) (at here step word : ℕ) (held : Option ℕ) (tests : Bool)
+    → ((t : ℕ) → IsNextTest image profile here t → IsNextTest image profile at t) → step ≡ behind here → held ≡ word_at image step → held ≡ Some word
+    → tests ≡ is_test word → tests ≡ true → IsNextTest image profile at step
+test_reached image profile at here step word held tests before same had is says so =
     before step
-    (subst (λ (s : ℕ). IsNextTest image here s) (sym same)
+    (subst (λ (s : ℕ). IsNextTest image profile here s) (sym same)
     (next_test here word (subst (λ (s : ℕ). word_at image s ≡ Some word) same (sym had ∙ is)) (sym says ∙ so)))
 
 -- The word behind an address is no test, and does not end the computation.
-pub test_further : (image : List (Option ℕ)) (at here step word : ℕ) (held : Option ℕ) (tests ends : Bool) → ((t : ℕ) → IsNextTest image here t → IsNextTest image at t)
-    → step ≡ behind here → held ≡ word_at image step → held ≡ Some word → tests ≡ is_test word → tests ≡ false → ends ≡ ends_computation word → ends ≡ false
-    → (t : ℕ) → IsNextTest image step t → IsNextTest image at t
-test_further image at here step word held tests ends before same had is says so tells goes t follows =
+pub test_further : (image : List (Option ℕ)) (profile : Profile) (at here step last word : ℕ) (held : Option ℕ) (tests ends : Bool)
+    → ((t : ℕ) → IsNextTest image profile here t → IsNextTest image profile at t) → step ≡ behind here → held ≡ word_at image step → held ≡ Some word
+    → tests ≡ is_test word → tests ≡ false → ends ≡ ends_computation profile word → ends ≡ false → last ≡ last_passed word step
+    → (t : ℕ) → IsNextTest image profile last t → IsNextTest image profile at t
+test_further image profile at here step last word held tests ends before same had is says so tells goes passes t follows =
     before t
     (later_test here word t (subst (λ (s : ℕ). word_at image s ≡ Some word) same (sym had ∙ is)) (sym says ∙ so) (sym tells ∙ goes)
-    (subst (λ (s : ℕ). IsNextTest image s t) same follows))
+    (subst (λ (s : ℕ). IsNextTest image profile s t) (passes ∙ ap (λ s. last_passed word s) same) follows))
+
+-- AC 7777 becomes the word 0000 of MQ by the operations of group 3 that clear AC or replace it, and by no other.
+pub replaced : (o : Option MqOperate) → ((mq_operate_if o (4095, 0)).0 == 0) ≡ replaces_by_mq o
+replaced (Some Mql) = refl
+replaced (Some Mqa) = refl
+replaced (Some Swp) = refl
+replaced (Some Cam) = refl
+replaced (Some ClaMqa) = refl
+replaced (Some ClaSwp) = refl
+replaced None = refl

@@ -1,7 +1,7 @@
 -- What `check` reads and counts.
 use Rattle.std.proofs.Common.{ℕ, suc, ◌+◌, length, map, arith, ◌≡◌, ◌<◌, ◌==◌, ◌&&◌, ◌||◌, ◌⊎◌, ◌∷◌, ◌++◌, [], Bool, true, false, List, Option, Some, None, refl, sym, ◌∙◌, ap, inl, inr}
 use Rattle.std.specs.Prelude.{decimal, IfSome, OnOk, MatchResult, Result, Ok, Err}
-use Rattle.std.proofs.lemmas.Bool.{true≢false, eq-eqb}
+use Rattle.std.proofs.lemmas.Bool.{true≢false, and_from, eq-eqb, or_left, or_right}
 use Rattle.wordset.specs.Words.{Words, SameWords, some_below}
 use Rattle.policy.specs.Runs.{IsSafe}
 use Rattle.judge.specs.Landing.{Case}
@@ -49,24 +49,8 @@ certificate_fault_is (faults.BadLine n) failed had left h wanted read = told_of 
 certificate_fault_is (faults.Order n) failed had left h wanted read = told_of had (faults.Order n) (λ e. cc) (λ e. cc) h
 certificate_fault_is faults.TooMany failed had left h wanted read = told_of had faults.TooMany (λ e. cc) (λ e. cc) h
 
-or_left : (a b : Bool) → a ≡ true → (a || b) ≡ true
-or_left true b e = refl
-or_left false b e = absurd (true≢false (sym e))
-
-or_right : (a b : Bool) → b ≡ true → (a || b) ≡ true
-or_right true b e = refl
-or_right false b e = e
-
 self_eq : (n : ℕ) → (n == n) ≡ true
 self_eq n = eq-eqb n n refl
-
-both : (a b : Bool) → a ≡ true → b ≡ true → (a && b) ≡ true
-both true b e f = f
-both false b e f = absurd (true≢false (sym e))
-
-second : (a b : Bool) → (a && b) ≡ true → b ≡ true
-second true b e = e
-second false b e = absurd (true≢false (sym e))
 
 -- a routine whose body has the cell
 pub record HasBody (rs : List Routine) (a : ℕ) : Type 0 where
@@ -79,7 +63,7 @@ body_here : (r : Routine) (rs : List Routine) (a : ℕ) (here : Bool) → words 
 body_here r rs a true is rest h = record {
   entry = r.entry;
   is_entry = or_left (r.entry == r.entry) _ (self_eq r.entry);
-  in_body = or_left (r.entry == r.entry && words r.body a) _ (both (r.entry == r.entry) (words r.body a) (self_eq r.entry) is);
+  in_body = or_left (r.entry == r.entry && words r.body a) _ (and_from (r.entry == r.entry) (words r.body a) (self_eq r.entry) is);
 }
 body_here r rs a false is rest h =
     let more = rest h in

@@ -1,19 +1,11 @@
 -- A fact of a list that lacks a mark.
 use Rattle.std.proofs.Common.{ℕ, ◌≡◌, ◌<◌, ◌+◌, ◌&&◌, ◌||◌, ◌∙◌, Bool, true, false, not, List, [], ◌∷◌, zero, suc, length, refl, sym, ap, subst, arith}
 use Rattle.std.specs.List.{list_any}
-use Rattle.std.proofs.lemmas.Bool.{true≢false}
+use Rattle.std.proofs.lemmas.Bool.{or_left, or_right}
 use Rattle.domain.specs.Facts.{Fact}
 use Rattle.facts.specs.Landing.{fact_at}
 use Rattle.diagnostics.specs.ReasonContexts.{has_mark}
 use Rattle.diagnostics.specs.declared.verdicts.reason_context.Distinction.{Distinction}
-
-or_left : (a b : Bool) → a ≡ true → (a || b) ≡ true
-or_left true b e = refl
-or_left false b e = absurd (true≢false (sym e))
-
-or_right : (a b : Bool) → b ≡ true → (a || b) ≡ true
-or_right true b e = refl
-or_right false b e = e
 
 -- the one at a place passes a test, so some one does
 some_at : (p : Fact → Bool) (fs : List Fact) (i : ℕ) → i < length fs → p (fact_at fs i) ≡ true → list_any p fs ≡ true

@@ -1,13 +1,17 @@
 -- What is said about a pointer where a search for a certificate is stuck: the cell that is named is that of the instruction, the words
 -- that would be enough are permitted ones, and the skip that could show it follows an instruction of the same body that adds the pointer.
-use Rattle.std.specs.Prelude.{ℕ, ◌≡◌, ◌+◌, ◌%◌, ◌<◌, ◌==◌, ◌&&◌, ◌⊎◌, ◌++◌, Bool, true, false, codes, if◌then◌else◌, List, [], length, Option, Some, None}
+use Rattle.std.specs.Prelude.{ℕ, ◌≡◌, ◌+◌, ◌%◌, ◌<◌, ◌==◌, ◌&&◌, ◌||◌, ◌⊎◌, ◌++◌, Bool, true, false, not, codes, if◌then◌else◌, List, [], length, Option, Some, None}
 use Rattle.word12.specs.Words.{octal_text}
-use Rattle.wordset.specs.Words.{Words, HasNoneFrom, IsFirstFrom}
+use Rattle.wordset.specs.Words.{Words, HasNoneFrom, IsFirstFrom, has_some}
 use Rattle.wordset.specs.Ranging.{IsLastFrom}
 use Rattle.instruct.specs.Bits.{has_bit, is_indirect, named_cell}
-use Rattle.instruct.specs.Instructions.{format_of, is_group2, is_operate, operation_of, refers_to_memory}
-use Rattle.instruct.specs.Skips.{may_skip, skip_condition_of}
+use Rattle.instruct.specs.Instructions.{Clears, DeviceAction, Takes, device_action, format_of, is_group2, operation_of, refers_to_memory}
+use Rattle.instruct.specs.Operates.{MqOperate, Mqa, mq_operate_of}
+use Rattle.instruct.specs.Skips.{may_go_on, skip_condition_of}
 use Rattle.instruct.specs.Names.{name_of}
+use Rattle.instruct.specs.declared.Format.{Format}
+use Rattle.instruct.specs.declared.Format.TheVariants as format
+use Rattle.instruct.specs.declared.Profile.{Profile}
 use Rattle.instruct.specs.declared.Operation.{Operation}
 use Rattle.instruct.specs.declared.Operation.TheVariants as operation
 use Rattle.bin_tape.specs.Image.{word_at}
@@ -19,9 +23,14 @@ use Rattle.certificate_lines.specs.Certificate.{Certificate}
 abbrev pub is_reference : ℕ → Bool
 is_reference word = refers_to_memory word
 
--- The word is of group 2, with a test.
+-- The word is of group 2 and tests AC: it has SMA (0100) or SZA (0040), which are SPA and SNA where they are reversed. A skip on the link
+-- alone is no test of a sum in AC, since the link may be older than the sum; nor is SKP, which tests nothing.
 abbrev pub is_test : ℕ → Bool
-is_test word = is_group2 (format_of word) && may_skip (skip_condition_of word)
+is_test word = is_group2 (format_of word) && (has_bit 6 word || has_bit 5 word)
+
+-- The word is of group 2 and skips in any case.
+abbrev pub skips_always : ℕ → Bool
+skips_always word = is_group2 (format_of word) && not (may_go_on (skip_condition_of word))
 
 -- The instruction at an address refers to memory through this cell, which is a variable.
 pub record IsPointer (image : List (Option ℕ)) (d : Declaration) (at cell : ℕ) : Type 0 where
@@ -69,19 +78,44 @@ ends_sum operation.Jms = true
 ends_sum operation.Jmp = true
 ends_sum other = false
 
--- A word that ends a computation in AC: it stores AC, clears it or goes elsewhere.
-abbrev pub ends_computation : ℕ → Bool
-ends_computation word = if is_reference word then ends_sum (operation_of word) else is_operate (format_of word) && has_bit 7 word
+-- What a device word does to the processor clears AC, as KCC does, or replaces it, as KRB does.
+abbrev pub replaces_by_device : Option DeviceAction → Bool
+replaces_by_device (Some Clears) = true
+replaces_by_device (Some Takes) = true
+replaces_by_device other = false
+
+-- An operation of group 3 clears AC or replaces it by MQ: each one does but MQA, which ors MQ into AC.
+abbrev pub replaces_by_mq : Option MqOperate → Bool
+replaces_by_mq (Some Mqa) = false
+replaces_by_mq (Some other) = true
+replaces_by_mq None = false
+
+-- A word of this format ends a computation in AC: it stores AC, goes elsewhere, clears AC or replaces it. CLA is 0200 in groups 1 and 2.
+abbrev pub ends_as : Profile → ℕ → Format → Bool
+ends_as profile word (format.Reference o) = ends_sum o
+ends_as profile word format.Device = replaces_by_device (device_action profile word)
+ends_as profile word format.Group1 = has_bit 7 word
+ends_as profile word format.Group2 = has_bit 7 word
+ends_as profile word format.Group3 = replaces_by_mq (mq_operate_of word)
+
+-- A word ends a computation in AC on a machine of this profile.
+abbrev pub ends_computation : Profile → ℕ → Bool
+ends_computation profile word = ends_as profile word (format_of word)
 
 -- The address behind another one.
 abbrev pub behind : ℕ → ℕ
 behind at = (at + 1) % 4096
 
--- The first skip with a test that follows an address on the tape, where no word before it ends the computation.
-pub data IsNextTest (image : List (Option ℕ)) : ℕ → ℕ → Type 0 where
-  next_test : (at word : ℕ) → word_at image (behind at) ≡ Some word → is_test word ≡ true → IsNextTest image at (behind at)
-  later_test : (at word test : ℕ) → word_at image (behind at) ≡ Some word → is_test word ≡ false → ends_computation word ≡ false → IsNextTest image (behind at) test
-      → IsNextTest image at test
+-- The last address that a word at an address passes: its own, or the next one where the word skips in any case.
+abbrev pub last_passed : ℕ → ℕ → ℕ
+last_passed word at = if skips_always word then behind at else at
+
+-- The first test that follows an address on the tape, where no word before it ends the computation. A word behind one that skips in any
+-- case is passed over.
+pub data IsNextTest (image : List (Option ℕ)) (profile : Profile) : ℕ → ℕ → Type 0 where
+  next_test : (at word : ℕ) → word_at image (behind at) ≡ Some word → is_test word ≡ true → IsNextTest image profile at (behind at)
+  later_test : (at word test : ℕ) → word_at image (behind at) ≡ Some word → is_test word ≡ false → ends_computation profile word ≡ false
+      → IsNextTest image profile (last_passed word (behind at)) test → IsNextTest image profile at test
 
 -- In the body that has an address the tape has a word that adds the pointer to AC, and the skip is the first test that follows it.
 pub record IsTestOf (image : List (Option ℕ)) (d : Declaration) (at cell test : ℕ) : Type 0 where
@@ -90,7 +124,7 @@ pub record IsTestOf (image : List (Option ℕ)) (d : Declaration) (at cell test 
   pub is : word_at image adding ≡ Some word
   pub adds : AddsCell word adding cell
   pub body : AreInOneBody d at adding
-  pub follows : IsNextTest image adding test
+  pub follows : IsNextTest image d.profile adding test
 
 -- The name of the word at an address, if the tape has one.
 abbrev pub name_at : Declaration → Option ℕ → List ℕ
@@ -133,12 +167,15 @@ pub record NamesNoTest (old new : List ℕ) : Type 0 where
 abbrev pub SaysTest : List (Option ℕ) → Declaration → ℕ → ℕ → List ℕ → List ℕ → Type 0
 SaysTest image d at cell old new = NamesTest image d at cell old new ⊎ NamesNoTest old new
 
--- The line of words that would be enough, and the line on what could show them: each of these words is among those that the pointer may
--- hold, and with each the instruction refers to a cell to which it may refer.
+-- The line of words that would be enough, and the line on what could show them: there are such words, each of them is among those that the
+-- pointer may hold, and with each the instruction refers to a cell to which it may refer. The pointer itself, which the instruction reads,
+-- may be read.
 pub record SaysEnough (image : List (Option ℕ)) (d : Declaration) (at cell : ℕ) (known : Words) (old new : List ℕ) : Type 0 where
   pub word : ℕ
   pub is : word_at image at ≡ Some word
+  pub read : IsListed d.reads cell
   pub set : Words
+  pub some : has_some set ≡ true
   pub enough : AreEnough d at word set
   pub among : (held : ℕ) → set held ≡ true → known held ≡ true
   pub told : List ℕ

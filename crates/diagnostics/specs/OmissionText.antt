@@ -5,6 +5,7 @@ use Rattle.word12.specs.Words.{octal_text}
 use Rattle.instruct.specs.Bits.{is_indirect, named_cell}
 use Rattle.instruct.specs.Instructions.{Meaning, Isz, Dca, Jms, Jmp, instruction_of, kind_of, meaning_of}
 use Rattle.instruct.specs.Operates.{is_halt}
+use Rattle.instruct.specs.Skips.{may_skip, skip_condition_of}
 use Rattle.instruct.specs.declared.Instruction.TheVariants.{Memory, Operate2, Unsupported as no_instruction}
 use Rattle.instruct.specs.declared.Profile.TheVariants.{Pdp8E}
 use Rattle.bin_tape.specs.Image.{word_at}
@@ -74,9 +75,11 @@ pub record IsHalt (image : List (Option ℕ)) (d : Declaration) (at : ℕ) : Typ
   pub kind : instruction_of d.profile word ≡ Operate2
   pub halts : is_halt word ≡ true
 
--- The operator may go on behind a pause at an address, at the next one, which is not in the routine's body.
+-- The operator may go on behind a pause at an address, at the next one, since the word there never skips; and the next one is not in the
+-- routine's body.
 pub record GoesOut (image : List (Option ℕ)) (d : Declaration) (r : Routine) (at next : ℕ) : Type 0 where
   pub halt : IsHalt image d at
+  pub skips : may_skip (skip_condition_of halt.word) ≡ false
   pub pause : d.pause at ≡ true
   pub next_is : next ≡ (at + 1) % 4096
   pub outside : d.body r next ≡ false

@@ -153,7 +153,7 @@ pub fn push_bound<A: Allocator + Copy, L: MessageWriter, D: Allocator, C: Alloca
 }
 
 /// Adds which of the words that a pointer may hold would be enough for the instruction at an address, if they are fewer, and which test
-/// in the same body could show it.
+/// in the same body could show it. No words are enough where the pointer itself may not be read.
 fn push_sufficient<L: MessageWriter, D: Allocator, C: Allocator>(
     text: &mut L,
     case: &Case<'_, D, Certificate<C>>,
@@ -164,6 +164,9 @@ fn push_sufficient<L: MessageWriter, D: Allocator, C: Allocator>(
     ensures { OnOk result (SaysSufficient case.now.image.now (meaning case.now.declaration.now) at pointer
         (words held.now) (L.text text.old) (L.text text.new)) }
 {
+    if !case.declaration.may_read(pointer) {
+        return Ok(());
+    }
     let Some(word) = case.image.get(at) else {
         return Ok(());
     };

@@ -1,11 +1,13 @@
 -- Frames and keys that are read while a session goes on.
-use Rattle.std.proofs.Common.{ℕ, zero, suc, ◌≡◌, ◌==◌, ◌<◌, ◌≤◌, Bool, true, false, ◌||◌, List, [], ◌∷◌, drop, take, map, refl, sym, ◌∙◌, ap, arith, Some, None, Option, Ok, Err, Result, subst, true≢false}
-use Rattle.std.specs.Prelude.{◌&&◌, not, IfOk, IsTrue, OnErr, OnOk, length, slice_index}
+use Rattle.std.proofs.Common.{inl, inr, ℕ, zero, suc, ◌≡◌, ◌==◌, ◌<◌, ◌≤◌, Bool, true, false, ◌||◌, List, [], ◌∷◌, drop, take, map, refl, sym, ◌∙◌, ap, arith, Some, None, Option, Ok, Err, Result, subst, true≢false}
+use Rattle.std.proofs.lemmas.Bool.Decides.{eqb_tells}
+use Rattle.std.specs.Prelude.{◌&&◌, not, is_some, IfOk, IsTrue, OnErr, OnOk, length, slice_index}
 use Rattle.std.specs.Io.KnownBytes.{Consumes, IsAtEnd}
 use Rattle.instruct.specs.declared.Profile.{Profile}
+use Rattle.instruct.specs.declared.Profile.TheVariants.{Pdp8I}
 use Rattle.peripherals.specs.declared.Event.{Event}
 use Rattle.peripherals.specs.declared.Event.TheVariants.{Step, Key, PrinterDone, ReaderDone, PunchDone, Switches, Continue}
-use Rattle.instruct.specs.Devices.{word_of}
+use Rattle.instruct.specs.Devices.{device_operation, word_of}
 use Rattle.instruct.specs.declared.devices.DeviceOperation.TheVariants.{SkipOnKeyboardFlag}
 use Rattle.peripherals.specs.Devices.{WorldState, word_at_pc}
 use Rattle.peripherals.specs.Events.{Happens, completed, done, with_devices}
@@ -20,6 +22,18 @@ use Rattle.machine_commands.specs.Teletype.{AreAll}
 use Rattle.machine_commands.specs.Typing.{answer_due, asked_after, asks, is_read, read_due, typed_as, typed_due, typing}
 use Rattle.machine_commands.specs.TypingParts.{Answered, Brought, IsLeft, Source, Types, bytes_left, frames_left, rounds_left, typed_plan}
 use Rattle.machine_commands.proofs.SessionLemmas.{Less, device_goes, first_less, none_is, or_true, other_less, printer_done, round_less}
+
+-- On a PDP-8/I the word of KSF does what KSF does.
+ksf_skips : (word : ℕ) → word ≡ word_of SkipOnKeyboardFlag → device_operation Pdp8I word ≡ Some SkipOnKeyboardFlag
+unfolding device_operation
+ksf_skips word e = rw e refl
+
+-- A word that is no device word of a PDP-8/I asks for no key.
+pub asks_for_none : (word : ℕ) (flag : Bool) → None ≡ device_operation Pdp8I word → false ≡ (word == word_of SkipOnKeyboardFlag && not flag)
+asks_for_none word flag none = elim (eqb_tells word (word_of SkipOnKeyboardFlag)) [
+  | inl e ↦ absurd (true≢false (sym (ap is_some (none ∙ ksf_skips word e.1))))
+  | inr e ↦ rw e.0 refl
+]
 
 -- a list of one
 pub one_item : (l : List ℕ) → length l ≡ 1 → l ≡ slice_index l 0 ∷ []

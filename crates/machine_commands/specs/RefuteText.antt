@@ -7,6 +7,7 @@ use Rattle.declaration.specs.Declaration.{Declaration}
 use Rattle.policy.specs.declared.rules.Rule.{Rule}
 use Rattle.policy.specs.declared.watcher.Watched.TheVariants.{Broken}
 use Rattle.policy.specs.Watching.{BreaksAt}
+use Rattle.turns.specs.Counts.{Count}
 use Rattle.command_parts.specs.declared.options.RefuteOptions.{RefuteOptions}
 use Rattle.command_parts.specs.declared.status.Status.{Status}
 use Rattle.command_parts.specs.declared.status.Status.TheVariants.{Done, Refused}
@@ -29,9 +30,11 @@ pub record IsWitnessOf (explained : Bool) (image : List (Option ℕ)) (declarati
   pub last : event + 1 ≡ length events
   pub is : IsTold explained image declaration events (Broken event rule) told
 
--- What is found in search of a run that violates the declaration: the command is refused, and the list spells such a run of
--- which this is told; or it is done, there is no list, and what is told says in how many steps none was found.
-abbrev pub IsRefutationOf : RefuteOptions → List (Option ℕ) → Declaration → Status → List ℕ → List ℕ → Type 0
-IsRefutationOf options image declaration Refused list told = IsWitnessOf options.explained image declaration list told
-IsRefutationOf options image declaration Done list told = (list ≡ []) × (told ≡ unbroken_text options.steps)
-IsRefutationOf options image declaration _ list told = ⊥
+-- What is found in search of a run that violates the declaration, where the search took these turns, one for each step: the command is
+-- refused, and the list spells such a run of which this is told; or it is done, as many turns were taken as steps are requested, there
+-- is no list, and what is told says in how many steps none was found.
+abbrev pub IsRefutationOf : RefuteOptions → List (Option ℕ) → Declaration → Count → Status → List ℕ → List ℕ → Type 0
+IsRefutationOf options image declaration turns Refused list told = IsWitnessOf options.explained image declaration list told
+IsRefutationOf options image declaration turns Done list told =
+    (turns.spent ≡ options.steps) × (list ≡ []) × (told ≡ unbroken_text options.steps)
+IsRefutationOf options image declaration turns _ list told = ⊥

@@ -43,6 +43,8 @@ pub struct RefutationMessage<A: Allocator> {
     pub told: Message<A>,
     /// How the command ends.
     pub status: Status,
+    /// The turns that the search took, one for each step of a machine.
+    pub turns: Turns,
 }
 
 /// The line for a broken rule.
@@ -160,12 +162,13 @@ fn witness_message<A: Allocator + Copy, D: Allocator>(
     declaration: &Declaration<D>,
     found: Witness<A>,
     options: &RefuteOptions,
+    turns: Turns,
 ) -> Result<RefutationMessage<A>, Fault>
     requires broken { Breaks (image_of image.now) (meaning declaration.now) found }
     requires spelled { IsSpelled found }
     requires last { IsLast found }
     ensures told { IfOk result (λ told. IsRefutationOf options.now image.now
-        (meaning declaration.now) told.status told.events.items (plain told.told)) }
+        (meaning declaration.now) told.turns told.status told.events.items (plain told.told)) }
     ensures faults { IfErr result IsMemoryFault }
 {
     let Witness {
@@ -189,11 +192,12 @@ fn witness_message<A: Allocator + Copy, D: Allocator>(
         events: text,
         told,
         status: Status::Refused,
+        turns,
     })
 }
 
 /// What `refute` finds and tells: a run that violates the declaration, or that none is found in so many
-/// steps.
+/// steps, after these steps were made.
 ///
 /// # Errors
 ///
@@ -206,19 +210,20 @@ pub fn refute_message<A: Allocator + Copy, D: Allocator>(
     options: &RefuteOptions,
 ) -> Result<RefutationMessage<A>, Fault>
     ensures told { IfOk result (λ found. IsRefutationOf options.now image.now
-        (meaning declaration.now) found.status found.events.items (plain found.told)) }
+        (meaning declaration.now) found.turns found.status found.events.items (plain found.told)) }
     ensures faults { IfErr result IsMemoryFault }
 {
     let mut turns = Turns::new(options.steps);
     let seed = u64::from(options.seed);
     match refute_within(alloc, image, declaration, seed, &mut turns)? {
-        Some(found) => witness_message(alloc, image, declaration, found, options),
+        Some(found) => witness_message(alloc, image, declaration, found, options, turns),
         None => {
             let line = unbroken_line(alloc, &turns)?;
             Ok(RefutationMessage {
                 events: Vec::new(alloc),
                 told: Message::of(alloc, line),
                 status: Status::Done,
+                turns,
             })
         }
     }

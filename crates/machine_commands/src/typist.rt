@@ -17,6 +17,7 @@ ghost use Rattle.machine_commands.specs.TypingParts.{Answered, Brought, IsLeft, 
 use crate::schedule::Scheduler;
 pub use command_parts::options::{KeyOptions, TeletypeOptions};
 use command_parts::status::{DeviceFault, Fault};
+use instruct::{DeviceOperation, Profile};
 use peripherals::{Event, World};
 use std::alloc::Allocator;
 use streams::ByteSource;
@@ -72,7 +73,10 @@ fn next_word<A: Allocator>(world: &World<A>) -> Word
 fn asks_with(word: Word, flag: bool) -> bool
     ensures { result ≡ (word == word_of SkipOnKeyboardFlag && not flag) }
 {
-    word.value() == 0o6031 && !flag
+    match DeviceOperation::of(word, Profile::Pdp8I) {
+        Some(operation) => operation == DeviceOperation::SkipOnKeyboardFlag && !flag,
+        None => false,
+    }
 }
 
 /// Whether the next instruction asks for a key.

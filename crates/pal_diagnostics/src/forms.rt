@@ -137,10 +137,9 @@ pub(crate) const UNFINISHED: FaultText = FaultText {
 
 /// Whether a token begins with a lower-case letter.
 fn is_small(bytes: &[u8], token: Token) -> bool {
-    match bytes.get(token.start) {
-        Some(byte) => (*byte % 0o200).is_ascii_lowercase(),
-        None => false,
-    }
+    bytes
+        .get(token.start)
+        .is_some_and(|byte| (*byte % 0o200).is_ascii_lowercase())
 }
 
 /// Where the lower-case word at the beginning of these tokens ends; `first`, the end of the first token, if they begin

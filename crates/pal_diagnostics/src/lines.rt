@@ -43,13 +43,10 @@ pub(crate) fn line_at<A: Allocator>(
 
 /// How many characters these bytes stand for.
 pub(crate) fn count_characters(bytes: &[u8]) -> usize {
-    let mut count = 0usize;
-    for byte in bytes {
-        if is_character_code(*byte % 0o200) {
-            count = count.saturating_add(1);
-        }
-    }
-    count
+    bytes
+        .iter()
+        .filter(|byte| is_character_code(**byte % 0o200))
+        .count()
 }
 
 /// Adds the characters that these bytes stand for, or a question mark for one that cannot be shown.

@@ -1,5 +1,7 @@
 pub mod AllLemmas
 pub mod AmountLemmas
+pub mod CallLemmas
+pub mod FindingLemmas
 pub mod HtmlLemmas
 pub mod EachWordLemmas
 pub mod ExtendLemmas

@@ -5,7 +5,7 @@ use Rattle.std.proofs.lemmas.List.{at_drop_all, drop_more}
 use Rattle.std.proofs.Math.Path.{fun_ext}
 use Rattle.std.specs.List.{list_any}
 use Rattle.std.specs.Prelude.{◌||◌, if◌then◌else◌, replicate}
-use Rattle.reports.specs.ItemText.{begun, counted, one_same}
+use Rattle.reports.specs.ItemText.{begun, counted, items_begun, one_same}
 use Rattle.reports.specs.Writing.{Addition, Text, Writes, ◌⊕◌, each, form_of, line_of, listed, no_text, plain}
 use Rattle.reports.specs.declared.writer.ReportWriter.{ReportWriter}
 
@@ -60,6 +60,10 @@ begun_by_nothing old page = record {
   bytes = λ ok. sym (append-nil old.bytes.items) ∙ ap (λ (b : Bool). old.bytes.items ++ (if b then [] else replicate old.indent 32)) (sym page);
   kept = refl;
 }
+
+-- The items of a line begin.
+pub items_begin : {A : Type 0} (old : ReportWriter A) (indent : ℕ) → Writes old (record old { indent = indent; has_item = false; same = 0 }) (items_begun indent)
+items_begin old indent = record { given = λ ok. ok; bytes = λ ok. sym (append-nil old.bytes.items); kept = refl }
 
 -- An item was counted.
 pub counted_one : {A : Type 0} (old : ReportWriter A) (n : ℕ) → n ≡ one_same old.same → Writes old (record old { same = n }) (counted true)

@@ -28,6 +28,10 @@ one_same same = min (same + 1) (2 ^ 64 - 1)
 abbrev pub is_written : Bool → Form → Line → Bool
 is_written same form line = if same then form.is_page && nat_le (one_same line.same) 8 else true
 
+-- The items of a line begin: nothing is written yet, and the first item stands after so many blanks in plain text.
+abbrev pub items_begun : ℕ → Text
+items_begun indent form line = record { bytes = []; line = record { indent = indent; has_item = false; same = 0 } }
+
 -- What stands before the first item of a line: in plain text, blanks.
 abbrev pub begun : Text
 begun form line = record { bytes = if form.is_page then [] else replicate line.indent 32; line = record line { has_item = true } }

@@ -20,3 +20,10 @@ pub mod ToldCells
 pub mod KnownText
 pub mod ReportSetting
 pub mod Items
+pub mod RoutineClaims
+pub mod MapText
+pub mod Marks
+pub mod DeclaredText
+pub mod RoutineText
+pub mod FindingText
+pub mod CallLines

@@ -1,5 +1,5 @@
 -- What is written of a report. Of the bytes of a writer whose memory was refused nothing is said.
-use Rattle.std.specs.Prelude.{ℕ, ◌≡◌, ◌++◌, ◌==◌, Bool, true, false, codes, if◌then◌else◌, IsOk, List, [], ◌∷◌, length}
+use Rattle.std.specs.Prelude.{ℕ, ◌≡◌, ◌++◌, ◌==◌, Bool, true, false, codes, decimal, if◌then◌else◌, IsOk, List, [], ◌∷◌, length}
 use Rattle.word12.specs.Words.{octal_text}
 use Rattle.diagnostics.specs.Pieces.{offset_text as octal_offset}
 use Rattle.wordset.specs.Words.{Words}
@@ -77,6 +77,14 @@ pub record Writes {A : Type 0} (old new : ReportWriter A) (text : Text) : Type 0
     same = (text (form_of old) (line_of old)).line.same;
   }
 
+-- A text that is written only where something holds.
+abbrev pub text_if : Bool → Text → Text
+text_if holds text = if holds then text else no_text
+
+-- A text, and after it a number in decimal digits.
+abbrev pub numbered_text : List ℕ → ℕ → Text
+numbered_text text number = plain text ⊕ plain (decimal number)
+
 -- What is written in a page alone.
 abbrev pub in_page : Text → Text
 in_page text form = if form.is_page then text form else no_text form
@@ -113,6 +121,14 @@ noted_text label = if length label == 0 then no_text else in_parentheses label
 -- The label of an address in parentheses, in a page alone.
 abbrev pub label_text : ℕ → Text
 label_text at = in_page (λ form. noted_text (form.label at) form)
+
+-- A label after a blank; nothing for an empty one.
+abbrev pub named_text : List ℕ → Text
+named_text label = if length label == 0 then no_text else plain (codes " ") ⊕ said label
+
+-- A label that stands beside its address, in a page alone.
+abbrev pub beside_text : List ℕ → Text
+beside_text label = in_page (named_text label)
 
 -- The address of a cell, in a page with its label.
 abbrev pub cell_text : ℕ → Text

@@ -3,10 +3,15 @@
 ghost use Rattle.std.specs.Prelude.{◌≡◌};
 ghost use Rattle.wordset.specs.Lanes.{words};
 ghost use Rattle.wordset.specs.Words.{has_some, meet};
+ghost use Rattle.declaration.specs.DeclarationInCode.{subroutine_of};
+ghost use Rattle.reports.specs.CallLines.{box_at, box_middle, box_top, call_line, line_text, lines_from, lines_to};
+ghost use Rattle.reports.specs.FindingText.{ranks_text};
+ghost use Rattle.reports.specs.RoutineText.{Begins, row_text};
+ghost use Rattle.reports.specs.Writing.{Writes};
 
 use crate::map::colour_of;
 use crate::report::{Finding, Report, claimed_of};
-use crate::routines::{write_return_offsets, write_written};
+use crate::routines::write_return_offsets;
 use crate::writer::ReportWriter;
 use declaration::Routine;
 use std::alloc::{AllocError, Allocator};
@@ -35,12 +40,16 @@ const MAIN: BoxPlace = BoxPlace { row: 0, column: 0 };
 
 impl BoxPlace {
     /// The middle of the box.
-    fn middle(&self) -> usize {
+    fn middle(&self) -> usize
+        ensures { result ≡ box_middle self.now }
+    {
         self.column.saturating_mul(ACROSS).saturating_add(70)
     }
 
     /// The upper edge of the box.
-    fn top(&self) -> usize {
+    fn top(&self) -> usize
+        ensures { result ≡ box_top self.now }
+    {
         self.row.saturating_mul(DOWN).saturating_add(5)
     }
 }
@@ -59,8 +68,13 @@ fn count_in(box_places: &[BoxPlace], row: usize) -> usize {
 }
 
 /// The box of the routine at a place in the order of the declaration.
-fn box_place_at(box_places: &[BoxPlace], place: usize) -> BoxPlace {
-    box_places.get(place).copied().unwrap_or(MAIN)
+fn box_place_at(box_places: &[BoxPlace], place: usize) -> BoxPlace
+    ensures { result ≡ box_at box_places.now place }
+{
+    match box_places.get(place) {
+        Some(box_place) => *box_place,
+        None => MAIN,
+    }
 }
 
 /// Whether a routine is called from a body, where these are its sites.
@@ -71,16 +85,46 @@ fn is_called_from(body: &WordSet, sites: &WordSet) -> bool
 }
 
 /// Writes a line from a caller's box to a callee's.
-fn write_line<A: Allocator>(
-    writer: &mut ReportWriter<'_, A>,
-    caller: &BoxPlace,
-    callee: &BoxPlace,
-) {
+fn write_line<A: Allocator>(writer: &mut ReportWriter<'_, A>, caller: &BoxPlace, callee: &BoxPlace)
+    ensures { Writes writer.old writer.new (line_text caller.now callee.now) }
+{
     writer.numbered(b"<path class=l d=\"M", caller.middle());
     writer.numbered(b" ", caller.top().saturating_add(40));
     writer.numbered(b"L", callee.middle());
     writer.numbered(b" ", callee.top());
     writer.put(b"\" />");
+}
+
+/// Writes a line from a caller's box to a callee's, if one of the sites of the callee is in the body of the caller.
+fn write_call_line<A: Allocator>(
+    writer: &mut ReportWriter<'_, A>,
+    callee: &BoxPlace,
+    sites: &WordSet,
+    caller: &BoxPlace,
+    body: &WordSet,
+)
+    ensures { Writes writer.old writer.new (call_line callee.now (words sites.now) caller.now (words body.now)) }
+{
+    if is_called_from(body, sites) {
+        write_line(writer, caller, callee);
+    }
+}
+
+/// Writes the lines to a callee's box from those of the routines that have one of its sites in their bodies.
+fn write_lines_from<A: Allocator>(
+    writer: &mut ReportWriter<'_, A>,
+    box_places: &[BoxPlace],
+    callee: &BoxPlace,
+    sites: &WordSet,
+    routines: &[Routine],
+)
+    ensures { Writes writer.old writer.new
+        (lines_from box_places.now callee.now (words sites.now) 0 routines.now) }
+{
+    for (at, other) in routines.iter().enumerate() {
+        let caller = box_place_at(box_places, at);
+        write_call_line(writer, callee, sites, &caller, other.body());
+    }
 }
 
 /// Writes a box with a name, and with a label after it, if there is one.
@@ -117,7 +161,9 @@ fn corner(box_places: &[BoxPlace]) -> BoxPlace {
 }
 
 /// What the ranks show; after a no it is only claimed.
-fn ranks_text(finding: Finding) -> &'static [u8] {
+fn ranks_text(finding: Finding) -> &'static [u8]
+    ensures { result.now ≡ ranks_text finding }
+{
     match finding {
         Finding::Shown => {
             b"Ranks fall from caller to callee, so no routine is called again before it has returned."
@@ -165,36 +211,33 @@ impl<A: Allocator, D: Allocator, C: Allocator> Report<'_, A, D, C> {
         box_places: &[BoxPlace],
         place: usize,
         routine: &Routine,
-    ) {
+    )
+        ensures { Writes writer.old writer.new
+            (lines_to self.now box_places.now (box_at box_places.now place) (subroutine_of routine.now).entry) }
+    {
         let callee = box_place_at(box_places, place);
-        let claimed = claimed_of(self.certificate, routine.entry());
-        if is_called_from(self.declaration.main(), &claimed.sites) {
-            write_line(writer, &MAIN, &callee);
-        }
-        for (at, other) in self.declaration.routines().iter().enumerate() {
-            if is_called_from(other.body(), &claimed.sites) {
-                write_line(writer, &box_place_at(box_places, at), &callee);
-            }
-        }
+        let sites = claimed_of(self.certificate, routine.entry()).sites;
+        write_call_line(writer, &callee, &sites, &MAIN, self.declaration.main());
+        write_lines_from(
+            writer,
+            box_places,
+            &callee,
+            &sites,
+            self.declaration.routines(),
+        );
     }
 
     /// Writes the row of a routine in the table.
-    fn write_routine_row(&self, writer: &mut ReportWriter<'_, A>, routine: &Routine) {
+    fn write_routine_row(&self, writer: &mut ReportWriter<'_, A>, routine: &Routine)
+        ensures { Begins (row_text self.now (subroutine_of routine.now).entry) writer.old writer.new }
+    {
+        let entry = routine.entry();
         writer.put(b"<tr><td>");
-        writer.linked(routine.entry());
-        writer.label(self.label_at(routine.entry()));
-        match self.certificate.routine(routine.entry()) {
-            None => writer.put(b"<td colspan=3>nothing is claimed about it"),
-            Some(claimed) => {
-                writer.numbered(b"<td>", claimed.rank);
-                writer.put(b"<td>");
-                writer.places(&claimed.sites);
-                writer.put(b"<td>");
-                write_written(writer, &claimed.writes);
-            }
-        }
+        writer.linked(entry);
+        writer.label(self.label_at(entry));
+        self.write_claimed_columns(writer, entry);
         writer.put(b"<td>");
-        write_return_offsets(writer, self.declaration, routine.entry());
+        write_return_offsets(writer, self.declaration, entry);
         writer.put(b"\n")
     }
 

@@ -1,6 +1,8 @@
 //! The reports: what a certificate says, or what a search for one had found, as plain text or as a page of HTML.
 #![tactic(auto)]
 
+ghost use Rattle.reports.specs.ReportText.{IsTrue};
+
 mod access;
 mod cases;
 mod escaping;
@@ -39,7 +41,9 @@ use writer::ReportWriter;
 pub fn listing_below<A: Allocator + Copy, D: Allocator, C: Allocator>(
     alloc: A,
     report: &Report<'_, A, D, C>,
-) -> Result<Vec<u8, A>, AllocError> {
+) -> Result<Vec<u8, A>, AllocError>
+    requires { IsTrue report.now }
+{
     let mut writer = ReportWriter::new(alloc, ReportForm::Text, &report.lines(), report.notes);
     let mut cache = ClaimCache::boxed(alloc)?;
     report.push_listing(&mut writer, &mut cache);

@@ -8,19 +8,20 @@ ghost use Rattle.peripherals.specs.Loading.{image_of};
 ghost use Rattle.declaration.specs.DeclarationInCode.{meaning};
 ghost use Rattle.certificate_lines.specs.CertificateInCode.{claims};
 ghost use Rattle.reports.specs.AbsenceText.{SaysAbsence};
+ghost use Rattle.reports.specs.DeclaredText.{declared_text};
 ghost use Rattle.reports.specs.FactItems.{BeginsWithFact, SaysFact, by_nothing};
-ghost use Rattle.reports.specs.Kinds.{IsKind};
+ghost use Rattle.reports.specs.Kinds.{IsKind, routine_in};
 ghost use Rattle.reports.specs.KnownText.{SaysKnown};
-ghost use Rattle.reports.specs.ReportSetting.{report_setting};
+ghost use Rattle.reports.specs.ReportSetting.{report_setting, setting_in};
 ghost use Rattle.reports.specs.Shown.{ShowsFact, fact_of, is_even, unknown_of};
+ghost use Rattle.reports.specs.Writing.{Writes};
 
 use crate::cases::FactDifferences;
 use crate::fact_context::{ShownFact, write_apart, write_fact};
 use crate::known_fact::KnownFact;
-use crate::report::{CellKind, Finding, Report, before, claimed_of, routine_of, unclaimed};
+use crate::report::{CellKind, Finding, Report, before, claimed_in};
 use crate::source_notes::SourceNote;
 use crate::writer::ReportWriter;
-use certificate::Certificate;
 use certificate_lines::RoutineClaim;
 use instruct::{Instruction, decode, name, refers_indirectly, target};
 use judge::Claims;
@@ -67,9 +68,6 @@ pub(crate) struct ClaimCache {
     exit: KnownFact,
     /// The address of the fact that was read last, if it is the only one there.
     last: Option<Word>,
-    /// What is claimed about the routine that was looked up last, and its entry; of main nothing is.
-    routine: RoutineClaim,
-    entry: Option<Word>,
 }
 
 impl ClaimCache {
@@ -89,43 +87,28 @@ impl ClaimCache {
             odd: KnownFact::new(),
             exit: KnownFact::new(),
             last: None,
-            routine: unclaimed(),
-            entry: None,
         }
     }
 
-    /// Looks up what is claimed about the routine in whose body an address of this kind is, if it is in one.
-    fn look_up<C: Allocator>(&mut self, certificate: &Certificate<C>, kind: &CellKind) {
-        let entry = routine_of(kind);
-        if self.entry == entry {
-            return;
-        }
-        self.entry = entry;
-        self.routine = match entry {
-            Some(entry) => claimed_of(certificate, entry),
-            None => unclaimed(),
-        };
-    }
-
-    /// Reads the only fact at an address.
+    /// Reads the only fact at an address, which has these sites if it has none of its own.
     fn read<B: Allocator, D: Allocator, C: Allocator>(
         &mut self,
         report: &Report<'_, B, D, C>,
+        sites: &WordSet,
         at: Word,
     )
         requires { length ((claims report.now.certificate.now).facts at) ≡ 1 }
         ensures { let c = claims report.now.certificate.now in ShowsFact c.rules
-            (image_of report.now.image.now) (words self.new.routine.sites) (fact_at (c.facts at) 0)
+            (image_of report.now.image.now) (words sites.now) (fact_at (c.facts at) 0)
             (fact_of (is_even at) self.new) }
     {
         let image = report.image;
         let certificate = report.certificate;
         self.last = Some(at);
-        let sites = self.routine.sites;
         if is_even(at) {
-            self.even.read(image, certificate, &sites, at, 0);
+            self.even.read(image, certificate, sites, at, 0);
         } else {
-            self.odd.read(image, certificate, &sites, at, 0);
+            self.odd.read(image, certificate, sites, at, 0);
         }
     }
 
@@ -226,20 +209,14 @@ impl<A: Allocator, D: Allocator, C: Allocator> Report<'_, A, D, C> {
     }
 
     /// Writes what is declared of an address.
-    fn write_declared(&self, writer: &mut ReportWriter<'_, A>, at: Word) {
+    fn write_declared(&self, writer: &mut ReportWriter<'_, A>, at: Word)
+        ensures { Writes writer.old writer.new (declared_text (meaning self.now.declaration.now) at) }
+    {
         let declaration = self.declaration;
-        if declaration.start() == at {
-            writer.item(b"start");
-        }
-        if declaration.is_stop(at) {
-            writer.item(b"stop");
-        }
-        if declaration.is_pause(at) {
-            writer.item(b"pause");
-        }
-        if declaration.is_entry(at) {
-            writer.item(b"entry");
-        }
+        writer.item_if(self.is_start(at), b"start");
+        writer.item_if(declaration.is_stop(at), b"stop");
+        writer.item_if(declaration.is_pause(at), b"pause");
+        writer.item_if(declaration.is_entry(at), b"entry");
     }
 
     /// Writes which words a variable may hold, and where nothing is known about it.
@@ -323,7 +300,7 @@ impl<A: Allocator, D: Allocator, C: Allocator> Report<'_, A, D, C> {
         write_fact(writer, &shown);
     }
 
-    /// Writes the items of the only fact at an address.
+    /// Writes the items of the only fact at an address of this kind.
     fn write_items_at(
         &self,
         writer: &mut ReportWriter<'_, A>,
@@ -332,14 +309,15 @@ impl<A: Allocator, D: Allocator, C: Allocator> Report<'_, A, D, C> {
         at: Word,
     )
         requires { length ((claims self.now.certificate.now).facts at) ≡ 1 }
-        ensures { SaysFact (report_setting self.now (words cache.new.routine.sites)) by_nothing
+        ensures { SaysFact (setting_in self.now (routine_in kind.now)) by_nothing
             (fact_at ((claims self.now.certificate.now).facts at) 0) writer.old writer.new }
     {
         let near = self.is_near(cache, kind, at);
-        cache.read(self, at);
+        let claimed = claimed_in(self.certificate, kind);
+        cache.read(self, &claimed.sites, at);
         self.write_shown(
             writer,
-            &cache.routine,
+            &claimed,
             cache.fact(is_even(at)),
             cache.above(near, at),
             &FactDifferences::by_nothing(),
@@ -352,7 +330,7 @@ impl<A: Allocator, D: Allocator, C: Allocator> Report<'_, A, D, C> {
         at != Word::ZERO && cache.last == Some(above) && self.kind_of(above) == *kind
     }
 
-    /// Writes what is known and done at an address with one fact.
+    /// Writes what is known and done at an address of this kind with one fact.
     fn write_only_fact(
         &self,
         writer: &mut ReportWriter<'_, A>,
@@ -361,7 +339,7 @@ impl<A: Allocator, D: Allocator, C: Allocator> Report<'_, A, D, C> {
         at: Word,
     )
         requires { length ((claims self.now.certificate.now).facts at) ≡ 1 }
-        ensures { BeginsWithFact (report_setting self.now (words cache.new.routine.sites)) by_nothing
+        ensures { BeginsWithFact (setting_in self.now (routine_in kind.now)) by_nothing
             (fact_at ((claims self.now.certificate.now).facts at) 0) writer.old writer.new }
     {
         self.write_items_at(writer, cache, kind, at);
@@ -380,14 +358,14 @@ impl<A: Allocator, D: Allocator, C: Allocator> Report<'_, A, D, C> {
         count: usize,
     )
         requires { count ≡ length ((claims self.now.certificate.now).facts at) }
-        ensures { SaysKnown self.now (words cache.new.routine.sites) count at writer.old writer.new }
+        ensures { SaysKnown self.now count at writer.old writer.new }
     {
         let kind = self.kind_of(at);
         if count == 0 {
             return self.write_unknown(writer, &kind, at);
         }
-        cache.look_up(self.certificate, &kind);
         if count == 1 {
+            self.declaration.is_declared();
             return self.write_only_fact(writer, cache, &kind, at);
         }
         cache.last = None;
@@ -401,20 +379,20 @@ impl<A: Allocator, D: Allocator, C: Allocator> Report<'_, A, D, C> {
     fn write_case(
         &self,
         writer: &mut ReportWriter<'_, A>,
-        cache: &ClaimCache,
+        claimed: &RoutineClaim,
+        known: &KnownFact,
         apart: &FactDifferences,
         at: Word,
         index: usize,
     )
         // The case that is shown is the fact at that place of those at the address.
         requires { let c = claims self.now.certificate.now in ShowsFact c.rules
-            (image_of self.now.image.now) (words cache.now.routine.sites)
-            (fact_at (c.facts at) index) cache.now.even }
+            (image_of self.now.image.now) (words claimed.now.sites)
+            (fact_at (c.facts at) index) known.now }
     {
-        let known = &cache.even;
         write_case_head(writer, known, apart, index);
         if known.is_possible {
-            self.write_shown(writer, &cache.routine, known, None, apart);
+            self.write_shown(writer, claimed, known, None, apart);
             self.write_access(writer, &self.kind_of(at), known, at);
         } else {
             writer.item(b"never");
@@ -434,20 +412,21 @@ impl<A: Allocator, D: Allocator, C: Allocator> Report<'_, A, D, C> {
     {
         let image = self.image;
         let certificate = self.certificate;
-        let sites = cache.routine.sites;
+        let claimed = claimed_in(certificate, &self.kind_of(at));
         let apart = FactDifferences::of(
             image,
             certificate,
-            &sites,
+            &claimed.sites,
             at,
             count,
             &mut cache.even,
             &mut cache.odd,
         );
         for index in 0..count {
-            let sites = cache.routine.sites;
-            cache.even.read(image, certificate, &sites, at, index);
-            self.write_case(writer, cache, &apart, at, index);
+            cache
+                .even
+                .read(image, certificate, &claimed.sites, at, index);
+            self.write_case(writer, &claimed, &cache.even, &apart, at, index);
         }
     }
 

@@ -1,11 +1,15 @@
 //! Memory as a map: rows of 64 cells, two for each page of memory in which something stands.
 
-ghost use Rattle.std.specs.Prelude.{◌≡◌};
-ghost use Rattle.reports.specs.Drawings.{class_is, colour_text, kind_text};
+ghost use Rattle.std.specs.Prelude.{◌≡◌, ◌==◌, ◌&&◌, ◌||◌, not, position};
+ghost use Rattle.declaration.specs.DeclarationInCode.{meaning, routines_of, subroutine_of};
+ghost use Rattle.reports.specs.Drawings.{class_text, colour_text, kind_text, place_of};
+ghost use Rattle.reports.specs.Kinds.{IsKind, is_variable};
+ghost use Rattle.reports.specs.MapText.{DrawsCell, dot_text, entry_text, left_edge, marks_text, middle_of, name_text, square_text, tape_text, title_text, upper_edge};
+ghost use Rattle.reports.specs.Writing.{Writes, text_if};
 
 use crate::report::{CellKind, Report, before};
 use crate::writer::ReportWriter;
-use declaration::Declaration;
+use declaration::{Declaration, Routine};
 use instruct::name;
 use std::alloc::Allocator;
 use word12::Word;
@@ -41,8 +45,17 @@ const LEGEND: &[u8] = b"<span class=\"k e\"></span>entry of a routine\n\
 the place of a no. Each row has 0100 cells; consecutive pages of memory in which nothing stands are one row. A cell leads to its line of the listing.</p>\n";
 
 /// Where a cell stands from the left.
-fn left_of(at: Word) -> usize {
+fn left_of(at: Word) -> usize
+    ensures { result ≡ left_edge at }
+{
     LEFT + STEP * usize::from(at.low_half())
+}
+
+/// The middle of a cell with this edge.
+fn middle_of(edge: usize) -> usize
+    ensures { result ≡ middle_of edge }
+{
+    edge.saturating_add(5)
 }
 
 /// Where the rows of the map stand.
@@ -87,19 +100,26 @@ impl MapRows {
     }
 
     /// Where a cell stands from above.
-    fn top_of(&self, at: Word) -> usize {
+    fn top_of(&self, at: Word) -> usize
+        ensures { result ≡ upper_edge self.now at }
+    {
         let row = usize::from(at.high_half());
-        let top = self.tops.get(row / 2).copied().unwrap_or(TOP);
-        top.saturating_add(STEP * (row % 2))
+        self.tops[row / 2].saturating_add(STEP * (row % 2))
     }
 }
 
+/// The place of the first of some routines that has this entry.
+fn place_among(routines: &[Routine], entry: Word) -> Option<usize>
+    ensures { result ≡ position (λ r. (subroutine_of r).entry == entry) routines.now }
+{
+    routines.iter().position(|routine| routine.entry() == entry)
+}
+
 /// The place of a routine among those that are declared.
-fn place_of<D: Allocator>(declaration: &Declaration<D>, entry: Word) -> usize {
-    let mut routines = declaration.routines().iter();
-    routines
-        .position(|routine| routine.entry() == entry)
-        .unwrap_or(0)
+fn place_of<D: Allocator>(declaration: &Declaration<D>, entry: Word) -> usize
+    ensures { result ≡ place_of (routines_of declaration.now) entry }
+{
+    place_among(declaration.routines(), entry).unwrap_or(0)
 }
 
 /// The class of a colour for a routine.
@@ -118,7 +138,7 @@ pub(crate) fn colour_of(place: usize) -> &'static [u8]
 
 /// The class of a cell's colour.
 fn class_of<D: Allocator>(declaration: &Declaration<D>, kind: &CellKind) -> &'static [u8]
-    ensures { class_is kind.now result.now }
+    ensures { result.now ≡ class_text (routines_of declaration.now) kind.now }
 {
     match kind {
         CellKind::Entry => b"e",
@@ -174,14 +194,32 @@ fn write_dot<A: Allocator>(
     at: Word,
     class: &[u8],
     size: &[u8],
-) {
+)
+    ensures { Writes writer.old writer.new (dot_text rows.now at class.now size.now) }
+{
     writer.put(b"<circle class=");
     writer.put(class);
-    writer.numbered(b" cx=", left_of(at).saturating_add(5));
-    writer.numbered(b" cy=", rows.top_of(at).saturating_add(5));
+    writer.numbered(b" cx=", middle_of(left_of(at)));
+    writer.numbered(b" cy=", middle_of(rows.top_of(at)));
     writer.put(b" r=");
     writer.put(size);
     writer.put(b" />");
+}
+
+/// Writes a circle or a dot in the middle of a cell that has this mark.
+fn write_dot_if<A: Allocator>(
+    writer: &mut ReportWriter<'_, A>,
+    has_mark: bool,
+    rows: &MapRows,
+    at: Word,
+    class: &[u8],
+    size: &[u8],
+)
+    ensures { Writes writer.old writer.new (text_if has_mark (dot_text rows.now at class.now size.now)) }
+{
+    if has_mark {
+        write_dot(writer, rows, at, class, size);
+    }
 }
 
 /// Writes the square of a cell.
@@ -190,12 +228,29 @@ fn write_square<A: Allocator>(
     rows: &MapRows,
     at: Word,
     class: &[u8],
-) {
+)
+    ensures { Writes writer.old writer.new (square_text rows.now at class.now) }
+{
     writer.put(b"<rect class=");
     writer.put(class);
     writer.numbered(b" x=", left_of(at));
     writer.numbered(b" y=", rows.top_of(at));
     writer.put(b" width=9 height=9 />");
+}
+
+/// Writes a frame around a cell that has this mark.
+fn write_frame_if<A: Allocator>(
+    writer: &mut ReportWriter<'_, A>,
+    has_mark: bool,
+    rows: &MapRows,
+    at: Word,
+    class: &[u8],
+)
+    ensures { Writes writer.old writer.new (text_if has_mark (square_text rows.now at class.now)) }
+{
+    if has_mark {
+        write_square(writer, rows, at, class);
+    }
 }
 
 /// What is said about a cell where a pointer rests on it; of a routine's its entry stands after it.
@@ -209,6 +264,31 @@ fn kind_text(kind: &CellKind) -> &'static [u8]
         CellKind::Variable => b" variable",
         CellKind::Other => b" other word",
         CellKind::Unset => b" unset",
+    }
+}
+
+/// Whether a kind is that of a variable outside all bodies.
+fn is_variable(kind: &CellKind) -> bool
+    ensures { result ≡ is_variable kind.now }
+{
+    match kind {
+        CellKind::Variable => true,
+        CellKind::Entry
+        | CellKind::Main
+        | CellKind::Routine(_)
+        | CellKind::Other
+        | CellKind::Unset => false,
+    }
+}
+
+/// Writes the entry of the routine in whose body a cell of this kind is, if it is in one.
+fn write_title_entry<A: Allocator>(writer: &mut ReportWriter<'_, A>, kind: &CellKind)
+    ensures { Writes writer.old writer.new (entry_text kind.now) }
+{
+    match kind {
+        CellKind::Routine(entry) => writer.cell(*entry),
+        CellKind::Entry | CellKind::Main | CellKind::Variable | CellKind::Other | CellKind::Unset =>
+            {}
     }
 }
 
@@ -237,6 +317,20 @@ impl<A: Allocator, D: Allocator, C: Allocator> Report<'_, A, D, C> {
         empty
     }
 
+    /// Whether a cell of this kind is a variable that is also in a body.
+    fn is_inner_variable(&self, kind: &CellKind, at: Word) -> bool
+        ensures { result ≡ ((meaning self.now.declaration.now).variable at && not (is_variable kind.now)) }
+    {
+        self.declaration.is_variable(at) && !is_variable(kind)
+    }
+
+    /// Whether a cell is a declared halt.
+    fn is_halt(&self, at: Word) -> bool
+        ensures { result ≡ ((meaning self.now.declaration.now).stop at || (meaning self.now.declaration.now).pause at) }
+    {
+        self.declaration.is_stop(at) || self.declaration.is_pause(at)
+    }
+
     /// Writes the marks of a cell: a variable in a body, a halt, the start, the place of a no.
     fn write_marks(
         &self,
@@ -244,55 +338,75 @@ impl<A: Allocator, D: Allocator, C: Allocator> Report<'_, A, D, C> {
         rows: &MapRows,
         at: Word,
         kind: &CellKind,
-    ) {
-        let declaration = self.declaration;
-        if declaration.is_variable(at) && *kind != CellKind::Variable {
-            write_dot(writer, rows, at, b"w", b"2.5");
-        }
-        if declaration.is_stop(at) || declaration.is_pause(at) {
-            write_dot(writer, rows, at, b"h", b"3");
-        }
-        if declaration.start() == at {
-            write_square(writer, rows, at, b"s");
-        }
-        if self.is_marked(at) {
-            write_square(writer, rows, at, b"\"s bad\"");
-        }
+    )
+        ensures { Writes writer.old writer.new (marks_text self.now rows.now at kind.now) }
+    {
+        write_dot_if(
+            writer,
+            self.is_inner_variable(kind, at),
+            rows,
+            at,
+            b"w",
+            b"2.5",
+        );
+        write_dot_if(writer, self.is_halt(at), rows, at, b"h", b"3");
+        write_frame_if(writer, self.is_start(at), rows, at, b"s");
+        write_frame_if(writer, self.is_marked(at), rows, at, b"\"s bad\"");
     }
 
     /// Writes the name of a word that is told as an instruction.
-    fn write_title_name(&self, writer: &mut ReportWriter<'_, A>, at: Word, word: Word) {
-        if self.is_code(at) {
+    fn write_title_name(
+        &self,
+        writer: &mut ReportWriter<'_, A>,
+        at: Word,
+        kind: &CellKind,
+        word: Word,
+    )
+        ensures { Writes writer.old writer.new (name_text self.now at kind.now word) }
+    {
+        if self.is_code_in(kind, at) {
             writer.put(b" ");
             writer.say(name(word, self.declaration.profile()).as_str().as_bytes());
         }
     }
 
+    /// Writes the word that the tape has for a cell, if it has one.
+    fn write_title_word(
+        &self,
+        writer: &mut ReportWriter<'_, A>,
+        at: Word,
+        kind: &CellKind,
+        word: Option<Word>,
+    )
+        ensures { Writes writer.old writer.new (tape_text self.now at kind.now word) }
+    {
+        match word {
+            None => {}
+            Some(word) => {
+                writer.put(b": ");
+                writer.word(word);
+                self.write_title_name(writer, at, kind, word);
+            }
+        }
+    }
+
     /// Writes what is shown where a pointer rests on a cell.
-    fn write_cell_title(&self, writer: &mut ReportWriter<'_, A>, at: Word, kind: &CellKind) {
+    fn write_cell_title(&self, writer: &mut ReportWriter<'_, A>, at: Word, kind: &CellKind)
+        ensures { Writes writer.old writer.new (title_text self.now at kind.now) }
+    {
         writer.put(b"<title>");
         writer.word(at);
         writer.label(self.label_at(at));
         writer.put(kind_text(kind));
-        if let CellKind::Routine(entry) = kind {
-            writer.cell(*entry);
-        }
-        if let Some(word) = self.image.get(at) {
-            writer.put(b": ");
-            writer.word(word);
-            self.write_title_name(writer, at, word);
-        }
+        write_title_entry(writer, kind);
+        self.write_title_word(writer, at, kind, self.image.get(at));
         writer.put(b"</title>");
     }
 
     /// Writes a cell, which leads to its line.
-    fn write_map_cell(
-        &self,
-        writer: &mut ReportWriter<'_, A>,
-        rows: &MapRows,
-        at: Word,
-        line: Word,
-    ) {
+    fn write_map_cell(&self, writer: &mut ReportWriter<'_, A>, rows: &MapRows, at: Word, line: Word)
+        ensures { DrawsCell self.now rows.now at line writer.old writer.new }
+    {
         let kind = self.kind_of(at);
         writer.link(line);
         self.write_cell_title(writer, at, &kind);

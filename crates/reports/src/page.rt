@@ -1,5 +1,9 @@
 //! The page: what the verdict means, memory, routines, variables, and the listing.
 
+ghost use Rattle.std.specs.Prelude.{◌≡◌};
+ghost use Rattle.reports.specs.FindingText.{listed_text};
+ghost use Rattle.reports.specs.ReportText.{IsTrue};
+
 use crate::listing::ClaimCache;
 use crate::promises::{write_assertions, write_moves, write_returns};
 use crate::report::{Finding, Report};
@@ -185,7 +189,9 @@ fn write_files<A: Allocator>(writer: &mut ReportWriter<'_, A>, files: &[u8]) {
 }
 
 /// What stands beside an instruction; after a no it is only claimed.
-fn listed_text(finding: Finding) -> &'static [u8] {
+fn listed_text(finding: Finding) -> &'static [u8]
+    ensures { result.now ≡ listed_text finding }
+{
     match finding {
         Finding::Shown => b"what is known in every run <b>before</b> it is executed",
         Finding::Refused(_) => {
@@ -207,7 +213,9 @@ pub fn page_below<A: Allocator + Copy, D: Allocator, C: Allocator>(
     alloc: A,
     report: &Report<'_, A, D, C>,
     why: &[u8],
-) -> Result<Vec<u8, A>, AllocError> {
+) -> Result<Vec<u8, A>, AllocError>
+    requires { IsTrue report.now }
+{
     let mut writer = ReportWriter::new(alloc, ReportForm::Page, &report.lines(), report.notes);
     report.write_verdict(&mut writer, why);
     report.write_map(&mut writer);

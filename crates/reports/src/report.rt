@@ -1,11 +1,14 @@
 //! What a report is made of.
 
-ghost use Rattle.std.specs.Prelude.{◌≡◌, IfOk};
+ghost use Rattle.std.specs.Prelude.{◌≡◌, ◌==◌, IfOk, Some};
 ghost use Rattle.wordset.specs.Lanes.{words};
 ghost use Rattle.declaration.specs.DeclarationInCode.{meaning};
 ghost use Rattle.reports.specs.FactItems.{setting_of};
-ghost use Rattle.reports.specs.Kinds.{IsKind, IsOutside};
+ghost use Rattle.reports.specs.Kinds.{IsKind, IsOutside, routine_in, tells_instruction};
+ghost use Rattle.reports.specs.Labels.{label_in};
+ghost use Rattle.reports.specs.Marks.{is_marked_by};
 ghost use Rattle.reports.specs.ReportSetting.{report_setting};
+ghost use Rattle.reports.specs.RoutineClaims.{IsClaim, IsUnclaimed};
 
 use crate::fact_context::FactContext;
 use crate::source_notes::{SourceNote, SourceNotes};
@@ -97,8 +100,10 @@ fn kind_at<D: Allocator>(image: &Image, declaration: &Declaration<D>, at: Word) 
     }
 }
 
-/// A routine that is called from nowhere and writes nothing.
-pub(crate) fn unclaimed() -> RoutineClaim {
+/// A routine of rank 0 that is called from nowhere and writes nothing, as nothing is claimed about it.
+pub(crate) fn unclaimed() -> RoutineClaim
+    ensures { IsUnclaimed result }
+{
     RoutineClaim {
         rank: 0,
         sites: WordSet::empty(),
@@ -107,10 +112,23 @@ pub(crate) fn unclaimed() -> RoutineClaim {
 }
 
 /// What is claimed about a routine, or that it is called from nowhere and writes nothing.
-pub(crate) fn claimed_of<C: Allocator>(certificate: &Certificate<C>, entry: Word) -> RoutineClaim {
+pub(crate) fn claimed_of<C: Claims>(certificate: &C, entry: Word) -> RoutineClaim
+    ensures { IsClaim (C.claims certificate.now) (Some entry) result }
+{
     match certificate.routine(entry) {
         Some(routine) => routine,
         None => unclaimed(),
+    }
+}
+
+/// What is claimed about the routine in whose body an address of this kind is; nothing if it is in none, or in main's.
+pub(crate) fn claimed_in<C: Claims>(certificate: &C, kind: &CellKind) -> RoutineClaim
+    ensures { IsClaim (C.claims certificate.now) (routine_in kind.now) result }
+{
+    match kind {
+        CellKind::Routine(entry) => claimed_of(certificate, *entry),
+        CellKind::Entry | CellKind::Main | CellKind::Variable | CellKind::Other | CellKind::Unset =>
+            unclaimed(),
     }
 }
 
@@ -133,6 +151,7 @@ impl<'a, A: Allocator + Copy, D: Allocator, C: Allocator> Report<'a, A, D, C> {
         notes: Option<&'a SourceNotes<A>>,
     ) -> Result<Report<'a, A, D, C>, AllocError>
         ensures finding { IfOk result (λ report. report.finding ≡ finding) }
+        ensures failing { IfOk result (λ report. report.failing.now ≡ failing.now) }
         ensures program { IfOk result (λ report.
             (report.image.now ≡ image.now) × (report.declaration.now ≡ declaration.now)) }
         ensures certificate { IfOk result (λ report. report.certificate.now ≡ certificate.now) }
@@ -167,9 +186,11 @@ impl<A: Allocator, D: Allocator, C: Allocator> Report<'_, A, D, C> {
     }
 
     /// The label of an address; empty where the source says none.
-    pub(crate) fn label_at(&self, at: Word) -> &[u8] {
-        match self.note_at(at) {
-            Some(note) => note.label,
+    pub(crate) fn label_at(&self, at: Word) -> &[u8]
+        ensures { result.now ≡ label_in self.now.notes at }
+    {
+        match self.notes {
+            Some(notes) => notes.label(at),
             None => b"",
         }
     }
@@ -210,7 +231,14 @@ impl<A: Allocator, D: Allocator, C: Allocator> Report<'_, A, D, C> {
 
     /// Whether the word at an address is told as an instruction: in a body, or where there is a fact.
     pub(crate) fn is_code(&self, at: Word) -> bool {
-        match self.kind_of(at) {
+        self.is_code_in(&self.kind_of(at), at)
+    }
+
+    /// Whether the word at an address of this kind is told as an instruction.
+    pub(crate) fn is_code_in(&self, kind: &CellKind, at: Word) -> bool
+        ensures { result ≡ tells_instruction kind.now (words self.now.facts at) }
+    {
+        match kind {
             CellKind::Main | CellKind::Routine(_) => true,
             CellKind::Entry | CellKind::Variable | CellKind::Other | CellKind::Unset => self
                 .facts
@@ -218,8 +246,17 @@ impl<A: Allocator, D: Allocator, C: Allocator> Report<'_, A, D, C> {
         }
     }
 
+    /// Whether a run begins at an address.
+    pub(crate) fn is_start(&self, at: Word) -> bool
+        ensures { result ≡ ((meaning self.now.declaration.now).start == at) }
+    {
+        self.declaration.start() == at
+    }
+
     /// Whether an address is that at which the verdict is no or the search is stuck.
-    pub(crate) fn is_marked(&self, at: Word) -> bool {
+    pub(crate) fn is_marked(&self, at: Word) -> bool
+        ensures { result ≡ is_marked_by self.now.finding at }
+    {
         match self.finding {
             Finding::Shown => false,
             Finding::Refused(place) | Finding::Stuck(place) => place == at,

@@ -6,7 +6,7 @@ ghost use Rattle.declaration.specs.DeclarationInCode.{meaning};
 ghost use Rattle.command_parts.specs.Answers.{IsMemoryFault};
 ghost use Rattle.command_parts.specs.Faults.{fails_to_write};
 ghost use Rattle.reports.specs.Head.{head_of, opening};
-ghost use Rattle.reports.specs.ReportText.{IsReportOf, finding_of};
+ghost use Rattle.reports.specs.ReportText.{IsReportOf, IsTrue, failing_of, finding_of};
 
 use crate::style::push_head;
 use crate::{Finding, Report, listing_below, opening, page_below};
@@ -58,7 +58,9 @@ pub(crate) fn below_lines<A: Allocator + Copy, D: Allocator, C: Allocator>(
     report: &Report<'_, A, D, C>,
     lines: &[u8],
     form: ReportForm,
-) -> Result<Vec<u8, A>, AllocError> {
+) -> Result<Vec<u8, A>, AllocError>
+    requires { IsTrue report.now }
+{
     match form {
         ReportForm::Page => page_below(alloc, report, lines),
         ReportForm::Text => {
@@ -72,7 +74,8 @@ pub(crate) fn below_lines<A: Allocator + Copy, D: Allocator, C: Allocator>(
 
 /// What is known about a certificate of which this is the verdict, and the name of the condition that fails, or nothing.
 fn finding_of(verdict: &Result<(), Refusal>) -> (Finding, &'static str)
-    ensures { result.0 ≡ finding_of verdict.now }
+    ensures finding { result.0 ≡ finding_of verdict.now }
+    ensures failing { result.1.now ≡ failing_of verdict.now }
 {
     match verdict {
         Ok(()) => (Finding::Shown, ""),

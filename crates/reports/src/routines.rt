@@ -2,12 +2,16 @@
 
 ghost use Rattle.wordset.specs.Lanes.{words};
 ghost use Rattle.facts.specs.Landing.{fact_at};
+ghost use Rattle.declaration.specs.DeclarationInCode.{subroutine_of};
 ghost use Rattle.certificate_lines.specs.CertificateInCode.{claims};
+ghost use Rattle.reports.specs.FactItems.{Extends};
+ghost use Rattle.reports.specs.RoutineText.{Begins, claimed_columns, claimed_items, columns_text, items_text, routine_text, written_text};
 ghost use Rattle.reports.specs.Shown.{ShowsExit};
+ghost use Rattle.reports.specs.Writing.{Writes};
 
 use crate::cases::FactDifferences;
 use crate::fact_context::{ShownFact, write_exit};
-use crate::items::{offsets_where, write_offsets};
+use crate::items::{is_all, offsets_where, write_offsets};
 use crate::known_fact::KnownFact;
 use crate::report::{Report, claimed_of};
 use crate::writer::ReportWriter;
@@ -23,7 +27,9 @@ pub(crate) fn write_return_offsets<A: Allocator, D: Allocator>(
     writer: &mut ReportWriter<'_, A>,
     declaration: &Declaration<D>,
     entry: Word,
-) {
+)
+    ensures { Extends writer.old writer.new }
+{
     let offsets = offsets_where(&|offset| declaration.has_offset(entry, offset));
     if offsets.is_empty() {
         writer.put(b"-");
@@ -33,18 +39,23 @@ pub(crate) fn write_return_offsets<A: Allocator, D: Allocator>(
 }
 
 /// Writes the cells that a routine may write.
-pub(crate) fn write_written<A: Allocator>(writer: &mut ReportWriter<'_, A>, cells: &WordSet) {
+pub(crate) fn write_written<A: Allocator>(writer: &mut ReportWriter<'_, A>, cells: &WordSet)
+    ensures { Writes writer.old writer.new (written_text (words cells.now)) }
+{
     if cells.is_empty() {
-        writer.put(b"nothing");
-    } else if cells.is_all() {
-        writer.put(b"any cell");
-    } else {
-        writer.places(cells);
+        return writer.put(b"nothing");
     }
+    if is_all(cells) {
+        return writer.put(b"any cell");
+    }
+    writer.places(cells);
 }
 
-/// Writes what is claimed about a routine.
-fn write_claimed<A: Allocator>(writer: &mut ReportWriter<'_, A>, claimed: &Claimed) {
+/// Writes what is claimed about a routine as items.
+fn write_claimed<A: Allocator>(writer: &mut ReportWriter<'_, A>, claimed: &Claimed)
+    ensures { Writes writer.old writer.new
+        (items_text claimed.now.rank (words claimed.now.sites) (words claimed.now.writes)) }
+{
     writer.item(b"rank ");
     writer.number(claimed.rank);
     writer.item(b"called from ");
@@ -53,19 +64,51 @@ fn write_claimed<A: Allocator>(writer: &mut ReportWriter<'_, A>, claimed: &Claim
     write_written(writer, &claimed.writes);
 }
 
+/// Writes what is claimed about a routine as columns of a table.
+fn write_columns<A: Allocator>(writer: &mut ReportWriter<'_, A>, claimed: &Claimed)
+    ensures { Writes writer.old writer.new
+        (columns_text claimed.now.rank (words claimed.now.sites) (words claimed.now.writes)) }
+{
+    writer.numbered(b"<td>", claimed.rank);
+    writer.put(b"<td>");
+    writer.places(&claimed.sites);
+    writer.put(b"<td>");
+    write_written(writer, &claimed.writes);
+}
+
 impl<A: Allocator, D: Allocator, C: Allocator> Report<'_, A, D, C> {
-    /// Writes a routine in a line: its entry, its rank, from where it is called, what it may write, and how it returns.
-    pub(crate) fn write_routine(&self, writer: &mut ReportWriter<'_, A>, routine: &Routine) {
-        writer.begin_items(0);
-        writer.item(b"routine ");
-        writer.word(routine.entry());
-        writer.label(self.label_at(routine.entry()));
-        match self.certificate.routine(routine.entry()) {
+    /// Writes as items what the certificate claims about a routine, if it is listed.
+    fn write_claimed_items(&self, writer: &mut ReportWriter<'_, A>, entry: Word)
+        ensures { Writes writer.old writer.new (claimed_items (claims self.now.certificate.now) entry) }
+    {
+        match self.certificate.routine(entry) {
             Some(claimed) => write_claimed(writer, &claimed),
             None => writer.item(b"nothing is claimed about it"),
         }
+    }
+
+    /// Writes as columns of a table what the certificate claims about a routine, if it is listed.
+    pub(crate) fn write_claimed_columns(&self, writer: &mut ReportWriter<'_, A>, entry: Word)
+        ensures { Writes writer.old writer.new (claimed_columns (claims self.now.certificate.now) entry) }
+    {
+        match self.certificate.routine(entry) {
+            Some(claimed) => write_columns(writer, &claimed),
+            None => writer.put(b"<td colspan=3>nothing is claimed about it"),
+        }
+    }
+
+    /// Writes a routine in a line: its entry, its rank, from where it is called, what it may write, and how it returns.
+    pub(crate) fn write_routine(&self, writer: &mut ReportWriter<'_, A>, routine: &Routine)
+        ensures { Begins (routine_text self.now (subroutine_of routine.now).entry) writer.old writer.new }
+    {
+        let entry = routine.entry();
+        writer.begin_items(0);
+        writer.item(b"routine ");
+        writer.word(entry);
+        writer.label(self.label_at(entry));
+        self.write_claimed_items(writer, entry);
         writer.item(b"returns by ");
-        write_return_offsets(writer, self.declaration, routine.entry());
+        write_return_offsets(writer, self.declaration, entry);
     }
 
     /// Writes the line of an exit: what holds when the routine returns by that offset.

@@ -4,10 +4,10 @@ ghost use Rattle.std.specs.Prelude.{◌≡◌, ◌==◌, [], codes, decimal, IfO
 ghost use Rattle.wordset.specs.Lanes.{words};
 ghost use Rattle.reports.specs.FactItems.{Extends};
 ghost use Rattle.reports.specs.Html.{escaped_text};
-ghost use Rattle.reports.specs.ItemText.{begun, counted, is_written, marked, separator, single_item};
+ghost use Rattle.reports.specs.ItemText.{begun, counted, is_written, items_begun, marked, separator, single_item};
 ghost use Rattle.reports.specs.Labels.{label_in};
 ghost use Rattle.reports.specs.SetText.{first_ranges, more_text, next_range_text, none_text, outside, places_text, range_text, run_end_text, run_first_text, run_last_text, set_text, words_text};
-ghost use Rattle.reports.specs.Writing.{Writes, ◌⊕◌, cell_text, form_of, in_page, in_parentheses, label_text, line_of, link_text, linked_text, listed, noted_text, offset_text, place_text, plain, said, word_text};
+ghost use Rattle.reports.specs.Writing.{Writes, ◌⊕◌, beside_text, cell_text, form_of, in_page, in_parentheses, label_text, line_of, link_text, linked_text, listed, named_text, noted_text, numbered_text, offset_text, place_text, plain, said, text_if, word_text};
 
 use crate::escaping::push_escaped;
 use crate::source_notes::SourceNotes;
@@ -164,7 +164,7 @@ impl<'a, A: Allocator> ReportWriter<'a, A> {
 
     /// Writes a text, and after it a number in decimal digits.
     pub(crate) fn numbered(&mut self, text: &[u8], number: usize)
-        ensures { Writes self.old self.new (plain text.now ⊕ plain (decimal number)) }
+        ensures { Writes self.old self.new (numbered_text text.now number) }
     {
         self.put(text);
         self.number(number);
@@ -255,11 +255,29 @@ impl<'a, A: Allocator> ReportWriter<'a, A> {
     }
 
     /// Writes in a page a label after its address, if there is one.
-    pub(crate) fn label(&mut self, label: &[u8]) {
-        if self.is_page && !label.is_empty() {
-            self.put(b" ");
-            self.say(label);
+    pub(crate) fn label(&mut self, label: &[u8])
+        ensures { Writes self.old self.new (beside_text label.now) }
+    {
+        if self.is_page {
+            self.put_beside(label);
         }
+    }
+
+    /// Writes a label after a blank, unless it is empty.
+    fn put_beside(&mut self, label: &[u8])
+        ensures { Writes self.old self.new (named_text label.now) }
+    {
+        if !label.is_empty() {
+            self.put_name(label);
+        }
+    }
+
+    /// Writes a blank, and a text that is not markup.
+    fn put_name(&mut self, text: &[u8])
+        ensures { Writes self.old self.new (plain (codes " ") ⊕ said text.now) }
+    {
+        self.put(b" ");
+        self.say(text);
     }
 
     /// Writes in plain text the label of a note, if there is one; in a page it stands after the address.
@@ -386,7 +404,9 @@ impl<'a, A: Allocator> ReportWriter<'a, A> {
     }
 
     /// Begins the items of a line, of which the first stands after some blanks.
-    pub(crate) fn begin_items(&mut self, indent: usize) {
+    pub(crate) fn begin_items(&mut self, indent: usize)
+        ensures { Writes self.old self.new (items_begun indent) }
+    {
         self.indent = indent;
         self.has_item = false;
         self.same = 0;
@@ -488,5 +508,14 @@ impl<'a, A: Allocator> ReportWriter<'a, A> {
     {
         self.separate();
         self.say(text);
+    }
+
+    /// Writes an item that has nothing to do with the line above, if it is told.
+    pub(crate) fn item_if(&mut self, is_told: bool, text: &[u8])
+        ensures { Writes self.old self.new (text_if is_told (single_item text.now)) }
+    {
+        if is_told {
+            self.item(text);
+        }
     }
 }

@@ -11,8 +11,8 @@ use std::alloc::Global;
 use std::fs;
 use std::io::{self, Printer};
 use std::rt::Files;
-use streams::read_at_most;
-use streams::standard::StdReader;
+use streams::standard::{StdReader, StdWriter};
+use streams::{put, read_at_most};
 
 /// The most bytes of a file that are read at once: one more than any input may have.
 const READ_LIMIT: usize = 1_048_577;
@@ -136,10 +136,8 @@ pub fn open_output<'r, R: Files + Print>(
         Destination::CheckedFirst(_) => file.check(),
         Destination::MadeLast(_) => Ok(()),
     };
-    match opened {
-        Ok(()) => Ok(Either::Right(file)),
-        Err(_) => Err(Fault::Device(DeviceFault::Write)),
-    }
+    opened.map_err(|_| Fault::Device(DeviceFault::Write))?;
+    Ok(Either::Right(file))
 }
 
 /// Puts a completely written result in its place, and returns the given status. If nothing was written, nothing is done
@@ -157,4 +155,20 @@ pub fn finish<R: Files + Print>(
             .map_err(|_| Fault::Device(DeviceFault::Write))?;
     }
     Ok(status)
+}
+
+/// Opens an output, writes this text as the result, and puts it in its place.
+///
+/// # Errors
+///
+/// As for [`open_output`] and [`finish`], and `Device` with `Write` if the text cannot be written.
+pub(crate) fn write_result<R: Files + Print>(
+    rt: &R,
+    alloc: Global,
+    out: Destination<'_>,
+    text: &[u8],
+) -> Result<Status, Fault> {
+    let mut file = open_output(rt, alloc, out)?;
+    put(&mut StdWriter::new(&mut file), text)?;
+    finish(&mut file, Status::Done)
 }

@@ -30,34 +30,29 @@ fn takes_source(command: CommandName) -> bool {
 
 /// Whether a command takes a declaration after a tape or a source.
 fn takes_declaration(command: CommandName) -> bool {
-    match command {
-        CommandName::Program(called) => called != ProgramCommand::Declare,
-        _ => false,
-    }
+    matches!(command, CommandName::Program(called) if called != ProgramCommand::Declare)
 }
 
 /// Whether a command takes a certificate after a declaration.
 fn takes_certificate(command: CommandName) -> bool {
-    match command {
-        CommandName::Program(called) => {
-            matches!(called, ProgramCommand::Check | ProgramCommand::Report)
-        }
-        _ => false,
-    }
+    matches!(
+        command,
+        CommandName::Program(ProgramCommand::Check | ProgramCommand::Report)
+    )
 }
 
 /// Whether a command writes its result to a file, whose name comes after those of the inputs.
 fn writes_result(command: CommandName) -> bool {
-    match command {
-        CommandName::Program(called) => matches!(
-            called,
-            ProgramCommand::Declare
-                | ProgramCommand::Guess
-                | ProgramCommand::Refute
-                | ProgramCommand::Report
-        ),
-        _ => command == CommandName::Source,
-    }
+    matches!(
+        command,
+        CommandName::Source
+            | CommandName::Program(
+                ProgramCommand::Declare
+                    | ProgramCommand::Guess
+                    | ProgramCommand::Refute
+                    | ProgramCommand::Report
+            )
+    )
 }
 
 /// The option before the name of a declaration that comes after a tape: empty if the declaration is an operand, and
@@ -104,10 +99,6 @@ impl<'p, 'a> CommandFiles<'p, 'a> {
 
     /// The names of the inputs, beginning with the parts of the source. A session at the teletype also reads keys from
     /// standard input.
-    ///
-    /// # Errors
-    ///
-    /// `AllocError` if memory was refused.
     pub(crate) fn inputs(&self, alloc: Global) -> Result<Vec<&'a str>, AllocError> {
         let mut inputs = Vec::new(alloc);
         inputs.extend_from_slice(self.parts)?;
@@ -133,10 +124,8 @@ impl<'p, 'a> CommandFiles<'p, 'a> {
             Fault::Certificate(_) => (Kind::Certificate, self.names.certificate),
             Fault::Events(_) => (Kind::Events, self.names.events),
             Fault::Source(fault) => {
-                (
-                    Kind::Source,
-                    self.parts.get(fault.part.wrapping_sub(1)).copied(),
-                )
+                let part = self.parts.get(fault.part.wrapping_sub(1));
+                (Kind::Source, part.copied())
             }
             _ => return None,
         };

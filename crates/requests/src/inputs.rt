@@ -56,17 +56,12 @@ fn misused_output<R: Files>(
     }
     let second = output_of(rt, files.names.second_output)?;
     let is_taken = names_file(rt, inputs, second);
-    if matches!(files.command, CommandName::Machine(_)) {
-        return if is_taken {
-            Some(Misuse::PunchIsTaken)
-        } else {
-            None
-        };
+    match files.command {
+        CommandName::Machine(_) if is_taken => Some(Misuse::PunchIsTaken),
+        CommandName::Machine(_) => None,
+        _ if is_taken || output == Some(second) => Some(Misuse::ReportIsTaken),
+        _ => None,
     }
-    if is_taken || output == Some(second) {
-        return Some(Misuse::ReportIsTaken);
-    }
-    None
 }
 
 /// Whether a file that the request may save is one of its inputs.

@@ -75,10 +75,6 @@ pub(crate) struct NamedFiles {
 impl NamedFiles {
     /// The names of a program's files, of its declaration and of the other inputs of a command. The plain files among
     /// them are read again for the sums of their bytes.
-    ///
-    /// # Errors
-    ///
-    /// `AllocError` if memory was refused.
     pub(crate) fn of<R: Files>(
         rt: &R,
         alloc: Global,

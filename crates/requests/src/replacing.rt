@@ -1,6 +1,7 @@
 //! A file for a result, which replaces the old file only when it is complete: until then, everything is written to a
-//! temporary file beside it, so that neither a full disk nor a fault halfway loses the old contents. This is tested,
-//! not proved.
+//! temporary file beside it, so that neither a full disk nor a fault halfway loses the old contents. Where the temporary
+//! file cannot take the old file's place and is copied into it, it stays if the copy fails. All of this is tested, not
+//! proved.
 
 use std::alloc::{AllocError, Global};
 use std::fmt::Write;
@@ -250,20 +251,26 @@ impl<'r, R: Files> ResultFile<'r, R> {
         }
     }
 
-    /// Puts the completely written result in its place. If nothing was written, nothing is done.
+    /// Puts the completely written result in its place. If nothing was written, nothing is done. If the result can be
+    /// neither moved nor copied there, the temporary file stays, since the copy may have overwritten the old contents.
     ///
     /// # Errors
     ///
-    /// Any error from copying the result, if it can be neither moved nor copied to its place.
+    /// Any error from copying the result.
     pub fn finish(&mut self) -> io::Result<()> {
         let (Some(path), Some(beside)) = (&self.path, &mut self.beside) else {
             return Ok(());
         };
-        if fs::rename(self.rt, &beside.name, path).is_ok() {
+        let is_moved = fs::rename(self.rt, &beside.name, path).is_ok();
+        if is_moved {
             beside.name.clear();
-        } else {
-            let _count = fs::copy(self.rt, &beside.name, path)?;
+            return Ok(());
         }
+        let copied = fs::copy(self.rt, &beside.name, path);
+        if copied.is_err() {
+            beside.name.clear();
+        }
+        let _count = copied?;
         Ok(())
     }
 

@@ -1,10 +1,11 @@
 //! The files that `verify --save` writes, and when the answer is printed.
 
-use crate::files::is_foreign;
-use crate::replacing::ResultFile;
+use crate::files::{is_foreign, write_result};
 use crate::source_faults::report_file_fault;
-use command_line::{CERTIFICATE_ENDING, DECLARATION_ENDING, EVENTS_ENDING, SaveOptions};
-use command_parts::status::{DeviceFault, Fault, Status};
+use command_line::{
+    CERTIFICATE_ENDING, DECLARATION_ENDING, Destination, EVENTS_ENDING, SaveOptions,
+};
+use command_parts::status::{Fault, Status};
 use command_parts::visible::visible_text;
 use search_commands::verifying::{Answer, answer_status};
 use std::alloc::{AllocError, Global};
@@ -24,34 +25,20 @@ struct NamedText {
     text: Vec<u8>,
 }
 
-impl NamedText {
-    /// Writes it to its file, which is then either complete or as it was.
-    fn write<R: Files>(&self, rt: &R, alloc: Global) -> Result<(), Fault> {
-        let mut file = ResultFile::new(rt, alloc, &self.path)?;
-        put(&mut StdWriter::new(&mut file), &self.text)?;
-        match file.finish() {
-            Ok(()) => Ok(()),
-            Err(_) => Err(Fault::Device(DeviceFault::Write)),
-        }
-    }
-}
-
 /// Reports that a file is left as it is, because the command did not write it.
 fn report_kept_file<R: Eprint>(rt: &R, alloc: Global, path: &str) -> Status {
     let Ok(path) = visible_text(alloc, path) else {
         return Status::Usage;
     };
-    let written = eprintln!(rt;
+    let _ = eprintln!(rt;
         "error: {path} is a file that this command did not write, so it is kept: give another '--save NAME', or use --force to replace it"
     );
-    match written {
-        Ok(()) | Err(_) => Status::Usage,
-    }
+    Status::Usage
 }
 
 /// Writes these texts to their files, or none of them if one would replace a file that the command did not write.
 /// Returns the given status, or the status of the problem that was reported.
-fn save_all<R: Files + Input + Eprint>(
+fn save_all<R: Files + Input + Print + Eprint>(
     rt: &R,
     alloc: Global,
     save: &Option<SaveOptions<'_>>,
@@ -65,7 +52,12 @@ fn save_all<R: Files + Input + Eprint>(
         }
     }
     for text in saved {
-        if let Err(fault) = text.write(rt, alloc) {
+        if let Err(fault) = write_result(
+            rt,
+            alloc,
+            Destination::MadeLast(text.path.as_str()),
+            &text.text,
+        ) {
             return report_file_fault(rt, alloc, fault, &text.path, "cannot be created or written");
         }
     }
@@ -80,14 +72,9 @@ fn push_saved(
     ending: &str,
     text: &[u8],
 ) -> Result<(), AllocError> {
-    let mut path = String::new(alloc);
-    path.push_str(name)?;
-    path.push_str(ending)?;
-    let mut copy = Vec::new(alloc);
-    copy.extend_from_slice(text)?;
-    saved
-        .push(NamedText { path, text: copy })
-        .map_err(|_| AllocError)
+    let path = [name, ending].concat(alloc)?;
+    let text = text.to_vec(alloc)?;
+    saved.push(NamedText { path, text }).map_err(|_| AllocError)
 }
 
 /// What is to be saved under this name: a proposed declaration, if there is one, and the evidence for the answer, which

@@ -117,10 +117,6 @@ pub fn report_size_fault<R: Eprint>(
 }
 
 /// Adds what is wrong with a source whose parts have these names.
-///
-/// # Errors
-///
-/// `AllocError` if memory was refused.
 pub(crate) fn push_source_faults(
     alloc: Global,
     lines: &mut String,

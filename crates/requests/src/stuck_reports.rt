@@ -1,19 +1,17 @@
 //! The report on a search for a certificate that is stuck.
 
-use crate::files::{finish, open_output};
+use crate::files::write_result;
 use crate::hints::CommandFiles;
 use crate::named_files::NamedFiles;
 use crate::of_sources::assembled::AssembledSource;
 use crate::of_sources::source_lines::rest_with_source_lines;
 use crate::stuck::{StuckSearch, stuck_explanation};
 use command_line::Destination;
-use command_parts::status::{Fault, Status};
+use command_parts::status::Fault;
 use reports::drafting::draft_page;
 use reports::reporting::ReportForm;
 use std::alloc::Global;
 use std::rt::Files;
-use streams::put;
-use streams::standard::StdWriter;
 
 /// The page about what a search had found when it got stuck, with what the source, if there is one, says about the
 /// addresses.
@@ -25,12 +23,10 @@ fn stuck_page<R: Files>(
     source: Option<&AssembledSource>,
 ) -> Result<Vec<u8>, Fault> {
     let why = match source {
-        Some(source) => Some(rest_with_source_lines(
-            alloc,
-            source,
-            &stuck_explanation(alloc, stuck)?,
-            0,
-        )?),
+        Some(source) => {
+            let message = stuck_explanation(alloc, stuck)?;
+            Some(rest_with_source_lines(alloc, source, &message, 0)?)
+        }
         None => None,
     };
     let names = NamedFiles::of(rt, alloc, files)?;
@@ -63,8 +59,6 @@ pub fn write_stuck_report<R: Files + Print>(
     source: Option<&AssembledSource>,
 ) -> Result<(), Fault> {
     let page = stuck_page(rt, alloc, files, stuck, source)?;
-    let mut file = open_output(rt, alloc, Destination::MadeLast(name))?;
-    put(&mut StdWriter::new(&mut file), &page)?;
-    let _status = finish(&mut file, Status::Done)?;
+    let _status = write_result(rt, alloc, Destination::MadeLast(name), &page)?;
     Ok(())
 }

@@ -11,9 +11,8 @@ use command_parts::status::{Fault, Status};
 pub fn tell<R: Eprint>(rt: &R, fault: Fault) -> Status
     ensures { result ≡ status_of_fault fault }
 {
-    match eprintln!(rt; "{fault}") {
-        Ok(()) | Err(_) => fault.status(),
-    }
+    let _ = eprintln!(rt; "{fault}");
+    fault.status()
 }
 
 /// Writes the line of a fault to standard error, with these lines below it, and returns the status of the fault.
@@ -35,7 +34,6 @@ pub fn tell_misuse<R: Eprint>(rt: &R, misuse: &Misuse) -> Status
     ensures { result ≡ Usage }
 {
     let text = misuse.text();
-    match eprintln!(rt; "error: {text}") {
-        Ok(()) | Err(_) => Status::Usage,
-    }
+    let _ = eprintln!(rt; "error: {text}");
+    Status::Usage
 }

@@ -1,6 +1,7 @@
 -- What `complete` writes.
-use Rattle.std.proofs.Common.{ℕ, ◌≡◌, ◌||◌, Bool, true, false, List, Option, refl, inl, inr, sym, subst, take, arith}
+use Rattle.std.proofs.Common.{ℕ, ◌≡◌, ◌||◌, Bool, true, false, List, Option, refl, inl, inr, take, arith}
 use Rattle.std.specs.Prelude.{Some, None, IfSome}
+use Rattle.std.proofs.lemmas.Bool.{or_left}
 use Rattle.wordset.specs.Words.{Words}
 use Rattle.peripherals.specs.Loading.{image_of}
 use Rattle.declaration.specs.Declaration.{Declaration}
@@ -15,21 +16,18 @@ use Rattle.search_commands.specs.CompleteText.{Completes, CompletesBy, IsExtensi
 use Rattle.search_commands.specs.Keeping.{KeepsLines}
 use Rattle.search_commands.specs.Keeping.KeepsLines.{unchanged}
 
-so_left : (a b : Bool) → a ≡ true → (a || b) ≡ true
-so_left a b is = rw is refl
-
 -- a declaration allows nothing that it does not allow, whatever is proposed
 adds_nothing : (d proposed : Declaration) → AddsOnly d proposed d
 adds_nothing d proposed = λ a small. record {
-  body = λ r is. so_left (d.body r a) (proposed.body r a) is;
-  offset = λ o low is. so_left (d.offset a o) (proposed.offset a o) is;
-  entry = λ is. so_left (d.entry a) (proposed.entry a) is;
-  variable = λ is. so_left (d.variable a) (proposed.variable a) is;
-  stop = λ is. so_left (d.stop a) (proposed.stop a) is;
-  pause = λ is. so_left (d.pause a) (proposed.pause a) is;
-  read = λ is. so_left (lists d.reads a) (lists proposed.reads a) is;
-  moves = λ is. so_left (d.moves a) (proposed.moves a) is;
-  abandon = λ is. so_left (d.abandon a) (proposed.abandon a) is;
+  body = λ r is. or_left (d.body r a) (proposed.body r a) is;
+  offset = λ o low is. or_left (d.offset a o) (proposed.offset a o) is;
+  entry = λ is. or_left (d.entry a) (proposed.entry a) is;
+  variable = λ is. or_left (d.variable a) (proposed.variable a) is;
+  stop = λ is. or_left (d.stop a) (proposed.stop a) is;
+  pause = λ is. or_left (d.pause a) (proposed.pause a) is;
+  read = λ is. or_left (lists d.reads a) (lists proposed.reads a) is;
+  moves = λ is. or_left (d.moves a) (proposed.moves a) is;
+  abandon = λ is. or_left (d.abandon a) (proposed.abandon a) is;
 }
 
 -- so it extends itself
@@ -70,7 +68,7 @@ lacking_completes image bytes given proposed text is = record { is = is; ends = 
 
 listed_before : (given : Bool) (proposed : Option Words) (a : ℕ) → proposed ≡ None → (given || lists proposed a) ≡ true → given ≡ true
 listed_before true proposed a none listed = refl
-listed_before false proposed a none listed = let P : Option Words → Type 0 = λ p. lists p a ≡ true in subst P none listed
+listed_before false proposed a none listed = rw none at listed
 
 -- what completes a declaration by what is proposed completes it; reads are listed in what is proposed only if that is
 -- requested
@@ -91,7 +89,7 @@ whole_text had text d is declares =
 -- a text that keeps the lines of what was read from a source keeps the lines of the source
 keeps_source : (source : Option (List ℕ)) (bytes text : List ℕ) → IfSome source (λ all. all ≡ bytes) → KeepsLines bytes text → IfSome source (λ all. KeepsLines all text)
 keeps_source None bytes text is keeps = tt
-keeps_source (Some all) bytes text is keeps = let P : List ℕ → Type 0 = λ t. KeepsLines t text in subst P (sym is) keeps
+keeps_source (Some all) bytes text is keeps = rw is keeps
 
 -- so it completes the declaration of the source
 pub completes_source : (source : Option (List ℕ)) (bytes : List ℕ) (reads : Bool) (image : List (Option ℕ)) (given : Declaration) (status : Status) (text : List ℕ)

@@ -1,6 +1,5 @@
 -- What `declare` writes.
-use Rattle.std.proofs.Common.{ℕ, ◌≡◌, Bool, true, false, List, Option, None, refl, sym, ap, inl, inr}
-use Rattle.std.proofs.lemmas.Bool.{true≢false}
+use Rattle.std.proofs.Common.{ℕ, ◌≡◌, true, false, List, Option, None, refl, inl, inr}
 use Rattle.declaration.specs.DeclarationInCode.{meaning}
 use Rattle.certificate.specs.declared.Certificate.{Certificate}
 use Rattle.certificate_lines.specs.CertificateInCode as certified
@@ -12,15 +11,11 @@ use Rattle.command_parts.specs.declared.options.DeclareOptions.{DeclareOptions}
 use Rattle.command_parts.specs.declared.status.Status.{Status}
 use Rattle.command_parts.specs.declared.status.Status.TheVariants.{Done, Refused}
 
-abbrev is_done : Status → Bool
-is_done Done = true
-is_done _ = false
-
 done_not_refused : {A : Type 0} → Done ≡ Refused → A
-done_not_refused is = absurd (true≢false (ap is_done is))
+done_not_refused is = cc
 
 pub refused_not_done : {A : Type 0} → Refused ≡ Done → A
-refused_not_done is = absurd (true≢false (sym (ap is_done is)))
+refused_not_done is = cc
 
 -- with a certificate
 pub shown_proposal : {A : Type 0} → (options : DeclareOptions) (image : List (Option ℕ)) (p : Proposal A) (c : Certificate A) →

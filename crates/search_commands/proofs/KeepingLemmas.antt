@@ -1,5 +1,5 @@
 -- Lines that are kept, line by line.
-use Rattle.std.proofs.Common.{ℕ, ◌≡◌, ◌<◌, ◌+◌, ◌∷◌, ◌++◌, ◌==◌, ◌∙◌, List, [], true, false, inl, inr, length, refl, sym, ap, subst, arith}
+use Rattle.std.proofs.Common.{ℕ, ◌≡◌, ◌<◌, ◌+◌, ◌∷◌, ◌++◌, ◌==◌, ◌∙◌, List, [], true, false, inl, inr, length, refl, ap, subst, arith}
 use Rattle.std.specs.Prelude.{codes}
 use Rattle.std.specs.List.{list_all}
 use Rattle.std.proofs.lemmas.List.{append-nil, length-append}
@@ -13,21 +13,8 @@ use Rattle.search_commands.specs.Keeping.KeepsLines.{unchanged, line, last, adde
 
 -- nothing is left of a line but its comment, and the mark comes next
 pub ends_marked : (left rest tail : List ℕ) → IsCommentOrEnd left → rest ≡ left ++ tail → IsMark tail → Grows left rest
-ends_marked left rest tail (inl empty) e m =
-    let P : List ℕ → Type 0 = λ t. Grows t (t ++ tail) in
-    let Q : List ℕ → Type 0 = λ t. Grows left t in
-    subst Q (sym e) (subst P (sym empty) (marked tail m))
-ends_marked left rest tail (inr (comment, is)) e m =
-    let P : List ℕ → Type 0 = λ t. Grows t (t ++ tail) in
-    let Q : List ℕ → Type 0 = λ t. Grows left t in
-    subst Q (sym e) (subst P (sym is) (commented comment tail m))
-
--- a byte is the first of what is left, and is not a slash
-pub first_stands : (left others new : List ℕ) (first byte : ℕ) → left ≡ first ∷ others → first ≡ byte → (byte == 47) ≡ false → Grows others new → Grows left (byte ∷ new)
-first_stands left others new first byte e f slash h =
-    let P : List ℕ → Type 0 = λ t. Grows t (byte ∷ new) in
-    let Q : ℕ → Type 0 = λ c. Grows (c ∷ others) (byte ∷ new) in
-    subst P (sym e) (subst Q (sym f) (same byte others new slash h))
+ends_marked left rest tail (inl empty) e m = rw (e, empty) (marked tail m)
+ends_marked left rest tail (inr (comment, is)) e m = rw (e, is) (commented comment tail m)
 
 -- the first of what is left is a slash
 pub comment_left : (left others : List ℕ) (first : ℕ) → left ≡ first ∷ others → first ≡ 47 → IsCommentOrEnd left
@@ -58,9 +45,7 @@ same_line old new e = inl ((bytes_eq-Decides old new).0 e)
 
 -- a word is inserted
 pub put_in : (old new others front rest : List ℕ) → new ≡ 32 ∷ others → others ≡ front ++ rest → list_all is_spelling front ≡ true → ends_word old ≡ true → Grows old rest → Grows old new
-put_in old new others front rest e f spelled ends h =
-    let P : List ℕ → Type 0 = λ t. Grows old t in
-    subst P (sym (e ∙ ap (λ t. 32 ∷ t) f)) (put front old rest spelled ends h)
+put_in old new others front rest e f spelled ends h = rw (e, f) (put front old rest spelled ends h)
 
 -- what is left of a line is shorter
 pub put_shorter : (new others front rest : List ℕ) → new ≡ 32 ∷ others → others ≡ front ++ rest → length rest < length new
@@ -71,9 +56,7 @@ put_shorter new others front rest e f =
 
 -- a byte is in both lines
 pub both_stand : (left others right more : List ℕ) (first byte : ℕ) → left ≡ first ∷ others → right ≡ byte ∷ more → first ≡ byte → (byte == 47) ≡ false → Grows others more → Grows left right
-both_stand left others right tail first byte e f same_byte slash h =
-    let P : List ℕ → Type 0 = λ t. Grows left t in
-    subst P (sym f) (first_stands left others tail first byte e same_byte slash h)
+both_stand left others right tail first byte e f same_byte slash h = rw (e, f, same_byte) (same byte others tail slash h)
 
 -- one byte less is left
 pub same_shorter : (right more : List ℕ) (byte : ℕ) → right ≡ byte ∷ more → length more < length right
@@ -81,47 +64,27 @@ same_shorter right tail byte e = let whole : length right ≡ length {A = ℕ} (
 
 -- ranges are named
 pub named_ranges : (text front rest : List ℕ) → text ≡ front ++ rest → length rest ≡ 0 → list_all is_spaced front ≡ true → IsMark (mark ++ text)
-named_ranges text front [] e empty spaced =
-    let P : List ℕ → Type 0 = λ t. IsMark (mark ++ t) in
-    subst P (sym (e ∙ append-nil front)) (ranges front spaced)
+named_ranges text front [] e empty spaced = rw (e, append-nil front) (ranges front spaced)
 named_ranges text front (x ∷ xs) e empty spaced = absurd (omega (arith, empty))
 
 -- ranges and offsets are named
 pub named_offsets : (text front rest behind : List ℕ) → text ≡ front ++ rest → rest ≡ codes "returns" ++ behind → list_all is_spaced front ≡ true → list_all is_spaced behind ≡ true → IsMark (mark ++ text)
-named_offsets text front rest behind e f spaced others =
-    let P : List ℕ → Type 0 = λ t. IsMark (mark ++ t) in
-    subst P (sym (e ∙ ap (λ t. front ++ t) f)) (offsets front behind spaced others)
+named_offsets text front rest behind e f spaced others = rw (e, f) (offsets front behind spaced others)
 
 -- a text that is equal to a mark is a mark
 pub mark_of : (text named : List ℕ) → text ≡ mark ++ named → IsMark (mark ++ named) → IsMark text
-mark_of text named e h = let P : List ℕ → Type 0 = λ t. IsMark t in subst P (sym e) h
+mark_of text named e h = rw e h
 
 -- one more added line
 pub one_more_added : (text first rest : List ℕ) → HasLine text → first ≡ first_line text → rest ≡ other_lines text → IsAdded first → AreAdded rest → AreAdded text
-one_more_added text first rest has e f is others =
-    let P : List ℕ → Type 0 = λ t. IsAdded t in
-    let Q : List ℕ → Type 0 = λ t. AreAdded t in
-    more text has (subst P e is) (subst Q f others)
-
--- two lines, the second of which keeps the first
-kept_line : (old new a b : List ℕ) → a ≡ old → b ≡ new → KeepsLine a b → KeepsLine old new
-kept_line old new a b e f is =
-    let P : List ℕ → Type 0 = λ t. KeepsLine t b in
-    let Q : List ℕ → Type 0 = λ t. KeepsLine old t in
-    subst Q f (subst P e is)
+one_more_added text first rest has e f is others = more text has (rw e at is) (rw f at others)
 
 -- one more kept line
 pub one_more_kept : (old new first rest first_of_new rest_of_new : List ℕ) → HasLine old → first ≡ first_line old → rest ≡ other_lines old
     → HasLine new → first_of_new ≡ first_line new → rest_of_new ≡ other_lines new → KeepsLine first first_of_new → KeepsLines rest rest_of_new → KeepsLines old new
-one_more_kept old new a r b s has e f has' e' f' is others =
-    let P : List ℕ → Type 0 = λ t. KeepsLines t s in
-    let Q : List ℕ → Type 0 = λ t. KeepsLines (other_lines old) t in
-    line old new has has' (kept_line (first_line old) (first_line new) a b e e' is) (subst Q f' (subst P f others))
+one_more_kept old new a r b s has e f has' e' f' is others = line old new has has' (rw (e, e') at is) (rw (f, f') at others)
 
 -- the last line of a text, which need not end with a line feed
 pub last_kept : (old new first rest : List ℕ) → HasLine new → first ≡ first_line new → rest ≡ other_lines new → KeepsLine old first → AreAdded rest
     → KeepsLines old new
-last_kept old new b s has e f is others =
-    let P : List ℕ → Type 0 = λ t. KeepsLine old t in
-    let Q : List ℕ → Type 0 = λ t. AreAdded t in
-    last old new has (subst P e is) (subst Q f others)
+last_kept old new b s has e f is others = last old new has (rw e at is) (rw f at others)

@@ -5,3 +5,4 @@ pub mod WidenedLemmas
 mod KeepingLemmas
 pub mod RefiningLemmas
 pub mod AddingLemmas
+mod WhyLemmas

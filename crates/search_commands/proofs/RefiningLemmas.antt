@@ -1,5 +1,5 @@
 -- What is written for a declaration that is refined.
-use Rattle.std.proofs.Common.{ℕ, ◌≡◌, List, Option, inl, inr, refl, subst, sym}
+use Rattle.std.proofs.Common.{ℕ, ◌≡◌, List, Option, inl, inr, refl}
 use Rattle.peripherals.specs.Loading.{image_of}
 use Rattle.declaration.specs.Declaration.{Declaration}
 use Rattle.declaration.specs.Text.{Declares, Fails}
@@ -23,7 +23,7 @@ pub same_text_is_refined : (image : List (Option ℕ)) (text written : List ℕ)
 same_text_is_refined image text written same = inl same
 
 pub same_text_keeps : (text written : List ℕ) → written ≡ text → KeepsLines text written
-same_text_keeps text written same = let P : List ℕ → Type 0 = λ t. KeepsLines text t in subst P (sym same) (unchanged text)
+same_text_keeps text written same = rw same (unchanged text)
 
 -- the fault of a text as that of the command
 pub refine_fault : (text : List ℕ) (found : DeclarationFault) → Fails text found → IsRefineFault text (fault_of_declaration found)

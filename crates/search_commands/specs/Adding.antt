@@ -27,8 +27,10 @@ pub record AddsToCell (given proposed more : Declaration) (a : ℕ) : Type 0 whe
 abbrev pub AddsOnly : Declaration → Declaration → Declaration → Type 0
 AddsOnly given proposed more = (a : ℕ) → a < 4096 → AddsToCell given proposed more a
 
--- The second declaration is no wider than the first: the start and the machine are the same, it allows nothing that the
--- first does not allow, and it lists reads exactly if the first does. Nothing is said here about what is to hold.
+-- The second declaration is no wider than the first: the start and the machine are the same, it gives no cell a role or a
+-- permission that the first does not give it, and it lists reads exactly if the first does. A step that the first forbids
+-- may still be legal under it: if a cell is no longer an entry, a JMP I through it need not be a return. Nothing is said
+-- here about what is to hold.
 pub record IsNoWider (given less : Declaration) : Type 0 where
   pub start_is : less.start ≡ given.start
   pub profile_is : less.profile ≡ given.profile

@@ -6,7 +6,7 @@ use Rattle.declaration.specs.Declaration.{Declaration}
 use Rattle.declaration.specs.Text.{Declares}
 use Rattle.policy.specs.Runs.{IsSafe}
 use Rattle.certificate.specs.Exact.{AreLines}
-use Rattle.certificate_lines.specs.Reading.{Text, certificate_of}
+use Rattle.certificate_lines.specs.Reading.{Text}
 use Rattle.judge.specs.Conditions.{IsValid}
 use Rattle.judge.specs.Landing.{Case}
 use Rattle.proposer.specs.Needed.{ReadsAreNeeded, VariablesAreWritten}

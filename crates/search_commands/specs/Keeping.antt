@@ -2,6 +2,7 @@
 use Rattle.std.specs.Prelude.{ℕ, ◌≡◌, ◌<◌, ◌⊎◌, ◌==◌, ◌&&◌, ◌||◌, nat_le, Bool, true, false, List, [], ◌∷◌, ◌++◌, codes, length}
 use Rattle.std.specs.List.{before_first, after_first, list_all, position_or_len}
 use Rattle.std.specs.Str.Lines.{strip_carriage_return}
+use Rattle.streams.specs.Text.{words_of}
 
 -- Whether a byte is a line feed.
 abbrev pub is_feed : ℕ → Bool
@@ -59,9 +60,14 @@ pub data Grows : List ℕ → List ℕ → Type 0 where
 abbrev pub IsCommentOrEnd : List ℕ → Type 0
 IsCommentOrEnd text = (text ≡ []) ⊎ ((comment : List ℕ) × (text ≡ 47 ∷ comment))
 
--- A line is kept: it is unchanged or, apart from its carriage return, it has grown.
+-- The line is that of a routine: its first word is `sub`.
+abbrev pub IsRoutineLine : List ℕ → Type 0
+IsRoutineLine line = (others : List (List ℕ)) × (words_of line ≡ codes "sub" ∷ others)
+
+-- A line is kept: it is unchanged or, if it is the line of a routine, it has grown, apart from its carriage return. No other
+-- line may grow, so that what is to hold at places and at returns stays as it is.
 abbrev pub KeepsLine : List ℕ → List ℕ → Type 0
-KeepsLine old new = (old ≡ new) ⊎ Grows (strip_carriage_return old) (strip_carriage_return new)
+KeepsLine old new = (old ≡ new) ⊎ (IsRoutineLine old × Grows (strip_carriage_return old) (strip_carriage_return new))
 
 -- A line is an added line: it ends with the comment that marks it, or it is a comment.
 abbrev pub IsAdded : List ℕ → Type 0

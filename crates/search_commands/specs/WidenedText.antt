@@ -1,5 +1,5 @@
 -- What `verify` says about a tape alone: why no declaration allows what a run does.
-use Rattle.std.specs.Prelude.{ℕ, ◌≡◌, ◌++◌, ⊤, Bool, false, codes, List, [], Option, Some, None}
+use Rattle.std.specs.Prelude.{ℕ, ◌++◌, ⊤, codes, List, [], Option, Some, None}
 use Rattle.word12.specs.Words.{octal_text}
 use Rattle.declaration.specs.Declaration.{Declaration}
 use Rattle.proposer.specs.Obstacles.{IsObstacle}

@@ -187,14 +187,6 @@ fn remarked<A: Allocator + Copy>(
     Ok(copy_of(alloc, &proposal.text)?)
 }
 
-/// The text of a proposal.
-fn text_of<A: Allocator>(proposal: Proposal<A>) -> Vec<u8, A>
-    ensures { result ≡ proposal.text }
-{
-    let Proposal { text, .. } = proposal;
-    text
-}
-
 /// What is proposed for a tape's words: the text of a declaration, and whether compliance with it is shown.
 ///
 /// # Errors
@@ -213,7 +205,7 @@ pub fn proposed<A: Allocator + Copy>(
     let mut turns = Turns::new(MOST_TURNS);
     let proposal = proposal_for(alloc, image, options, &mut turns)?;
     if let Verdict::Safe(_) = &proposal.verdict {
-        let text = text_of(proposal);
+        let Proposal { text, .. } = proposal;
         let status = Status::Done;
         return Ok(CommandResult { text, status });
     }

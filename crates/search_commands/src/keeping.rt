@@ -4,7 +4,9 @@ ghost use Rattle.std.specs.Prelude.{◌≡◌, ◌<◌, ◌+◌, ℕ, List, ◌�
 ghost use Rattle.std.specs.List.{list_all, position};
 ghost use Rattle.std.specs.Str.{bytes_eq};
 ghost use Rattle.std.specs.Str.Lines.{strip_carriage_return};
-ghost use Rattle.search_commands.specs.Keeping.{AreAdded, Grows, HasLine, IsAdded, IsCommentOrEnd, IsMark, KeepsLine, KeepsLines, ends_word, first_line, is_end, is_feed, is_spaced, is_spelling, mark, other_lines};
+ghost use Rattle.search_commands.specs.Keeping.{AreAdded, Grows, HasLine, IsAdded, IsCommentOrEnd, IsMark, IsRoutineLine, KeepsLine, KeepsLines, ends_word, first_line, is_end, is_feed, is_spaced, is_spelling, mark, other_lines};
+
+use streams::text::{Words, is};
 
 /// The comment that marks what is added.
 const MARK: &[u8] = b" / added";
@@ -274,12 +276,26 @@ fn grows(old: &[u8], new: &[u8]) -> bool
     ends_here(left, rest)
 }
 
-/// Whether a line is kept: it is unchanged, or has grown.
+/// Whether a line is that of a routine: its first word is `sub`.
+fn is_routine_line(line: &[u8]) -> bool
+    ensures { result ≡ true → IsRoutineLine line.now }
+{
+    let mut words = Words::of(line);
+    match words.next() {
+        Some(first) => is(first, "sub"),
+        None => false,
+    }
+}
+
+/// Whether a line is kept: it is unchanged, or is the line of a routine and has grown.
 fn keeps_line(old: &[u8], new: &[u8]) -> bool
     ensures { result ≡ true → KeepsLine old.now new.now }
 {
     if is_same(old, new) {
         return true;
+    }
+    if !is_routine_line(old) {
+        return false;
     }
     grows(without_return(old), without_return(new))
 }

@@ -1,7 +1,7 @@
 //! Whether a program complies with its declaration, and why. The addresses in these messages are marked, for readers
 //! who have the source of the program. The commands write the same as plain text.
 
-ghost use Rattle.std.specs.Prelude.{◌≡◌, ◌++◌, false, [], None, IfOk, IfErr, IfSome, if◌then◌else◌};
+ghost use Rattle.std.specs.Prelude.{◌≡◌, ◌++◌, ◌⊎◌, false, true, take, [], None, IfOk, IfErr, IfSome, if◌then◌else◌};
 ghost use Rattle.declaration.specs.DeclarationInCode.{meaning};
 ghost use Rattle.analyser.specs.Attempts.{IsAcceptedIfFound, IsDraftIfStuck, claimed_by};
 ghost use Rattle.certificate.specs.Exact.{AreLines};
@@ -9,8 +9,13 @@ ghost use Rattle.certificate_lines.specs.CertificateInCode.{meaning as lines_of}
 ghost use Rattle.command_parts.specs.Answers.{IsMemoryFault};
 ghost use Rattle.command_parts.specs.Faults.{fails_to_write};
 ghost use Rattle.command_parts.specs.Messages.{plain};
+ghost use Rattle.machine_commands.specs.Running.{fresh};
+ghost use Rattle.machine_commands.specs.ViolationText.{IsToldAfter};
+ghost use Rattle.peripherals.specs.Loading.{image_of};
+ghost use Rattle.refuter.specs.Witnesses.{Breaks};
 ghost use Rattle.search_commands.specs.SearchFaults.{IsProposeFault};
-ghost use Rattle.search_commands.specs.VerifyText.{IsAnswer, IsDraftFor, IsDraftOf, IsProposedAnswerOf, IsVerifiedOf, answer_text, lack_text, no_text, proposed_text};
+ghost use Rattle.search_commands.specs.StuckText.{IsToldOfDraft};
+ghost use Rattle.search_commands.specs.VerifyText.{IsAnswer, IsDraftAt, IsDraftFor, IsDraftOf, IsProposedAnswerOf, IsVerifiedOf, IsWhy, IsWhyNotKnown, IsWhyOfDraft, IsWhyOfDraftFor, IsWhyStuck, answer_text, lack_text, no_text, proposed_text};
 
 use crate::stuck::draft_message;
 use crate::verifying::{
@@ -31,7 +36,7 @@ use itoa::Buffer;
 use machine_commands::violations::violation_lines;
 use policy::Rule;
 use proposer::propose;
-use refuter::refute_within;
+use refuter::{Witness, refute_within};
 use std::alloc::{AllocError, Allocator};
 use turns::Turns;
 use word12::Word;
@@ -211,27 +216,107 @@ fn proposed_line<A: Allocator + Copy>(
     Ok(text)
 }
 
+/// What a search for a certificate lacks that came to this result, if it is stuck at this address.
+#[tactic(auto, using(crate::proofs::WhyLemmas::why_of_draft))]
+fn attempt_message<A: Allocator + Copy, D: Allocator>(
+    alloc: A,
+    image: &Image,
+    declaration: &Declaration<D>,
+    attempt: &Attempt<A>,
+    at: Word,
+) -> Result<Message<A>, AllocError>
+    requires lines { AreLines (lines_of (claimed_by attempt.now)) }
+    requires draft { IsDraftIfStuck (meaning declaration.now) attempt.now }
+    ensures { IfOk result (λ text. (plain text ≡ []) ⊎
+        IsWhyStuck image.now (meaning declaration.now) at (plain text)) }
+{
+    match attempt {
+        Attempt::Stuck(place, draft) if *place == at => {
+            draft_message(alloc, image, declaration, draft, at)
+        }
+        _ => Ok(Message::new(alloc)),
+    }
+}
+
+/// What another search for a certificate lacks, if it is stuck at this address and there is a draft of what it had
+/// found.
+fn searched_message<A: Allocator + Copy, D: Allocator>(
+    alloc: A,
+    image: &Image,
+    declaration: &Declaration<D>,
+    at: Word,
+) -> Result<Message<A>, AllocError>
+    ensures { IfOk result (λ text. (plain text ≡ []) ⊎
+        IsWhyStuck image.now (meaning declaration.now) at (plain text)) }
+{
+    match guess_or_draft(alloc, image, declaration) {
+        Ok(attempt) => attempt_message(alloc, image, declaration, &attempt, at),
+        Err(GuessFault::NoMemory) => Err(AllocError),
+        Err(_) => Ok(Message::new(alloc)),
+    }
+}
+
 /// What the search for a certificate lacks: the lines of `guess --why` after its first one, from the draft if that is
 /// known, and otherwise from another search.
+#[tactic(auto, using(crate::proofs::WhyLemmas::why_of_draft))]
 fn stuck_message<A: Allocator + Copy, D: Allocator>(
     alloc: A,
     image: &Image,
     declaration: &Declaration<D>,
     draft: &Option<Certificate<A>>,
     at: Word,
-) -> Result<Message<A>, AllocError> {
-    if let Some(draft) = draft {
-        return draft_message(alloc, image, declaration, draft, at);
+) -> Result<Message<A>, AllocError>
+    requires { IfSome draft.now (IsDraftAt (meaning declaration.now) at) }
+    ensures why { IfOk result (λ text. (plain text ≡ []) ⊎
+        IsWhyStuck image.now (meaning declaration.now) at (plain text)) }
+    ensures draft { IfOk result (λ text. IfSome draft.now (λ draft.
+        IsToldOfDraft image.now (meaning declaration.now) (lines_of draft) at (plain text))) }
+{
+    match draft {
+        Some(known) => draft_message(alloc, image, declaration, known, at),
+        None => searched_message(alloc, image, declaration, at),
     }
-    let attempt = match guess_or_draft(alloc, image, declaration) {
-        Ok(attempt) => attempt,
-        Err(GuessFault::NoMemory) => return Err(AllocError),
-        Err(_) => return Ok(Message::new(alloc)),
-    };
-    match &attempt {
-        Attempt::Found(_) => Ok(Message::new(alloc)),
-        Attempt::Stuck(at, draft) => draft_message(alloc, image, declaration, draft, *at),
+}
+
+/// Why the answer is not known: what the search for a certificate lacks, if it is stuck.
+fn lack_message<A: Allocator + Copy, D: Allocator>(
+    alloc: A,
+    image: &Image,
+    declaration: &Declaration<D>,
+    draft: &Option<Certificate<A>>,
+    lack: InconclusiveReason,
+) -> Result<Message<A>, Fault>
+    requires { IfSome draft.now (IsDraftFor (meaning declaration.now) lack) }
+    ensures why { IfOk result (λ text.
+        IsWhyNotKnown image.now (meaning declaration.now) lack (plain text)) }
+    ensures draft { IfOk result (λ text. IfSome draft.now (λ draft.
+        IsWhyOfDraftFor image.now (meaning declaration.now) lack draft (plain text))) }
+    ensures faults { IfErr result IsMemoryFault }
+{
+    match lack {
+        InconclusiveReason::Stuck(at) => {
+            let text = stuck_message(alloc, image, declaration, draft, at)?;
+            Ok(text)
+        }
+        InconclusiveReason::TurnsSpent => Ok(Message::new(alloc)),
     }
+}
+
+/// What the step that violates a rule is about to do.
+fn violation_message<A: Allocator + Copy, D: Allocator>(
+    alloc: A,
+    image: &Image,
+    declaration: &Declaration<D>,
+    witness: &Witness<A>,
+) -> Result<Message<A>, Fault>
+    requires { Breaks (image_of image.now) (meaning declaration.now) witness.now }
+    ensures told { let d = meaning declaration.now in let w = witness.now in IfOk result (λ text.
+        IsToldAfter d (take w.event w.events.items) (fresh image.now d.start) w.rule (plain text)) }
+    ensures faults { IfErr result IsMemoryFault }
+{
+    let (event, rule) = (witness.event, witness.rule);
+    let text = violation_lines(alloc, image, declaration, &witness.events, event, rule)?;
+    Ok(text)
 }
 
 /// The lines after an answer that say why: after a yes, what in the declaration is wider than the certificate needs,
@@ -244,23 +329,25 @@ fn why_message<A: Allocator + Copy, D: Allocator>(
     found: &AnswerWithDraft<A>,
     explained: bool,
 ) -> Result<Message<A>, Fault>
+    requires answer { IsAnswer image.now (meaning declaration.now) found.now.answer }
+    requires draft { IfSome found.now.draft (IsDraftOf (meaning declaration.now) found.now.answer) }
     ensures plain { IfOk result (λ text. explained ≡ false → plain text ≡ []) }
+    ensures why { IfOk result (λ text. explained ≡ true →
+        IsWhy image.now (meaning declaration.now) found.now.answer (plain text)) }
+    ensures draft { IfOk result (λ text. explained ≡ true → IfSome found.now.draft (λ draft.
+        IsWhyOfDraft image.now (meaning declaration.now) found.now.answer draft (plain text))) }
     ensures faults { IfErr result IsMemoryFault }
 {
     if !explained {
         return Ok(Message::new(alloc));
     }
     match &found.answer {
-        Answer::Yes(certificate) => Ok(surplus_message(alloc, image, declaration, certificate)?),
-        Answer::NotKnown(InconclusiveReason::TurnsSpent) => Ok(Message::new(alloc)),
-        Answer::NotKnown(InconclusiveReason::Stuck(at)) => {
-            Ok(stuck_message(alloc, image, declaration, &found.draft, *at)?)
+        Answer::Yes(certificate) => {
+            let text = surplus_message(alloc, image, declaration, certificate)?;
+            Ok(text)
         }
-        Answer::No(found) => {
-            let (event, rule) = (found.event, found.rule);
-            let events = &found.events;
-            Ok(violation_lines(alloc, image, declaration, events, event, rule)?)
-        }
+        Answer::No(witness) => violation_message(alloc, image, declaration, witness),
+        Answer::NotKnown(lack) => lack_message(alloc, image, declaration, &found.draft, *lack),
     }
 }
 
@@ -287,8 +374,12 @@ fn message_of<A: Allocator + Copy, D: Allocator>(
         told.line.items ≡ answer_text (meaning declaration.now) told.answer) }
     ensures same { IfOk result (λ told. told.answer ≡ found.answer) }
     ensures plain { IfOk result (λ told. explained ≡ false → plain told.why ≡ []) }
+    ensures why { IfOk result (λ told. explained ≡ true →
+        IsWhy image.now (meaning declaration.now) told.answer (plain told.why)) }
     ensures draft { IfOk result (λ told.
         IfSome told.draft (IsDraftOf (meaning declaration.now) told.answer)) }
+    ensures of_draft { IfOk result (λ told. IfSome told.draft (λ draft.
+        IsWhyOfDraft image.now (meaning declaration.now) told.answer draft (plain told.why))) }
     ensures unasked { IfOk result (λ told. explained ≡ false → told.draft ≡ None) }
     ensures faults { IfErr result IsMemoryFault }
 {
@@ -324,6 +415,11 @@ pub fn verify_message<A: Allocator + Copy, D: Allocator>(
     // What the search had found comes with the answer only if the search is stuck and the answer is to be explained.
     ensures draft { IfOk result (λ told.
         IfSome told.draft (IsDraftOf (meaning declaration.now) told.answer)) }
+    // The text explains the answer, and if a draft comes with it, the text is about that draft.
+    ensures why { IfOk result (λ told. options.now.explained ≡ true →
+        IsWhy image.now (meaning declaration.now) told.answer (plain told.why)) }
+    ensures of_draft { IfOk result (λ told. IfSome told.draft (λ draft.
+        IsWhyOfDraft image.now (meaning declaration.now) told.answer draft (plain told.why))) }
     ensures unasked { IfOk result (λ told. options.now.explained ≡ false → told.draft ≡ None) }
     ensures faults { IfErr result IsMemoryFault }
 {

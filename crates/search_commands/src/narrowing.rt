@@ -1,9 +1,10 @@
 //! The text of a declaration without what a certificate shows to be unnecessary.
 
 use crate::merging::{parted, push_sub, routine_of, set_of};
-use crate::returning::{OFFSETS, Shown, push_spaced_digits};
+use crate::returning::push_spaced_digits;
 use declaration::writing::{push_range, push_ranges};
 use declaration::{Declaration, Routine};
+use diagnostics::verdicts::surplus_text::{OFFSETS, Shown};
 use std::alloc::{AllocError, Allocator};
 use streams::text::{Words, is, octal_word};
 use usage::{Register, Surplus, surplus_of};

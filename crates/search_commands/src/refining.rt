@@ -15,13 +15,13 @@ use crate::declaring::copy_of;
 use crate::keeping::keeps_lines;
 use crate::merging::offsets_of;
 use crate::narrowing::narrowed;
-use crate::returning::{Shown, push_all_returns};
+use crate::returning::push_all_returns;
 use crate::verifying::certificate_for;
 use bin_tape::Image;
 use command_parts::message::{Message, MessageWriter};
 use command_parts::status::Fault;
 use declaration::{Declaration, DeclarationFault};
-use diagnostics::verdicts::surplus_text::{push_cells, push_routine_offsets};
+use diagnostics::verdicts::surplus_text::{Shown, push_cells, push_routine_offsets};
 use std::alloc::{AllocError, Allocator};
 use wordset::WordSet;
 

@@ -3,25 +3,13 @@
 ghost use Rattle.std.specs.Prelude.{◌<◌};
 
 use crate::merging::end_line;
-use bin_tape::Image;
-use certificate::Certificate;
 use declaration::writing::push_range;
 use declaration::{Declaration, ReturnAssertion, Subject};
+use diagnostics::verdicts::surplus_text::{OFFSETS, Shown};
 use std::alloc::{AllocError, Allocator};
-use usage::{Register, returned};
+use usage::Register;
 use word12::Word;
 use wordset::WordSet;
-
-/// The number of offsets at which a routine may be declared to return.
-pub(crate) const OFFSETS: usize = 64;
-
-/// A program with its declaration, and a certificate that shows that the program complies with it.
-#[derive(Drop)]
-pub(crate) struct Shown<'a, D: Allocator, C: Allocator> {
-    pub(crate) image: &'a Image,
-    pub(crate) declaration: &'a Declaration<D>,
-    pub(crate) certificate: &'a Certificate<C>,
-}
 
 /// A register at a return of a routine.
 #[derive(Clone, Copy)]
@@ -92,69 +80,57 @@ fn push_words<A: Allocator>(
     Ok(())
 }
 
-impl<D: Allocator, C: Allocator> Shown<'_, D, C> {
-    /// The words that a register may hold when the routine of an entry returns at an offset.
-    pub(crate) fn returned(&self, register: Register, entry: Word, offset: usize) -> WordSet
-        requires { offset < 64 }
-    {
-        returned(
-            register,
-            self.image,
-            self.declaration,
-            self.certificate,
-            entry,
-            offset,
-        )
-    }
+/// Whether a declaration already says that a register holds only words from this set.
+fn is_asserted<D: Allocator>(
+    declaration: &Declaration<D>,
+    place: &RegisterAtReturn,
+    words: &WordSet,
+) -> bool {
+    declaration
+        .returns()
+        .iter()
+        .any(|line| place.is_asserted_by(line, words))
+}
 
-    /// Whether the declaration already says that a register holds only words from this set.
-    fn is_asserted(&self, place: &RegisterAtReturn, words: &WordSet) -> bool {
-        self.declaration
-            .returns()
-            .iter()
-            .any(|line| place.is_asserted_by(line, words))
+/// Adds the line that says what a register holds at a return, unless the routine never returns there, the register may
+/// hold any word, or the declaration already says it.
+fn push_register<A: Allocator, D: Allocator, C: Allocator>(
+    text: &mut Vec<u8, A>,
+    shown: &Shown<'_, D, C>,
+    entry: Word,
+    offset: usize,
+    register: Register,
+) -> Result<(), AllocError>
+    requires { offset < 64 }
+{
+    let words = shown.returned(register, entry, offset);
+    let place = RegisterAtReturn {
+        entry,
+        offset: Word::from_index(offset),
+        register,
+    };
+    if words.is_empty() || place.is_free(&words) || is_asserted(shown.declaration, &place, &words) {
+        return Ok(());
     }
+    text.extend_from_slice(b"returns")?;
+    push_range(text, entry, entry)?;
+    push_spaced_digits(text, b" ", place.offset)?;
+    text.extend_from_slice(place.name())?;
+    push_words(text, register, &words)?;
+    end_line(text)
+}
 
-    /// Adds the line that says what a register holds at a return, unless the routine never returns there, the register
-    /// may hold any word, or the declaration already says it.
-    fn push_register<A: Allocator>(
-        &self,
-        text: &mut Vec<u8, A>,
-        entry: Word,
-        offset: usize,
-        register: Register,
-    ) -> Result<(), AllocError>
-        requires { offset < 64 }
-    {
-        let words = self.returned(register, entry, offset);
-        let place = RegisterAtReturn {
-            entry,
-            offset: Word::from_index(offset),
-            register,
-        };
-        if words.is_empty() || place.is_free(&words) || self.is_asserted(&place, &words) {
-            return Ok(());
-        }
-        text.extend_from_slice(b"returns")?;
-        push_range(text, place.entry, place.entry)?;
-        push_spaced_digits(text, b" ", place.offset)?;
-        text.extend_from_slice(place.name())?;
-        push_words(text, place.register, &words)?;
-        end_line(text)
+/// Adds the lines about the returns of a routine.
+fn push_returns<A: Allocator, D: Allocator, C: Allocator>(
+    text: &mut Vec<u8, A>,
+    shown: &Shown<'_, D, C>,
+    entry: Word,
+) -> Result<(), AllocError> {
+    for offset in 0..OFFSETS {
+        push_register(text, shown, entry, offset, Register::Accumulator)?;
+        push_register(text, shown, entry, offset, Register::Link)?;
     }
-
-    /// Adds the lines about the returns of a routine.
-    fn push_returns<A: Allocator>(
-        &self,
-        text: &mut Vec<u8, A>,
-        entry: Word,
-    ) -> Result<(), AllocError> {
-        for offset in 0..OFFSETS {
-            self.push_register(text, entry, offset, Register::Accumulator)?;
-            self.push_register(text, entry, offset, Register::Link)?;
-        }
-        Ok(())
-    }
+    Ok(())
 }
 
 /// Adds to a text, whose last line has ended, a line for each return of a routine at any offset that says which words
@@ -164,7 +140,7 @@ pub(crate) fn push_all_returns<A: Allocator, D: Allocator, C: Allocator>(
     shown: &Shown<'_, D, C>,
 ) -> Result<(), AllocError> {
     for routine in shown.declaration.routines() {
-        shown.push_returns(text, routine.entry())?;
+        push_returns(text, shown, routine.entry())?;
     }
     Ok(())
 }

@@ -1,16 +1,15 @@
 //! Why less is known about a pointer after an instruction than before it.
 
-ghost use Rattle.std.specs.Prelude.{◌≡◌, ◌&&◌};
-ghost use Rattle.instruct.specs.Bits.{has_bit};
-ghost use Rattle.instruct.specs.Instructions.{format_of, is_group2, is_operate};
-ghost use Rattle.diagnostics.specs.BoundText.{is_test};
+ghost use Rattle.std.specs.Prelude.{◌≡◌};
+ghost use Rattle.instruct.specs.Instructions.{format_of, is_group2};
+ghost use Rattle.diagnostics.specs.BoundText.{is_test, skips_always};
 
 use crate::bounds::draft_facts::DraftFacts;
 use declaration::Declaration;
 use domain::Location;
 use instruct::{
     Format, Operation, SkipCondition, clears, complements, halts, refers_indirectly,
-    refers_to_memory, target,
+    refers_to_memory, target, tests_sign, tests_zero,
 };
 use std::alloc::Allocator;
 use word12::Word;
@@ -59,23 +58,27 @@ fn is_group2(word: Word) -> bool
     Format::of(word) == Format::Group2
 }
 
-/// Whether a word is an operate instruction that clears the accumulator.
-pub(crate) fn clears_accumulator(word: Word) -> bool
-    ensures { result ≡ (is_operate (format_of word) && has_bit 7 word) }
-{
-    Format::of(word).is_operate() && clears(word)
-}
-
-/// Whether a word is of group 2, with a test.
+/// Whether a word is of group 2, with a test of the accumulator.
 pub(crate) fn is_test(word: Word) -> bool
     ensures { result ≡ is_test word }
 {
-    is_group2(word) && SkipCondition::of_tests(word).may_skip()
+    is_group2(word) && (tests_sign(word) || tests_zero(word))
 }
 
-/// Whether a word that is not a memory reference may skip by its tests, or is of a device.
-fn tests_or_asks_device(word: Word) -> bool {
-    is_test(word) || Format::of(word) == Format::Device
+/// Whether a word is of group 2 and skips in any case.
+pub(crate) fn skips_always(word: Word) -> bool
+    ensures { result ≡ skips_always word }
+{
+    is_group2(word) && !SkipCondition::of_tests(word).may_go_on()
+}
+
+/// Whether a word that is not a memory reference may skip the next one: it is a skip of group 2, or of a device.
+fn may_skip(word: Word) -> bool {
+    match Format::of(word) {
+        Format::Group2 => SkipCondition::of_tests(word).may_skip(),
+        Format::Device => true,
+        _ => false,
+    }
 }
 
 /// Whether a word stores through a pointer.
@@ -119,7 +122,7 @@ pub(crate) fn may_go_on<D: Allocator>(
         Some(Operation::Isz) => to == next || to == next.increment(),
         Some(_) => to == next,
         None if is_group2(word) && halts(word) => declaration.is_pause(at) && to == next,
-        None if tests_or_asks_device(word) => to == next || to == next.increment(),
+        None if may_skip(word) => to == next || to == next.increment(),
         None => to == next,
     }
 }

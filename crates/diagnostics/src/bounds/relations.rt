@@ -10,7 +10,7 @@ use crate::bounds::losses::{stores_through_pointer, successors_of_call};
 use bin_tape::Image;
 use certificate::Certificate;
 use declaration::Declaration;
-use domain::{Location, Relation as SumRelation, Sum};
+use domain::{Location, Relation as SumRelation, Sum, negated};
 use facts::{Fact, NarrowedFact};
 use judge::{Body, Case, Claims, place_of, put_asked, put_sites};
 use std::alloc::{AllocError, Allocator};
@@ -27,11 +27,6 @@ pub(crate) struct Relation {
     pub(crate) pointer: Word,
     pub(crate) cell: Word,
     pub(crate) more: Word,
-}
-
-/// The word that takes back what another adds.
-fn negated(word: Word) -> Word {
-    word.complement().increment()
 }
 
 /// How much more a pointer's word is than that of a cell by a relation, if it tells that.

@@ -2,15 +2,20 @@
 
 ghost use Rattle.std.specs.Prelude.{◌≡◌, IsTrue, IfSome};
 ghost use Rattle.wordset.specs.Lanes.{words};
+ghost use Rattle.instruct.specs.Instructions.{device_action, processor_action};
+ghost use Rattle.instruct.specs.Operates.{mq_operate_of};
 ghost use Rattle.instruct.specs.declared.Operation.TheVariants.{Jmp};
 ghost use Rattle.declaration.specs.DeclarationInCode.{meaning};
-ghost use Rattle.diagnostics.specs.BoundText.{AddsCell, AreEnough, AreInOneBody, IsNextTest, IsTestOf, MayReferTo, ends_computation, referred_to};
+ghost use Rattle.diagnostics.specs.BoundText.{AddsCell, AreEnough, AreInOneBody, IsNextTest, IsTestOf, MayReferTo, ends_computation, ends_sum, last_passed, referred_to, replaces_by_device, replaces_by_mq};
 
-use crate::bounds::losses::{clears_accumulator, is_test};
+use crate::bounds::losses::{is_test, skips_always};
 use crate::inputs::is_in_body;
 use bin_tape::Image;
 use declaration::Declaration;
-use instruct::{Operation, refers_indirectly, refers_to_memory, target};
+use instruct::{
+    DeviceOperation, Format, Operation, Profile, clears, operate3, refers_indirectly,
+    refers_to_memory, target,
+};
 use processor::is_auto_index;
 use std::alloc::Allocator;
 use word12::Word;
@@ -97,22 +102,70 @@ fn adds(word: Word, at: Word, cell: Word) -> bool
         && target(word, at) == cell
 }
 
-/// Whether a word that is no test ends a computation in the accumulator: it stores, goes elsewhere or clears.
-fn ends_computation(word: Word) -> bool
-    ensures { result ≡ ends_computation word }
+/// Whether a memory reference of an operation ends a computation in the accumulator: it stores and clears the accumulator, or goes
+/// elsewhere.
+fn ends_sum(operation: Operation) -> bool
+    ensures { result ≡ ends_sum operation }
 {
-    if refers_to_memory(word) {
-        return matches!(
-            Operation::of(word),
-            Operation::Jmp | Operation::Jms | Operation::Dca
-        );
-    }
-    clears_accumulator(word)
+    matches!(operation, Operation::Jmp | Operation::Jms | Operation::Dca)
 }
 
-/// The first test that follows an address, before the accumulator is stored or cleared and before control goes elsewhere.
-fn next_test(image: &Image, at: Word) -> Option<Word>
-    ensures { IfSome result (λ test. IsNextTest image.now at test) }
+/// Whether a device operation clears the accumulator or replaces it.
+fn replaces_accumulator(operation: DeviceOperation) -> bool
+    ensures { result ≡ replaces_by_device (Some (processor_action operation)) }
+{
+    matches!(
+        operation,
+        DeviceOperation::ClearKeyboardFlagAndAccumulator | DeviceOperation::TakeKeyboardByte
+    )
+}
+
+/// Whether a device word clears the accumulator or replaces it, on a machine of a profile.
+fn replaces_by_device(word: Word, profile: Profile) -> bool
+    ensures { result ≡ replaces_by_device (device_action profile word) }
+{
+    match DeviceOperation::of(word, profile) {
+        Some(operation) => replaces_accumulator(operation),
+        None => false,
+    }
+}
+
+/// Whether a word of group 3 clears the accumulator or replaces it by MQ: then the accumulator 7777 becomes 0000, the word of MQ.
+#[tactic(auto, using(crate::proofs::BoundTextLemmas::replaced))]
+fn replaces_by_mq(word: Word) -> bool
+    ensures { result ≡ replaces_by_mq (mq_operate_of word) }
+{
+    let (accumulator, _) = operate3(word, Word::ZERO.complement(), Word::ZERO);
+    accumulator == Word::ZERO
+}
+
+/// Whether a word that is no test ends a computation in the accumulator, on a machine of a profile: it clears the accumulator, replaces
+/// it or goes elsewhere.
+fn ends_computation(word: Word, profile: Profile) -> bool
+    ensures { result ≡ ends_computation profile word }
+{
+    match Format::of(word) {
+        Format::Reference(operation) => ends_sum(operation),
+        Format::Device => replaces_by_device(word, profile),
+        Format::Group1 | Format::Group2 => clears(word),
+        Format::Group3 => replaces_by_mq(word),
+    }
+}
+
+/// The last address that a word at an address passes: its own, or the next one where the word skips in any case.
+fn last_passed(word: Word, at: Word) -> Word
+    ensures { result ≡ last_passed word at }
+{
+    if skips_always(word) {
+        at.increment()
+    } else {
+        at
+    }
+}
+
+/// The first test that follows an address, before the accumulator is stored, cleared or replaced and before control goes elsewhere.
+fn next_test(image: &Image, profile: Profile, at: Word) -> Option<Word>
+    ensures { IfSome result (λ test. IsNextTest image.now profile at test) }
 {
     let mut here = at;
     for _ in 0..MOST_BETWEEN {
@@ -121,9 +174,10 @@ fn next_test(image: &Image, at: Word) -> Option<Word>
         if is_test(word) {
             return Some(here);
         }
-        if ends_computation(word) {
+        if ends_computation(word, profile) {
             return None;
         }
+        here = last_passed(word, here);
     }
     None
 }
@@ -143,7 +197,7 @@ pub(crate) fn test_of_pointer<D: Allocator>(
             continue;
         };
         if adds(word, here, pointer) && is_in_same_body(declaration, at, here) {
-            let test = next_test(image, here);
+            let test = next_test(image, declaration.profile(), here);
             if test.is_some() {
                 return test;
             }

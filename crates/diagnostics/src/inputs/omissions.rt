@@ -210,19 +210,23 @@ fn omitted_by_reference<D: Allocator>(
     )
 }
 
-/// What a HLT of a body at a pause would violate. A HLT that tests nothing goes on at the next address.
+/// What a HLT of a body at a pause would violate. A HLT that never skips goes on at the next address.
 fn omitted_by_pause<D: Allocator>(
     declaration: &Declaration<D>,
     owner: Owner,
     at: Word,
     word: Word,
 ) -> Option<Omission>
-    ensures { (image : List (Option ℕ)) → IsHalt image (meaning declaration.now) at →
+    ensures { (image : List (Option ℕ)) →
+        (halt : IsHalt image (meaning declaration.now) at) → halt.word ≡ word →
         (meaning declaration.now).pause at ≡ true →
         IfSome result (IsViolation image (meaning declaration.now) (routine_of owner) at) }
 {
+    if SkipCondition::of_tests(word).may_skip() {
+        return None;
+    }
     let next = at.increment();
-    if SkipCondition::of_tests(word).may_skip() || is_in_body(declaration, owner, next) {
+    if is_in_body(declaration, owner, next) {
         None
     } else if is_elsewhere(declaration, next) {
         Some(Omission::GoesAcross(next))
@@ -238,7 +242,8 @@ fn omitted_by_halt<D: Allocator>(
     at: Word,
     word: Word,
 ) -> Option<Omission>
-    ensures { (image : List (Option ℕ)) → IsHalt image (meaning declaration.now) at →
+    ensures { (image : List (Option ℕ)) →
+        (halt : IsHalt image (meaning declaration.now) at) → halt.word ≡ word →
         IfSome result (IsViolation image (meaning declaration.now) (routine_of owner) at) }
 {
     if declaration.is_stop(at) {

@@ -1,11 +1,10 @@
 //! A verdict and why it is, over whatever takes a text for people.
 
-ghost use Rattle.std.specs.Prelude.{ℕ, ◌≡◌, ◌++◌, length, IfOk, OnOk};
-ghost use Rattle.certificate_lines.specs.CertificateInCode.{claims, meaning as text_of};
+ghost use Rattle.std.specs.Prelude.{◌≡◌, ◌++◌, IfOk, OnOk};
+ghost use Rattle.certificate_lines.specs.CertificateInCode.{meaning as text_of};
 ghost use Rattle.declaration.specs.DeclarationInCode.{meaning};
 ghost use Rattle.diagnostics.specs.CheckText.{checked_case, verdict_text};
 ghost use Rattle.certificate_lines.specs.Written.{fact_text_at};
-ghost use Rattle.diagnostics.specs.ReasonContexts.{IsTellingOf};
 ghost use Rattle.diagnostics.specs.WhyText.{AddsExplanation, IsReason, fact_shown, place_shown, shown_text, why_text};
 
 use crate::verdicts::reason_context::{ReasonContext, place_of, reason_context_of};

@@ -1,6 +1,10 @@
 //! What is said below a yes: what of the declaration is wider than the certificate needs, and what routines return with.
 
-ghost use Rattle.std.specs.Prelude.{◌<◌, length, IfOk};
+ghost use Rattle.std.specs.Prelude.{ℕ, ◌≡◌, ◌<◌, ◌↔◌, true, length, IfOk};
+ghost use Rattle.wordset.specs.Lanes.{words};
+ghost use Rattle.certificate_lines.specs.CertificateInCode.{claims};
+ghost use Rattle.judge.specs.Judged.{judged};
+ghost use Rattle.usage.specs.Returns.{IsReturned};
 ghost use Rattle.command_parts.specs.Messages.{plain};
 ghost use Rattle.diagnostics.specs.WhyText.{IsSaidAfterYes};
 
@@ -17,20 +21,26 @@ use word12::Word;
 use wordset::WordSet;
 
 /// How many offsets there are by which a routine may be declared to return.
-const OFFSETS: usize = 64;
+pub const OFFSETS: usize = 64;
 
 /// A program with its declaration, and a certificate which shows that it complies with it.
 #[derive(Drop)]
-struct Shown<'a, D: Allocator, C: Allocator> {
-    image: &'a Image,
-    declaration: &'a Declaration<D>,
-    certificate: &'a Certificate<C>,
+pub struct Shown<'a, D: Allocator, C: Allocator> {
+    /// The words of the program's tape.
+    pub image: &'a Image,
+    /// What is declared of it.
+    pub declaration: &'a Declaration<D>,
+    /// The certificate.
+    pub certificate: &'a Certificate<C>,
 }
 
 impl<D: Allocator, C: Allocator> Shown<'_, D, C> {
     /// The words that a register may hold when a routine returns by an offset.
-    fn returned(&self, register: Register, entry: Word, offset: usize) -> WordSet
+    pub fn returned(&self, register: Register, entry: Word, offset: usize) -> WordSet
         requires { offset < 64 }
+        ensures { (w : ℕ) → w < 4096 → (words result w ≡ true) ↔ IsReturned register
+            (judged self.now.image.now self.now.declaration.now (claims self.now.certificate.now))
+            entry offset w }
     {
         returned(
             register,

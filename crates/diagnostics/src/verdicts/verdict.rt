@@ -65,6 +65,19 @@ fn halts_of<D: Allocator>(declaration: &Declaration<D>) -> WordSet
     declaration.stops().union(declaration.pauses())
 }
 
+/// Adds a number, and what there are so many of.
+fn push_number<A: Allocator>(
+    text: &mut Vec<u8, A>,
+    number: usize,
+    name: &[u8],
+) -> Result<(), AllocError>
+    ensures { OnOk result (text.new.items ≡ text.old.items ++ (decimal number ++ name.now)) }
+{
+    let mut digits = Buffer::new();
+    text.extend_from_slice(digits.format(number).as_bytes())?;
+    text.extend_from_slice(name)
+}
+
 /// Adds how many cells a set has, and what they are.
 fn push_count<A: Allocator>(
     text: &mut Vec<u8, A>,
@@ -74,9 +87,7 @@ fn push_count<A: Allocator>(
     ensures { OnOk result
         (text.new.items ≡ text.old.items ++ counted (words cells.now) name.now) }
 {
-    let mut digits = Buffer::new();
-    text.extend_from_slice(digits.format(cells.count()).as_bytes())?;
-    text.extend_from_slice(name)
+    push_number(text, cells.count(), name)
 }
 
 /// Adds how many cells are in bodies, how many are variables, how many entries there are and how many
@@ -111,19 +122,6 @@ fn push_reads<A: Allocator, D: Allocator>(
     push_count(text, cells, b" read cells")
 }
 
-/// Adds a number of assertions.
-fn push_number_of_assertions<A: Allocator>(
-    text: &mut Vec<u8, A>,
-    count: usize,
-) -> Result<(), AllocError>
-    ensures { OnOk result (text.new.items ≡
-        text.old.items ++ (decimal count ++ codes " assertions")) }
-{
-    let mut digits = Buffer::new();
-    text.extend_from_slice(digits.format(count).as_bytes())?;
-    text.extend_from_slice(b" assertions")
-}
-
 /// Adds a number of assertions after a comma, if it is not 0.
 fn push_assertion_count<A: Allocator>(text: &mut Vec<u8, A>, count: usize) -> Result<(), AllocError>
     ensures { OnOk result (text.new.items ≡ text.old.items ++ assertions_text count) }
@@ -132,7 +130,7 @@ fn push_assertion_count<A: Allocator>(text: &mut Vec<u8, A>, count: usize) -> Re
         return Ok(());
     }
     text.extend_from_slice(b", ")?;
-    push_number_of_assertions(text, count)
+    push_number(text, count, b" assertions")
 }
 
 /// Adds how many lines declare what is to hold, if some do.

@@ -9,27 +9,8 @@ use command_parts::status::{Fault, Status};
 use search_commands::migrating::{migrate, migrate_with_sites};
 use std::alloc::Global;
 use std::rt::Files;
+use streams::ByteSource;
 use streams::standard::StdWriter;
-use streams::{ByteSink, ByteSource};
-
-/// Migrates a certificate: to version 3 if there is a declaration, otherwise to version 2.
-fn migrate_to<D: ByteSource, T: ByteSource, W: ByteSink>(
-    alloc: Global,
-    is_declared: bool,
-    declaration: &mut D,
-    text: &mut T,
-    out: &mut W,
-) -> Result<Status, Fault>
-    requires readable { D.mark declaration.old ≡ false }
-    requires text_readable { T.mark text.old ≡ false }
-    requires writable { W.mark out.old ≡ false }
-{
-    if is_declared {
-        migrate_with_sites(alloc, declaration, text, out)
-    } else {
-        migrate(alloc, text, out)
-    }
-}
 
 /// Migrates a certificate from these inputs to a file.
 fn migrate_into<R: Files + Print, D: ByteSource, T: ByteSource>(
@@ -43,9 +24,12 @@ fn migrate_into<R: Files + Print, D: ByteSource, T: ByteSource>(
     requires text_readable { T.mark text.old ≡ false }
 {
     let mut file = open_output(rt, alloc, request.out)?;
-    let is_declared = request.declaration.is_some();
     let mut out = StdWriter::new(&mut file);
-    let status = migrate_to(alloc, is_declared, declaration, text, &mut out)?;
+    let status = if request.declaration.is_some() {
+        migrate_with_sites(alloc, declaration, text, &mut out)?
+    } else {
+        migrate(alloc, text, &mut out)?
+    };
     finish(&mut file, status)
 }
 

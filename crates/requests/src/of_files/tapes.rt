@@ -21,24 +21,6 @@ use std::rt::Files;
 use streams::standard::StdWriter;
 use streams::{ByteSource, put};
 
-/// Lists the words of the tape of these frames with their names.
-fn dump_on<R: Print, S: ByteSource>(
-    rt: &R,
-    alloc: Global,
-    request: &DumpRequest<'_>,
-    frames: &mut S,
-) -> Result<Status, Fault>
-    requires { S.mark frames.old ≡ false }
-{
-    let mut out = StdWriter::new(io::writer(rt));
-    if !request.full {
-        return dump(alloc, frames, request.profile, &mut out);
-    }
-    let image = tape_from(frames)?;
-    put(&mut out, &words_of(alloc, &image, request.profile, None)?)?;
-    Ok(Status::Done)
-}
-
 /// Lists the words of the tape in a file with their names.
 ///
 /// # Errors
@@ -51,7 +33,13 @@ pub fn dump_from<R: Files + Input + Print>(
     request: &DumpRequest<'_>,
 ) -> Result<Status, Fault> {
     let mut frames = open_input(rt, request.tape.unwrap_or("-"))?;
-    dump_on(rt, alloc, request, &mut frames)
+    let mut out = StdWriter::new(io::writer(rt));
+    if !request.full {
+        return dump(alloc, &mut frames, request.profile, &mut out);
+    }
+    let image = tape_from(&mut frames)?;
+    put(&mut out, &words_of(alloc, &image, request.profile, None)?)?;
+    Ok(Status::Done)
 }
 
 /// Makes a run of an image until it is stopped, and shows its last instructions, or each of them in a long trace, as

@@ -14,34 +14,19 @@ struct SymbolicAddresses<'s> {
     symbols: &'s SymbolTable<Global>,
 }
 
-/// Cells as a set.
-fn set_of(cells: Cells) -> WordSet {
-    match cells {
-        Cells::One(at) => WordSet::one(at),
-        Cells::Range(low, high) => WordSet::range(low, high),
-    }
-}
-
-/// The address, if the cells are a single address and not a range.
-fn one_of(cells: Cells) -> Option<Word> {
-    match cells {
-        Cells::One(at) => Some(at),
-        Cells::Range(_, _) => None,
-    }
-}
-
 impl AddressReader for SymbolicAddresses<'_> {
     fn cells(&self, word: &[u8]) -> Option<WordSet> {
-        match cells_of(self.symbols, word) {
-            Ok(cells) => Some(set_of(cells)),
+        match &cells_of(self.symbols, word) {
+            Ok(Cells::One(at)) => Some(WordSet::one(*at)),
+            Ok(Cells::Range(low, high)) => Some(WordSet::range(*low, *high)),
             Err(_) => None,
         }
     }
 
     fn place(&self, word: &[u8]) -> Option<Word> {
-        match cells_of(self.symbols, word) {
-            Ok(cells) => one_of(cells),
-            Err(_) => None,
+        match &cells_of(self.symbols, word) {
+            Ok(Cells::One(at)) => Some(*at),
+            _ => None,
         }
     }
 }

@@ -1,7 +1,7 @@
 //! The words of a program, with what its source, if there is one, says about each.
 
 use crate::of_sources::assembled::AssembledSource;
-use crate::of_sources::source_lines::begins_with_tag;
+use crate::of_sources::source_lines::after_tag;
 use bin_tape::Image;
 use command_parts::text::push_place;
 use instruct::Profile;
@@ -18,7 +18,7 @@ fn push_apart(text: &mut Vec<u8>, piece: &[u8]) -> Result<(), AllocError> {
 
 /// Adds what the source says about a word: the last tag before it and, for the first word of a line, the line itself.
 fn push_note(text: &mut Vec<u8>, note: SourceNote<'_>) -> Result<(), AllocError> {
-    let is_tagged = note.is_first && begins_with_tag(note);
+    let is_tagged = note.is_first && after_tag(note).is_some();
     if !note.label.is_empty() && !is_tagged {
         push_apart(text, note.label)?;
     }
@@ -30,10 +30,6 @@ fn push_note(text: &mut Vec<u8>, note: SourceNote<'_>) -> Result<(), AllocError>
 
 /// A line for each word of an image, in order of address: the address, the word, its name with a full address, and what
 /// the source, if there is one, says about it.
-///
-/// # Errors
-///
-/// `AllocError` if memory was refused.
 pub(crate) fn words_of(
     alloc: Global,
     image: &Image,
@@ -70,11 +66,10 @@ pub(crate) struct SourceStatements<'s> {
 
 /// A line's text without the tag at its beginning.
 fn without_tag(note: SourceNote<'_>) -> &[u8] {
-    if !begins_with_tag(note) {
-        return note.text;
+    match after_tag(note) {
+        Some(rest) => rest.trim_ascii_start(),
+        None => note.text,
     }
-    let rest = note.text.get(note.label.len() + 1..).unwrap_or(b"");
-    rest.trim_ascii_start()
 }
 
 impl Statements for SourceStatements<'_> {

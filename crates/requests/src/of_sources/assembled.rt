@@ -111,29 +111,20 @@ fn without_empty_lines(alloc: Global, text: &[u8]) -> Result<Vec<u8>, AllocError
     Ok(kept)
 }
 
-/// The text of a declaration as it is written for people. A declaration from lines within a source has an empty line
-/// for each other line of the source; these empty lines are left out.
-fn readable_text(
+/// The declaration as it is written for people, with symbols and in numbers. A declaration from lines within a source
+/// has an empty line for each other line of the source; these empty lines are left out. With symbols, a line that
+/// leaves out its address still does so here.
+fn readable_declarations(
     alloc: Global,
-    text: &[u8],
-    origin: DeclarationOrigin,
-) -> Result<Vec<u8>, AllocError> {
-    if origin == DeclarationOrigin::Within {
-        return without_empty_lines(alloc, text);
+    given: &SourceInput,
+    numbers: &[u8],
+) -> Result<(Vec<u8>, Vec<u8>), AllocError> {
+    if given.origin != DeclarationOrigin::Within {
+        return Ok((given.text.to_vec(alloc)?, numbers.to_vec(alloc)?));
     }
-    let mut whole = Vec::new(alloc);
-    whole.extend_from_slice(text)?;
-    Ok(whole)
-}
-
-/// The declaration with symbols as it is written for people. A line within a source that leaves out its address still
-/// does so here.
-fn readable_declaration(alloc: Global, given: &SourceInput) -> Result<Vec<u8>, AllocError> {
-    if given.origin == DeclarationOrigin::Within {
-        let parts = byte_slices(alloc, &given.parts)?;
-        return without_empty_lines(alloc, &declared_lines(alloc, &parts)?);
-    }
-    readable_text(alloc, &given.text, given.origin)
+    let parts = byte_slices(alloc, &given.parts)?;
+    let written = without_empty_lines(alloc, &declared_lines(alloc, &parts)?)?;
+    Ok((written, without_empty_lines(alloc, numbers)?))
 }
 
 /// A source that has no fault and whose parts have these names, with what it says about its addresses.
@@ -144,8 +135,7 @@ fn describe_source(
     names: &[&str],
 ) -> Result<AssembledSource, AllocError> {
     let notes = notes_of(alloc, &numbered.map)?;
-    let written = readable_declaration(alloc, &given)?;
-    let shown = readable_text(alloc, &numbered.declaration, given.origin)?;
+    let (written, shown) = readable_declarations(alloc, &given, &numbered.declaration)?;
     let names = visible_names(alloc, names)?;
     Ok(AssembledSource {
         numbered,

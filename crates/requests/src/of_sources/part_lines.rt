@@ -59,10 +59,6 @@ fn after_lines(text: &[u8], count: usize) -> &[u8] {
 
 impl<'t> DeclarationLine<'t> {
     /// The line with this number of the declaration with this text, which a file or the parts of a source have.
-    ///
-    /// # Errors
-    ///
-    /// `AllocError` if memory was refused.
     pub(crate) fn of(
         alloc: Global,
         files: &CommandFiles<'_, '_>,

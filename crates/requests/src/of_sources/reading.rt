@@ -101,13 +101,15 @@ pub(crate) fn says_something(declaration: &[u8]) -> bool {
 }
 
 /// A declaration that is to be proposed, in which so far only the machine is known.
-fn unknown_declaration(alloc: Global, profile: Profile) -> Result<Vec<u8>, AllocError> {
-    let mut text = Vec::new(alloc);
-    text.extend_from_slice(match profile {
+fn unknown_declaration(
+    alloc: Global,
+    profile: Profile,
+) -> Result<(Vec<u8>, DeclarationOrigin), AllocError> {
+    let text: &[u8] = match profile {
         Profile::Pdp8I => b"profile 8i\n",
         Profile::Pdp8E => b"profile 8e\n",
-    })?;
-    Ok(text)
+    };
+    Ok((text.to_vec(alloc)?, DeclarationOrigin::Proposed))
 }
 
 /// The declaration of a source for which no file is named, and where it comes from: its lines within the source, or one
@@ -118,18 +120,12 @@ fn unnamed_declaration(
     parts: &[Vec<u8>],
 ) -> Result<(Vec<u8>, DeclarationOrigin), AllocError> {
     if let DeclarationUse::Unused(profile) = declared {
-        return Ok((
-            unknown_declaration(alloc, profile)?,
-            DeclarationOrigin::Proposed,
-        ));
+        return unknown_declaration(alloc, profile);
     }
     let text = declaration_within(alloc, &byte_slices(alloc, parts)?)?;
     match declared {
         DeclarationUse::Proposable { profile, .. } if !says_something(&text) => {
-            Ok((
-                unknown_declaration(alloc, profile)?,
-                DeclarationOrigin::Proposed,
-            ))
+            unknown_declaration(alloc, profile)
         }
         _ => Ok((text, DeclarationOrigin::Within)),
     }

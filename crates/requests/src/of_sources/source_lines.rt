@@ -31,7 +31,7 @@ fn push_source_line(
     text.push(b':')?;
     text.extend_from_slice(Buffer::new().format(line).as_bytes())?;
     text.extend_from_slice(b": ")?;
-    if !note.label.is_empty() && !begins_with_tag(note) {
+    if !note.label.is_empty() && after_tag(note).is_none() {
         text.extend_from_slice(note.label)?;
         text.extend_from_slice(b"  ")?;
     }
@@ -39,12 +39,9 @@ fn push_source_line(
     text.extend_from_slice(b"\n")
 }
 
-/// Whether a source's line begins with the tag that is the name of its address.
-pub(crate) fn begins_with_tag(note: SourceNote<'_>) -> bool {
-    match note.text.strip_prefix(note.label) {
-        Some(rest) => rest.starts_with(b","),
-        None => false,
-    }
+/// What comes after the tag of a source's line, if the line begins with the tag that is the name of its address.
+pub(crate) fn after_tag(note: SourceNote<'_>) -> Option<&[u8]> {
+    note.text.strip_prefix(note.label)?.strip_prefix(b",")
 }
 
 /// Adds a piece of a text, and what the source says about its end: after an address, the source's name for it in
@@ -100,10 +97,6 @@ fn first_line(text: &[u8]) -> &[u8]
 }
 
 /// What comes after the first `from` bytes of a text for people, with what the source says about its addresses.
-///
-/// # Errors
-///
-/// `AllocError` if memory was refused.
 pub(crate) fn rest_with_source_lines(
     alloc: Global,
     source: &AssembledSource,

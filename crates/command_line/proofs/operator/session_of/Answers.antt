@@ -1,4 +1,4 @@
-use Rattle.std.proofs.Common.{refl}
+use Rattle.std.proofs.Common.{refl, sym}
 use Rattle.command_line.proofs.InputLemmas.{tape_alone}
 use Rattle.command_line.proofs.operator.session_of.Goals as goal
 
@@ -10,6 +10,9 @@ returns c = record {
   punch = c.in_ok-punch.ensures.named;
   apart = rw (← c.in_ok-inputs.ensures.given, ← c.deref.ensures.value) c.in_ok-punch.ensures.free;
   once = c.in_ok-inputs.ensures.once;
+  unlike = c.in_ok-punch.ensures.unlike;
+  events = sym c.if-has_value.ensures;
+  long = c.if-is_given.ensures;
   teletype = c.is_given-teletype.ensures;
   options = c.in_ok-options.ensures.options;
   summary = record { line = refl; printed = refl; punched = c.in_ok-punch.ensures.named };

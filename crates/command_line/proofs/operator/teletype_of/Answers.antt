@@ -9,6 +9,7 @@ returns c = record {
   punch = c.in_ok-punch.ensures.named;
   apart = rw (← c.in_ok-inputs.ensures.given, ← c.deref.ensures.value) c.in_ok-punch.ensures.free;
   once = c.in_ok-inputs.ensures.none;
+  unlike = c.in_ok-punch.ensures.unlike;
   options = c.in_ok-options.ensures.options;
   interrupt = c.in_ok-interrupt.ensures;
   summary = record { line = refl; printed = refl; punched = c.in_ok-punch.ensures.named };

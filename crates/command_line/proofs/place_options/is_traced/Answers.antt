@@ -2,7 +2,7 @@ use Rattle.std.proofs.Common.{rules}
 use Rattle.command_line.proofs.place_options.is_traced.Goals as goal
 
 pub returns-then-trace : goal.returns-then-trace
-returns-then-trace c = λ is. record {
+returns-then-trace c = record {
   trace = c.is_given-trace.result;
   trace_is = c.is_given-trace.ensures;
   long = c.is_given-long.result;
@@ -11,10 +11,10 @@ returns-then-trace c = λ is. record {
 }
 
 pub returns-else-trace : goal.returns-else-trace
-returns-else-trace c = λ is. record {
+returns-else-trace c = record {
   trace = c.is_given-trace.result;
   trace_is = c.is_given-trace.ensures;
   long = c.is_given-long.result;
   long_is = c.is_given-long.ensures;
-  any = search (rules, is);
+  any = search rules;
 }

@@ -6,5 +6,6 @@ returns c = record {
   until = c.get_str-until.ensures;
   written = c.in_ok-written.ensures;
   read = c.in_ok-read.ensures;
-  last = c.in_ok-last.ensures;
+  last = c.in_ok-last.ensures.last;
+  alone = c.in_ok-last.ensures.alone;
 }

@@ -10,6 +10,7 @@ returns c = (
     given = c.in_ok-report.ensures.named;
     apart = rw (← c.requires.given) (c.if-is_any_taken.ensures.none refl);
     another = c.in_ok-report.ensures.another;
+    unlike = c.in_ok-report.ensures.unlike;
   },
   c.in_ok-version.ensures,
 )

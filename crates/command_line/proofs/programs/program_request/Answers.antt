@@ -14,6 +14,7 @@ returns c = record {
   once = c.in_ok-task.ensures.once;
   places = c.in_ok-places.ensures;
   named = c.is_start_named.ensures;
+  start = c.in_ok-task.ensures.start;
   explained = c.is_given.ensures;
 }
 

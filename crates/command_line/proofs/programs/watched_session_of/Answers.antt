@@ -1,4 +1,4 @@
-use Rattle.std.proofs.Common.{refl}
+use Rattle.std.proofs.Common.{refl, sym}
 use Rattle.command_line.proofs.programs.watched_session_of.Goals as goal
 
 pub returns : goal.returns
@@ -12,4 +12,5 @@ returns c = record {
   declaration = c.watched_declaration.ensures;
   shown = c.in_ok-options.ensures.shown;
   stopped = refl;
+  list = sym c.if-has_value.ensures;
 }

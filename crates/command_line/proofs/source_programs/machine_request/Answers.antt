@@ -18,4 +18,5 @@ returns c =
       places = c.in_ok-places.ensures;
       task = c.in_ok-task.ensures;
       explained = c.is_given.ensures;
+      tape = rw given at c.in_ok-tape_or_source.ensures.alone;
     })

@@ -13,6 +13,7 @@ returns c = record {
   apart = rw (← c.in_ok-inputs.ensures.given, ← c.deref.ensures.value) c.in_ok-out.ensures.free;
   once = c.in_ok-inputs.ensures.once;
   forced = c.is_given.ensures;
+  start_once = c.in_ok-start_once.ensures.once;
 }
 
 pub result_of-requires : goal.result_of-requires

@@ -1,8 +1,8 @@
-use Rattle.std.proofs.Common.{◌++◌, ◌∙◌, List, ℕ, ap, rules}
+use Rattle.std.proofs.Common.{◌++◌, ◌∙◌, List, ℕ, ap}
 use Rattle.declaration.specs.DeclarationInCode.{meaning}
 use Rattle.command_parts.specs.Messages.{plain}
-use Rattle.search_commands.specs.VerifyText.{IsAnswer, proposed_text}
-use Rattle.search_commands.specs.WidenedText.{HasReason, reason_text}
+use Rattle.search_commands.specs.VerifyText.{proposed_text}
+use Rattle.search_commands.specs.WidenedText.{reason_text}
 use Rattle.search_commands.proofs.messages.verify_proposed_message.Goals as goal
 
 pub returns-clause-told : goal.returns-clause-told
@@ -19,6 +19,7 @@ returns-clause-told g c =
       is = record {
         why = plain c.in_ok-told.told.why;
         plain = c.in_ok-told.ensures.plain;
+        explains = c.in_ok-told.ensures.why;
         told_is = ap (λ (t : List ℕ). t ++ plain c.in_ok-told.told.why) (c.in_ok-lines.ensures ∙ ap (λ (t : List ℕ). t ++ reason_text c.in_ok-last.last.obstacle) first);
       };
     }

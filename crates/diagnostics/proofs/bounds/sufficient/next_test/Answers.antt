@@ -4,9 +4,9 @@ use Rattle.diagnostics.proofs.bounds.sufficient.next_test.Goals as goal
 
 pub returns-then-is_test : goal.returns-then-is_test
 returns-then-is_test c =
-    test_reached c.args.image.now c.args.at _ _ c.in_ok-word.word _ _ c.loop.invariant c.increment-here.ensures c.in_ok-word.ensures refl c.is_test.ensures c.if-is_test.true
+    test_reached c.args.image.now c.args.profile c.args.at _ _ c.in_ok-word.word _ _ c.loop.invariant c.increment-here.ensures c.in_ok-word.ensures refl c.is_test.ensures c.if-is_test.true
 
 pub loop-preserved : goal.loop-preserved
 loop-preserved c =
-    test_further c.args.image.now c.args.at _ _ c.in_ok-word.word _ _ _ c.loop.invariant c.increment-here.ensures c.in_ok-word.ensures refl c.is_test.ensures
-    c.if-is_test.false c.ends_computation.ensures c.if-ends_computation.false
+    test_further c.args.image.now c.args.profile c.args.at _ _ _ c.in_ok-word.word _ _ _ c.loop.invariant c.increment-here.ensures c.in_ok-word.ensures refl c.is_test.ensures
+    c.if-is_test.false c.ends_computation.ensures c.if-ends_computation.false c.last_passed-here.ensures

@@ -1,4 +1,4 @@
-use Rattle.std.proofs.Common.{◌∙◌, sym, ap}
+use Rattle.std.proofs.Common.{◌∙◌, sym, ap, refl}
 use Rattle.instruct.specs.Instructions.{instruction_of, kind_of, meaning_of}
 use Rattle.declaration.specs.DeclarationInCode.{meaning, routine_of}
 use Rattle.diagnostics.proofs.inputs.omissions.omitted_by_word.Goals as goal
@@ -19,4 +19,4 @@ returns-in-Operate2 g c = λ image is.
       is = is;
       kind = ap (λ p. instruction_of p c.args.word) (sym c.profile.ensures) ∙ sym c.decode.ensures.kind ∙ c.in-Operate2.is;
       halts = sym c.halts.ensures ∙ c.if-halts.true;
-    })
+    }) refl

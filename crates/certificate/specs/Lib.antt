@@ -1,2 +1,0 @@
-pub mod Parser
-pub mod Exact

@@ -1,4 +1,0 @@
-mod CellLemmas
-mod InputLemmas
-mod RefusalLemmas
-mod TaskLemmas

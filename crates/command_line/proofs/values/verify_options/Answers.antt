@@ -1,4 +1,0 @@
-use Rattle.command_line.proofs.values.verify_options.Goals as goal
-
-pub returns : goal.returns
-returns c = record { start = c.in_ok-start.ensures; machine = c.in_ok-profile.ensures; search = c.in_ok-search.ensures }

@@ -1,3 +1,0 @@
-pub mod InputLemmas
-pub mod TextLemmas
-pub mod AnswerLemmas

@@ -1,5 +1,0 @@
-use Rattle.judge.proofs.SourceLemmas.{sited_from}
-use Rattle.diagnostics.proofs.bounds.relations.put_outcomes.Goals as goal
-
-pub put_asked-requires : goal.put_asked-requires
-put_asked-requires g c = c.relate.ensures (sited_from _ _ _ _ c.put_sites.ensures c.put_fact-line.ensures.shape)

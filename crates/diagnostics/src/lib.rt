@@ -1,7 +1,0 @@
-//! What is said to people about inputs, verdicts and searches, beside the fixed lines.
-#![tactic(auto)]
-
-pub mod bounds;
-pub mod inputs;
-mod pieces;
-pub mod verdicts;

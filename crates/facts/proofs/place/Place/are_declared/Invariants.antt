@@ -1,9 +1,0 @@
-use Rattle.std.proofs.Common.{◌≡◌, ◌⊎◌, true}
-use Rattle.wordset.specs.Lanes.{words}
-use Rattle.wordset.proofs.IterLemmas.{Passed}
-use Rattle.facts.specs.PlaceInCode.{place_in_code}
-use Rattle.facts.proofs.place.Place.are_declared.Given as goal
-
-abbrev pub invariant-loop-cell : goal.invariant-loop-cell
-invariant-loop-cell g l =
-    Passed (λ a. ((place_in_code l.self).declaration.variable a ≡ true) ⊎ ((place_in_code l.self).declaration.entry a ≡ true)) (words l.cells) l.cell-iterator

@@ -1,7 +1,0 @@
-pub mod AskedLemmas
-pub mod KeptLemmas
-pub mod SumOrderLemmas
-pub mod FormLemmas
-pub mod FollowLemmas
-pub mod MadeLemmas
-pub mod RoomLemmas

@@ -1,4 +1,0 @@
-pub mod Tests
-pub mod KindLemmas
-pub mod Spaces
-mod Decoded

@@ -1,2 +1,0 @@
-pub mod ReadLemmas
-pub mod WidthLemmas

@@ -1,5 +1,0 @@
-pub mod Needed
-pub mod Proposals
-pub mod Widths
-pub mod Widenings
-pub mod Obstacles

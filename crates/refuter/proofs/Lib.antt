@@ -1,2 +1,0 @@
-pub mod UnsafeLemmas
-pub mod TapeLemmas

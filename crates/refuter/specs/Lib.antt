@@ -1,2 +1,0 @@
-pub mod Witnesses
-pub mod Laws

@@ -1,2 +1,0 @@
-pub mod Messages
-pub mod Searches

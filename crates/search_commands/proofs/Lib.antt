@@ -1,8 +1,0 @@
-pub mod DeclareLemmas
-pub mod CompleteLemmas
-mod AgreeLemmas
-pub mod WidenedLemmas
-mod KeepingLemmas
-pub mod RefiningLemmas
-pub mod AddingLemmas
-mod WhyLemmas

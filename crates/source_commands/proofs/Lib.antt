@@ -1,6 +1,0 @@
-pub mod SourceLemmas
-pub mod PartLemmas
-pub mod AssembleLemmas
-pub mod LaterLemmas
-mod UseLemmas
-mod CrossLemmas

@@ -1,5 +1,0 @@
-pub mod Bytes
-pub mod Input
-pub mod Taking
-pub mod Text
-pub mod TextLeft

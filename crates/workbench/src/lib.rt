@@ -1,6 +1,0 @@
-//! The program `pdp8`: from its arguments to its exit status.
-#![tactic(auto)]
-
-mod program;
-
-pub use program::exit_status;

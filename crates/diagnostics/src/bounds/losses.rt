@@ -47,13 +47,18 @@ fn operation(word: Word) -> Option<Operation> {
     refers_to_memory(word).then_some(Operation::of(word))
 }
 
-/// Whether a word that is not a memory reference may skip the next one: it is a skip of group 2, or of a device.
-fn may_skip(word: Word) -> bool {
+/// When a word skips the next one, as far as the word tells.
+fn skip_condition(word: Word) -> SkipCondition {
     match Format::of(word) {
-        Format::Group2 => SkipCondition::of_tests(word).may_skip(),
-        Format::Device => true,
-        _ => false,
+        Format::Reference(Operation::Isz) | Format::Device => SkipCondition::Sometimes,
+        Format::Group2 => SkipCondition::of_tests(word),
+        _ => SkipCondition::Never,
     }
+}
+
+/// Whether a word is a HLT, alone or combined with a skip.
+fn is_halt(word: Word) -> bool {
+    Format::of(word).is_group2() && halts(word)
 }
 
 /// Whether a word stores through a pointer.
@@ -78,14 +83,20 @@ pub(crate) fn successors_of_call<D: Allocator>(
     places
 }
 
-/// Whether a run may go on from an instruction to an address, as far as the word tells.
+/// Whether an address is one of the two behind an instruction to which a run may go on, by when the instruction skips.
+fn is_successor(condition: SkipCondition, at: Word, to: Word) -> bool {
+    let next = at.increment();
+    (condition.may_go_on() && to == next) || (condition.may_skip() && to == next.increment())
+}
+
+/// Whether a run may go on from an instruction to an address, as far as the word tells. At a declared pause the operator continues
+/// where the HLT leaves the program counter, which is behind a skip that the same word takes.
 pub(crate) fn may_go_on<D: Allocator>(
     declaration: &Declaration<D>,
     at: Word,
     word: Word,
     to: Word,
 ) -> bool {
-    let next = at.increment();
     let named = target(word, at);
     match operation(word) {
         Some(Operation::Jmp) => !refers_indirectly(word) && named == to,
@@ -94,12 +105,8 @@ pub(crate) fn may_go_on<D: Allocator>(
                 && (named.increment() == to
                     || successors_of_call(declaration, named, at).contains(to))
         }
-        Some(Operation::Isz) => to == next || to == next.increment(),
-        Some(_) => to == next,
-        None if Format::of(word).is_group2() && halts(word) => declaration.is_pause(at)
-            && to == next,
-        None if may_skip(word) => to == next || to == next.increment(),
-        None => to == next,
+        None if is_halt(word) && !declaration.is_pause(at) => false,
+        _ => is_successor(skip_condition(word), at, to),
     }
 }
 

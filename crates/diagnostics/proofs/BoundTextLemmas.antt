@@ -1,8 +1,8 @@
 -- What is told of the pointer of an instruction.
-use Rattle.std.proofs.Common.{ℕ, ◌≡◌, ◌+◌, ◌<◌, ◌∙◌, List, ◌++◌, Option, Some, sym, ap, subst, refl}
-use Rattle.std.specs.Prelude.{codes, true, false, Bool, None, not, ◌&&◌, ◌==◌}
+use Rattle.std.proofs.Common.{ℕ, ◌≡◌, ◌+◌, ◌<◌, ◌∙◌, List, ◌++◌, Option, Some, sym, ap, subst}
+use Rattle.std.specs.Prelude.{codes, true, false, Bool, None, not, ◌==◌}
 use Rattle.word12.specs.Words.{octal_text}
-use Rattle.std.proofs.lemmas.Bool.{true≢false}
+use Rattle.std.proofs.lemmas.Bool.{and_parts, not-false}
 use Rattle.wordset.specs.Words.{Words, HasNoneFrom, IsFirstFrom, has_some, meet}
 use Rattle.wordset.specs.Lanes.{words}
 use Rattle.wordset.specs.Ranging.{IsLastFrom}
@@ -12,14 +12,6 @@ use Rattle.bin_tape.specs.Image.{word_at}
 use Rattle.declaration.specs.Declaration.{Declaration, IsListed}
 use Rattle.diagnostics.specs.BoundText.{AddsRanges, AddsSet, AreEnough, IsNextTest, IsPointer, IsTestOf, LosesBound, NamesNoTest, NamesTest, SaysEnough, SaysLost, SaysPointer, SaysSufficient, SaysTest, all_ranges, behind, ends_computation, first_range, further_range, last_passed, later_test, next_test, no_range, place_text, range_text, some_ranges}
 use Rattle.diagnostics.proofs.PieceLemmas.{joined, joined_three}
-
-both_true : (b c : Bool) → (b && c) ≡ true → (b ≡ true) × (c ≡ true)
-both_true true c e = (refl, e)
-both_true false c e = absurd (true≢false (sym e))
-
-not_false : (b : Bool) → not b ≡ false → b ≡ true
-not_false true e = refl
-not_false false e = absurd (true≢false e)
 
 -- The first range of a set is told.
 pub first_told : (lanes set : List ℕ) (from after low high : ℕ) (old new : List ℕ) → set ≡ lanes → from ≡ 0 → IsFirstFrom from (words set) low
@@ -83,9 +75,9 @@ enough_said image d at cell word known found set empty old begun told ended new 
   is = is;
   read = read;
   set = set;
-  some = not_false (has_some set) (sym lacks ∙ found_some);
-  enough = λ held inside. enough held (both_true (found held) (known held) (sym (ap (λ (s : Words). s held) both) ∙ inside)).0;
-  among = λ held inside. (both_true (found held) (known held) (sym (ap (λ (s : Words). s held) both) ∙ inside)).1;
+  some = not-false (has_some set) (sym lacks ∙ found_some);
+  enough = λ held inside. enough held (and_parts (found held) (known held) (sym (ap (λ (s : Words). s held) both) ∙ inside)).0;
+  among = λ held inside. (and_parts (found held) (known held) (sym (ap (λ (s : Words). s held) both) ∙ inside)).1;
   told = told;
   set_is = subst (λ (t : List ℕ). AddsSet set t told) begins adds;
   test_is = subst (λ (t : List ℕ). SaysTest image d at cell t new) ends test;

@@ -1,5 +1,6 @@
 -- What `check` reads and counts.
 use Rattle.std.proofs.Common.{ℕ, suc, ◌+◌, length, map, arith, ◌≡◌, ◌<◌, ◌==◌, ◌&&◌, ◌||◌, ◌⊎◌, ◌∷◌, ◌++◌, [], Bool, true, false, List, Option, Some, None, refl, sym, ◌∙◌, ap, inl, inr}
+use Rattle.std.specs.Cmp.{both_ways}
 use Rattle.std.specs.Prelude.{decimal, IfSome, OnOk, MatchResult, Result, Ok, Err}
 use Rattle.std.proofs.lemmas.Bool.{true≢false, and_from, eq-eqb, or_left, or_right}
 use Rattle.wordset.specs.Words.{Words, SameWords, some_below}
@@ -86,14 +87,9 @@ any_of_body : (rs : List Routine) (e a : ℕ) → bodies rs e a ≡ true → in_
 any_of_body [] e a h = absurd (true≢false (sym h))
 any_of_body (r ∷ rs) e a h = any_here (r.entry == e) (words r.body a) (bodies rs e a) (in_routines rs a) (λ more. any_of_body rs e a more) h
 
-one_truth : (a b : Bool) → (a ≡ true → b ≡ true) → (b ≡ true → a ≡ true) → a ≡ b
-one_truth true b f g = sym (f refl)
-one_truth false true f g = g refl
-one_truth false false f g = refl
-
 pub any_body_is : (rs : List Routine) (a : ℕ) → ((e : ℕ) → entries rs e ≡ true → e < 4096) → in_routines rs a ≡ some_below 4096 (λ e. bodies rs e a)
 any_body_is rs a small =
-    one_truth (in_routines rs a) (some_below 4096 (λ e. bodies rs e a))
+    both_ways (in_routines rs a) (some_below 4096 (λ e. bodies rs e a))
     (λ h. let found = body_of_any rs a h in some_from 4096 (λ e. bodies rs e a) found.entry (small found.entry found.is_entry) found.in_body)
     (λ h. let found = some_to 4096 (λ e. bodies rs e a) h in any_of_body rs found.at a found.holds)
 

@@ -3,8 +3,6 @@ use Rattle.std.proofs.Common.{ℕ, ◌≡◌, ◌<◌, ◌≤◌, ◌+◌, ◌++
 use Rattle.std.specs.Prelude.{flat_map}
 use Rattle.std.proofs.lemmas.List.{take_all, take_more}
 use Rattle.std.proofs.lemmas.List.Concat.{flat_map-append}
-use Rattle.diagnostics.specs.Pieces.{followed_by, piece_text, pieces_text}
-use Rattle.diagnostics.specs.declared.pieces.Piece.{Piece}
 
 -- Two pieces, one after the other.
 pub joined : (old mid new a b : List ℕ) → mid ≡ old ++ a → new ≡ mid ++ b → new ≡ old ++ (a ++ b)
@@ -49,14 +47,8 @@ one_pushed f old now new xs i x h at a b =
 pub all_pushed : {T : Type 0} (f : T → List ℕ) (old now all : List ℕ) (xs : List T) (i : ℕ) → flat_map f xs ≡ all → length xs ≤ i → now ≡ old ++ flat_map f (take i xs) → now ≡ old ++ all
 all_pushed f old now all xs i whole h a = rw (sym whole, sym (take_all i xs h)) a
 
-following : (text : List ℕ) (ps : List Piece) → text ++ flat_map piece_text ps ≡ followed_by text ps
-following text [] = append-nil text
-following text (p ∷ ps) = sym (append_assoc text (piece_text p) (flat_map piece_text ps)) ∙ following (text ++ piece_text p) ps
-
--- The pieces of a list, one after another.
-pub in_turn : (ps : List Piece) → flat_map piece_text ps ≡ pieces_text ps
-in_turn [] = refl
-in_turn (p ∷ ps) = following (piece_text p) ps
+-- Texts one after another, whichever of them were put together first.
+pub ruleset one_after_another = (append_assoc, append-nil)
 
 -- What is made of each item of a mapped list is made of the items.
 pub mapped : {A B : Type 0} (f : B → List ℕ) (g : A → B) (xs : List A) → flat_map (λ x. f (g x)) xs ≡ flat_map f (map g xs)

@@ -1,5 +1,5 @@
 -- The pieces of a text for people.
-use Rattle.std.specs.Prelude.{ℕ, ◌/◌, ◌%◌, nat_lt, if◌then◌else◌, ◌++◌, decimal, List, [], ◌∷◌}
+use Rattle.std.specs.Prelude.{ℕ, ◌/◌, ◌%◌, nat_lt, if◌then◌else◌, ◌++◌, decimal, List, [], flat_map}
 use Rattle.word12.specs.Words.{octal_text}
 use Rattle.command_parts.specs.LinkText.{link_text}
 use Rattle.diagnostics.specs.declared.pieces.Piece.{Piece}
@@ -19,15 +19,9 @@ piece_text (piece.Digit link) = link_text link
 piece_text (piece.Decimal n) = decimal n
 piece_text (piece.Offset o) = offset_text o
 
--- A text, and behind it pieces, one after another.
-abbrev pub followed_by : List ℕ → List Piece → List ℕ
-followed_by text [] = text
-followed_by text (p ∷ ps) = followed_by (text ++ piece_text p) ps
-
 -- Pieces, one after another.
 abbrev pub pieces_text : List Piece → List ℕ
-pieces_text [] = []
-pieces_text (p ∷ ps) = followed_by (piece_text p) ps
+pieces_text ps = flat_map piece_text ps
 
 -- A text, an address in four octal digits, and a text.
 abbrev pub around : List ℕ → ℕ → List ℕ → List ℕ

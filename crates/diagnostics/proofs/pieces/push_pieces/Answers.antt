@@ -1,5 +1,6 @@
+use Rattle.std.proofs.Common.{refl}
 use Rattle.diagnostics.specs.Pieces.{piece_text}
-use Rattle.diagnostics.proofs.PieceLemmas.{all_pushed, in_turn, none_pushed, one_pushed}
+use Rattle.diagnostics.proofs.PieceLemmas.{all_pushed, none_pushed, one_pushed}
 use Rattle.diagnostics.proofs.pieces.push_pieces.Goals as goal
 
 pub loop-piece-init : goal.loop-piece-init
@@ -11,4 +12,4 @@ loop-piece-preserved g c =
 
 pub returns : goal.returns
 returns g c =
-    all_pushed piece_text _ _ _ c.args.pieces.now c.loop-piece.piece-index (in_turn c.args.pieces.now) c.loop-piece-test.false c.loop-piece.invariant
+    all_pushed piece_text _ _ _ c.args.pieces.now c.loop-piece.piece-index refl c.loop-piece-test.false c.loop-piece.invariant

@@ -1,9 +1,9 @@
 use Rattle.std.proofs.lemmas.Result.{on_ok_weaker}
-use Rattle.diagnostics.proofs.PieceLemmas.{joined_four}
+use Rattle.diagnostics.proofs.PieceLemmas.{joined_four, one_after_another}
 use Rattle.diagnostics.proofs.verdicts.reason_text.push_reason.Goals as goal
 
 pub returns-in-OffsetInMain : goal.returns-in-OffsetInMain
-returns-in-OffsetInMain g c = rw c.in-OffsetInMain.is c.push_pieces.ensures
+returns-in-OffsetInMain g c = rw c.in-OffsetInMain.is (simp one_after_another at c.push_pieces.ensures)
 
 pub returns-in-SitesInMain : goal.returns-in-SitesInMain
 returns-in-SitesInMain g c = rw c.in-SitesInMain.is c.push_text-in-SitesInMain.ensures

@@ -1,6 +1,9 @@
 use Rattle.std.proofs.lemmas.Result.{on_ok_weaker}
-use Rattle.diagnostics.proofs.PieceLemmas.{joined, joined_four}
+use Rattle.diagnostics.proofs.PieceLemmas.{joined, joined_four, one_after_another}
 use Rattle.diagnostics.proofs.verdicts.reason_text.violation.push_call.Goals as goal
+
+pub returns-in-NotLower : goal.returns-in-NotLower
+returns-in-NotLower g c = rw c.in-NotLower.is (simp one_after_another (simp one_after_another at c.push_pieces.ensures))
 
 pub returns-in_ok-push_text-in-Enters : goal.returns-in_ok-push_text-in-Enters
 returns-in_ok-push_text-in-Enters g c =

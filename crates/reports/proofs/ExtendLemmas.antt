@@ -1,6 +1,5 @@
 -- What is written behind what stood.
-use Rattle.reports.specs.FactItems.{Extends}
-use Rattle.reports.specs.Writing.{Text, Writes, no_text}
+use Rattle.reports.specs.Writing.{Extends, Text, Writes, no_text}
 use Rattle.reports.specs.declared.writer.ReportWriter.{ReportWriter}
 use Rattle.reports.proofs.WritingLemmas.{writes_both, writes_nothing}
 

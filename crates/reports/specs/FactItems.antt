@@ -57,14 +57,3 @@ pub record SaysFact {A : Type 0} (setting : Setting) (apart : FactDifferences) (
   pub apart_is : shown.apart ≡ apart
   pub shows : ShowsFact setting.rules setting.image setting.sites f shown.known.now
   pub writes : Writes old new (fact_text shown)
-
--- A writer became this one by writing something behind what stood.
-pub record Extends {A : Type 0} (old new : ReportWriter A) : Type 0 where
-  pub text : Text
-  pub writes : Writes old new text
-
--- A writer became this one by writing the items of a fact first, and something behind them.
-pub record BeginsWithFact {A : Type 0} (setting : Setting) (apart : FactDifferences) (f : Fact) (old new : ReportWriter A) : Type 0 where
-  pub mid : ReportWriter A
-  pub says : SaysFact setting apart f old mid
-  pub rest : Extends mid new

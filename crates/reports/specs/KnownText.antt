@@ -6,10 +6,11 @@ use Rattle.declaration.specs.DeclarationInCode.{meaning}
 use Rattle.facts.specs.Landing.{fact_at}
 use Rattle.certificate_lines.specs.CertificateInCode.{claims}
 use Rattle.reports.specs.AbsenceText.{SaysAbsence}
-use Rattle.reports.specs.FactItems.{BeginsWithFact, by_nothing}
+use Rattle.reports.specs.FactItems.{SaysFact, by_nothing}
 use Rattle.reports.specs.Kinds.{IsKind, IsOfRoutine}
 use Rattle.reports.specs.ReportSetting.{setting_in}
 use Rattle.reports.specs.Shown.{unknown_of}
+use Rattle.reports.specs.Writing.{WritesFirst}
 use Rattle.reports.specs.declared.report.CellKind.{CellKind}
 use Rattle.reports.specs.declared.report.Finding.{Finding}
 use Rattle.reports.specs.declared.report.Report.{Report}
@@ -26,7 +27,7 @@ pub record SaysNoFact {A : Type 0} (image : List (Option ℕ)) (d : Declaration)
 pub record SaysOnlyFact {A B D C : Type 0} (report : Report B D C) (at : ℕ) (old new : ReportWriter A) : Type 0 where
   pub routine : Routine
   pub is_of : IsOfRoutine (meaning report.declaration.now) at routine
-  pub begins : BeginsWithFact (setting_in report routine) by_nothing (fact_at ((claims report.certificate.now).facts at) 0) old new
+  pub begins : WritesFirst (SaysFact (setting_in report routine) by_nothing (fact_at ((claims report.certificate.now).facts at) 0)) old new
 
 -- What is written of an address with so many facts: of one that has none why, and of one that has a single fact first the items of
 -- that.

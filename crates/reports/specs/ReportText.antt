@@ -41,8 +41,8 @@ IsFinding j (Refused address) failing = FailsFirst j address failing
 IsFinding j (Stuck address) failing = ⊤
 
 -- What a report knows about its certificate is so.
-abbrev pub IsTrue : {A D C : Type 0} → Report A D C → Type 0
-IsTrue report = IsFinding (judged report.image.now report.declaration.now (claims report.certificate.now)) report.finding report.failing.now
+abbrev pub IsFindingTrue : {A D C : Type 0} → Report A D C → Type 0
+IsFindingTrue report = IsFinding (judged report.image.now report.declaration.now (claims report.certificate.now)) report.finding report.failing.now
 
 -- The page is what comes before the verdict in its form, of a program of this name, then the line of the verdict on the image, the declaration and the
 -- certificate's lines, as `check` writes it, then what stands right behind that verdict, and then more; and the status is that

@@ -3,19 +3,11 @@ use Rattle.std.specs.Prelude.{ℕ, if◌then◌else◌, not, codes, decimal}
 use Rattle.wordset.specs.Words.{Words, has_some}
 use Rattle.certificate_lines.specs.Certificate.{Certificate}
 use Rattle.certificate_lines.specs.CertificateInCode.{claims}
-use Rattle.reports.specs.FactItems.{Extends}
 use Rattle.reports.specs.ItemText.{is_all, items_begun, single_item}
 use Rattle.reports.specs.Labels.{label_in}
 use Rattle.reports.specs.SetText.{places_text}
-use Rattle.reports.specs.Writing.{Text, Writes, ◌⊕◌, beside_text, linked_text, numbered_text, plain, word_text}
+use Rattle.reports.specs.Writing.{Text, ◌⊕◌, beside_text, linked_text, numbered_text, plain, word_text}
 use Rattle.reports.specs.declared.report.Report.{Report}
-use Rattle.reports.specs.declared.writer.ReportWriter.{ReportWriter}
-
--- A writer became this one by writing a text first, and something behind it.
-pub record Begins {A : Type 0} (text : Text) (old new : ReportWriter A) : Type 0 where
-  pub mid : ReportWriter A
-  pub writes : Writes old mid text
-  pub rest : Extends mid new
 
 -- The cells that a routine may write.
 abbrev pub written_text : Words → Text

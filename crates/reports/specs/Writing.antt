@@ -77,6 +77,21 @@ pub record Writes {A : Type 0} (old new : ReportWriter A) (text : Text) : Type 0
     same = (text (form_of old) (line_of old)).line.same;
   }
 
+-- The same, as a relation between the writers that belongs to the text.
+abbrev pub SaysText : {A : Type 0} → Text → ReportWriter A → ReportWriter A → Type 0
+SaysText text old new = Writes old new text
+
+-- A writer became this one by writing some text behind what stood.
+pub record Extends {A : Type 0} (old new : ReportWriter A) : Type 0 where
+  pub text : Text
+  pub writes : Writes old new text
+
+-- A writer became this one by writing what this relation says first, and some text behind it.
+pub record WritesFirst {A : Type 0} (Says : ReportWriter A → ReportWriter A → Type 0) (old new : ReportWriter A) : Type 0 where
+  pub mid : ReportWriter A
+  pub says : Says old mid
+  pub rest : Extends mid new
+
 -- A text that is written only where something holds.
 abbrev pub text_if : Bool → Text → Text
 text_if holds text = if holds then text else no_text

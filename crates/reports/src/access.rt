@@ -1,7 +1,7 @@
 //! What an instruction may read, write, call and jump to, as far as the fact at its address tells.
 #![tactic(auto, using(crate::proofs::ExtendLemmas::extending))]
 
-ghost use Rattle.reports.specs.FactItems.{Extends};
+ghost use Rattle.reports.specs.Writing.{Extends};
 
 use crate::known_fact::KnownFact;
 use crate::report::{CellKind, Report};

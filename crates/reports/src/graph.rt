@@ -6,8 +6,8 @@ ghost use Rattle.wordset.specs.Words.{has_some, meet};
 ghost use Rattle.declaration.specs.DeclarationInCode.{subroutine_of};
 ghost use Rattle.reports.specs.CallLines.{box_at, box_middle, box_top, call_line, line_text, lines_from, lines_to};
 ghost use Rattle.reports.specs.FindingText.{ranks_text};
-ghost use Rattle.reports.specs.RoutineText.{Begins, row_text};
-ghost use Rattle.reports.specs.Writing.{Writes};
+ghost use Rattle.reports.specs.RoutineText.{row_text};
+ghost use Rattle.reports.specs.Writing.{WritesFirst, SaysText, Writes};
 
 use crate::map::colour_of;
 use crate::report::{Finding, Report, claimed_of};
@@ -229,7 +229,7 @@ impl<A: Allocator, D: Allocator, C: Allocator> Report<'_, A, D, C> {
 
     /// Writes the row of a routine in the table.
     fn write_routine_row(&self, writer: &mut ReportWriter<'_, A>, routine: &Routine)
-        ensures { Begins (row_text self.now (subroutine_of routine.now).entry) writer.old writer.new }
+        ensures { WritesFirst (SaysText (row_text self.now (subroutine_of routine.now).entry)) writer.old writer.new }
     {
         let entry = routine.entry();
         writer.put(b"<tr><td>");

@@ -1,7 +1,7 @@
 //! The reports: what a certificate says, or what a search for one had found, as plain text or as a page of HTML.
 #![tactic(auto)]
 
-ghost use Rattle.reports.specs.ReportText.{IsTrue};
+ghost use Rattle.reports.specs.ReportText.{IsFindingTrue};
 
 mod access;
 mod cases;
@@ -42,7 +42,7 @@ pub fn listing_below<A: Allocator + Copy, D: Allocator, C: Allocator>(
     alloc: A,
     report: &Report<'_, A, D, C>,
 ) -> Result<Vec<u8, A>, AllocError>
-    requires { IsTrue report.now }
+    requires { IsFindingTrue report.now }
 {
     let mut writer = ReportWriter::new(alloc, ReportForm::Text, &report.lines(), report.notes);
     let mut cache = ClaimCache::boxed(alloc)?;

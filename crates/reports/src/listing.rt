@@ -9,12 +9,12 @@ ghost use Rattle.declaration.specs.DeclarationInCode.{meaning};
 ghost use Rattle.certificate_lines.specs.CertificateInCode.{claims};
 ghost use Rattle.reports.specs.AbsenceText.{SaysAbsence};
 ghost use Rattle.reports.specs.DeclaredText.{declared_text};
-ghost use Rattle.reports.specs.FactItems.{BeginsWithFact, SaysFact, by_nothing};
+ghost use Rattle.reports.specs.FactItems.{SaysFact, by_nothing};
 ghost use Rattle.reports.specs.Kinds.{IsKind, routine_in};
 ghost use Rattle.reports.specs.KnownText.{SaysKnown};
 ghost use Rattle.reports.specs.ReportSetting.{report_setting, setting_in};
 ghost use Rattle.reports.specs.Shown.{ShowsFact, fact_of, is_even, unknown_of};
-ghost use Rattle.reports.specs.Writing.{Writes};
+ghost use Rattle.reports.specs.Writing.{WritesFirst, Writes};
 
 use crate::cases::FactDifferences;
 use crate::fact_context::{ShownFact, write_apart, write_fact};
@@ -339,8 +339,8 @@ impl<A: Allocator, D: Allocator, C: Allocator> Report<'_, A, D, C> {
         at: Word,
     )
         requires { length ((claims self.now.certificate.now).facts at) ≡ 1 }
-        ensures { BeginsWithFact (setting_in self.now (routine_in kind.now)) by_nothing
-            (fact_at ((claims self.now.certificate.now).facts at) 0) writer.old writer.new }
+        ensures { WritesFirst (SaysFact (setting_in self.now (routine_in kind.now)) by_nothing
+            (fact_at ((claims self.now.certificate.now).facts at) 0)) writer.old writer.new }
     {
         self.write_items_at(writer, cache, kind, at);
         writer.end_same();

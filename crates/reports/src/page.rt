@@ -2,7 +2,7 @@
 
 ghost use Rattle.std.specs.Prelude.{◌≡◌};
 ghost use Rattle.reports.specs.FindingText.{listed_text};
-ghost use Rattle.reports.specs.ReportText.{IsTrue};
+ghost use Rattle.reports.specs.ReportText.{IsFindingTrue};
 
 use crate::listing::ClaimCache;
 use crate::promises::{write_assertions, write_moves, write_returns};
@@ -214,7 +214,7 @@ pub fn page_below<A: Allocator + Copy, D: Allocator, C: Allocator>(
     report: &Report<'_, A, D, C>,
     why: &[u8],
 ) -> Result<Vec<u8, A>, AllocError>
-    requires { IsTrue report.now }
+    requires { IsFindingTrue report.now }
 {
     let mut writer = ReportWriter::new(alloc, ReportForm::Page, &report.lines(), report.notes);
     report.write_verdict(&mut writer, why);

@@ -6,7 +6,7 @@ ghost use Rattle.declaration.specs.DeclarationInCode.{meaning};
 ghost use Rattle.command_parts.specs.Answers.{IsMemoryFault};
 ghost use Rattle.command_parts.specs.Faults.{fails_to_write};
 ghost use Rattle.reports.specs.Head.{head_of, opening};
-ghost use Rattle.reports.specs.ReportText.{IsReportOf, IsTrue, failing_of, finding_of};
+ghost use Rattle.reports.specs.ReportText.{IsReportOf, IsFindingTrue, failing_of, finding_of};
 
 use crate::style::push_head;
 use crate::{Finding, Report, listing_below, opening, page_below};
@@ -59,7 +59,7 @@ pub(crate) fn below_lines<A: Allocator + Copy, D: Allocator, C: Allocator>(
     lines: &[u8],
     form: ReportForm,
 ) -> Result<Vec<u8, A>, AllocError>
-    requires { IsTrue report.now }
+    requires { IsFindingTrue report.now }
 {
     match form {
         ReportForm::Page => page_below(alloc, report, lines),

@@ -4,10 +4,9 @@ ghost use Rattle.wordset.specs.Lanes.{words};
 ghost use Rattle.facts.specs.Landing.{fact_at};
 ghost use Rattle.declaration.specs.DeclarationInCode.{subroutine_of};
 ghost use Rattle.certificate_lines.specs.CertificateInCode.{claims};
-ghost use Rattle.reports.specs.FactItems.{Extends};
-ghost use Rattle.reports.specs.RoutineText.{Begins, claimed_columns, claimed_items, columns_text, items_text, routine_text, written_text};
+ghost use Rattle.reports.specs.RoutineText.{claimed_columns, claimed_items, columns_text, items_text, routine_text, written_text};
 ghost use Rattle.reports.specs.Shown.{ShowsExit};
-ghost use Rattle.reports.specs.Writing.{Writes};
+ghost use Rattle.reports.specs.Writing.{WritesFirst, Extends, SaysText, Writes};
 
 use crate::cases::FactDifferences;
 use crate::fact_context::{ShownFact, write_exit};
@@ -99,7 +98,7 @@ impl<A: Allocator, D: Allocator, C: Allocator> Report<'_, A, D, C> {
 
     /// Writes a routine in a line: its entry, its rank, from where it is called, what it may write, and how it returns.
     pub(crate) fn write_routine(&self, writer: &mut ReportWriter<'_, A>, routine: &Routine)
-        ensures { Begins (routine_text self.now (subroutine_of routine.now).entry) writer.old writer.new }
+        ensures { WritesFirst (SaysText (routine_text self.now (subroutine_of routine.now).entry)) writer.old writer.new }
     {
         let entry = routine.entry();
         writer.begin_items(0);

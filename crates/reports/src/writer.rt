@@ -2,12 +2,11 @@
 
 ghost use Rattle.std.specs.Prelude.{◌≡◌, ◌==◌, [], codes, decimal, IfOk, IsOk, OnOk, if◌then◌else◌, replicate, true};
 ghost use Rattle.wordset.specs.Lanes.{words};
-ghost use Rattle.reports.specs.FactItems.{Extends};
 ghost use Rattle.reports.specs.Html.{escaped_text};
 ghost use Rattle.reports.specs.ItemText.{begun, counted, is_written, items_begun, marked, separator, single_item};
 ghost use Rattle.reports.specs.Labels.{label_in};
 ghost use Rattle.reports.specs.SetText.{first_ranges, more_text, next_range_text, none_text, outside, places_text, range_text, run_end_text, run_first_text, run_last_text, set_text, words_text};
-ghost use Rattle.reports.specs.Writing.{Writes, ◌⊕◌, beside_text, cell_text, form_of, in_page, in_parentheses, label_text, line_of, link_text, linked_text, listed, named_text, noted_text, numbered_text, offset_text, place_text, plain, said, text_if, word_text};
+ghost use Rattle.reports.specs.Writing.{Extends, Writes, ◌⊕◌, beside_text, cell_text, form_of, in_page, in_parentheses, label_text, line_of, link_text, linked_text, listed, named_text, noted_text, numbered_text, offset_text, place_text, plain, said, text_if, word_text};
 
 use crate::escaping::push_escaped;
 use crate::source_notes::SourceNotes;

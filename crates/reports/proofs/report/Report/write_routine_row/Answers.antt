@@ -7,7 +7,7 @@ returns g c =
     rw (← c.entry-entry.ensures)
     (record {
       mid = _;
-      writes = writes_both c.put.ensures (writes_both c.linked.ensures (writes_both (rw c.label_at.ensures at c.label.ensures)
+      says = writes_both c.put.ensures (writes_both c.linked.ensures (writes_both (rw c.label_at.ensures at c.label.ensures)
           (writes_both c.write_claimed_columns.ensures c.put-2.ensures)));
       rest = extends_then c.write_return_offsets.ensures (extends_writes c.put-3.ensures);
     })

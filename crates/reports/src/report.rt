@@ -155,6 +155,8 @@ impl<'a, A: Allocator + Copy, D: Allocator, C: Allocator> Report<'a, A, D, C> {
         ensures program { IfOk result (λ report.
             (report.image.now ≡ image.now) × (report.declaration.now ≡ declaration.now)) }
         ensures certificate { IfOk result (λ report. report.certificate.now ≡ certificate.now) }
+        ensures files { IfOk result (λ report. report.files.now ≡ files.now) }
+        ensures notes { IfOk result (λ report. report.notes ≡ notes.entry) }
     {
         let mut facts = WordSet::empty();
         let held = held_of(alloc, image, declaration, certificate, &mut facts)?;

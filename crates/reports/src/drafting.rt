@@ -1,6 +1,6 @@
 //! The command that writes what a search for a certificate had found when it was stuck.
 
-ghost use Rattle.std.specs.Prelude.{◌≡◌, ◌++◌, IfOk};
+ghost use Rattle.std.specs.Prelude.{◌≡◌, ◌++◌, IfOk, IfSome};
 ghost use Rattle.reports.specs.Head.{head_of, stuck_opening};
 ghost use Rattle.reports.specs.DraftText.{IsDraftPage, stuck_line};
 
@@ -20,22 +20,26 @@ use reasons::{Reason, ReasonWorkspace, why_stuck};
 use std::alloc::{AllocError, Allocator};
 use word12::Word;
 
-/// Why a search is stuck at an address, as lines that are given, or else the condition that fails there, if one is told,
-/// and what is known of the pointer.
-fn why_lines<A: Allocator + Copy, D: Allocator, C: Allocator>(
+/// These lines, which say why a search is stuck.
+fn given_lines<A: Allocator>(alloc: A, lines: &[u8]) -> Result<Vec<u8, A>, AllocError>
+    ensures { IfOk result (λ text. text.items ≡ lines.now) }
+{
+    let mut text = Vec::new(alloc);
+    text.extend_from_slice(lines)?;
+    Ok(text)
+}
+
+/// Why a search is stuck at an address, as far as the draft tells: the condition that fails there, if one is told, and what
+/// is known of the pointer.
+fn found_lines<A: Allocator + Copy, D: Allocator, C: Allocator>(
     alloc: A,
     image: &Image,
     declaration: &Declaration<D>,
     draft: &Certificate<C>,
     at: Word,
     told: &Option<(Refusal, Reason)>,
-    given: Option<&[u8]>,
 ) -> Result<Vec<u8, A>, AllocError> {
     let mut text = Vec::new(alloc);
-    if let Some(lines) = given {
-        text.extend_from_slice(lines)?;
-        return Ok(text);
-    }
     if let Some((refusal, reason)) = told {
         let (verdict, reason) = (Err(*refusal), Some(*reason));
         let telling = reason_context_of(draft, &verdict, &reason);
@@ -50,6 +54,24 @@ fn why_lines<A: Allocator + Copy, D: Allocator, C: Allocator>(
     }
     push_bound(alloc, &mut text, image, declaration, draft, at)?;
     Ok(text)
+}
+
+/// Why a search is stuck at an address: the lines that are given, or else those that the draft tells.
+fn why_lines<A: Allocator + Copy, D: Allocator, C: Allocator>(
+    alloc: A,
+    image: &Image,
+    declaration: &Declaration<D>,
+    draft: &Certificate<C>,
+    at: Word,
+    told: &Option<(Refusal, Reason)>,
+    given: Option<&[u8]>,
+) -> Result<Vec<u8, A>, AllocError>
+    ensures { IfSome given.entry (λ lines. IfOk result (λ text. text.items ≡ lines.now)) }
+{
+    match given {
+        Some(lines) => given_lines(alloc, lines),
+        None => found_lines(alloc, image, declaration, draft, at, told),
+    }
 }
 
 /// The line of a search that is stuck, with what comes before and right after it in a form, and the rest.

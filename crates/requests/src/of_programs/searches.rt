@@ -22,6 +22,7 @@ use command_parts::inputs::tape_from;
 use command_parts::options::{DeclareOptions, Refinements, RefuteOptions};
 use command_parts::programs::ProgramWithDeclaration;
 use command_parts::status::{Fault, Status};
+use declaration::Declaration;
 use diagnostics::verdicts::certificates::write_certificate;
 use machine_commands::messages::refute_message;
 use search_commands::completing::complete;
@@ -36,6 +37,9 @@ use turns::GuessFault;
 
 /// The most frames that are read: one more than a tape may have, so that a longer tape is seen to be too long.
 const FRAME_READ_LIMIT: usize = 65_537;
+
+/// The most bytes of a declaration that are read: one more than it may have, so that a longer one is seen to be too long.
+const TEXT_READ_LIMIT: usize = 16_385;
 
 /// The message if cells that may be read are to be listed, but the declaration that is completed has no list of them.
 const NO_LIST: &str =
@@ -69,10 +73,12 @@ fn search(
     }
 }
 
-/// Whether a declaration lists the cells that may be read.
-fn lists_reads(text: &[u8]) -> bool {
-    text.split(|byte| *byte == b'\n')
-        .any(|line| line.trim_ascii().starts_with(b"read"))
+/// Whether a declaration is given that has no list of the cells that may be read.
+fn is_without_list(alloc: Global, given: Option<&[u8]>) -> Result<bool, Fault> {
+    match given {
+        Some(text) => Ok(!Declaration::parse(alloc, text)?.reads_listed()),
+        None => Ok(false),
+    }
 }
 
 impl<'x, R: Files + Print + Eprint, I: Read + Drop> OpenProgram<'x, '_, R, I> {
@@ -152,21 +158,34 @@ impl<'x, R: Files + Print + Eprint, I: Read + Drop> OpenProgram<'x, '_, R, I> {
         Ok(status)
     }
 
-    /// Adds the declaration that is proposed for the program of a tape or, if the program has a declaration, that
-    /// declaration completed.
+    /// The text of the program's declaration, if it has one. It is read only if the tape has no fault.
+    fn given_text(&mut self, tape: &[u8]) -> Result<Option<Vec<u8>>, Fault> {
+        if !self.is_declared {
+            return Ok(None);
+        }
+        let _image = tape_from(&mut StdReader::new(tape))?;
+        let mut text = StdReader::new(&mut self.text);
+        let bytes = read_at_most(self.alloc, &mut text, TEXT_READ_LIMIT)?;
+        Ok(Some(bytes))
+    }
+
+    /// Adds the declaration that is proposed for the program of a tape or, if a declaration is given, that declaration
+    /// completed.
     fn push_proposal(
-        &mut self,
+        &self,
         tape: &[u8],
+        given: Option<&[u8]>,
         options: DeclareOptions,
         found: &mut Vec<u8>,
     ) -> Result<Status, Fault> {
         let mut frames = StdReader::new(tape);
         let mut out = StdWriter::new(found);
-        let answer = if self.is_declared {
-            let mut text = StdReader::new(&mut self.text);
-            complete(self.alloc, &mut frames, &mut text, options.reads, &mut out)
-        } else {
-            declare(self.alloc, &mut frames, options, &mut out)
+        let answer = match given {
+            Some(bytes) => {
+                let mut text = StdReader::new(bytes);
+                complete(self.alloc, &mut frames, &mut text, options.reads, &mut out)
+            }
+            None => declare(self.alloc, &mut frames, options, &mut out),
         };
         if out.failed() {
             return Err(Fault::NoMemory);
@@ -216,13 +235,16 @@ impl<'x, R: Files + Print + Eprint, I: Read + Drop> OpenProgram<'x, '_, R, I> {
         refinements: Refinements,
     ) -> Result<Status, Fault> {
         let (rt, alloc) = (self.rt, self.alloc);
-        let (is_completed, adds_reads) = (self.is_declared, options.reads);
+        let adds_reads = options.reads;
         let mut file = open_output(rt, alloc, out)?;
         let mut frames = StdReader::new(&mut self.frames);
         let tape = read_at_most(alloc, &mut frames, FRAME_READ_LIMIT)?;
         let mut text = Vec::new(alloc);
         let mut message = Vec::new(alloc);
-        let status = self.push_proposal(&tape, options, &mut text)?;
+        let read = self.given_text(&tape)?;
+        let given = read.as_ref().map(|bytes| bytes.as_slice());
+        let status = self.push_proposal(&tape, given, options, &mut text)?;
+        let is_unlisted = adds_reads && is_without_list(alloc, given)?;
         if refinements.tight || refinements.exits {
             text = self.refine(&tape, refinements, text, &mut message)?;
         }
@@ -232,7 +254,7 @@ impl<'x, R: Files + Print + Eprint, I: Read + Drop> OpenProgram<'x, '_, R, I> {
         put(&mut StdWriter::new(&mut file), &text)?;
         let status = finish(&mut file, status)?;
         let _ = put(&mut tell_to(rt), &message);
-        if is_completed && adds_reads && !lists_reads(&text) {
+        if is_unlisted {
             tell_lines(rt, NO_LIST);
         }
         Ok(status)

@@ -50,7 +50,7 @@ request_command (request.Explain code number) = name.Explain
 request_command (request.Migrate migrate) = name.Migrate
 request_command (request.Program asked) = task_command asked.task
 
--- The names of the parts of a source from which a request is made, if it is.
+-- The names of the parts of the source of a request; none if it has no source.
 abbrev pub request_parts : Request → List (Bor (List ℕ))
 request_parts (request.Assemble assemble) = assemble.sources.items
 request_parts (request.List listing) = listing.sources.items

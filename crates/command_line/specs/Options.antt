@@ -157,7 +157,7 @@ is_declared found =
     list_any (has_value found) (codes "DECLARATION" ∷ codes "declaration" ∷ codes "from" ∷ [])
     || (is_some (sources_given found) && has_value found (codes "TAPE"))
 
--- A declaration is given, or a start or a machine is named, but not both: a declaration determines both.
+-- A start or a machine is not named beside a declaration, which determines both. Neither need be given.
 abbrev pub IsStartOnce : ArgMatches → Type 0
 IsStartOnce found = (is_declared found && is_start_named found) ≡ false
 
@@ -167,7 +167,7 @@ pub record IsWatchedWithOperator (found : ArgMatches) (is : Bool) : Type 0 where
   pub flag : IsFlagGiven found (codes "mark") mark
   pub any : is ≡ (list_any (has_value found) (codes "reader" ∷ codes "keys" ∷ codes "switches" ∷ codes "steps" ∷ codes "continue" ∷ []) || mark)
 
--- A line is written for each instruction, a short one or a long one, or none is.
+-- Whether a line, short or long, is written for each instruction.
 pub record IsTraced (found : ArgMatches) (is : Bool) : Type 0 where
   pub trace : Bool
   pub trace_is : IsFlagGiven found (codes "trace") trace

@@ -150,7 +150,7 @@ IsMisused misuse.SaveIsFolder found = has_value found (codes "save") ≡ true
 IsMisused misuse.SaveIsTaken found = has_value found (codes "save") ≡ true
 IsMisused _ found = ⊥
 
--- What is given is no number of steps that may be requested, where these are so many at most, and that is told.
+-- The value of `--steps` is no number from 1 to this most, and the fault has this most.
 abbrev pub AreStepsRefused : ℕ → ArgMatches → CommandLineFault → Type 0
 AreStepsRefused most found (fault.Steps told) = (told ≡ most) × IsNumberRefused 1 most (value found (codes "steps"))
 AreStepsRefused most found _ = ⊥

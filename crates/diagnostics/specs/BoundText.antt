@@ -229,7 +229,6 @@ abbrev pub HasNoBound : List (Option ℕ) → Declaration → Certificate → �
 HasNoBound image d draft at = HasNoPointer image d at ⊎ (length (draft.facts at) ≡ 0)
 
 -- A text became this one by the lines on the pointer of the instruction at an address, where the draft has a fact, or by nothing where there
--- is nothing to say. That
--- the words that are named are those that the draft leaves to the pointer is tested.
+-- is nothing to say. That the words that are named are those that the draft leaves to the pointer is tested.
 abbrev pub SaysBound : List (Option ℕ) → Declaration → Certificate → ℕ → List ℕ → List ℕ → Type 0
 SaysBound image d draft at old new = ((new ≡ old) × HasNoBound image d draft at) ⊎ ((0 < length (draft.facts at)) × SaysPointer image d at old new)

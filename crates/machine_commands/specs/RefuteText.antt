@@ -30,9 +30,9 @@ pub record IsWitnessOf (explained : Bool) (image : List (Option ℕ)) (declarati
   pub last : event + 1 ≡ length events
   pub is : IsTold explained image declaration events (Broken event rule) told
 
--- What is found in search of a run that violates the declaration, where the search took these turns, one for each step: the command is
--- refused, and the list spells such a run of which this is told; or it is done, as many turns were taken as steps are requested, there
--- is no list, and what is told says in how many steps none was found.
+-- What is found in search of a run that violates the declaration, where these turns were taken; that each of them is a step of the
+-- search is not said here. Either the command is refused, and the list spells such a run of which this is told; or it is done, as many
+-- turns were taken as steps are requested, there is no list, and what is told says in how many steps none was found.
 abbrev pub IsRefutationOf : RefuteOptions → List (Option ℕ) → Declaration → Count → Status → List ℕ → List ℕ → Type 0
 IsRefutationOf options image declaration turns Refused list told = IsWitnessOf options.explained image declaration list told
 IsRefutationOf options image declaration turns Done list told =

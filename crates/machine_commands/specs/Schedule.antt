@@ -17,8 +17,8 @@ pub record Schedule (S : Type 0) : Type 0 where
   pub reads : S → WorldState → Bool
 
 -- How much of a run is told: all that comes; what comes up to an event that prints or punches; what comes up to where a frame or
--- a key is read; what comes up to a step, and that step, which need not happen; or what comes up to any event. Where
--- the run ends before that, it is all that comes.
+-- a key is read; what comes up to a step, and that step, which need not happen; or what comes up to any event. If
+-- the run ends earlier, all of it is told.
 pub data Extent : Type 0 where
   Whole : Extent
   UpToOutput : Extent

@@ -56,8 +56,9 @@ form_behind None form = form
 form_behind (Some most) form = record form { apart = false }
 
 -- From an image the events that come, up to the step before which the run is stopped if it is, and which is due then, lead to an end. The
--- text is the trace, if one is requested, or any text where last lines are requested, the summary, and the cells to be shown, each with its word in the world in which the run
--- ended; and these are the characters printed and the bytes punched. If the run is not told whole, this is what its first events leave.
+-- text has three parts: the trace if one is requested (where last lines are requested, any text); the summary; and the cells to be shown,
+-- each with its word in the world in which the run ended. These are the characters printed and the bytes punched. If the run is not told
+-- whole, this is what its first events leave.
 pub record IsHeldToStop (comes : Profile → WorldState → Extent → List Event → Type 0) (options : RunOptions) (stops : Stops) (shown : Option ℕ) (form : SummaryForm) (extent : Extent) (left : Bool) (image : List (Option ℕ)) (text printed punched : List ℕ) (status : Status) : Type 0 where
   pub events : List Event
   pub stopped : Bool

@@ -8,7 +8,7 @@ use Rattle.reports.specs.Writing.{Text, ◌⊕◌, no_text, numbered_text, plain
 use Rattle.reports.specs.declared.graph.BoxPlace.{BoxPlace}
 use Rattle.reports.specs.declared.report.Report.{Report}
 
--- A distance in the drawing; none is greater than this.
+-- A distance in the drawing, at most 2^64 - 1.
 abbrev pub drawn : ℕ → ℕ
 drawn distance = min distance (2 ^ 64 - 1)
 
@@ -38,8 +38,8 @@ line_text caller callee =
 abbrev pub call_line : BoxPlace → Words → BoxPlace → Words → Text
 call_line callee sites caller body = text_if (has_some (meet sites body)) (line_text caller callee)
 
--- The lines to a callee's box from those of some routines that have one of its sites in their bodies. The first of the routines is at this place in the
--- order of the declaration.
+-- The lines to the box of a callee from the boxes of those of these routines that have one of its sites in their bodies. The first of the
+-- routines is at this place in the order of the declaration.
 abbrev pub lines_from : List BoxPlace → BoxPlace → Words → ℕ → List Routine → Text
 lines_from boxes callee sites place [] = no_text
 lines_from boxes callee sites place (r ∷ rs) =

@@ -29,7 +29,8 @@ routine_in kind.Variable = None
 routine_in kind.Other = None
 routine_in kind.Unset = None
 
--- The address is in the body of the routine with this entry; or, as for main, in that of no routine with an entry.
+-- The address is in the body of the routine with this entry. For main (None): it is in the body of no other routine; it need not be in
+-- main's.
 abbrev pub IsOfRoutine : Declaration → ℕ → Routine → Type 0
 IsOfRoutine d a None = (e : ℕ) → d.body (Some e) a ≡ false
 IsOfRoutine d a (Some e) = d.body (Some e) a ≡ true

@@ -12,8 +12,8 @@ abbrev pub rank_of : Certificate → Routine → ℕ
 rank_of c None = 0
 rank_of c (Some e) = c.rank e
 
--- This is what the certificate claims about a routine: its rank, its sites, and the cells that it and its callees may write. About one that is
--- not listed, and about main, nothing is claimed: the rank is 0, and both sets are empty.
+-- This is what the certificate claims about a routine: its rank, its sites, and the cells that it and its callees may write. For main
+-- the rank is 0 and both sets are empty. For another routine this is what the certificate has for its entry, listed or not.
 pub record IsClaim (c : Certificate) (r : Routine) (claim : RoutineClaim) : Type 0 where
   pub rank : claim.rank ≡ rank_of c r
   pub sites : words claim.sites ≡ sites_of c r

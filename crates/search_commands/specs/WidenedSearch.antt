@@ -15,7 +15,7 @@ use Rattle.search_commands.specs.declared.widening.WideningStep.{WideningStep}
 use Rattle.search_commands.specs.declared.widening.WideningStep.TheVariants.{Wider, Ended}
 use Rattle.search_commands.specs.declared.widening.FinalProposal.{FinalProposal}
 
--- The run that is reported violates the declaration, and of the reason that is reported so much is true as `IsObstacle` says.
+-- The run that is reported violates the declaration, and what `IsObstacle` says of the reason that is reported is true.
 pub record IsBroken {A : Type 0} (image : List (Option ℕ)) (given : Kept) (w : Witness A) (o : Obstacle) : Type 0 where
   pub answers : IsAnswer image (meaning given) (No w)
   pub obstacle : IsObstacle image (meaning given) w.events.items o

@@ -43,8 +43,7 @@ abbrev pub reason_text : Option Obstacle → List ℕ
 reason_text None = []
 reason_text (Some o) = obstacle_text o
 
--- A no comes with a reason why no declaration allows what the run does, of which so much is true as `IsObstacle` says. No other answer has
--- one.
+-- A no comes with a reason why no declaration allows what the run does, and what `IsObstacle` says of it is true. No other answer has one.
 abbrev pub HasReason : {A : Type 0} → List (Option ℕ) → Declaration → Answer A → Option Obstacle → Type 0
 HasReason image d (No w) (Some o) = IsObstacle image d w.events.items o
 HasReason image d (No w) None = ⊥

@@ -6,11 +6,11 @@ use Rattle.std.proofs.lemmas.Bool.{true≢false}
 use Rattle.wordset.specs.Words.{Words, HasNoneFrom, IsFirstFrom, has_some, meet}
 use Rattle.wordset.specs.Lanes.{words}
 use Rattle.wordset.specs.Ranging.{IsLastFrom}
-use Rattle.instruct.specs.Operates.{MqOperate, Mql, Mqa, Swp, Cam, ClaMqa, ClaSwp, mq_operate_if}
+use Rattle.instruct.specs.Accumulator.{tests_accumulator}
 use Rattle.instruct.specs.declared.Profile.{Profile}
 use Rattle.bin_tape.specs.Image.{word_at}
 use Rattle.declaration.specs.Declaration.{Declaration, IsListed}
-use Rattle.diagnostics.specs.BoundText.{AddsRanges, AddsSet, AreEnough, IsNextTest, IsPointer, IsTestOf, LosesBound, NamesNoTest, NamesTest, SaysEnough, SaysLost, SaysPointer, SaysSufficient, SaysTest, all_ranges, behind, ends_computation, first_range, further_range, is_test, last_passed, later_test, next_test, no_range, place_text, range_text, replaces_by_mq, some_ranges}
+use Rattle.diagnostics.specs.BoundText.{AddsRanges, AddsSet, AreEnough, IsNextTest, IsPointer, IsTestOf, LosesBound, NamesNoTest, NamesTest, SaysEnough, SaysLost, SaysPointer, SaysSufficient, SaysTest, all_ranges, behind, ends_computation, first_range, further_range, last_passed, later_test, next_test, no_range, place_text, range_text, some_ranges}
 use Rattle.diagnostics.proofs.PieceLemmas.{joined, joined_three}
 
 both_true : (b c : Bool) → (b && c) ≡ true → (b ≡ true) × (c ≡ true)
@@ -109,7 +109,7 @@ pointer_said image d at cell known old begun told ended enough new pointer first
 -- The word behind an address is a test.
 pub test_reached : (image : List (Option ℕ)) (profile : Profile) (at here step word : ℕ) (held : Option ℕ) (tests : Bool)
     → ((t : ℕ) → IsNextTest image profile here t → IsNextTest image profile at t) → step ≡ behind here → held ≡ word_at image step → held ≡ Some word
-    → tests ≡ is_test word → tests ≡ true → IsNextTest image profile at step
+    → tests ≡ tests_accumulator word → tests ≡ true → IsNextTest image profile at step
 test_reached image profile at here step word held tests before same had is says so =
     before step
     (subst (λ (s : ℕ). IsNextTest image profile here s) (sym same)
@@ -118,19 +118,9 @@ test_reached image profile at here step word held tests before same had is says 
 -- The word behind an address is no test, and does not end the computation.
 pub test_further : (image : List (Option ℕ)) (profile : Profile) (at here step last word : ℕ) (held : Option ℕ) (tests ends : Bool)
     → ((t : ℕ) → IsNextTest image profile here t → IsNextTest image profile at t) → step ≡ behind here → held ≡ word_at image step → held ≡ Some word
-    → tests ≡ is_test word → tests ≡ false → ends ≡ ends_computation profile word → ends ≡ false → last ≡ last_passed word step
+    → tests ≡ tests_accumulator word → tests ≡ false → ends ≡ ends_computation profile word → ends ≡ false → last ≡ last_passed word step
     → (t : ℕ) → IsNextTest image profile last t → IsNextTest image profile at t
 test_further image profile at here step last word held tests ends before same had is says so tells goes passes t follows =
     before t
     (later_test here word t (subst (λ (s : ℕ). word_at image s ≡ Some word) same (sym had ∙ is)) (sym says ∙ so) (sym tells ∙ goes)
     (subst (λ (s : ℕ). IsNextTest image profile s t) (passes ∙ ap (λ s. last_passed word s) same) follows))
-
--- AC 7777 becomes the word 0000 of MQ by the operations of group 3 that clear AC or replace it, and by no other.
-pub replaced : (o : Option MqOperate) → ((mq_operate_if o (4095, 0)).0 == 0) ≡ replaces_by_mq o
-replaced (Some Mql) = refl
-replaced (Some Mqa) = refl
-replaced (Some Swp) = refl
-replaced (Some Cam) = refl
-replaced (Some ClaMqa) = refl
-replaced (Some ClaSwp) = refl
-replaced None = refl

@@ -4,13 +4,10 @@ use Rattle.std.specs.Prelude.{ℕ, ◌≡◌, ◌+◌, ◌%◌, ◌<◌, ◌==�
 use Rattle.word12.specs.Words.{octal_text}
 use Rattle.wordset.specs.Words.{Words, HasNoneFrom, IsFirstFrom, has_some}
 use Rattle.wordset.specs.Ranging.{IsLastFrom}
-use Rattle.instruct.specs.Bits.{has_bit, is_indirect, named_cell}
-use Rattle.instruct.specs.Instructions.{Clears, DeviceAction, Takes, device_action, format_of, is_group2, operation_of, refers_to_memory}
-use Rattle.instruct.specs.Operates.{MqOperate, Mqa, mq_operate_of}
-use Rattle.instruct.specs.Skips.{may_go_on, skip_condition_of}
+use Rattle.instruct.specs.Bits.{is_indirect, named_cell}
+use Rattle.instruct.specs.Instructions.{operation_of, refers_to_memory}
+use Rattle.instruct.specs.Accumulator.{replaces_accumulator, skips_always, tests_accumulator}
 use Rattle.instruct.specs.Names.{name_of}
-use Rattle.instruct.specs.declared.Format.{Format}
-use Rattle.instruct.specs.declared.Format.TheVariants as format
 use Rattle.instruct.specs.declared.Profile.{Profile}
 use Rattle.instruct.specs.declared.Operation.{Operation}
 use Rattle.instruct.specs.declared.Operation.TheVariants as operation
@@ -22,15 +19,6 @@ use Rattle.certificate_lines.specs.Certificate.{Certificate}
 -- The word is a memory reference.
 abbrev pub is_reference : ℕ → Bool
 is_reference word = refers_to_memory word
-
--- The word is of group 2 and tests AC: it has SMA (0100) or SZA (0040), which are SPA and SNA where they are reversed. A skip on the link
--- alone is no test of a sum in AC, since the link may be older than the sum; nor is SKP, which tests nothing.
-abbrev pub is_test : ℕ → Bool
-is_test word = is_group2 (format_of word) && (has_bit 6 word || has_bit 5 word)
-
--- The word is of group 2 and skips in any case.
-abbrev pub skips_always : ℕ → Bool
-skips_always word = is_group2 (format_of word) && not (may_go_on (skip_condition_of word))
 
 -- The instruction at an address refers to memory through this cell, which is a variable.
 pub record IsPointer (image : List (Option ℕ)) (d : Declaration) (at cell : ℕ) : Type 0 where
@@ -71,36 +59,15 @@ pub record AddsCell (word at cell : ℕ) : Type 0 where
   pub direct : is_indirect word ≡ false
   pub named : named_cell word at ≡ cell
 
--- An operation that stores AC, and clears it, or goes elsewhere.
-abbrev pub ends_sum : Operation → Bool
-ends_sum operation.Dca = true
-ends_sum operation.Jms = true
-ends_sum operation.Jmp = true
-ends_sum other = false
+-- An operation by which control goes elsewhere.
+abbrev pub goes_elsewhere : Operation → Bool
+goes_elsewhere operation.Jms = true
+goes_elsewhere operation.Jmp = true
+goes_elsewhere other = false
 
--- What a device word does to the processor clears AC, as KCC does, or replaces it, as KRB does.
-abbrev pub replaces_by_device : Option DeviceAction → Bool
-replaces_by_device (Some Clears) = true
-replaces_by_device (Some Takes) = true
-replaces_by_device other = false
-
--- An operation of group 3 clears AC or replaces it by MQ: each one does but MQA, which ors MQ into AC.
-abbrev pub replaces_by_mq : Option MqOperate → Bool
-replaces_by_mq (Some Mqa) = false
-replaces_by_mq (Some other) = true
-replaces_by_mq None = false
-
--- A word of this format ends a computation in AC: it stores AC, goes elsewhere, clears AC or replaces it. CLA is 0200 in groups 1 and 2.
-abbrev pub ends_as : Profile → ℕ → Format → Bool
-ends_as profile word (format.Reference o) = ends_sum o
-ends_as profile word format.Device = replaces_by_device (device_action profile word)
-ends_as profile word format.Group1 = has_bit 7 word
-ends_as profile word format.Group2 = has_bit 7 word
-ends_as profile word format.Group3 = replaces_by_mq (mq_operate_of word)
-
--- A word ends a computation in AC on a machine of this profile.
+-- A word ends a computation in AC on a machine of this profile: control goes elsewhere, or AC is stored, cleared or replaced.
 abbrev pub ends_computation : Profile → ℕ → Bool
-ends_computation profile word = ends_as profile word (format_of word)
+ends_computation profile word = (is_reference word && goes_elsewhere (operation_of word)) || replaces_accumulator profile word
 
 -- The address behind another one.
 abbrev pub behind : ℕ → ℕ
@@ -113,8 +80,8 @@ last_passed word at = if skips_always word then behind at else at
 -- The first test that follows an address on the tape, where no word before it ends the computation. A word behind one that skips in any
 -- case is passed over.
 pub data IsNextTest (image : List (Option ℕ)) (profile : Profile) : ℕ → ℕ → Type 0 where
-  next_test : (at word : ℕ) → word_at image (behind at) ≡ Some word → is_test word ≡ true → IsNextTest image profile at (behind at)
-  later_test : (at word test : ℕ) → word_at image (behind at) ≡ Some word → is_test word ≡ false → ends_computation profile word ≡ false
+  next_test : (at word : ℕ) → word_at image (behind at) ≡ Some word → tests_accumulator word ≡ true → IsNextTest image profile at (behind at)
+  later_test : (at word test : ℕ) → word_at image (behind at) ≡ Some word → tests_accumulator word ≡ false → ends_computation profile word ≡ false
       → IsNextTest image profile (last_passed word (behind at)) test → IsNextTest image profile at test
 
 -- In the body that has an address the tape has a word that adds the pointer to AC, and the skip is the first test that follows it.

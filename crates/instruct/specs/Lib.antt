@@ -4,5 +4,6 @@ pub mod Group3
 pub mod Devices
 pub mod Instructions
 pub mod Skips
+pub mod Accumulator
 pub mod Names
 pub mod Laws

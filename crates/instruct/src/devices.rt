@@ -1,6 +1,7 @@
 //! The device words: those of the teletype, of the high-speed reader and punch, and IOF.
 
 ghost use Rattle.std.specs.Prelude.{◌≡◌, ◌≤◌, length, IfSome, Some};
+ghost use Rattle.instruct.specs.Accumulator.{replaces_by_device};
 ghost use Rattle.instruct.specs.Devices.{device_operation, word_of};
 ghost use Rattle.instruct.specs.Instructions.{device_action, processor_action};
 ghost use Rattle.instruct.specs.Names.{device_name};
@@ -96,6 +97,16 @@ impl DeviceOperation {
         )
     }
 
+    /// Whether the operation clears the accumulator or replaces it by a byte.
+    fn replaces_accumulator(self) -> bool
+        ensures { result ≡ replaces_by_device (Some (processor_action self)) }
+    {
+        matches!(
+            self,
+            DeviceOperation::ClearKeyboardFlagAndAccumulator | DeviceOperation::TakeKeyboardByte
+        )
+    }
+
     /// The handbook's name of the word, of at most 7 characters.
     pub fn mnemonic(self) -> &'static str
         ensures name { result.now ≡ device_name self }
@@ -122,6 +133,16 @@ impl DeviceOperation {
             DeviceOperation::ClearKeyboardFlag => "KCF",
             DeviceOperation::SetPrinterFlag => "TFL",
         }
+    }
+}
+
+/// Whether a device word clears the accumulator or replaces it by a byte, on a machine of a profile.
+pub(crate) fn replaces_by_device(word: Word, profile: Profile) -> bool
+    ensures { result ≡ replaces_by_device (device_action profile word) }
+{
+    match DeviceOperation::of(word, profile) {
+        Some(operation) => operation.replaces_accumulator(),
+        None => false,
     }
 }
 

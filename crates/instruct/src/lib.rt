@@ -5,6 +5,7 @@
 //! rotates, group 3 of the 8/I) and device words of other devices are unsupported.
 #![tactic(auto)]
 
+mod accumulator;
 mod bits;
 mod devices;
 pub mod laws;
@@ -16,10 +17,11 @@ ghost use Rattle.std.specs.Prelude.{ℕ, ◌≡◌, ◌/◌};
 ghost use Rattle.instruct.specs.declared.Profile.{Profile};
 ghost use Rattle.instruct.specs.declared.Instruction.TheVariants.{Memory};
 ghost use Rattle.instruct.specs.Bits.{has_bit, named_cell, is_indirect};
-ghost use Rattle.instruct.specs.Instructions.{format_of, instruction_of, is_operate, kind_of, meaning_of, operation_of, reference_at, refers_to_memory, device_action, device_meaning, operate_meaning, group3_meaning, is_group1};
+ghost use Rattle.instruct.specs.Instructions.{format_of, instruction_of, is_group2, is_operate, kind_of, meaning_of, operation_of, reference_at, refers_to_memory, device_action, device_meaning, operate_meaning, group3_meaning, is_group1};
 
 use crate::bits::{Group1, Group2, ReferenceBits};
 use crate::operate::MqOperation;
+pub use accumulator::{replaces_accumulator, skips_always, tests_accumulator};
 use bitflags::Flags;
 pub use devices::{DeviceOperation, skips_on_flag};
 pub use microinstructions::{
@@ -93,6 +95,13 @@ impl Format {
         ensures { result ≡ is_operate self }
     {
         matches!(self, Format::Group1 | Format::Group2 | Format::Group3)
+    }
+
+    /// Whether words of this format are operate words of group 2: the skips, CLA, OSR and HLT.
+    pub fn is_group2(self) -> bool
+        ensures { result ≡ is_group2 self }
+    {
+        self == Format::Group2
     }
 }
 

@@ -1,7 +1,8 @@
 //! What the operate words make of the accumulator, the link and MQ.
 
-ghost use Rattle.std.specs.Prelude.{◌≡◌, ◌≤◌, length};
+ghost use Rattle.std.specs.Prelude.{◌≡◌, ◌≤◌, length, Some};
 ghost use Rattle.std.specs.Option.{option_map};
+ghost use Rattle.instruct.specs.Accumulator.{replaces_by_mq};
 ghost use Rattle.instruct.specs.Group3.{mq_operate_as};
 ghost use Rattle.instruct.specs.Names.{group3_name};
 ghost use Rattle.instruct.specs.Operates.{operate1_of, any_test_holds, skips_of, operate2_of, mq_operate_of, mq_operate, operate3_of, cleared, complemented, counted, rotated, is_halt};
@@ -192,6 +193,13 @@ impl MqOperation {
         }
     }
 
+    /// Whether the operation clears the accumulator or replaces it by MQ: each one does but MQA, which ors MQ into it.
+    fn replaces_accumulator(self) -> bool
+        ensures { result ≡ replaces_by_mq (Some (mq_operate_as self)) }
+    {
+        self != MqOperation::Mqa
+    }
+
     /// The accumulator and MQ, in this order, after the operation.
     fn results(self, ac: Word, mq: Word) -> (Word, Word)
         ensures { result ≡ mq_operate (mq_operate_as self) (ac, mq) }
@@ -215,6 +223,16 @@ pub fn operate3(word: Word, ac: Word, mq: Word) -> (Word, Word)
     match MqOperation::of(word) {
         Some(operation) => operation.results(ac, mq),
         None => (ac, mq),
+    }
+}
+
+/// Whether a word of group 3 clears the accumulator or replaces it by MQ.
+pub(crate) fn replaces_by_mq(word: Word) -> bool
+    ensures { result ≡ replaces_by_mq (mq_operate_of word) }
+{
+    match MqOperation::of(word) {
+        Some(operation) => operation.replaces_accumulator(),
+        None => false,
     }
 }
 

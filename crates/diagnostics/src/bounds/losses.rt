@@ -1,15 +1,11 @@
 //! Why less is known about a pointer after an instruction than before it.
 
-ghost use Rattle.std.specs.Prelude.{◌≡◌};
-ghost use Rattle.instruct.specs.Instructions.{format_of, is_group2};
-ghost use Rattle.diagnostics.specs.BoundText.{is_test, skips_always};
-
 use crate::bounds::draft_facts::DraftFacts;
 use declaration::Declaration;
 use domain::Location;
 use instruct::{
     Format, Operation, SkipCondition, clears, complements, halts, refers_indirectly,
-    refers_to_memory, target, tests_sign, tests_zero,
+    refers_to_memory, target, tests_accumulator,
 };
 use std::alloc::Allocator;
 use word12::Word;
@@ -49,27 +45,6 @@ impl PrecisionLoss {
 /// The operation of a word, if it is a memory reference.
 fn operation(word: Word) -> Option<Operation> {
     refers_to_memory(word).then_some(Operation::of(word))
-}
-
-/// Whether a word is of group 2.
-fn is_group2(word: Word) -> bool
-    ensures { result ≡ is_group2 (format_of word) }
-{
-    Format::of(word) == Format::Group2
-}
-
-/// Whether a word is of group 2, with a test of the accumulator.
-pub(crate) fn is_test(word: Word) -> bool
-    ensures { result ≡ is_test word }
-{
-    is_group2(word) && (tests_sign(word) || tests_zero(word))
-}
-
-/// Whether a word is of group 2 and skips in any case.
-pub(crate) fn skips_always(word: Word) -> bool
-    ensures { result ≡ skips_always word }
-{
-    is_group2(word) && !SkipCondition::of_tests(word).may_go_on()
 }
 
 /// Whether a word that is not a memory reference may skip the next one: it is a skip of group 2, or of a device.
@@ -121,7 +96,8 @@ pub(crate) fn may_go_on<D: Allocator>(
         }
         Some(Operation::Isz) => to == next || to == next.increment(),
         Some(_) => to == next,
-        None if is_group2(word) && halts(word) => declaration.is_pause(at) && to == next,
+        None if Format::of(word).is_group2() && halts(word) => declaration.is_pause(at)
+            && to == next,
         None if may_skip(word) => to == next || to == next.increment(),
         None => to == next,
     }
@@ -144,7 +120,7 @@ fn words_behind<C: Allocator>(
 /// Why it is no longer known behind an instruction how far the accumulator is from a pointer, if the instruction is a test or a
 /// complement.
 fn loss_of_tie(word: Word) -> Option<PrecisionLoss> {
-    if is_test(word) && clears(word) {
+    if tests_accumulator(word) && clears(word) {
         return Some(PrecisionLoss::ClearingSkip);
     }
     let complements_alone = Format::of(word) == Format::Group1

@@ -2,19 +2,16 @@
 
 ghost use Rattle.std.specs.Prelude.{◌≡◌, IsTrue, IfSome};
 ghost use Rattle.wordset.specs.Lanes.{words};
-ghost use Rattle.instruct.specs.Instructions.{device_action, processor_action};
-ghost use Rattle.instruct.specs.Operates.{mq_operate_of};
 ghost use Rattle.instruct.specs.declared.Operation.TheVariants.{Jmp};
 ghost use Rattle.declaration.specs.DeclarationInCode.{meaning};
-ghost use Rattle.diagnostics.specs.BoundText.{AddsCell, AreEnough, AreInOneBody, IsNextTest, IsTestOf, MayReferTo, ends_computation, ends_sum, last_passed, referred_to, replaces_by_device, replaces_by_mq};
+ghost use Rattle.diagnostics.specs.BoundText.{AddsCell, AreEnough, AreInOneBody, IsNextTest, IsTestOf, MayReferTo, ends_computation, goes_elsewhere, last_passed, referred_to};
 
-use crate::bounds::losses::{is_test, skips_always};
 use crate::inputs::is_in_body;
 use bin_tape::Image;
 use declaration::Declaration;
 use instruct::{
-    DeviceOperation, Format, Operation, Profile, clears, operate3, refers_indirectly,
-    refers_to_memory, target,
+    Operation, Profile, refers_indirectly, refers_to_memory, replaces_accumulator, skips_always,
+    target, tests_accumulator,
 };
 use processor::is_auto_index;
 use std::alloc::Allocator;
@@ -102,54 +99,20 @@ fn adds(word: Word, at: Word, cell: Word) -> bool
         && target(word, at) == cell
 }
 
-/// Whether a memory reference of an operation ends a computation in the accumulator: it stores and clears the accumulator, or goes
-/// elsewhere.
-fn ends_sum(operation: Operation) -> bool
-    ensures { result ≡ ends_sum operation }
+/// Whether control goes elsewhere by an operation.
+fn goes_elsewhere(operation: Operation) -> bool
+    ensures { result ≡ goes_elsewhere operation }
 {
-    matches!(operation, Operation::Jmp | Operation::Jms | Operation::Dca)
+    matches!(operation, Operation::Jmp | Operation::Jms)
 }
 
-/// Whether a device operation clears the accumulator or replaces it.
-fn replaces_accumulator(operation: DeviceOperation) -> bool
-    ensures { result ≡ replaces_by_device (Some (processor_action operation)) }
-{
-    matches!(
-        operation,
-        DeviceOperation::ClearKeyboardFlagAndAccumulator | DeviceOperation::TakeKeyboardByte
-    )
-}
-
-/// Whether a device word clears the accumulator or replaces it, on a machine of a profile.
-fn replaces_by_device(word: Word, profile: Profile) -> bool
-    ensures { result ≡ replaces_by_device (device_action profile word) }
-{
-    match DeviceOperation::of(word, profile) {
-        Some(operation) => replaces_accumulator(operation),
-        None => false,
-    }
-}
-
-/// Whether a word of group 3 clears the accumulator or replaces it by MQ: then the accumulator 7777 becomes 0000, the word of MQ.
-#[tactic(auto, using(crate::proofs::BoundTextLemmas::replaced))]
-fn replaces_by_mq(word: Word) -> bool
-    ensures { result ≡ replaces_by_mq (mq_operate_of word) }
-{
-    let (accumulator, _) = operate3(word, Word::ZERO.complement(), Word::ZERO);
-    accumulator == Word::ZERO
-}
-
-/// Whether a word that is no test ends a computation in the accumulator, on a machine of a profile: it clears the accumulator, replaces
-/// it or goes elsewhere.
+/// Whether a word that is no test ends a computation in the accumulator, on a machine of a profile: control goes elsewhere, or the
+/// accumulator is stored, cleared or replaced.
 fn ends_computation(word: Word, profile: Profile) -> bool
     ensures { result ≡ ends_computation profile word }
 {
-    match Format::of(word) {
-        Format::Reference(operation) => ends_sum(operation),
-        Format::Device => replaces_by_device(word, profile),
-        Format::Group1 | Format::Group2 => clears(word),
-        Format::Group3 => replaces_by_mq(word),
-    }
+    refers_to_memory(word) && goes_elsewhere(Operation::of(word))
+        || replaces_accumulator(word, profile)
 }
 
 /// The last address that a word at an address passes: its own, or the next one where the word skips in any case.
@@ -171,7 +134,7 @@ fn next_test(image: &Image, profile: Profile, at: Word) -> Option<Word>
     for _ in 0..MOST_BETWEEN {
         here = here.increment();
         let word = image.get(here)?;
-        if is_test(word) {
+        if tests_accumulator(word) {
             return Some(here);
         }
         if ends_computation(word, profile) {

@@ -135,5 +135,5 @@ typed_are_one options form frames bytes image text text' printed printed' punche
 
 -- the events that are watched are those of the run
 pub watched_as_run : WatchedAsRun
-watched_as_run options form image d frames keys stops last explained named told seen written printed punched status watched run =
+watched_as_run options form image d frames keys stops last explained named lines details seen written printed punched status watched run =
     comes_one operating d.profile (first_place (plan_for options frames keys)) (fresh image d.start) watched.events run.events watched.come run.come

@@ -114,8 +114,8 @@ as_declared d options = record options { run = record options.run { start = d.st
 abbrev pub WatchedAsRun : Type 0
 WatchedAsRun =
     (options : SessionOptions) (form : SummaryForm) (image : List (Option ℕ)) (d : Declaration) (frames keys : List ℕ)
-    (stops : Stops) (last : Option ℕ) (explained : Bool) (named : ℕ → Bool) (told : List ℕ) (seen : Status) (written printed punched : List ℕ) (status : Status) →
-    (watched : IsPlanToStop None (plan_for options frames keys) stops last explained named image d seen told) →
+    (stops : Stops) (last : Option ℕ) (explained : Bool) (named : ℕ → Bool) (lines details : List ℕ) (seen : Status) (written printed punched : List ℕ) (status : Status) →
+    (watched : IsPlanToStop None (plan_for options frames keys) stops last explained named image d seen lines details) →
     (run : IsSessionOf (as_declared d options).run form Whole (plan_for (as_declared d options) frames keys) image written printed punched status) →
     watched.events ≡ run.events
 

@@ -18,10 +18,6 @@ joined_three old mid more new a b c first second third = joined old more new (a 
 pub joined_four : (old mid more most new a b c d : List ℕ) → mid ≡ old ++ a → more ≡ mid ++ b → most ≡ more ++ c → new ≡ most ++ d → new ≡ old ++ (((a ++ b) ++ c) ++ d)
 joined_four old mid more most new a b c d first second third fourth = joined old most new ((a ++ b) ++ c) d (joined_three old mid more most a b c first second third) fourth
 
--- A piece that is known by another name, and one behind it
-pub known_joined : (old mid new piece a b : List ℕ) → piece ≡ a → mid ≡ old ++ piece → new ≡ mid ++ b → new ≡ old ++ (a ++ b)
-known_joined old mid new piece a b known first second = joined old mid new a b (first ∙ ap (λ (t : List ℕ). old ++ t) known) second
-
 -- A piece behind nothing
 pub behind_nothing : (start new a : List ℕ) → start ≡ [] → new ≡ start ++ a → new ≡ a
 behind_nothing start new a none is = is ∙ ap (λ (t : List ℕ). t ++ a) none

@@ -387,9 +387,9 @@ abbrev pub IsSaidAfterYes : Result (Unit {0}) Refusal → List ℕ → Type 0
 IsSaidAfterYes (Ok _) more = 0 < length more
 IsSaidAfterYes (Err r) more = more ≡ []
 
--- The text is the line of the verdict on an image, a declaration and the lines of a certificate, why it is, and the fact there; and
--- the status is that of the verdict.
-pub record IsExplanationOf (image : List (Option ℕ)) (declaration : Declaration) (lines : Text) (status : Status) (text : List ℕ) : Type 0 where
+-- The line is that of the verdict on an image, a declaration and the lines of a certificate; what is told below it is why the verdict is
+-- no, and the fact there, or what more is told after a yes; and the status is that of the verdict.
+pub record IsExplanationOf (image : List (Option ℕ)) (declaration : Declaration) (lines : Text) (status : Status) (line details : List ℕ) : Type 0 where
   pub verdict : Result (Unit {0}) Refusal
   pub is : IsVerdict (checked_case image declaration lines) verdict
   pub reason : Option Reason
@@ -398,13 +398,14 @@ pub record IsExplanationOf (image : List (Option ℕ)) (declaration : Declaratio
   pub told : IsTellingOf (certificate_of lines) verdict reason telling
   pub more : List ℕ
   pub only : IsSaidAfterYes verdict more
-  pub text_is : text ≡ ((verdict_text declaration verdict ++ why_text declaration.profile image verdict reason telling) ++ fact_shown lines verdict reason) ++ more
+  pub line_is : line ≡ verdict_text declaration verdict
+  pub details_is : details ≡ (why_text declaration.profile image verdict reason telling ++ fact_shown lines verdict reason) ++ more
   pub status_is : status ≡ verdict_status verdict
 
--- To a text were added the line of the verdict on an image, a declaration and the lines of a certificate, why it is, and the fact there.
+-- To a text was added why a verdict on an image, a declaration and the lines of a certificate is no, and the fact there.
 pub record AddsExplanation (image : List (Option ℕ)) (declaration : Declaration) (lines : Text) (verdict : Result (Unit {0}) Refusal) (old new : List ℕ) : Type 0 where
   pub reason : Option Reason
   pub why : IsReason (checked_case image declaration lines) verdict reason
   pub telling : ReasonContext
   pub told : IsTellingOf (certificate_of lines) verdict reason telling
-  pub text_is : new ≡ old ++ ((verdict_text declaration verdict ++ why_text declaration.profile image verdict reason telling) ++ fact_shown lines verdict reason)
+  pub text_is : new ≡ old ++ (why_text declaration.profile image verdict reason telling ++ fact_shown lines verdict reason)

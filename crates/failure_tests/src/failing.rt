@@ -207,7 +207,8 @@ fn watched_with_operator<A: Allocator + Copy>(
         None,
         &telling,
     )?;
-    write_text(out, seen.told.as_bytes())?;
+    write_text(out, &seen.lines)?;
+    write_text(out, seen.details.as_bytes())?;
     Ok(seen.status)
 }
 
@@ -228,7 +229,8 @@ fn explained<A: Allocator + Copy>(
     let program = &certified.program;
     let certificate = &certified.certificate;
     let verdict = check_message(alloc, &program.image, &program.declaration, certificate)?;
-    write_text(out, verdict.told.as_bytes())?;
+    write_text(out, &verdict.line)?;
+    write_text(out, verdict.details.as_bytes())?;
     Ok(verdict.status)
 }
 

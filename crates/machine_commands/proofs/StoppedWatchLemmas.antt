@@ -13,7 +13,7 @@ use Rattle.machine_commands.specs.StoppedWatch.{IsPlanToStop, IsWatchToStop}
 use Rattle.machine_commands.specs.declared.messages.RunMessage.{RunMessage}
 
 pub plan_to_stop : {A : Type 0} (continues : Option ℕ) (plan : Plan) (stops : Stops) (last : Option ℕ) (explained : Bool) (named : ℕ → Bool) (image : List (Option ℕ)) (d : Declaration) (events : List Event) (result : Result (RunMessage A) Fault) →
-    came_by continues plan d (fresh image d.start) events → IfOk result (λ run. IsWatchToStop continues stops last explained named image d events run.status (plain run.told)) →
-    IfOk result (λ run. IsPlanToStop continues plan stops last explained named image d run.status (plain run.told))
+    came_by continues plan d (fresh image d.start) events → IfOk result (λ run. IsWatchToStop continues stops last explained named image d events run.status run.lines.items (plain run.details)) →
+    IfOk result (λ run. IsPlanToStop continues plan stops last explained named image d run.status run.lines.items (plain run.details))
 plan_to_stop continues plan stops last explained named image d events (Ok run) come is = record { events = events; come = come; is = is }
 plan_to_stop continues plan stops last explained named image d events (Err fault) come is = tt

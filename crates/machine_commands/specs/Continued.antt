@@ -85,20 +85,27 @@ IsLine None image d events watched line = line ≡ watched_text watched
 IsLine (Some most) image d events Clean line = SaysHowFar most image d events line
 IsLine (Some most) image d events (Broken n r) line = line ≡ watched_text (Broken n r)
 
--- What is told of a watched run: its line, after it, only if they are requested, the lines that explain it, and then the cells
--- that are named.
-pub record IsToldOfRun (continues : Option ℕ) (image : List (Option ℕ)) (d : Declaration) (events : List Event) (watched : Watched) (explained : Bool) (named : ℕ → Bool) (told : List ℕ) : Type 0 where
-  pub line : List ℕ
+-- What is told of a watched run: its line, and below it the details, which are, only if they are requested, the lines that explain it,
+-- and then the cells that are named.
+pub record IsToldOfRun (continues : Option ℕ) (image : List (Option ℕ)) (d : Declaration) (events : List Event) (watched : Watched) (explained : Bool) (named : ℕ → Bool) (line details : List ℕ) : Type 0 where
   pub is_line : IsLine continues image d events watched line
   pub why : List ℕ
   pub why_is : IsWhy explained image d events watched why
   pub shown : List ℕ
   pub shows : IsShown named image d events watched shown
-  pub told_is : told ≡ (line ++ why) ++ shown
+  pub details_is : details ≡ why ++ shown
 
--- This is told of what is seen of the run of these events, with the cells that are named, and the status is that of what is seen.
-pub record IsWatch (continues : Option ℕ) (explained : Bool) (named : ℕ → Bool) (image : List (Option ℕ)) (d : Declaration) (events : List Event) (status : Status) (told : List ℕ) : Type 0 where
+-- The line and the details are what is told of what is seen of the run of these events, with the cells that are named, and the status is
+-- that of what is seen.
+pub record IsWatch (continues : Option ℕ) (explained : Bool) (named : ℕ → Bool) (image : List (Option ℕ)) (d : Declaration) (events : List Event) (status : Status) (line details : List ℕ) : Type 0 where
   pub watched : Watched
   pub sees : IsSeen image d events watched
-  pub is : IsToldOfRun continues image d events watched explained named told
+  pub is : IsToldOfRun continues image d events watched explained named line details
   pub status_is : status ≡ watched_status watched
+
+-- The text is what `watch` writes of the run of these events: the line, and the details below it.
+pub record IsWatchText (explained : Bool) (named : ℕ → Bool) (image : List (Option ℕ)) (d : Declaration) (events : List Event) (status : Status) (text : List ℕ) : Type 0 where
+  pub line : List ℕ
+  pub details : List ℕ
+  pub is : IsWatch None explained named image d events status line details
+  pub text_is : text ≡ line ++ details

@@ -10,21 +10,21 @@ use Rattle.machine_commands.specs.DeclaredRun.{IsDeclaredCut, IsLinesBefore}
 use Rattle.machine_commands.specs.Running.{fresh}
 
 -- This is told of the declared run of these events up to where it is stopped, if it is: the lines of its last instructions, if so many are
--- requested, the line that says where it was stopped, and what `watch` tells of the events up to there.
-pub record IsWatchToStop (continues : Option ℕ) (stops : Stops) (last : Option ℕ) (explained : Bool) (named : ℕ → Bool) (image : List (Option ℕ)) (d : Declaration) (events : List Event) (status : Status) (told : List ℕ) : Type 0 where
+-- requested, the line that says where it was stopped, and the line and the details of what is seen of the events up to there.
+pub record IsWatchToStop (continues : Option ℕ) (stops : Stops) (last : Option ℕ) (explained : Bool) (named : ℕ → Bool) (image : List (Option ℕ)) (d : Declaration) (events : List Event) (status : Status) (lines details : List ℕ) : Type 0 where
   pub cut : List Event
   pub stopped : Bool
   pub is_cut : IsDeclaredCut stops d image events cut stopped
   pub before : List ℕ
   pub before_is : IsLinesBefore image d cut stopped last before
-  pub rest : List ℕ
-  pub is : IsWatch continues explained named image d cut status rest
-  pub told_is : told ≡ before ++ rest
+  pub line : List ℕ
+  pub is : IsWatch continues explained named image d cut status line details
+  pub lines_is : lines ≡ before ++ line
 
 -- From an image, on the declared machine and from the declared start, all the events of this plan come, as they do in a run with an
 -- operator, who presses CONTINUE at declared pauses if there is a number of times; this is told of their declared run up to where it is
 -- stopped.
-pub record IsPlanToStop (continues : Option ℕ) (plan : Plan) (stops : Stops) (last : Option ℕ) (explained : Bool) (named : ℕ → Bool) (image : List (Option ℕ)) (d : Declaration) (status : Status) (told : List ℕ) : Type 0 where
+pub record IsPlanToStop (continues : Option ℕ) (plan : Plan) (stops : Stops) (last : Option ℕ) (explained : Bool) (named : ℕ → Bool) (image : List (Option ℕ)) (d : Declaration) (status : Status) (lines details : List ℕ) : Type 0 where
   pub events : List Event
   pub come : came_by continues plan d (fresh image d.start) events
-  pub is : IsWatchToStop continues stops last explained named image d events status told
+  pub is : IsWatchToStop continues stops last explained named image d events status lines details

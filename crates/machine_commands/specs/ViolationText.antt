@@ -32,7 +32,6 @@ use Rattle.policy.specs.declared.rules.Rule.TheVariants as rule
 use Rattle.policy.specs.declared.watcher.Watched.{Watched}
 use Rattle.policy.specs.declared.watcher.Watched.TheVariants.{Clean, Broken}
 use Rattle.command_parts.specs.Dumping.{dump_line}
-use Rattle.machine_commands.specs.WatchText.{watched_text}
 use Rattle.machine_commands.specs.Running.{fresh}
 use Rattle.machine_commands.specs.declared.violations.flow.ExecutedInstruction.{ExecutedInstruction}
 
@@ -406,9 +405,3 @@ abbrev pub IsWhy : Bool → List (Option ℕ) → Declaration → List Event →
 IsWhy false image d events watched text = text ≡ []
 IsWhy true image d events Clean text = ⊤
 IsWhy true image d events (Broken n r) text = IsToldAfter d (take n events) (fresh image d.start) r text
-
--- What is told of a watched run: the line of what is seen, and below it, only if they are requested, the lines that explain it.
-pub record IsTold (explained : Bool) (image : List (Option ℕ)) (d : Declaration) (events : List Event) (watched : Watched) (told : List ℕ) : Type 0 where
-  pub why : List ℕ
-  pub why_is : IsWhy explained image d events watched why
-  pub told_is : told ≡ watched_text watched ++ why

@@ -8,13 +8,13 @@ ghost use Rattle.refuter.specs.Witnesses.{Breaks, IsLast, IsSpelled};
 ghost use Rattle.command_parts.specs.Answers.{IsMemoryFault};
 ghost use Rattle.command_parts.specs.Messages.{plain};
 ghost use Rattle.machine_commands.specs.RefuteText.{IsRefutationOf, unbroken_text};
-ghost use Rattle.machine_commands.specs.ViolationText.{IsTold, IsWhy};
+ghost use Rattle.machine_commands.specs.ViolationText.{IsWhy};
 ghost use Rattle.machine_commands.specs.WatchText.{IsSeen, broken_text, watched_status, watched_text};
 
 use crate::progress::{AvailableInput, offered_by, progress_lines};
 use crate::violations::violation_lines;
 use bin_tape::Image;
-use command_parts::message::{Message, MessageWriter};
+use command_parts::message::Message;
 use command_parts::options::RefuteOptions;
 use command_parts::status::{Fault, Status};
 use declaration::Declaration;
@@ -28,8 +28,10 @@ use turns::Turns;
 /// What is told of a run, and how the command ends.
 #[derive(Drop)]
 pub struct RunMessage<A: Allocator> {
-    /// What is told.
-    pub told: Message<A>,
+    /// The lines that read the same with a source: the one that says what was seen, and what comes before it.
+    pub lines: Vec<u8, A>,
+    /// What is told below them: why it is so, and the words of the cells that are shown.
+    pub details: Message<A>,
     /// How the command ends.
     pub status: Status,
 }
@@ -39,8 +41,10 @@ pub struct RunMessage<A: Allocator> {
 pub struct RefutationMessage<A: Allocator> {
     /// The text of the run's events; empty where none is found.
     pub events: Vec<u8, A>,
-    /// What is told.
-    pub told: Message<A>,
+    /// The line that says what was found.
+    pub line: Vec<u8, A>,
+    /// The lines that say why, if that is requested.
+    pub why: Message<A>,
     /// How the command ends.
     pub status: Status,
     /// The turns that the search took, one for each step of a machine.
@@ -126,35 +130,6 @@ pub(crate) fn why_of<A: Allocator + Copy, D: Allocator>(
     }
 }
 
-/// What is told of a watched run: the line that says what was seen, and below it, if it is to be explained, how far the
-/// run came, or what the step is about to do that violates a rule.
-fn seen_message<A: Allocator + Copy, D: Allocator>(
-    alloc: A,
-    image: &Image,
-    declaration: &Declaration<D>,
-    events: &[Event],
-    offered: AvailableInput,
-    watched: Watched,
-    explained: bool,
-) -> Result<Message<A>, NoMemory>
-    requires { IsSeen image.now (meaning declaration.now) events.now watched }
-    ensures { IfOk result (λ text. IsTold explained image.now (meaning declaration.now) events.now watched
-        (plain text)) }
-{
-    let mut text = Message::of(alloc, watched_line(alloc, watched)?);
-    let why = why_of(
-        alloc,
-        image,
-        declaration,
-        events,
-        offered,
-        watched,
-        explained,
-    )?;
-    text.push_message(&why)?;
-    Ok(text)
-}
-
 /// What `refute` tells of a run that violates the declaration.
 fn witness_message<A: Allocator + Copy, D: Allocator>(
     alloc: A,
@@ -168,7 +143,8 @@ fn witness_message<A: Allocator + Copy, D: Allocator>(
     requires spelled { IsSpelled found }
     requires last { IsLast found }
     ensures told { IfOk result (λ told. IsRefutationOf options.now image.now
-        (meaning declaration.now) told.turns told.status told.events.items (plain told.told)) }
+        (meaning declaration.now) told.turns told.status told.events.items told.line.items
+        (plain told.why)) }
     ensures faults { IfErr result IsMemoryFault }
 {
     let Witness {
@@ -179,7 +155,8 @@ fn witness_message<A: Allocator + Copy, D: Allocator>(
     } = found;
     let watched = Watched::Broken { event, rule };
     let offered = offered_by(&events);
-    let told = seen_message(
+    let line = watched_line(alloc, watched)?;
+    let why = why_of(
         alloc,
         image,
         declaration,
@@ -190,7 +167,8 @@ fn witness_message<A: Allocator + Copy, D: Allocator>(
     )?;
     Ok(RefutationMessage {
         events: text,
-        told,
+        line,
+        why,
         status: Status::Refused,
         turns,
     })
@@ -210,7 +188,8 @@ pub fn refute_message<A: Allocator + Copy, D: Allocator>(
     options: &RefuteOptions,
 ) -> Result<RefutationMessage<A>, Fault>
     ensures told { IfOk result (λ found. IsRefutationOf options.now image.now
-        (meaning declaration.now) found.turns found.status found.events.items (plain found.told)) }
+        (meaning declaration.now) found.turns found.status found.events.items found.line.items
+        (plain found.why)) }
     ensures faults { IfErr result IsMemoryFault }
 {
     let mut turns = Turns::new(options.steps);
@@ -221,7 +200,8 @@ pub fn refute_message<A: Allocator + Copy, D: Allocator>(
             let line = unbroken_line(alloc, &turns)?;
             Ok(RefutationMessage {
                 events: Vec::new(alloc),
-                told: Message::of(alloc, line),
+                line,
+                why: Message::new(alloc),
                 status: Status::Done,
                 turns,
             })

@@ -17,7 +17,7 @@ use crate::messages::{RunMessage, watched_line, watched_status, why_of};
 use crate::progress::{AvailableInput, offered_by};
 use crate::shown_cells::shown_of;
 use bin_tape::Image;
-use command_parts::message::{Message, MessageWriter};
+use command_parts::message::MessageWriter;
 use command_parts::options::{SessionOptions, Stops};
 use command_parts::status::Fault;
 use declaration::Declaration;
@@ -58,7 +58,7 @@ fn line_of<A: Allocator + Copy, D: Allocator>(
     }
 }
 
-/// What is told of the run of some events, by what there was to come: its line, after it, if it is to be explained, how far
+/// What is told of the run of some events, by what there was to come: its line, and below it, if it is to be explained, how far
 /// the run came or what the step is about to do that violates a rule, and the cells that are to be shown.
 pub(crate) fn watch_of<A: Allocator + Copy, D: Allocator>(
     alloc: A,
@@ -71,14 +71,13 @@ pub(crate) fn watch_of<A: Allocator + Copy, D: Allocator>(
 ) -> Result<RunMessage<A>, Fault>
     ensures told { IfOk result (λ run. IsWatch continues telling.now.explained
         (words telling.now.show.now) image.now (meaning declaration.now) events.now run.status
-        (plain run.told)) }
+        run.lines.items (plain run.details)) }
     ensures faults { IfErr result IsMemoryFault }
 {
     let (explained, show) = (telling.explained, telling.show);
     let watched = policy::watch(alloc, image, declaration, &Start::zero(), events)?;
-    let line = line_of(alloc, image, declaration, events, watched, continues)?;
-    let mut told = Message::of(alloc, line);
-    let why = why_of(
+    let lines = line_of(alloc, image, declaration, events, watched, continues)?;
+    let mut details = why_of(
         alloc,
         image,
         declaration,
@@ -87,11 +86,14 @@ pub(crate) fn watch_of<A: Allocator + Copy, D: Allocator>(
         watched,
         explained,
     )?;
-    told.push_message(&why)?;
     let shown = shown_of(alloc, image, declaration, events, watched, show)?;
-    told.push_text(&shown)?;
+    details.push_text(&shown)?;
     let status = watched_status(watched);
-    Ok(RunMessage { told, status })
+    Ok(RunMessage {
+        lines,
+        details,
+        status,
+    })
 }
 
 /// What is told of the run of some events up to where it is stopped.
@@ -106,11 +108,11 @@ fn told_to_stop<A: Allocator + Copy, D: Allocator>(
 ) -> Result<RunMessage<A>, Fault>
     ensures told { IfOk result (λ run. IsWatchToStop continues telling.now.stops.now telling.now.last
         telling.now.explained (words telling.now.show.now) image.now (meaning declaration.now) events.now
-        run.status (plain run.told)) }
+        run.status run.lines.items (plain run.details)) }
     ensures faults { IfErr result IsMemoryFault }
 {
     let cut = declared_cut(alloc, image, declaration, telling.stops, events)?;
-    let before = lines_before(alloc, image, declaration, &cut, telling.last)?;
+    let mut lines = lines_before(alloc, image, declaration, &cut, telling.last)?;
     let seen = watch_of(
         alloc,
         image,
@@ -120,10 +122,10 @@ fn told_to_stop<A: Allocator + Copy, D: Allocator>(
         continues,
         telling,
     )?;
-    let mut told = Message::of(alloc, before);
-    told.push_message(&seen.told)?;
+    lines.extend_from_slice(&seen.lines)?;
     Ok(RunMessage {
-        told,
+        lines,
+        details: seen.details,
         status: seen.status,
     })
 }
@@ -144,7 +146,7 @@ pub fn watch_message_to_stop<A: Allocator + Copy, D: Allocator>(
 ) -> Result<RunMessage<A>, Fault>
     ensures told { IfOk result (λ run. IsWatchToStop None telling.now.stops.now telling.now.last
         telling.now.explained (words telling.now.show.now) image.now (meaning declaration.now) events.now
-        run.status (plain run.told)) }
+        run.status run.lines.items (plain run.details)) }
     ensures faults { IfErr result IsMemoryFault }
 {
     let offered = offered_by(events);
@@ -191,7 +193,7 @@ pub fn watch_session_message_to_stop<A: Allocator + Copy, D: Allocator>(
     ensures told { IfOk result (λ run. IsPlanToStop continues
         (plan_for options.now frames.now keys.now) telling.now.stops.now telling.now.last
         telling.now.explained (words telling.now.show.now) image.now (meaning declaration.now)
-        run.status (plain run.told)) }
+        run.status run.lines.items (plain run.details)) }
     ensures faults { IfErr result IsMemoryFault }
 {
     let (rounds, mark) = (options.run.rounds, options.mark);

@@ -6,7 +6,7 @@ ghost use Rattle.declaration.specs.DeclarationInCode.{meaning};
 ghost use Rattle.command_parts.specs.Answers.{IsLaterFault, IsMemoryFault, OfRun, ReadsRun, WritesAnswer, output};
 ghost use Rattle.command_parts.specs.Faults.{fails_to_write};
 ghost use Rattle.command_parts.specs.Inputs.{input};
-ghost use Rattle.machine_commands.specs.Continued.{IsWatch};
+ghost use Rattle.machine_commands.specs.Continued.{IsWatchText};
 
 use crate::messages::RunMessage;
 use crate::progress::offered_by;
@@ -26,7 +26,7 @@ fn watched_run<A: Allocator + Copy>(
     explained: bool,
     show: &WordSet,
 ) -> Result<CommandResult<A>, Fault>
-    ensures told { IfOk result (λ told. IsWatch None explained (words show.now) run.now.program.image
+    ensures told { IfOk result (λ told. IsWatchText explained (words show.now) run.now.program.image
         (meaning run.now.program.declaration) run.now.events.items told.status told.text.items) }
     ensures faults { IfErr result IsMemoryFault }
     ensures unwritten { fails_to_write result ≡ false }
@@ -40,7 +40,11 @@ fn watched_run<A: Allocator + Copy>(
         show,
     };
     let offered = offered_by(&run.events);
-    match watch_of(
+    let RunMessage {
+        lines,
+        details,
+        status,
+    } = watch_of(
         alloc,
         image,
         declaration,
@@ -48,13 +52,10 @@ fn watched_run<A: Allocator + Copy>(
         offered,
         None,
         &telling,
-    ) {
-        Ok(RunMessage { told, status }) => Ok(CommandResult {
-            text: told.into_bytes(),
-            status,
-        }),
-        Err(fault) => Err(fault),
-    }
+    )?;
+    let mut text = lines;
+    text.extend_from_slice(details.as_bytes())?;
+    Ok(CommandResult { text, status })
 }
 
 /// Runs a tape by a list of events, from the declared start with all registers and all cells that are not
@@ -85,7 +86,7 @@ pub fn watch<A: Allocator + Copy, R: ByteSource, D: ByteSource, E: ByteSource, W
     // What is written is what is seen of the run.
     ensures watched { WritesAnswer
         (OfRun (R.remaining tape.old) (D.remaining declaration.old) (E.remaining list.old)
-        (IsWatch None explained (words show.now)))
+        (IsWatchText explained (words show.now)))
         (output (W.mark out.new) (W.taken out.old) (W.taken out.new)) result }
     // The inputs are read in order; after good ones a write may fail, or memory be refused.
     ensures reads { ReadsRun (IsLaterFault IsMemoryFault)

@@ -1,8 +1,4 @@
-//! Messages about a search for a certificate that is stuck. It is proved that the line of an answer comes first; the
-//! lines after it are tested.
-
-ghost use Rattle.std.specs.Prelude.{IfOk};
-ghost use Rattle.command_parts.specs.Messages.{BeginsWith, plain};
+//! Messages about a search for a certificate that is stuck. They are tested and not proved.
 
 use bin_tape::Image;
 use certificate::Certificate;
@@ -69,29 +65,41 @@ pub fn stuck_explanation(
     Ok(message)
 }
 
-/// The message about a stuck search: its first line, and after that why it is stuck and what to do.
+/// The line about a search that is stuck at an address.
+///
+/// # Errors
+///
+/// `AllocError` if memory was refused.
+pub fn stuck_line(alloc: Global, at: Word) -> Result<Vec<u8>, AllocError> {
+    let mut line = String::new(alloc);
+    let fault = Fault::Guess(GuessFault::Stuck(at));
+    writeln!(line, "{fault}").map_err(|_| AllocError)?;
+    Ok(line.into_bytes())
+}
+
+/// What is told below the line about a stuck search: why it is stuck, and what to do.
 ///
 /// # Errors
 ///
 /// `AllocError` if memory was refused.
 #[inline(never)]
-pub fn stuck_message(
+pub fn stuck_details(
     alloc: Global,
     stuck: &StuckSearch<'_>,
 ) -> Result<Message<Global>, AllocError> {
-    let mut line = String::new(alloc);
-    let fault = Fault::Guess(GuessFault::Stuck(stuck.at));
-    writeln!(line, "{fault}").map_err(|_| AllocError)?;
-    let mut message = Message::of(alloc, line.into_bytes());
     let why = draft_message(alloc, stuck.image, stuck.declaration, stuck.draft, stuck.at)?;
+    let mut message = Message::new(alloc);
     push_stuck(alloc, &mut message, stuck, &why)?;
     Ok(message)
 }
 
-/// The message about an answer after its first line. If the search is stuck, it gives everything that is known about
-/// that.
+/// What is told below the line of an answer. If the search is stuck, this is everything that is known about it.
+///
+/// # Errors
+///
+/// `AllocError` if memory was refused.
 #[inline(never)]
-fn answer_reasons(
+pub fn answer_details(
     alloc: Global,
     image: &Image,
     declaration: &Declaration<Global>,
@@ -111,25 +119,4 @@ fn answer_reasons(
         _ => message.push_message(&found.why)?,
     }
     Ok(message)
-}
-
-/// The message about an answer: first its line, unchanged, and then the reasons for it.
-///
-/// # Errors
-///
-/// `AllocError` if memory was refused.
-#[inline(never)]
-pub fn answer_message(
-    alloc: Global,
-    image: &Image,
-    declaration: &Declaration<Global>,
-    found: &AnswerMessage<Global>,
-) -> Result<Message<Global>, AllocError>
-    ensures { IfOk result (λ told. BeginsWith found.now.line.items (plain told)) }
-{
-    let reasons = answer_reasons(alloc, image, declaration, found)?;
-    let mut told = Message::new(alloc);
-    told.push_text(&found.line)?;
-    told.push_message(&reasons)?;
-    Ok(told)
 }

@@ -4,7 +4,7 @@ use crate::files::write_result;
 use crate::hints::CommandFiles;
 use crate::named_files::NamedFiles;
 use crate::of_sources::assembled::AssembledSource;
-use crate::of_sources::source_lines::rest_with_source_lines;
+use crate::of_sources::source_lines::push_details;
 use crate::stuck::{StuckSearch, stuck_explanation};
 use command_line::Destination;
 use command_parts::status::Fault;
@@ -23,9 +23,10 @@ fn stuck_page<R: Files>(
     source: Option<&AssembledSource>,
 ) -> Result<Vec<u8>, Fault> {
     let why = match source {
-        Some(source) => {
-            let message = stuck_explanation(alloc, stuck)?;
-            Some(rest_with_source_lines(alloc, source, &message, 0)?)
+        Some(_) => {
+            let mut lines = Vec::new(alloc);
+            push_details(alloc, &mut lines, source, &stuck_explanation(alloc, stuck)?)?;
+            Some(lines)
         }
         None => None,
     };

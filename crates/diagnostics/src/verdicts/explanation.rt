@@ -1,15 +1,14 @@
-//! A verdict and why it is, over whatever takes a text for people.
+//! Why a verdict is no, over whatever takes a text for people.
 
 ghost use Rattle.std.specs.Prelude.{◌≡◌, ◌++◌, IfOk, OnOk};
 ghost use Rattle.certificate_lines.specs.CertificateInCode.{meaning as text_of};
 ghost use Rattle.declaration.specs.DeclarationInCode.{meaning};
-ghost use Rattle.diagnostics.specs.CheckText.{checked_case, verdict_text};
+ghost use Rattle.diagnostics.specs.CheckText.{checked_case};
 ghost use Rattle.certificate_lines.specs.Written.{fact_text_at};
-ghost use Rattle.diagnostics.specs.WhyText.{AddsExplanation, IsReason, fact_shown, place_shown, shown_text, why_text};
+ghost use Rattle.diagnostics.specs.WhyText.{AddsExplanation, IsReason, fact_shown, place_shown, shown_text};
 
 use crate::verdicts::reason_context::{ReasonContext, place_of, reason_context_of};
 use crate::verdicts::reason_text::push_why;
-use crate::verdicts::verdict::verdict_line;
 use bin_tape::Image;
 use certificate::Certificate;
 use command_parts::message::MessageWriter;
@@ -36,26 +35,6 @@ fn reason_of<D: Allocator, C: Allocator, M: Allocator>(
         Ok(()) => None,
         Err(refusal) => why(image, declaration, certificate, refusal, rooms),
     }
-}
-
-/// Adds the line of a verdict, and why it is, for this reason, which is told so.
-fn push_verdict<L: MessageWriter, A: Allocator, D: Allocator>(
-    alloc: A,
-    text: &mut L,
-    image: &Image,
-    declaration: &Declaration<D>,
-    verdict: &Result<(), Refusal>,
-    reason: &Option<Reason>,
-    telling: &ReasonContext,
-) -> Result<(), AllocError>
-    ensures { OnOk result (L.text text.new ≡ L.text text.old
-        ++ (verdict_text (meaning declaration.now) verdict.now
-        ++ why_text (meaning declaration.now).profile image.now verdict.now reason.now telling.now)) }
-{
-    let line = verdict_line(alloc, declaration, verdict)?;
-    text.push_text(&line)?;
-    push_why(text, declaration.profile(), image, verdict, reason, telling)?;
-    Ok(())
 }
 
 /// The lines of a certificate on the fact at this place of those at an address.
@@ -122,7 +101,7 @@ fn push_fact<L: MessageWriter, A: Allocator, C: Allocator>(
     push_shown(alloc, text, certificate, refusal.address, &place)
 }
 
-/// Adds the line of a verdict, why it is, and the lines of the fact by which it is no.
+/// Adds why a verdict is no, and the lines of the fact by which it is no. After a yes it adds nothing.
 ///
 /// # Errors
 ///
@@ -141,7 +120,14 @@ pub fn push_explanation<L: MessageWriter, A: Allocator + Copy, D: Allocator, C: 
     let mut rooms = ReasonWorkspace::boxed(alloc)?;
     let reason = reason_of(image, declaration, certificate, verdict, &mut rooms);
     let telling = reason_context_of(certificate, verdict, &reason);
-    push_verdict(alloc, text, image, declaration, verdict, &reason, &telling)?;
+    push_why(
+        text,
+        declaration.profile(),
+        image,
+        verdict,
+        &reason,
+        &telling,
+    )?;
     push_fact(alloc, text, certificate, verdict, &reason)?;
     Ok(())
 }

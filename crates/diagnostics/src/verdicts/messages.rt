@@ -9,7 +9,7 @@ ghost use Rattle.diagnostics.specs.WhyText.{IsExplanationOf};
 
 use crate::verdicts::explanation::push_explanation;
 use crate::verdicts::surplus_text::surplus_after;
-use crate::verdicts::verdict::verdict_status;
+use crate::verdicts::verdict::{verdict_line, verdict_status};
 use bin_tape::Image;
 use certificate::Certificate;
 use command_parts::message::Message;
@@ -21,8 +21,10 @@ use std::alloc::{AllocError, Allocator};
 /// What is said about a certificate, and how the command ends.
 #[derive(Drop)]
 pub struct VerdictMessage<A: Allocator> {
-    /// What is told.
-    pub told: Message<A>,
+    /// The line of the verdict.
+    pub line: Vec<u8, A>,
+    /// What is told below it: why the verdict is no, or what more is told after a yes.
+    pub details: Message<A>,
     /// How the command ends.
     pub status: Status,
 }
@@ -40,16 +42,28 @@ pub fn check_message<A: Allocator + Copy, D: Allocator, C: Allocator>(
     declaration: &Declaration<D>,
     certificate: &Certificate<C>,
 ) -> Result<VerdictMessage<A>, AllocError>
-    // What is told is the verdict, and why it is no; after a yes more may be told.
+    // The line is that of the verdict. Below it is told why the verdict is no, or what more there is after a yes.
     ensures { IfOk result (λ message. IsExplanationOf image.now (meaning declaration.now)
-        (text_of certificate.now) message.status (plain message.told)) }
+        (text_of certificate.now) message.status message.line.items (plain message.details)) }
 {
     let mut rooms = JudgeWorkspace::boxed(alloc)?;
     let verdict = judge(image, declaration, certificate, &mut rooms);
-    let mut told = Message::new(alloc);
-    push_explanation(alloc, &mut told, image, declaration, certificate, &verdict)?;
+    let line = verdict_line(alloc, declaration, &verdict)?;
+    let mut details = Message::new(alloc);
+    push_explanation(
+        alloc,
+        &mut details,
+        image,
+        declaration,
+        certificate,
+        &verdict,
+    )?;
     let more = surplus_after(alloc, image, declaration, certificate, &verdict)?;
-    told.push_message(&more)?;
+    details.push_message(&more)?;
     let status = verdict_status(&verdict);
-    Ok(VerdictMessage { told, status })
+    Ok(VerdictMessage {
+        line,
+        details,
+        status,
+    })
 }

@@ -10,9 +10,9 @@ ghost use Rattle.requests.specs.Searches.{HasRequestedVersion};
 
 use crate::files::{finish, open_output};
 use crate::of_programs::open::OpenProgram;
-use crate::of_sources::source_lines::{lines_of, rest_with_source_lines};
+use crate::of_sources::source_lines::{answer_text, push_details};
 use crate::standard_error::{report_to, tell_to};
-use crate::stuck::{StuckSearch, stuck_message};
+use crate::stuck::{StuckSearch, stuck_details, stuck_line};
 use crate::stuck_reports::write_stuck_report;
 use crate::telling::tell_lines;
 use analyser::{Attempt, guess, guess_or_draft, guess_version, guess_version_or_draft};
@@ -86,8 +86,11 @@ impl<'x, R: Files + Print + Eprint, I: Read + Drop> OpenProgram<'x, '_, R, I> {
         let (rt, alloc, source) = (self.rt, self.alloc, self.source);
         let explained = self.request.explained;
         if explained {
-            let message = stuck_message(alloc, stuck)?;
-            let _ = put(&mut tell_to(rt), &lines_of(alloc, source, &message)?);
+            let (line, details) = (stuck_line(alloc, stuck.at)?, stuck_details(alloc, stuck)?);
+            let _ = put(
+                &mut tell_to(rt),
+                &answer_text(alloc, source, &line, &details)?,
+            );
         }
         if let Some(name) = report {
             write_stuck_report(rt, alloc, self.files, stuck, name, source)?;
@@ -142,7 +145,7 @@ impl<'x, R: Files + Print + Eprint, I: Read + Drop> OpenProgram<'x, '_, R, I> {
         let source = self.labels(options.explained);
         let ProgramWithDeclaration { image, declaration } = self.read()?;
         let found = refute_message(alloc, &image, &declaration, options)?;
-        let lines = lines_of(alloc, source, &found.told)?;
+        let lines = answer_text(alloc, source, &found.line, &found.why)?;
         put(&mut StdWriter::new(&mut file), &found.events)?;
         let status = finish(&mut file, found.status)?;
         put(&mut report_to(rt, out.name() == "-"), &lines)?;
@@ -178,13 +181,7 @@ impl<'x, R: Files + Print + Eprint, I: Read + Drop> OpenProgram<'x, '_, R, I> {
         message: &mut Vec<u8>,
     ) -> Result<Vec<u8>, AllocError> {
         let Refinement { text, told } = refined;
-        match self.source {
-            Some(source) => {
-                let lines = rest_with_source_lines(self.alloc, source, &told, 0)?;
-                message.extend_from_slice(&lines)?;
-            }
-            None => message.extend_from_slice(told.as_bytes())?,
-        }
+        push_details(self.alloc, message, self.source, &told)?;
         Ok(text)
     }
 

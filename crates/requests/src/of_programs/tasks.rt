@@ -8,10 +8,10 @@ use crate::of_machine::places::{ResolvedPlaces, resolve_places, stops_of};
 use crate::of_programs::open::OpenProgram;
 use crate::of_sources::assembled::AssembledSource;
 use crate::of_sources::proposed::report_proposed_declaration;
-use crate::of_sources::source_lines::lines_of;
+use crate::of_sources::source_lines::answer_text;
 use crate::saving::print_and_save;
 use crate::standard_error::open_input_if;
-use crate::stuck::answer_message;
+use crate::stuck::answer_details;
 use crate::telling::tell_misuse;
 use command_line::{Destination, Misuse, SaveOptions, StopOptions, Task, WatchedSession};
 use command_parts::inputs::{bytes_from, events_from};
@@ -50,13 +50,15 @@ fn watch_options<'s>(
 }
 
 impl<R: Files + Input + Print + Eprint, I: Read + Drop> OpenProgram<'_, '_, R, I> {
-    /// Writes a message to standard output, with what the source, if there is one, says about its addresses.
+    /// Writes the line of an answer and the details below it to standard output, the details with what the source, if
+    /// there is one, says about their addresses.
     fn print(
         &self,
         source: Option<&AssembledSource>,
-        message: &Message<Global>,
+        line: &[u8],
+        details: &Message<Global>,
     ) -> Result<(), Fault> {
-        let lines = lines_of(self.alloc, source, message)?;
+        let lines = answer_text(self.alloc, source, line, details)?;
         Ok(put(&mut StdWriter::new(io::writer(self.rt)), &lines)?)
     }
 
@@ -72,8 +74,8 @@ impl<R: Files + Input + Print + Eprint, I: Read + Drop> OpenProgram<'_, '_, R, I
         let source = self.labels(options.search.explained);
         let ProgramWithDeclaration { image, declaration } = self.read()?;
         let found = verify_message(alloc, &image, &declaration, &options.search)?;
-        let message = answer_message(alloc, &image, &declaration, &found)?;
-        let lines = lines_of(alloc, source, &message)?;
+        let details = answer_details(alloc, &image, &declaration, &found)?;
+        let lines = answer_text(alloc, source, &found.line, &details)?;
         print_and_save(rt, alloc, save, None, &found.answer, &lines)
     }
 
@@ -89,9 +91,7 @@ impl<R: Files + Input + Print + Eprint, I: Read + Drop> OpenProgram<'_, '_, R, I
         let labels = self.labels(options.search.explained);
         let image = self.read_tape()?;
         let found = verify_proposed_message(alloc, &image, options)?;
-        let mut message = Message::of(alloc, found.line);
-        message.push_message(&found.why)?;
-        let lines = lines_of(alloc, labels, &message)?;
+        let lines = answer_text(alloc, labels, &found.line, &found.why)?;
         if let Some(source) = source {
             report_proposed_declaration(rt, &source.given.parts);
         }
@@ -137,7 +137,7 @@ impl<R: Files + Input + Print + Eprint, I: Read + Drop> OpenProgram<'_, '_, R, I
         }
         let ProgramWithDeclaration { image, declaration } = &certified.program;
         let verdict = check_message(alloc, image, declaration, &certified.certificate)?;
-        self.print(self.source, &verdict.told)?;
+        self.print(self.source, &verdict.line, &verdict.details)?;
         Ok(verdict.status)
     }
 
@@ -216,7 +216,7 @@ impl<R: Files + Input + Print + Eprint, I: Read + Drop> OpenProgram<'_, '_, R, I
         let stopping = stops_of(&places.stopping);
         let options = watch_options(&stopping, explained, &places.show);
         let run = watch_message_to_stop(alloc, &image, &declaration, &events, &options)?;
-        self.print(self.labels(explained), &run.told)?;
+        self.print(self.labels(explained), &run.lines, &run.details)?;
         Ok(run.status)
     }
 
@@ -246,7 +246,7 @@ impl<R: Files + Input + Print + Eprint, I: Read + Drop> OpenProgram<'_, '_, R, I
             session.continues,
             &watch_options(&stopping, session.explained, &places.show),
         )?;
-        self.print(self.labels(session.explained), &run.told)?;
+        self.print(self.labels(session.explained), &run.lines, &run.details)?;
         Ok(run.status)
     }
 

@@ -1,10 +1,8 @@
-//! Adds what a source says about addresses to texts for people. It is proved that the first line of a text stays as it
-//! is; what comes after it is tested.
+//! Adds what a source says about addresses to texts for people. It is proved that the line of an answer comes first and
+//! stays as it is; what comes below it is tested.
 
-ghost use Rattle.std.specs.Prelude.{◌≡◌, IfOk, None};
-ghost use Rattle.std.specs.List.{position};
+ghost use Rattle.std.specs.Prelude.{◌≡◌, ◌++◌, IfOk, None, OnOk};
 ghost use Rattle.command_parts.specs.Messages.{BeginsWith, plain};
-ghost use Rattle.requests.specs.Messages.{first_line, is_line_end};
 
 use crate::of_sources::assembled::AssembledSource;
 use command_parts::message::{AddressMark, Message};
@@ -79,93 +77,66 @@ fn push_piece(
     }
 }
 
-/// The index of the first line feed, if there is one.
-fn place_of_line_end(text: &[u8]) -> Option<usize>
-    ensures { result ≡ position is_line_end text.now }
-{
-    text.iter().position(|byte| *byte == b'\n')
-}
-
-/// The first line of a text, with the line feed that ends it.
-fn first_line(text: &[u8]) -> &[u8]
-    ensures { result.now ≡ first_line text.now }
-{
-    match place_of_line_end(text) {
-        Some(end) => &text[..end + 1],
-        None => text,
-    }
-}
-
-/// What comes after the first `from` bytes of a text for people, with what the source says about its addresses.
-pub(crate) fn rest_with_source_lines(
+/// A text for people with what the source says about its addresses.
+fn with_source_lines(
     alloc: Global,
     source: &AssembledSource,
     message: &Message<Global>,
-    from: usize,
 ) -> Result<Vec<u8>, AllocError> {
     let bytes = message.as_bytes();
     let mut text = Vec::new(alloc);
-    let mut done = from;
+    let mut done = 0;
     for placed in message.marks() {
-        if placed.place > done {
-            let piece = bytes.get(done..placed.place).unwrap_or(b"");
-            push_piece(alloc, &mut text, piece, placed.mark, source)?;
-            done = placed.place;
-        }
+        let piece = bytes.get(done..placed.place).unwrap_or(b"");
+        push_piece(alloc, &mut text, piece, placed.mark, source)?;
+        done = placed.place;
     }
     text.extend_from_slice(bytes.get(done..).unwrap_or(b""))?;
     Ok(text)
 }
 
-/// A text for people with what the source says about its addresses. Its first line, which is the line of the answer,
-/// comes first and is unchanged.
+/// Adds a text for people, with what the source, if there is one, says about its addresses.
 ///
 /// # Errors
 ///
 /// `AllocError` if memory was refused.
-pub fn with_source_lines(
+pub fn push_details(
     alloc: Global,
-    source: &AssembledSource,
-    told: &Message<Global>,
-) -> Result<Vec<u8>, AllocError>
-    ensures { IfOk result (λ text. BeginsWith (first_line (plain told.now)) text.items) }
-{
-    let line = first_line(told.as_bytes());
-    let rest = rest_with_source_lines(alloc, source, told, line.len())?;
-    let mut text = Vec::new(alloc);
-    text.extend_from_slice(line)?;
-    text.extend_from_slice(&rest)?;
-    Ok(text)
-}
-
-/// A text for people, unchanged.
-#[tactic(auto, using(crate::proofs::MessageLemmas::begins_with_line))]
-fn plain_text(alloc: Global, told: &Message<Global>) -> Result<Vec<u8>, AllocError>
-    ensures whole { IfOk result (λ text. text.items ≡ plain told.now) }
-    ensures front { IfOk result (λ text. BeginsWith (first_line (plain told.now)) text.items) }
-{
-    let mut text = Vec::new(alloc);
-    text.extend_from_slice(told.as_bytes())?;
-    Ok(text)
-}
-
-/// A text for people, with what the source, if there is one, says about its addresses. Its first line, which is the
-/// line of the answer, comes first and is unchanged.
-///
-/// # Errors
-///
-/// `AllocError` if memory was refused.
-pub fn lines_of(
-    alloc: Global,
+    text: &mut Vec<u8>,
     source: Option<&AssembledSource>,
-    told: &Message<Global>,
-) -> Result<Vec<u8>, AllocError>
-    ensures front { IfOk result (λ text. BeginsWith (first_line (plain told.now)) text.items) }
-    // Without a source, the text is unchanged.
-    ensures whole { source.entry ≡ None → IfOk result (λ text. text.items ≡ plain told.now) }
+    details: &Message<Global>,
+) -> Result<(), AllocError>
+    // What the text had stays as it is.
+    ensures front { OnOk result (BeginsWith text.old.items text.new.items) }
+    // Without a source, the details are added unchanged.
+    ensures whole { source.entry ≡ None →
+        OnOk result (text.new.items ≡ text.old.items ++ plain details.now) }
 {
     match source {
-        Some(source) => with_source_lines(alloc, source, told),
-        None => plain_text(alloc, told),
+        Some(source) => text.extend_from_slice(&with_source_lines(alloc, source, details)?),
+        None => text.extend_from_slice(details.as_bytes()),
     }
+}
+
+/// What is told of an answer: its line, and below it the details, with what the source, if there is one, says about
+/// their addresses. The line reads the same with a source and without one.
+///
+/// # Errors
+///
+/// `AllocError` if memory was refused.
+pub fn answer_text(
+    alloc: Global,
+    source: Option<&AssembledSource>,
+    line: &[u8],
+    details: &Message<Global>,
+) -> Result<Vec<u8>, AllocError>
+    ensures front { IfOk result (λ text. BeginsWith line.now text.items) }
+    // Without a source, the details are unchanged too.
+    ensures whole { source.entry ≡ None →
+        IfOk result (λ text. text.items ≡ line.now ++ plain details.now) }
+{
+    let mut text = Vec::new(alloc);
+    text.extend_from_slice(line)?;
+    push_details(alloc, &mut text, source, details)?;
+    Ok(text)
 }

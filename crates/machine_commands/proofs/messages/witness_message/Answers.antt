@@ -1,3 +1,4 @@
+use Rattle.std.proofs.Common.{rules}
 use Rattle.machine_commands.proofs.messages.witness_message.Goals as goal
 
 pub returns-clause-told : goal.returns-clause-told
@@ -8,5 +9,6 @@ returns-clause-told g c = record {
   rule = c.args.found.rule;
   breaks = c.requires.broken;
   last = c.requires.last;
-  is = rw c.deref-2.ensures.value at c.in_ok-told.ensures;
+  line_is = search rules;
+  why_is = rw c.deref-2.ensures.value at c.in_ok-why.ensures;
 }

@@ -1,5 +1,4 @@
 use Rattle.std.proofs.Common.{rules}
-use Rattle.command_parts.specs.Messages.{plain}
 use Rattle.machine_commands.proofs.stopped_watch.told_to_stop.Goals as goal
 
 pub returns-clause-told : goal.returns-clause-told
@@ -9,7 +8,7 @@ returns-clause-told g c = record {
   is_cut = c.in_ok-cut.ensures;
   before = c.in_ok-before.before.items;
   before_is = c.in_ok-before.ensures;
-  rest = plain c.in_ok-seen.seen.told;
+  line = c.in_ok-seen.seen.lines.items;
   is = c.in_ok-seen.ensures.told;
-  told_is = search rules;
+  lines_is = search rules;
 }

@@ -22,13 +22,12 @@ returns-clause-told g c =
       watched = c.in_ok-watched.watched;
       sees = is_seen image d c.args.events.now c.in_ok-watched.watched (loaded (image_of image) d.start c.zero.result) begins c.in_ok-watched.ensures.clean c.in_ok-watched.ensures.broken;
       is = record {
-        line = c.in_ok-line.line.items;
         is_line = c.in_ok-line.ensures;
         why = plain c.in_ok-why.why;
         why_is = c.in_ok-why.ensures;
         shown = c.in_ok-shown.shown.items;
         shows = c.in_ok-shown.ensures;
-        told_is = search rules;
+        details_is = search rules;
       };
       status_is = c.watched_status-status.ensures;
     }

@@ -7,5 +7,5 @@ returns g c = record {
   why = c.reason_of-reason.ensures;
   telling = c.reason_context_of-telling.result;
   told = c.reason_context_of-telling.ensures;
-  text_is = joined _ _ _ _ _ c.in_ok-push_verdict.ensures c.in_ok-push_fact.ensures;
+  text_is = joined _ _ _ _ _ c.in_ok-push_why.ensures c.in_ok-push_fact.ensures;
 }

@@ -20,6 +20,7 @@ returns g c =
       told = told.told;
       more = plain c.in_ok-more.more;
       only = c.in_ok-more.ensures;
-      text_is = c.in_ok-push_message.ensures ∙ ap (λ (x : List ℕ). x ++ plain c.in_ok-more.more) (behind_nothing _ _ _ c.new-told.ensures told.text_is);
+      line_is = c.in_ok-line.ensures;
+      details_is = c.in_ok-push_message.ensures ∙ ap (λ (x : List ℕ). x ++ plain c.in_ok-more.more) (behind_nothing _ _ _ c.new-details.ensures told.text_is);
       status_is = c.verdict_status-status.ensures;
     }

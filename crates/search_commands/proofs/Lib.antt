@@ -5,4 +5,5 @@ pub mod WidenedLemmas
 mod KeepingLemmas
 pub mod RefiningLemmas
 pub mod AddingLemmas
+pub mod AssertingLemmas
 mod WhyLemmas

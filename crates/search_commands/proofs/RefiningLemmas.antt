@@ -10,13 +10,14 @@ use Rattle.policy.specs.Runs.{IsSafe}
 use Rattle.search_commands.specs.Keeping.{KeepsLines}
 use Rattle.search_commands.specs.Keeping.KeepsLines.{unchanged}
 use Rattle.search_commands.specs.Adding.{IsNoWider}
-use Rattle.search_commands.specs.Refining.{IsRefined}
+use Rattle.search_commands.specs.Refining.{IsRefined, KeepsAssertions}
 use Rattle.search_commands.specs.SearchFaults.{IsRefineFault}
 
 -- a text that declares something no wider, for which a certificate is found
-pub shown_change : (image : List (Option ℕ)) (text written : List ℕ) (given less : Declaration) → Declares text given → Declares written less → IsNoWider given less →
-    IsSafe (image_of image) less → IsRefined image text written
-shown_change image text written given less first second is safe = inr (record { given = given; declares = first; is = record { declaration = less; declares = second; is = is; safe = safe } })
+pub shown_change : (image : List (Option ℕ)) (text written : List ℕ) (given less : Declaration) → Declares text given → Declares written less → IsNoWider given less
+    → KeepsAssertions given less → IsSafe (image_of image) less → IsRefined image text written
+shown_change image text written given less first second is keeps safe =
+    inr (record { given = given; declares = first; is = record { declaration = less; declares = second; is = is; keeps = keeps; safe = safe } })
 
 -- the text itself
 pub same_text_is_refined : (image : List (Option ℕ)) (text written : List ℕ) → written ≡ text → IsRefined image text written

@@ -3,6 +3,7 @@
 #![tactic(auto)]
 
 mod adding;
+mod asserting;
 pub mod checking;
 pub mod completing;
 pub mod declaring;

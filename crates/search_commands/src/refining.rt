@@ -10,6 +10,7 @@ ghost use Rattle.search_commands.specs.Refining.{IsRefined};
 ghost use Rattle.search_commands.specs.SearchFaults.{IsRefineFault};
 
 use crate::adding::is_no_wider;
+use crate::asserting::keeps_assertions;
 use crate::completing::end_text;
 use crate::declaring::copy_of;
 use crate::keeping::keeps_lines;
@@ -58,16 +59,8 @@ pub struct Refinement<A: Allocator> {
     pub told: Message<A>,
 }
 
-/// Whether a declaration requires the same to hold at places as another one, and at returns first what that one requires
-/// there.
-fn keeps_assertions<A: Allocator, B: Allocator>(
-    given: &Declaration<A>,
-    less: &Declaration<B>,
-) -> bool {
-    less.holds() == given.holds() && less.returns().starts_with(given.returns())
-}
-
-/// What a text declares, if that is no wider than what a given text declares, and a certificate is found for it.
+/// What a text declares, if that is no wider than what a given text declares and requires the same to hold, and a
+/// certificate is found for it.
 fn shown_no_wider<A: Allocator + Copy, D: Allocator>(
     alloc: A,
     image: &Image,

@@ -6,4 +6,5 @@ mod KeepingLemmas
 pub mod RefiningLemmas
 pub mod AddingLemmas
 pub mod AssertingLemmas
+pub mod OmittingLemmas
 mod WhyLemmas

@@ -11,3 +11,4 @@ pub mod Adding
 pub mod MigrateText
 pub mod Keeping
 pub mod Refining
+pub mod Omitting

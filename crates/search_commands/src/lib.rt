@@ -14,6 +14,7 @@ mod merging;
 pub mod messages;
 pub mod migrating;
 mod narrowing;
+mod omitting;
 pub mod refining;
 mod returning;
 pub mod stuck;

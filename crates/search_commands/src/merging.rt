@@ -1,5 +1,10 @@
 //! The text of a declaration, with what it lacks of another declaration added.
 
+ghost use Rattle.std.specs.Prelude.{◌≡◌};
+ghost use Rattle.wordset.specs.Lanes.{words};
+ghost use Rattle.declaration.specs.DeclarationInCode.{meaning};
+ghost use Rattle.search_commands.specs.Omitting.{declared_offsets};
+
 use crate::completing::end_text;
 use control_flow::{above_seven, push_cells_ending, push_low_offsets, push_skips};
 use declaration::writing::{push_range, push_ranges};
@@ -48,7 +53,10 @@ pub(crate) fn set_of(offsets: &Offsets) -> WordSet {
 }
 
 /// The offsets at which a declared routine may return, whichever lines declare them.
-pub(crate) fn offsets_of<A: Allocator>(declaration: &Declaration<A>, entry: Word) -> WordSet {
+#[tactic(auto, using(crate::proofs::OmittingLemmas::none_below, crate::proofs::OmittingLemmas::one_more_below, crate::proofs::OmittingLemmas::none_more_below, crate::proofs::OmittingLemmas::all_below))]
+pub(crate) fn offsets_of<A: Allocator>(declaration: &Declaration<A>, entry: Word) -> WordSet
+    ensures { words result ≡ declared_offsets (meaning declaration.now) entry }
+{
     let mut set = WordSet::empty();
     for index in 0..64usize {
         let offset = Word::from_index(index);

@@ -14,8 +14,8 @@ use crate::asserting::keeps_assertions;
 use crate::completing::end_text;
 use crate::declaring::copy_of;
 use crate::keeping::keeps_lines;
-use crate::merging::offsets_of;
 use crate::narrowing::narrowed;
+use crate::omitting::{Omissions, omitted_offsets_of};
 use crate::returning::push_all_returns;
 use crate::verifying::certificate_for;
 use bin_tape::Image;
@@ -24,7 +24,6 @@ use command_parts::status::Fault;
 use declaration::{Declaration, DeclarationFault};
 use diagnostics::verdicts::surplus_text::{Shown, push_cells, push_routine_offsets};
 use std::alloc::{AllocError, Allocator};
-use wordset::WordSet;
 
 /// The message if nothing is left out because no certificate is found.
 const NOT_SHOWN: &[u8] =
@@ -105,86 +104,75 @@ fn unchanged<A: Allocator + Copy>(alloc: A, text: &[u8], why: &[u8]) -> Result<R
     Ok(Refinement { text, told })
 }
 
-/// The cells on the list of reads, or no cells if there is no list.
-fn reads_of<D: Allocator>(declaration: &Declaration<D>) -> WordSet {
-    match declaration.reads() {
-        Some(cells) => *cells,
-        None => WordSet::empty(),
-    }
-}
-
 /// Adds the offsets that are left out of routines that stay.
-fn push_lost_offsets<L: MessageWriter, A: Allocator, B: Allocator>(
+fn push_omitted_offsets<L: MessageWriter, A: Allocator, B: Allocator>(
     told: &mut L,
     given: &Declaration<A>,
     less: &Declaration<B>,
 ) -> Result<(), AllocError> {
     for routine in less.routines() {
         let entry = routine.entry();
-        let offsets = offsets_of(given, entry).minus(&offsets_of(less, entry));
         push_routine_offsets(
             told,
             b"--tight leaves out offsets by which the routine ",
             entry,
-            &offsets,
+            &omitted_offsets_of(given, less, entry),
         )?;
     }
     Ok(())
 }
 
-/// Adds the halts and the permissions that one declaration has and another one lacks.
-fn push_lost_leave<L: MessageWriter, A: Allocator, B: Allocator>(
+/// Adds the halts and the permissions that are left out.
+fn push_omitted_permissions<L: MessageWriter>(
     told: &mut L,
-    given: &Declaration<A>,
-    less: &Declaration<B>,
+    omissions: &Omissions,
 ) -> Result<(), AllocError> {
-    let halts = given.stops().union(given.pauses());
-    let kept_halts = less.stops().union(less.pauses());
     push_cells(
         told,
         b"--tight leaves out stops and pauses at which no run halts",
-        &halts.minus(&kept_halts),
+        &omissions.halts,
     )?;
     push_cells(
         told,
         b"--tight leaves out addresses in `abandon` lines at which no call is abandoned",
-        &given.abandons().minus(less.abandons()),
+        &omissions.abandons,
     )?;
     push_cells(
         told,
         b"--tight leaves out routines in `moves` lines that do not store their return word",
-        &given.moves().minus(less.moves()),
+        &omissions.moves,
     )
 }
 
 /// Adds what one declaration has and another one lacks.
-fn push_lost<L: MessageWriter, A: Allocator, B: Allocator>(
+fn push_omissions<L: MessageWriter, A: Allocator, B: Allocator>(
     told: &mut L,
     given: &Declaration<A>,
     less: &Declaration<B>,
 ) -> Result<(), AllocError> {
+    let omissions = Omissions::of(given, less);
     push_cells(
         told,
         b"--tight leaves out body cells that no run reaches",
-        &given.bodies().minus(&less.bodies()),
+        &omissions.bodies,
     )?;
     push_cells(
         told,
         b"--tight leaves out routines that are never called",
-        &given.entries().minus(&less.entries()),
+        &omissions.entries,
     )?;
-    push_lost_offsets(told, given, less)?;
+    push_omitted_offsets(told, given, less)?;
     push_cells(
         told,
         b"--tight leaves out variables that no instruction writes",
-        &given.variables().minus(less.variables()),
+        &omissions.variables,
     )?;
     push_cells(
         told,
         b"--tight leaves out listed reads that are not needed",
-        &reads_of(given).minus(&reads_of(less)),
+        &omissions.reads,
     )?;
-    push_lost_leave(told, given, less)
+    push_omitted_permissions(told, &omissions)
 }
 
 /// The message about a declaration from which something, or nothing, was left out.
@@ -194,7 +182,7 @@ fn told_of<A: Allocator + Copy, D: Allocator, E: Allocator>(
     less: &Declaration<E>,
 ) -> Result<Message<A>, AllocError> {
     let mut told = Message::new(alloc);
-    push_lost(&mut told, given, less)?;
+    push_omissions(&mut told, given, less)?;
     if told.is_empty() {
         told.push_text(ALL_NEEDED)?;
     }

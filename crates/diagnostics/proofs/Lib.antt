@@ -7,3 +7,4 @@ pub mod ReasonLemmas
 pub mod TellingLemmas
 pub mod OmissionLemmas
 pub mod FaultTextLemmas
+pub mod SetTextLemmas

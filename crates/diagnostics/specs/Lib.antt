@@ -7,3 +7,4 @@ pub mod ReasonContexts
 pub mod WhyText
 pub mod FaultText
 pub mod OmissionText
+pub mod SetText

@@ -7,4 +7,5 @@ pub mod RefiningLemmas
 pub mod AddingLemmas
 pub mod AssertingLemmas
 pub mod OmittingLemmas
+pub mod OmissionTextLemmas
 mod WhyLemmas

@@ -12,3 +12,4 @@ pub mod MigrateText
 pub mod Keeping
 pub mod Refining
 pub mod Omitting
+pub mod OmissionText

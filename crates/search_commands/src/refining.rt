@@ -1,11 +1,13 @@
 //! What `declare` makes of a declaration for which a certificate is found: it leaves out what is unnecessary, and adds
 //! what routines return with.
 
-ghost use Rattle.std.specs.Prelude.{ℕ, List, Option, IfOk, IfErr, IfSome};
+ghost use Rattle.std.specs.Prelude.{ℕ, List, Option, IfOk, IfErr, IfSome, OnOk};
 ghost use Rattle.command_parts.specs.Answers.{IsMemoryFault};
-ghost use Rattle.declaration.specs.DeclarationInCode.{meaning};
+ghost use Rattle.command_parts.specs.Messages.{plain};
+ghost use Rattle.declaration.specs.DeclarationInCode.{meaning, routines_of};
 ghost use Rattle.declaration.specs.Text.{Declares};
 ghost use Rattle.search_commands.specs.Keeping.{KeepsLines};
+ghost use Rattle.search_commands.specs.OmissionText.{IsToldOf, TellsAllOffsets, TellsOmissions, TellsPermissions};
 ghost use Rattle.search_commands.specs.Refining.{IsRefined};
 ghost use Rattle.search_commands.specs.SearchFaults.{IsRefineFault};
 
@@ -109,7 +111,10 @@ fn push_omitted_offsets<L: MessageWriter, A: Allocator, B: Allocator>(
     told: &mut L,
     given: &Declaration<A>,
     less: &Declaration<B>,
-) -> Result<(), AllocError> {
+) -> Result<(), AllocError>
+    ensures { OnOk result (TellsAllOffsets (meaning given.now) (meaning less.now) (L.text told.old)
+        (routines_of less.now) (L.text told.new)) }
+{
     for routine in less.routines() {
         let entry = routine.entry();
         push_routine_offsets(
@@ -126,7 +131,9 @@ fn push_omitted_offsets<L: MessageWriter, A: Allocator, B: Allocator>(
 fn push_omitted_permissions<L: MessageWriter>(
     told: &mut L,
     omissions: &Omissions,
-) -> Result<(), AllocError> {
+) -> Result<(), AllocError>
+    ensures { OnOk result (TellsPermissions omissions.now (L.text told.old) (L.text told.new)) }
+{
     push_cells(
         told,
         b"--tight leaves out stops and pauses at which no run halts",
@@ -149,7 +156,10 @@ fn push_omissions<L: MessageWriter, A: Allocator, B: Allocator>(
     told: &mut L,
     given: &Declaration<A>,
     less: &Declaration<B>,
-) -> Result<(), AllocError> {
+) -> Result<(), AllocError>
+    ensures { OnOk result (TellsOmissions (meaning given.now) (meaning less.now) (routines_of less.now)
+        (L.text told.old) (L.text told.new)) }
+{
     let omissions = Omissions::of(given, less);
     push_cells(
         told,
@@ -180,10 +190,13 @@ fn told_of<A: Allocator + Copy, D: Allocator, E: Allocator>(
     alloc: A,
     given: &Declaration<D>,
     less: &Declaration<E>,
-) -> Result<Message<A>, AllocError> {
+) -> Result<Message<A>, AllocError>
+    ensures { IfOk result (λ told.
+        IsToldOf (meaning given.now) (meaning less.now) (routines_of less.now) (plain told)) }
+{
     let mut told = Message::new(alloc);
     push_omissions(&mut told, given, less)?;
-    if told.is_empty() {
+    if told.as_bytes().is_empty() {
         told.push_text(ALL_NEEDED)?;
     }
     Ok(told)

@@ -1,11 +1,14 @@
 //! What is said below a yes: what of the declaration is wider than the certificate needs, and what routines return with.
 
-ghost use Rattle.std.specs.Prelude.{ℕ, ◌≡◌, ◌<◌, ◌↔◌, true, length, IfOk};
+ghost use Rattle.std.specs.Prelude.{ℕ, ◌≡◌, ◌<◌, ◌↔◌, ◌++◌, codes, true, length, IfOk, OnOk};
+ghost use Rattle.word12.specs.Words.{octal_text};
 ghost use Rattle.wordset.specs.Lanes.{words};
 ghost use Rattle.certificate_lines.specs.CertificateInCode.{claims};
 ghost use Rattle.judge.specs.Judged.{judged};
 ghost use Rattle.usage.specs.Returns.{IsReturned};
 ghost use Rattle.command_parts.specs.Messages.{plain};
+ghost use Rattle.diagnostics.specs.Pieces.{around, offset_text, piece_text};
+ghost use Rattle.diagnostics.specs.SetText.{AddsAll, AddsLine, spaced_range, spelled};
 ghost use Rattle.diagnostics.specs.WhyText.{IsSaidAfterYes};
 
 use crate::pieces::Piece::{Address, Octal, Offset, Text};
@@ -120,7 +123,9 @@ enum SetKind {
 
 impl SetKind {
     /// One of the words, as a piece of a text.
-    fn piece(self, word: Word) -> Piece<'static> {
+    fn piece(self, word: Word) -> Piece<'static>
+        ensures { piece_text result ≡ spelled self word }
+    {
         match self {
             SetKind::Addresses => Address(word),
             SetKind::Words => Octal(word),
@@ -129,17 +134,32 @@ impl SetKind {
     }
 }
 
+/// Adds a range, after a space.
+fn push_range<L: MessageWriter>(
+    text: &mut L,
+    kind: SetKind,
+    first: Word,
+    last: Word,
+) -> Result<(), AllocError>
+    ensures { OnOk result (L.text text.new ≡ L.text text.old ++ spaced_range (spelled kind) first last) }
+{
+    push_pieces(text, &[Text(b" "), kind.piece(first)])?;
+    if last == first {
+        return Ok(());
+    }
+    push_pieces(text, &[Text(b"-"), kind.piece(last)])
+}
+
 /// Adds the ranges of a set.
 fn push_ranges<L: MessageWriter>(
     text: &mut L,
     kind: SetKind,
     set: &WordSet,
-) -> Result<(), AllocError> {
+) -> Result<(), AllocError>
+    ensures { OnOk result (AddsAll (spelled kind) (words set.now) (L.text text.old) (L.text text.new)) }
+{
     for (first, last) in set.ranges() {
-        push_pieces(text, &[Text(b" "), kind.piece(first)])?;
-        if last != first {
-            push_pieces(text, &[Text(b"-"), kind.piece(last)])?;
-        }
+        push_range(text, kind, first, last)?;
     }
     Ok(())
 }
@@ -149,7 +169,10 @@ pub fn push_cells<L: MessageWriter>(
     text: &mut L,
     name: &[u8],
     cells: &WordSet,
-) -> Result<(), AllocError> {
+) -> Result<(), AllocError>
+    ensures { OnOk result
+        (AddsLine octal_text (words cells.now) (name.now ++ codes ":") (L.text text.old) (L.text text.new)) }
+{
     if cells.is_empty() {
         return Ok(());
     }
@@ -164,7 +187,10 @@ pub fn push_routine_offsets<L: MessageWriter>(
     name: &[u8],
     entry: Word,
     offsets: &WordSet,
-) -> Result<(), AllocError> {
+) -> Result<(), AllocError>
+    ensures { OnOk result
+        (AddsLine offset_text (words offsets.now) (around name.now entry (codes " never returns:")) (L.text text.old) (L.text text.new)) }
+{
     if offsets.is_empty() {
         return Ok(());
     }

@@ -5,7 +5,7 @@ use crate::incoming_fact::brief;
 use crate::invariant::CellInvariant;
 use crate::of_sums::candidates::add_pairs;
 use crate::of_sums::invariants::{RelationInvariant, SumInvariant};
-use crate::of_sums::widening::WideningDelays;
+use crate::of_sums::widening::{COUNTED_DELAY, NAME_DELAY, SUM_DELAY, to_thresholds};
 use crate::sums::speaks_only_of;
 use crate::widening::Limits;
 use bin_tape::Image;
@@ -28,7 +28,6 @@ pub(crate) struct Merge<'a, A: Allocator + Copy> {
     pub(crate) pointers: &'a WordSet,
     pub(crate) thresholds: &'a WordSet,
     pub(crate) limits: &'a Limits,
-    pub(crate) paces: WideningDelays,
     pub(crate) widens: bool,
 }
 
@@ -45,29 +44,24 @@ impl<A: Allocator + Copy> Merge<'_, A> {
         self.limits.with_few_runs(set)
     }
 
+    /// A set that grew out of another so often, on to the next thresholds once it grew more often than the delay.
+    fn widened_after(&self, delay: u32, old: &WordSet, grown: &WordSet, growths: u32) -> WordSet {
+        let smooth = self.with_few_runs(grown);
+        if self.widens && growths > delay {
+            return to_thresholds(old, &smooth, self.thresholds);
+        }
+        smooth
+    }
+
     /// A set of a name that grew out of another so often.
     fn widened(&self, old: &WordSet, grown: &WordSet, growths: u32, counted: bool) -> WordSet {
-        let smooth = self.with_few_runs(grown);
-        if !self.widens {
-            return smooth;
-        }
-        let pace = if counted {
-            self.paces.counted
-        } else {
-            self.paces.other
-        };
-        pace.widened(old, &smooth, growths, self.thresholds)
+        let delay = if counted { COUNTED_DELAY } else { NAME_DELAY };
+        self.widened_after(delay, old, grown, growths)
     }
 
     /// A set of a sum that grew out of another so often.
     fn widened_sum(&self, old: &WordSet, grown: &WordSet, growths: u32) -> WordSet {
-        let smooth = self.with_few_runs(grown);
-        if !self.widens {
-            return smooth;
-        }
-        self.paces
-            .sums
-            .widened(old, &smooth, growths, self.thresholds)
+        self.widened_after(SUM_DELAY, old, grown, growths)
     }
 }
 

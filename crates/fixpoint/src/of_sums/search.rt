@@ -12,7 +12,6 @@ use crate::of_sums::program::SumProgram;
 use crate::of_sums::splits::Split;
 use crate::of_sums::steps::MergeTarget;
 use crate::of_sums::table::{InvariantMap, Table};
-use crate::of_sums::widening::WideningDelays;
 use crate::of_sums::workspace::SumWorkspace;
 use facts::Fact;
 use instruct::{Format, Operation};
@@ -193,7 +192,6 @@ impl<A: Allocator + Copy> SumSearch<A> {
             pointers: &program.pointers,
             thresholds: &program.thresholds,
             limits: &program.base.limits,
-            paces: WideningDelays::soon(),
             widens: !self.gathers(),
         }
     }

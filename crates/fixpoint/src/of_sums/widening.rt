@@ -4,31 +4,14 @@
 use word12::Word;
 use wordset::WordSet;
 
-/// How often a set grows before it goes on to the next thresholds, and before nothing is said of it any more.
-#[derive(Clone, Copy)]
-pub(crate) struct WideningDelay {
-    pub(crate) jump: u32,
-    pub(crate) drop: u32,
-}
+/// How often the set of a counted cell grows before it goes on to the next thresholds.
+pub(crate) const COUNTED_DELAY: u32 = 10;
 
-/// How often sets of counted cells, of other names, and of sums grow.
-#[derive(Clone, Copy)]
-pub(crate) struct WideningDelays {
-    pub(crate) counted: WideningDelay,
-    pub(crate) other: WideningDelay,
-    pub(crate) sums: WideningDelay,
-}
+/// How often the set of another name grows before that.
+pub(crate) const NAME_DELAY: u32 = 16;
 
-impl WideningDelays {
-    /// Soon.
-    pub(crate) fn soon() -> WideningDelays {
-        WideningDelays {
-            counted: WideningDelay { jump: 10, drop: 40 },
-            other: WideningDelay { jump: 16, drop: 40 },
-            sums: WideningDelay { jump: 8, drop: 24 },
-        }
-    }
-}
+/// How often the set of a sum grows before that.
+pub(crate) const SUM_DELAY: u32 = 8;
 
 /// By how much a set is turned so that it begins behind its longest gap: the first word there.
 fn behind_longest_gap(set: &WordSet) -> Word {
@@ -104,7 +87,7 @@ fn beyond(top: Word, grown: &WordSet, new: &WordSet, thresholds: &WordSet) -> Wo
 }
 
 /// A set that grew out of another, on to the next thresholds where it grew.
-fn to_thresholds(old: &WordSet, grown: &WordSet, thresholds: &WordSet) -> WordSet {
+pub(crate) fn to_thresholds(old: &WordSet, grown: &WordSet, thresholds: &WordSet) -> WordSet {
     let start = behind_longest_gap(old);
     let back = start.complement().increment();
     let turned = old.shift(back);
@@ -119,23 +102,4 @@ fn to_thresholds(old: &WordSet, grown: &WordSet, thresholds: &WordSet) -> WordSe
         beyond(top, &more, &new, &thresholds.shift(back))
     };
     wide.shift(start)
-}
-
-impl WideningDelay {
-    /// A set that grew out of another so often.
-    pub(crate) fn widened(
-        &self,
-        old: &WordSet,
-        grown: &WordSet,
-        growths: u32,
-        thresholds: &WordSet,
-    ) -> WordSet {
-        if growths > self.drop {
-            return WordSet::all();
-        }
-        if growths > self.jump {
-            return to_thresholds(old, grown, thresholds);
-        }
-        *grown
-    }
 }

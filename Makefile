@@ -3,8 +3,8 @@ PREFIX ?= /usr/local
 PROGRAM ?= pdp8
 BUILT = crates/pdp8/out/pdp8
 
-# How many checks the gate runs side by side. The default is one for each processor.
-LANES ?= $(shell nproc)
+# How many checks the gate runs side by side. The default is one for each processor, as far as there is memory.
+LANES ?= $(shell python3 tests/prove.py --lanes)
 
 VERSION = 1.1
 DIST = pdp8-workbench-$(VERSION)

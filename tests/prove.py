@@ -2,10 +2,11 @@
 """Proves the program and all crates below it from nothing, builds it as crates/pdp8/out/pdp8, and runs it on the stored tape.
 
 The proofs are those of the gate: the script runs rt ci on copies of these crates alone, without tests and without edits that must
-fail. While only one crate is being proved, it gets several processors, as far as memory allows; RT_JOBS=N proves N crates side by
-side with one processor each. If this toolchain has already built the program from exactly these files, the program is only run.
+fail. RT_JOBS=N proves N crates side by side; without it, as many are proved as there are processors and memory for. If this toolchain
+has already built the program from exactly these files, the program is only run.
 
-usage: tests/prove.py
+usage: tests/prove.py            proves, builds and runs the program
+       tests/prove.py --lanes    prints how many crates can be proved side by side
 """
 import hashlib
 import os
@@ -16,7 +17,15 @@ import tempfile
 
 TOP = os.path.join(os.path.dirname(os.path.abspath(__file__)), '..')
 PROGRAM = 'pdp8'
+LANE = 3.5 * 2 ** 30  # the memory that a check of a large crate takes, with some to spare
 LEFT_OUT = shutil.ignore_patterns('out', 'must-fail', 'more-edits')
+
+
+def lanes():
+    """How many crates can be proved side by side. rt ci would reserve four times the memory that a large crate takes."""
+    with open('/proc/meminfo', encoding='utf-8') as file:
+        free = next(int(line.split()[1]) * 1024 for line in file if line.startswith('MemAvailable:'))
+    return max(1, min(len(os.sched_getaffinity(0)), int(free / LANE)))
 
 
 def uses():
@@ -57,7 +66,8 @@ def sum_of(folder):
 
 def proved(room, out):
     """Proves the copy, and puts the program that is built into the folder out; returns the status."""
-    status = subprocess.run(['rt', 'ci'], cwd=room, check=False).returncode
+    jobs = os.environ.get('RT_JOBS') or str(lanes())
+    status = subprocess.run(['rt', 'ci'], cwd=room, env={**os.environ, 'RT_JOBS': jobs}, check=False).returncode
     built = os.path.join(room, 'crates', PROGRAM, 'out', PROGRAM)
     if status or not os.path.isfile(built):
         return status or 1
@@ -81,6 +91,9 @@ def note_of(program, sources):
 
 
 def main():
+    if sys.argv[1:] == ['--lanes']:
+        print(lanes())
+        return
     out = os.path.join(TOP, 'crates', PROGRAM, 'out')
     program, note = os.path.join(out, PROGRAM), os.path.join(out, f'{PROGRAM}.sum')
     with tempfile.TemporaryDirectory() as room:

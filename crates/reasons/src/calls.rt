@@ -5,7 +5,7 @@ use crate::outcomes::misses;
 use crate::violation::{CallViolation, LandingFailure, Violation};
 use crate::workspace::WordWorkspace;
 use domain::{ReturnOffsets, Rules};
-use facts::Condition;
+use facts::{Condition, FactSource};
 use judge::{Claims, NarrowedPoint, OffsetExits, RoutineClaim};
 use std::alloc::Allocator;
 use word12::Word;

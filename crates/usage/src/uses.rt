@@ -8,7 +8,7 @@ use bin_tape::Image;
 use certificate::Certificate;
 use declaration::Declaration;
 use facts::{Fact, NarrowedFact, Place};
-use judge::{Body, Case, place_of, put_asked, put_sites};
+use judge::{Body, Case, Claims, place_of, put_asked, put_sites};
 use std::alloc::Allocator;
 use word12::Word;
 use wordset::WordSet;

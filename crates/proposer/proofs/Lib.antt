@@ -1,2 +1,1 @@
-pub mod ReadLemmas
 pub mod WidthLemmas

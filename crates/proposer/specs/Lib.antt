@@ -1,4 +1,3 @@
-pub mod Needed
 pub mod Proposals
 pub mod Widths
 pub mod Widenings

@@ -12,7 +12,6 @@ use Rattle.certificate.specs.Exact.{AreLines}
 use Rattle.judge.specs.Conditions.{IsValid}
 use Rattle.judge.specs.Judged.{judged}
 use Rattle.declaration.specs.declared.DeclarationFault.TheVariants as declaration_fault
-use Rattle.proposer.specs.Needed.{ReadsAreNeeded, VariablesAreWritten}
 use Rattle.turns.specs.Counts.{Count}
 use Rattle.analyser.specs.Versions.{IsVersionFor}
 use Rattle.proposer.specs.declared.Proposal.{Proposal}
@@ -57,13 +56,3 @@ IsSpentUp turns v = v ≡ TurnsSpent → turns.spent ≡ turns.limit
 abbrev pub IsListed : {A : Type 0} → Kept → Verdict A → Type 0
 IsListed d (Safe c) = is_some (meaning d).reads ≡ true
 IsListed d _ = (meaning d).reads ≡ None
-
--- By the facts of the certificate that is found, some word may read each cell of the list of reads.
-abbrev pub AreNeeded : {A : Type 0} → List (Option ℕ) → Kept → Verdict A → Type 0
-AreNeeded image d (Safe c) = ReadsAreNeeded (judged image d (certified.claims c))
-AreNeeded image d _ = ⊤
-
--- By the facts of the certificate that is found, some word may write each variable.
-abbrev pub AreWritten : {A : Type 0} → List (Option ℕ) → Kept → Verdict A → Type 0
-AreWritten image d (Safe c) = VariablesAreWritten (judged image d (certified.claims c))
-AreWritten image d _ = ⊤

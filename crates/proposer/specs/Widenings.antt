@@ -1,7 +1,6 @@
 -- What is promised of a proposal that takes the place of one that a run leaves.
 use Rattle.std.specs.Prelude.{ℕ, ◌≡◌, List, Option, ⊤}
 use Rattle.instruct.specs.declared.Profile.{Profile}
-use Rattle.declaration.specs.Declaration.{IsDeclared}
 use Rattle.declaration.specs.DeclarationInCode.{Kept, meaning, routines_of}
 use Rattle.declaration.specs.Text.{Declares, ListsRoutines}
 use Rattle.peripherals.specs.declared.Event.{Event}

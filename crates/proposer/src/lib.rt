@@ -1,7 +1,7 @@
 //! Proposes declarations: what a program may do, from its tape and its start alone.
 #![tactic(auto)]
 
-ghost use Rattle.std.specs.Prelude.{ℕ, ◌≡◌, ◌≢◌, ◌≤◌, List, Option, IfOk, IfErr, None, is_some, false, true};
+ghost use Rattle.std.specs.Prelude.{ℕ, ◌≡◌, ◌≢◌, ◌≤◌, List, Option, IfOk, IfErr, None, is_some, true};
 ghost use Rattle.analyser.specs.Versions.{IsVersionFor};
 ghost use Rattle.turns.specs.declared.GuessFault.TheVariants as guess_fault;
 ghost use Rattle.certificate_lines.specs.CertificateInCode as certified;
@@ -9,9 +9,8 @@ ghost use Rattle.certificate.specs.Exact.{AreLines};
 ghost use Rattle.declaration.specs.DeclarationInCode.{Kept, meaning, routines_of};
 ghost use Rattle.declaration.specs.Text.{Declares, ListsRoutines};
 ghost use Rattle.judge.specs.Judged.{judged};
-ghost use Rattle.proposer.specs.Needed.{ReadsAreNeeded, VariablesAreWritten};
 ghost use Rattle.proposer.specs.declared.Verdict.TheVariants.{TurnsSpent};
-ghost use Rattle.proposer.specs.Proposals.{AreNeeded, AreWritten, Fits, IsListed, IsShown, IsSpentUp, IsTold, is_safe};
+ghost use Rattle.proposer.specs.Proposals.{Fits, IsListed, IsShown, IsSpentUp, IsTold, is_safe};
 
 mod evidence;
 mod learning;
@@ -21,7 +20,7 @@ mod variables;
 mod widening;
 mod width;
 
-use crate::variables::{fewer_variables, lists_needed, read, variables_written};
+use crate::variables::{fewer_variables, read};
 use analyser::guess_within;
 use bin_tape::Image;
 use certificate::Certificate;
@@ -92,8 +91,6 @@ pub fn propose<A: Allocator + Copy>(
 ) -> Result<Proposal<A>, ProposeFault>
     ensures fits { IfOk result (Fits start profile) }
     ensures shown { IfOk result (λ p. IsShown image.now p.declaration p.verdict) }
-    // Where a certificate is found, by its facts some word may write each variable.
-    ensures written { IfOk result (λ p. AreWritten image.now p.declaration p.verdict) }
     ensures unlisted { IfOk result (λ p. (meaning p.declaration).reads ≡ None) }
     ensures spent { IfOk result (λ p. IsSpentUp turns.new p.verdict) }
     ensures faults { IfErr result IsTold }
@@ -129,12 +126,10 @@ fn by_runs<'x, A: Allocator + Copy>(
 ) -> Result<Proposal<A>, ProposeFault>
     requires fits { Fits found.now.map.start found.now.map.profile proposal }
     requires shown { IsShown image.now proposal.declaration proposal.verdict }
-    requires written { AreWritten image.now proposal.declaration proposal.verdict }
     requires unlisted { (meaning proposal.declaration).reads ≡ None }
     requires spent { IsSpentUp turns.old proposal.verdict }
     ensures fits { IfOk result (Fits found.now.map.start found.now.map.profile) }
     ensures shown { IfOk result (λ p. IsShown image.now p.declaration p.verdict) }
-    ensures written { IfOk result (λ p. AreWritten image.now p.declaration p.verdict) }
     ensures unlisted { IfOk result (λ p. (meaning p.declaration).reads ≡ None) }
     ensures spent { IfOk result (λ p. IsSpentUp turns.new p.verdict) }
     ensures faults { IfErr result IsTold }
@@ -169,9 +164,6 @@ pub fn propose_with_reads<A: Allocator + Copy>(
     // Where a certificate is found that the judge accepts there is a list of reads, and where none is
     // found there is none.
     ensures listed { IfOk result (λ p. IsListed p.declaration p.verdict) }
-    // By its facts some step may read each cell that is listed.
-    ensures needed { IfOk result (λ p. AreNeeded image.now p.declaration p.verdict) }
-    ensures written { IfOk result (λ p. AreWritten image.now p.declaration p.verdict) }
     ensures spent { IfOk result (λ p. IsSpentUp turns.new p.verdict) }
     ensures faults { IfErr result IsTold }
     ensures limit { turns.new.limit ≡ turns.old.limit }
@@ -191,12 +183,6 @@ pub fn propose_with_reads<A: Allocator + Copy>(
             let cells = read(image, &declaration, &certificate);
             let listing = relisted(alloc, &mut text, &cells, start, profile)?;
             listing.is_declared();
-            if !lists_needed(image, &listing, &certificate) {
-                return Err(ProposeFault::Mismatch);
-            }
-            if !variables_written(image, &listing, &certificate) {
-                return Err(ProposeFault::Mismatch);
-            }
             let verdict = accepted(alloc, image, &listing, certificate)?;
             Ok(Proposal {
                 declaration: listing,
@@ -292,7 +278,6 @@ fn cut_down<A: Allocator + Copy>(
     ensures shown { IfOk result (λ p. IsShown tape.now.image.now p.declaration p.verdict) }
     // Of a proposal with a certificate one with a certificate is made, also where turns run out.
     ensures safe { IfOk result (λ p. is_safe proposal.verdict ≡ true → is_safe p.verdict ≡ true) }
-    ensures written { IfOk result (λ p. AreWritten tape.now.image.now p.declaration p.verdict) }
     ensures unlisted { IfOk result (λ p. (meaning p.declaration).reads ≡ None) }
     ensures spent { IfOk result (λ p. IsSpentUp turns.new p.verdict) }
     ensures faults { IfErr result IsTold }
@@ -533,12 +518,6 @@ fn accepted<A: Allocator + Copy>(
         (certified.meaning certificate).version }
     ensures shown { IfOk result (IsShown image.now declaration.now) }
     ensures listed { (d : Kept) → is_some (meaning d).reads ≡ true → IfOk result (IsListed d) }
-    ensures needed { ReadsAreNeeded
-        (judged image.now declaration.now (certified.claims certificate)) →
-        IfOk result (AreNeeded image.now declaration.now) }
-    ensures written { VariablesAreWritten
-        (judged image.now declaration.now (certified.claims certificate)) →
-        IfOk result (AreWritten image.now declaration.now) }
     ensures safe { IfOk result (λ v. is_safe v ≡ true) }
     ensures spent { IfOk result (λ v. v ≢ TurnsSpent) }
     ensures faults { IfErr result IsTold }
@@ -568,9 +547,7 @@ fn unfound<A: Allocator>(fault: GuessFault) -> Result<Verdict<A>, ProposeFault>
 impl<A: Allocator> Proposal<A> {
     /// Whether a certificate is found that the judge accepts.
     fn is_safe(&self) -> bool
-        ensures safe { result ≡ is_safe self.now.verdict }
-        ensures open { (image : List (Option ℕ)) → result ≡ false →
-            AreWritten image self.now.declaration self.now.verdict }
+        ensures { result ≡ is_safe self.now.verdict }
     {
         matches!(&self.verdict, Verdict::Safe(_))
     }
@@ -581,9 +558,7 @@ impl<A: Allocator> Proposal<A> {
     }
 
     /// The variables that some step may write by the facts of the certificate, if there is one and those are not all.
-    fn spare(&self, image: &Image) -> Option<WordSet>
-        ensures { result ≡ None → AreWritten image.now self.now.declaration self.now.verdict }
-    {
+    fn spare(&self, image: &Image) -> Option<WordSet> {
         match &self.verdict {
             Verdict::Safe(certificate) => fewer_variables(image, &self.declaration, certificate),
             Verdict::Stuck(_) | Verdict::TurnsSpent => None,

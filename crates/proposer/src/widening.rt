@@ -11,7 +11,7 @@ use crate::learning::{Obstacle, Refinement, learn};
 use crate::obstacles::is_obstacle;
 use crate::sketch::Sketch;
 use crate::width::is_as_wide;
-use crate::{MOST_CUTS, Proposal, Verdict, judged};
+use crate::{MOST_CUTS, Proposal, judged};
 use bin_tape::Image;
 use declaration::{Declaration, DeclarationFault};
 use peripherals::{Event, NoMemory, Start};

@@ -1,21 +1,10 @@
 //! What a call violates.
 
-ghost use Rattle.std.specs.Prelude.{◌≡◌, ◌<◌, ◌+◌, false, true, IfNone, IfSome};
-ghost use Rattle.wordset.specs.Lanes.{words};
-ghost use Rattle.wordset.specs.Words.{plus};
-ghost use Rattle.domain.specs.FactInCode.{fact_in_code, rules_of};
-ghost use Rattle.domain.specs.Facts.{last_site};
-ghost use Rattle.domain.specs.Moves.{joined};
-ghost use Rattle.facts.specs.declared.Condition.TheVariants.{V7, V8, V9, V10, V11};
-ghost use Rattle.judge.specs.Points.{IsPoint, case_of, fact_asked};
-ghost use Rattle.reasons.specs.Keeping.{ArrivesBy, ArrivesWith, IsLowerIfListed, KeepsCallHere, KeepsCallsHere, KeepsHere};
-ghost use Rattle.reasons.specs.Points.{BreaksAs, CallBreaksAs, MissesAs, counts_lines};
-
 use crate::filter::ReasonFilter;
-use crate::outcomes::{misses, misses_here};
+use crate::outcomes::misses;
 use crate::violation::{CallViolation, LandingFailure, Violation};
 use crate::workspace::WordWorkspace;
-use domain::Rules;
+use domain::{ReturnOffsets, Rules};
 use facts::{Condition, FactSource};
 use judge::{Claims, NarrowedPoint, OffsetExits, RoutineClaim};
 use std::alloc::Allocator;
@@ -23,9 +12,7 @@ use word12::Word;
 use wordset::WordSet;
 
 /// The last address that may be a site of a call by the rules.
-fn last_site(rules: &Rules) -> usize
-    ensures { result ≡ last_site (rules_of rules.now) }
-{
+fn last_site(rules: &Rules) -> usize {
     match rules {
         Rules::OfEquations => 0o7767,
         Rules::OfSums => 0o7776,
@@ -38,11 +25,7 @@ pub(crate) fn calls_wrongly<A: Allocator, C: Claims, M: Allocator>(
     sought: ReasonFilter,
     word: Word,
     rooms: &mut WordWorkspace<M>,
-) -> Option<Violation>
-    requires { IsPoint C.claims point.now }
-    ensures found { IfSome result (BreaksAs sought C.claims point.now V7 word) }
-    ensures none { IfNone result (KeepsHere (counts_lines sought) C.claims point.now V7 word) }
-{
+) -> Option<Violation> {
     if point.place.steps_call_pointer(point.at, word) {
         return Some(Violation::CallsThroughIndex);
     }
@@ -56,12 +39,7 @@ pub(crate) fn first_call<A: Allocator, C: Claims, M: Allocator>(
     condition: Condition,
     word: Word,
     rooms: &mut WordWorkspace<M>,
-) -> Option<Violation>
-    requires { IsPoint C.claims point.now }
-    ensures found { IfSome result (BreaksAs sought C.claims point.now condition word) }
-    ensures none { IfNone result
-        (KeepsCallsHere (counts_lines sought) C.claims point.now condition word) }
-{
+) -> Option<Violation> {
     let mut callees = WordSet::empty();
     point
         .place
@@ -81,12 +59,7 @@ fn call_breaks<A: Allocator, C: Claims, M: Allocator>(
     condition: Condition,
     entry: Word,
     rooms: &mut WordWorkspace<M>,
-) -> Option<CallViolation>
-    requires { IsPoint C.claims point.now }
-    ensures found { IfSome result (CallBreaksAs sought C.claims point.now condition entry) }
-    ensures none { IfNone result
-        (KeepsCallHere (counts_lines sought) C.claims point.now condition entry) }
-{
+) -> Option<CallViolation> {
     match condition {
         Condition::V7 => may_not_call(point, sought, entry),
         Condition::V8 => is_not_covered(point, sought, entry),
@@ -102,45 +75,21 @@ fn may_not_call<A: Allocator, C: Claims>(
     point: &NarrowedPoint<'_, A, C>,
     sought: ReasonFilter,
     entry: Word,
-) -> Option<CallViolation>
-    requires { IsPoint C.claims point.now }
-    ensures found { IfSome result (CallBreaksAs sought C.claims point.now V7 entry) }
-    ensures none { IfNone result
-        (KeepsCallHere (counts_lines sought) C.claims point.now V7 entry) }
-{
+) -> Option<CallViolation> {
     if !point.place.declaration.is_entry(entry) {
         return Some(CallViolation::NoEntry);
     }
-    if is_unlisted(point, sought, entry) {
+    if sought.counts_lines() && point.claims.routine(entry).is_none() {
         return Some(CallViolation::NotListed);
     }
-    is_not_lower(point, sought, entry)
-}
-
-/// Whether an entry has no routine line, where lines count.
-fn is_unlisted<A: Allocator, C: Claims>(
-    point: &NarrowedPoint<'_, A, C>,
-    sought: ReasonFilter,
-    entry: Word,
-) -> bool
-    ensures yes { result ≡ true → (counts_lines sought ≡ true) ×
-        ((case_of C.claims point.now).certificate.listed entry ≡ false) }
-    ensures no { result ≡ false → counts_lines sought ≡ true →
-        (case_of C.claims point.now).certificate.listed entry ≡ true }
-{
-    sought.counts_lines() && point.claims.routine(entry).is_none()
+    is_not_lower(point, entry)
 }
 
 /// Why the rank of a listed callee is not lower than that of the running routine, if that is listed.
 fn is_not_lower<A: Allocator, C: Claims>(
     point: &NarrowedPoint<'_, A, C>,
-    sought: ReasonFilter,
     entry: Word,
-) -> Option<CallViolation>
-    ensures found { IfSome result (CallBreaksAs sought C.claims point.now V7 entry) }
-    ensures none { IfNone result (IsLowerIfListed (case_of C.claims point.now).certificate
-        point.now.place.routine entry) }
-{
+) -> Option<CallViolation> {
     let callee = point.claims.routine(entry)?;
     let running = point.place.routine?;
     let own = point.claims.routine(running)?;
@@ -155,12 +104,7 @@ fn is_not_covered<A: Allocator, C: Claims>(
     point: &NarrowedPoint<'_, A, C>,
     sought: ReasonFilter,
     entry: Word,
-) -> Option<CallViolation>
-    requires { IsPoint C.claims point.now }
-    ensures found { IfSome result (CallBreaksAs sought C.claims point.now V8 entry) }
-    ensures none { IfNone result
-        (KeepsCallHere (counts_lines sought) C.claims point.now V8 entry) }
-{
+) -> Option<CallViolation> {
     if !sought.counts_lines() {
         return None;
     }
@@ -173,10 +117,8 @@ fn is_not_covered<A: Allocator, C: Claims>(
     if !caller.writes.contains(entry) {
         return Some(CallViolation::EntryNotWritten);
     }
-    match callee.writes.minus(&caller.writes).first_from(0) {
-        None => None,
-        Some(cell) => Some(CallViolation::Writes(cell)),
-    }
+    let more = callee.writes.minus(&caller.writes);
+    more.first_from(0).map(CallViolation::Writes)
 }
 
 /// Why an entry may not be called from the address.
@@ -184,19 +126,11 @@ fn is_no_site<A: Allocator, C: Claims>(
     point: &NarrowedPoint<'_, A, C>,
     sought: ReasonFilter,
     entry: Word,
-) -> Option<CallViolation>
-    requires { IsPoint C.claims point.now }
-    ensures found { IfSome result (CallBreaksAs sought C.claims point.now V9 entry) }
-    ensures none { IfNone result
-        (KeepsCallHere (counts_lines sought) C.claims point.now V9 entry) }
-{
+) -> Option<CallViolation> {
     if point.at.index() > last_site(&point.place.rules) {
         return Some(CallViolation::TooHigh);
     }
-    if !sought.counts_lines() {
-        return None;
-    }
-    if point.claimed(entry).sites.contains(point.at) {
+    if !sought.counts_lines() || point.claimed(entry).sites.contains(point.at) {
         return None;
     }
     Some(CallViolation::NoSite)
@@ -208,27 +142,18 @@ fn does_not_enter<A: Allocator, C: Claims, M: Allocator>(
     sought: ReasonFilter,
     entry: Word,
     rooms: &mut WordWorkspace<M>,
-) -> Option<CallViolation>
-    requires { IsPoint C.claims point.now }
-    ensures found { IfSome result (CallBreaksAs sought C.claims point.now V10 entry) }
-    ensures none { IfNone result
-        (KeepsCallHere (counts_lines sought) C.claims point.now V10 entry) }
-{
+) -> Option<CallViolation> {
     let WordWorkspace { next, left, .. } = rooms;
-    let callee = point.claimed(entry);
-    point.put_called_from(next);
-    match misses(
-        point,
-        sought,
-        &Some(entry),
-        &callee.sites,
-        entry.increment(),
-        next,
-        left,
-    ) {
-        None => None,
-        Some(landing) => Some(CallViolation::Enters(landing)),
-    }
+    point.fact.is_within_room();
+    next.copy_from(point.fact);
+    next.set_sites(&WordSet::one(point.at));
+    let mut offsets = ReturnOffsets::none();
+    offsets.insert(0);
+    next.set_offsets(offsets);
+    let sites = point.claimed(entry).sites;
+    let owner = Some(entry);
+    let failure = misses(point, sought, &owner, &sites, entry.increment(), next, left)?;
+    Some(CallViolation::Enters(failure))
 }
 
 /// Why the run does not land after a return that is claimed of an entry.
@@ -237,12 +162,7 @@ fn does_not_return<A: Allocator, C: Claims, M: Allocator>(
     sought: ReasonFilter,
     entry: Word,
     rooms: &mut WordWorkspace<M>,
-) -> Option<CallViolation>
-    requires { IsPoint C.claims point.now }
-    ensures found { IfSome result (CallBreaksAs sought C.claims point.now V11 entry) }
-    ensures none { IfNone result
-        (KeepsCallHere (counts_lines sought) C.claims point.now V11 entry) }
-{
+) -> Option<CallViolation> {
     let callee = point.claimed(entry);
     for offset in 0..64usize {
         if let Some(breach) = does_not_return_by(point, sought, entry, offset, &callee, rooms) {
@@ -261,13 +181,7 @@ fn does_not_return_by<A: Allocator, C: Claims, M: Allocator>(
     callee: &RoutineClaim,
     rooms: &mut WordWorkspace<M>,
 ) -> Option<CallViolation>
-    requires point { IsPoint C.claims point.now }
-    requires offset { offset < 64 }
-    requires sites { words callee.now.sites ≡ (case_of C.claims point.now).certificate.sites entry }
-    requires writes { words callee.now.writes ≡ (case_of C.claims point.now).certificate.writes entry }
-    ensures found { IfSome result (CallBreaksAs sought C.claims point.now V11 entry) }
-    ensures none { IfNone result (ArrivesBy (counts_lines sought) (case_of C.claims point.now)
-        point.now.place.routine point.now.at entry offset (fact_asked point.now)) }
+    requires { offset < 64 }
 {
     let exits = OffsetExits {
         claims: point.claims,
@@ -291,17 +205,7 @@ fn misses_with<A: Allocator, C: Claims, M: Allocator>(
     offset: usize,
     written: &WordSet,
     rooms: &mut WordWorkspace<M>,
-) -> Option<LandingFailure>
-    requires point { IsPoint C.claims point.now }
-    requires offset { offset < 64 }
-    ensures site { IfSome result (λ l. (fact_in_code rooms.old.exit).sites point.now.at ≡ true) }
-    ensures found { IfSome result (MissesAs sought (case_of C.claims point.now) point.now.place.routine
-        (plus (point.now.at + 1) offset) (joined (case_of C.claims point.now).certificate.rules
-        (fact_asked point.now) (fact_in_code rooms.old.exit) (words written.now))) }
-    ensures none { IfNone result (ArrivesWith (counts_lines sought) (case_of C.claims point.now)
-        point.now.place.routine point.now.at (words written.now) offset (fact_asked point.now)
-        (fact_in_code rooms.old.exit)) }
-{
+) -> Option<LandingFailure> {
     let WordWorkspace {
         exit,
         next,
@@ -317,5 +221,14 @@ fn misses_with<A: Allocator, C: Claims, M: Allocator>(
     exit.is_within_room();
     next.take_joined(&point.place.rules, point.fact, exit, written);
     let at = point.at.increment().add(Word::from_index(offset));
-    misses_here(point, sought, at, next, left)
+    let owner = &point.place.routine;
+    misses(
+        point,
+        sought,
+        owner,
+        &point.body.claim.sites,
+        at,
+        next,
+        left,
+    )
 }

@@ -1,8 +1,5 @@
 //! Which reasons are looked for.
 
-ghost use Rattle.std.specs.Prelude.{◌≡◌};
-ghost use Rattle.reasons.specs.Points.{counts_lines};
-
 /// Which reasons are looked for.
 #[derive(Clone, Copy)]
 pub(crate) enum ReasonFilter {
@@ -14,9 +11,7 @@ pub(crate) enum ReasonFilter {
 
 impl ReasonFilter {
     /// Whether a line that is missing or too narrow counts among the reasons.
-    pub(crate) fn counts_lines(self) -> bool
-        ensures { result ≡ counts_lines self }
-    {
+    pub(crate) fn counts_lines(self) -> bool {
         match self {
             ReasonFilter::Any => true,
             ReasonFilter::NotOfLines => false,

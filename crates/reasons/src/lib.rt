@@ -1,5 +1,5 @@
 //! Why a condition on a certificate fails: the cell, the word, the set, the link, the sum, the chain, the
-//! rank, the site or the offset that breaks it.
+//! rank, the site or the offset that breaks it. What is told is tested and not proved, and no verdict rests on it.
 #![tactic(auto)]
 
 mod calls;
@@ -7,7 +7,6 @@ mod counterexample;
 mod entries;
 mod filter;
 mod landing;
-pub mod laws;
 mod lines;
 mod outcomes;
 mod reason;

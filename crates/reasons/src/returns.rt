@@ -1,13 +1,5 @@
 //! What a return violates.
 
-ghost use Rattle.std.specs.Prelude.{◌≡◌, ◌<◌, IfNone, IfSome, Some};
-ghost use Rattle.facts.specs.declared.Condition.TheVariants.{V12};
-ghost use Rattle.judge.specs.Landing.{LandsAtExit};
-ghost use Rattle.judge.specs.Points.{IsPoint, case_of, fact_asked};
-ghost use Rattle.reasons.specs.Keeping.{KeepsHere, ReturnsBy, ReturnsThrough};
-ghost use Rattle.reasons.specs.Landing.{MissesExit};
-ghost use Rattle.reasons.specs.Points.{BreaksAs, ReturnBreaksAs, counts_lines};
-
 use crate::filter::ReasonFilter;
 use crate::landing::what_is_left;
 use crate::violation::{LandingFailure, ReturnViolation, Violation};
@@ -22,16 +14,10 @@ pub(crate) fn returns_wrongly<A: Allocator, C: Claims, M: Allocator>(
     sought: ReasonFilter,
     word: Word,
     rooms: &mut WordWorkspace<M>,
-) -> Option<Violation>
-    requires { IsPoint C.claims point.now }
-    ensures found { IfSome result (BreaksAs sought C.claims point.now V12 word) }
-    ensures none { IfNone result (KeepsHere (counts_lines sought) C.claims point.now V12 word) }
-{
+) -> Option<Violation> {
     let entry = point.place.returned_entry(point.at, word)?;
-    match return_breaks(point, sought, entry, rooms) {
-        None => None,
-        Some(breach) => Some(Violation::Returns(entry, breach)),
-    }
+    let breach = return_breaks(point, sought, entry, rooms)?;
+    Some(Violation::Returns(entry, breach))
 }
 
 /// What a return through an entry violates.
@@ -40,12 +26,7 @@ fn return_breaks<A: Allocator, C: Claims, M: Allocator>(
     sought: ReasonFilter,
     entry: Word,
     rooms: &mut WordWorkspace<M>,
-) -> Option<ReturnViolation>
-    requires { IsPoint C.claims point.now }
-    ensures found { IfSome result (ReturnBreaksAs sought C.claims point.now entry) }
-    ensures none { IfNone result (ReturnsThrough (counts_lines sought) (case_of C.claims point.now)
-        point.now.place.routine (fact_asked point.now) entry) }
-{
+) -> Option<ReturnViolation> {
     if !point.is_own(entry) {
         return Some(ReturnViolation::OtherRoutine);
     }
@@ -65,30 +46,20 @@ fn returns_by<A: Allocator, C: Claims, M: Allocator>(
     offset: usize,
     rooms: &mut WordWorkspace<M>,
 ) -> Option<ReturnViolation>
-    requires point { IsPoint C.claims point.now }
-    requires own { point.now.place.routine ≡ Some entry }
-    requires offset { offset < 64 }
-    ensures found { IfSome result (ReturnBreaksAs sought C.claims point.now entry) }
-    ensures none { IfNone result (ReturnsBy (counts_lines sought) (case_of C.claims point.now) entry
-        (fact_asked point.now) offset) }
+    requires { offset < 64 }
 {
     if !point.fact.offsets().contains(offset) {
         return None;
     }
-    if !point
-        .place
-        .declaration
-        .has_offset(entry, Word::from_index(offset))
-    {
+    let declaration = point.place.declaration;
+    if !declaration.has_offset(entry, Word::from_index(offset)) {
         return Some(ReturnViolation::NotDeclared(offset));
     }
     if !sought.counts_lines() {
         return None;
     }
-    match misses_exits(point, entry, offset, rooms) {
-        None => None,
-        Some(landing) => Some(ReturnViolation::NotAllowed(offset, landing)),
-    }
+    let failure = misses_exits(point, entry, offset, rooms)?;
+    Some(ReturnViolation::NotAllowed(offset, failure))
 }
 
 /// Why the fact does not land among the exits of the running routine for an offset, if it does not.
@@ -98,11 +69,7 @@ fn misses_exits<A: Allocator, C: Claims, M: Allocator>(
     offset: usize,
     rooms: &mut WordWorkspace<M>,
 ) -> Option<LandingFailure>
-    requires point { IsPoint C.claims point.now }
-    requires own { point.now.place.routine ≡ Some entry }
-    requires offset { offset < 64 }
-    ensures found { IfSome result (MissesExit (case_of C.claims point.now) entry offset (fact_asked point.now)) }
-    ensures none { IfNone result (LandsAtExit (case_of C.claims point.now) entry offset (fact_asked point.now)) }
+    requires { offset < 64 }
 {
     let WordWorkspace { next, left, .. } = rooms;
     let RemainderWorkspace {

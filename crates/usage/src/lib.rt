@@ -1,7 +1,7 @@
-//! Which parts of a declaration the facts of a certificate use, and what routines return with by them.
+//! Which parts of a declaration the facts of a certificate use, and what routines return with by them. Both are tested and not
+//! proved: a declaration that is narrowed by them is judged again.
 #![tactic(auto)]
 
-pub mod laws;
 mod returns;
 mod unused;
 mod uses;

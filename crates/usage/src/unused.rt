@@ -1,14 +1,5 @@
 //! What of a declaration is wider than a certificate needs.
 
-ghost use Rattle.std.specs.Prelude.{ℕ, ◌≡◌, ◌<◌, ◌==◌, ◌&&◌, ◌||◌, ◌↔◌, IsTrue, false, true};
-ghost use Rattle.wordset.specs.Lanes.{words};
-ghost use Rattle.certificate_lines.specs.CertificateInCode.{claims};
-ghost use Rattle.declaration.specs.DeclarationInCode.{meaning};
-ghost use Rattle.judge.specs.Judged.{judged};
-ghost use Rattle.usage.specs.Uses.{IsUsed};
-ghost use Rattle.usage.specs.Unused.{IsOnList, IsUnused, MayBeUsed};
-ghost use Rattle.usage.specs.declared.uses.Use.TheVariants.{Abandon, Call, Execute, Halt, Move, Read, Write};
-
 use crate::uses::{Use, used};
 use bin_tape::Image;
 use certificate::Certificate;
@@ -36,54 +27,19 @@ pub struct Surplus {
     pub unmoved: WordSet,
 }
 
-/// Whether a cell is on the list of reads, if there is one.
-fn is_on_list<D: Allocator>(declaration: &Declaration<D>, cell: Word) -> bool
-    ensures { IsTrue result ↔ IsOnList (meaning declaration.now) cell }
-{
-    match declaration.reads() {
-        None => false,
-        Some(cells) => cells.contains(cell),
-    }
-}
-
 /// Whether a declaration says of a cell that it may be used so.
-fn may_be_used<D: Allocator>(way: Use, declaration: &Declaration<D>, cell: Word) -> bool
-    ensures { IsTrue result ↔ MayBeUsed way (meaning declaration.now) cell }
-{
+fn may_be_used<D: Allocator>(way: Use, declaration: &Declaration<D>, cell: Word) -> bool {
     match way {
         Use::Execute => declaration.owner_of(cell).is_some(),
         Use::Write => declaration.is_variable(cell),
-        Use::Read => is_on_list(declaration, cell),
+        Use::Read => match declaration.reads() {
+            None => false,
+            Some(listed) => listed.contains(cell),
+        },
         Use::Call => declaration.is_entry(cell),
         Use::Halt => declaration.is_stop(cell) || declaration.is_pause(cell),
         Use::Abandon => declaration.is_abandon(cell),
         Use::Move => declaration.may_move(cell),
-    }
-}
-
-/// Whether a cell may be used so by a declaration and is not one of those that are.
-fn is_unused<D: Allocator>(
-    way: Use,
-    declaration: &Declaration<D>,
-    used: &WordSet,
-    cell: Word,
-) -> bool
-    ensures yes { result ≡ true → MayBeUsed way (meaning declaration.now) cell }
-    ensures never { result ≡ true → words used.now cell ≡ false }
-    ensures no { MayBeUsed way (meaning declaration.now) cell → words used.now cell ≡ false → result ≡ true }
-{
-    if used.contains(cell) {
-        return false;
-    }
-    may_be_used(way, declaration, cell)
-}
-
-/// Adds a cell to a set, if it is chosen.
-fn add_if(chosen: bool, cell: Word, cells: &mut WordSet)
-    ensures { (v : ℕ) → words cells.new v ≡ (words cells.old v || (chosen && (v == cell))) }
-{
-    if chosen {
-        cells.insert(cell);
     }
 }
 
@@ -93,16 +49,14 @@ fn unused<A: Allocator, D: Allocator>(
     image: &Image,
     declaration: &Declaration<D>,
     certificate: &Certificate<A>,
-) -> WordSet
-    ensures { (cell : ℕ) → cell < 4096 → (words result cell ≡ true) ↔
-        IsUnused way (judged image.now declaration.now (claims certificate.now)) cell }
-{
+) -> WordSet {
     let used = used(way, image, declaration, certificate);
     let mut cells = WordSet::empty();
     for index in 0..4096usize {
         let cell = Word::from_index(index);
-        let chosen = is_unused(way, declaration, &used, cell);
-        add_if(chosen, cell, &mut cells);
+        if !used.contains(cell) && may_be_used(way, declaration, cell) {
+            cells.insert(cell);
+        }
     }
     cells
 }
@@ -112,22 +66,7 @@ pub fn surplus_of<A: Allocator, D: Allocator>(
     image: &Image,
     declaration: &Declaration<D>,
     certificate: &Certificate<A>,
-) -> Surplus
-    ensures unexecuted { (cell : ℕ) → cell < 4096 → (words result.unexecuted cell ≡ true) ↔
-        IsUnused Execute (judged image.now declaration.now (claims certificate.now)) cell }
-    ensures unwritten { (cell : ℕ) → cell < 4096 → (words result.unwritten cell ≡ true) ↔
-        IsUnused Write (judged image.now declaration.now (claims certificate.now)) cell }
-    ensures unread { (cell : ℕ) → cell < 4096 → (words result.unread cell ≡ true) ↔
-        IsUnused Read (judged image.now declaration.now (claims certificate.now)) cell }
-    ensures uncalled { (cell : ℕ) → cell < 4096 → (words result.uncalled cell ≡ true) ↔
-        IsUnused Call (judged image.now declaration.now (claims certificate.now)) cell }
-    ensures unhalted { (cell : ℕ) → cell < 4096 → (words result.unhalted cell ≡ true) ↔
-        IsUnused Halt (judged image.now declaration.now (claims certificate.now)) cell }
-    ensures unabandoned { (cell : ℕ) → cell < 4096 → (words result.unabandoned cell ≡ true) ↔
-        IsUnused Abandon (judged image.now declaration.now (claims certificate.now)) cell }
-    ensures unmoved { (cell : ℕ) → cell < 4096 → (words result.unmoved cell ≡ true) ↔
-        IsUnused Move (judged image.now declaration.now (claims certificate.now)) cell }
-{
+) -> Surplus {
     Surplus {
         unexecuted: unused(Use::Execute, image, declaration, certificate),
         unwritten: unused(Use::Write, image, declaration, certificate),

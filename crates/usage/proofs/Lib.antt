@@ -1,5 +1,0 @@
-pub mod UseLemmas
-pub mod RunLemmas
-mod WordLemmas
-mod UnusedLemmas
-mod ReturnLemmas

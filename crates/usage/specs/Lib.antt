@@ -1,4 +1,0 @@
-pub mod Uses
-pub mod Unused
-pub mod Returns
-pub mod Laws

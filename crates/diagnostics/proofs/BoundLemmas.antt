@@ -1,5 +1,5 @@
 -- A fact with a relation of two terms more.
-use Rattle.std.proofs.Common.{ℕ, ◌≡◌, ◌≤◌, List, [], ◌∷◌, ◌++◌, length, refl, sym, subst, arith}
+use Rattle.std.proofs.Common.{◌≡◌, ◌≤◌, List, [], ◌∷◌, ◌++◌, length, sym, subst, arith}
 use Rattle.domain.specs.Locations.{Location}
 use Rattle.domain.specs.Terms.{Sum, difference_of}
 use Rattle.domain.specs.Facts.{Fact, Relation}

@@ -1,9 +1,3 @@
-pub mod PieceLemmas
-pub mod BoundTextLemmas
 pub mod BoundLemmas
 pub mod CheckLemmas
-pub mod LandingLemmas
-pub mod ReasonLemmas
-pub mod TellingLemmas
 pub mod OmissionLemmas
-pub mod FaultTextLemmas

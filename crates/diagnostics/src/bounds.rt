@@ -1,12 +1,5 @@
 //! What is said about a pointer where a search for a certificate is stuck: the words that it may hold there, those that would be
-//! enough, and the last place where fewer were known. That the draft leaves these words to it, and that fewer were known there, is tested,
-//! not proved.
-
-ghost use Rattle.std.specs.Prelude.{◌≡◌, ◌++◌, OnOk, IfSome, IfNone};
-ghost use Rattle.wordset.specs.Lanes.{words};
-ghost use Rattle.declaration.specs.DeclarationInCode.{meaning};
-ghost use Rattle.certificate_lines.specs.CertificateInCode.{claims};
-ghost use Rattle.diagnostics.specs.BoundText.{HasNoPointer, IsPointer, LosesBound, SaysBound, SaysLost, SaysSufficient, SaysTest, place_text, relation_line};
+//! enough, and the last place where fewer were known. All of this is tested, not proved.
 
 mod draft_facts;
 mod losses;
@@ -37,10 +30,7 @@ const ADDRESSES: usize = 4096;
 
 /// The variable by which the instruction at an address refers to memory, if it does, except for a
 /// return.
-fn pointer_at<D: Allocator>(image: &Image, declaration: &Declaration<D>, at: Word) -> Option<Word>
-    ensures found { IfSome result (λ cell. IsPointer image.now (meaning declaration.now) at cell) }
-    ensures none { IfNone result (HasNoPointer image.now (meaning declaration.now) at) }
-{
+fn pointer_at<D: Allocator>(image: &Image, declaration: &Declaration<D>, at: Word) -> Option<Word> {
     let word = image.get(at)?;
     let named = target(word, at);
     if refers_to_memory(word) && refers_indirectly(word) && declaration.is_variable(named) {
@@ -128,10 +118,7 @@ pub fn push_bound<A: Allocator + Copy, L: MessageWriter, D: Allocator, C: Alloca
     declaration: &Declaration<D>,
     draft: &Certificate<C>,
     at: Word,
-) -> Result<(), AllocError>
-    ensures { OnOk result (SaysBound image.now (meaning declaration.now) (claims draft.now) at
-        (L.text text.old) (L.text text.new)) }
-{
+) -> Result<(), AllocError> {
     let Some(pointer) = pointer_at(image, declaration, at) else {
         return Ok(());
     };
@@ -160,10 +147,7 @@ fn push_sufficient<L: MessageWriter, D: Allocator, C: Allocator>(
     at: Word,
     pointer: Word,
     held: &WordSet,
-) -> Result<(), AllocError>
-    ensures { OnOk result (SaysSufficient case.now.image.now (meaning case.now.declaration.now) at pointer
-        (words held.now) (L.text text.old) (L.text text.new)) }
-{
+) -> Result<(), AllocError> {
     if !case.declaration.may_read(pointer) {
         return Ok(());
     }
@@ -186,10 +170,7 @@ fn push_test<L: MessageWriter, D: Allocator, C: Allocator>(
     case: &Case<'_, D, Certificate<C>>,
     at: Word,
     pointer: Word,
-) -> Result<(), AllocError>
-    ensures { OnOk result (SaysTest case.now.image.now (meaning case.now.declaration.now) at pointer
-        (L.text text.old) (L.text text.new)) }
-{
+) -> Result<(), AllocError> {
     match test_of_pointer(case.image, case.declaration, at, pointer) {
         Some(test) => {
             push_place(text, case, b"the skip at ", test)?;
@@ -197,12 +178,9 @@ fn push_test<L: MessageWriter, D: Allocator, C: Allocator>(
                 b" tests a sum that contains the pointer, and could show that the pointer holds only the words that would be enough\n",
             )
         }
-        None => {
-            text.push_text(b"no skip in this body ")?;
-            text.push_text(
-                b"tests a sum that contains the pointer; a test or a mask before this instruction could show that the pointer holds only the words that would be enough\n",
-            )
-        }
+        None => text.push_text(
+            b"no skip in this body tests a sum that contains the pointer; a test or a mask before this instruction could show that the pointer holds only the words that would be enough\n",
+        ),
     }
 }
 
@@ -215,22 +193,19 @@ fn push_lost<A: Allocator + Copy, L: MessageWriter, D: Allocator, C: Allocator>(
     known: &mut DraftFacts<'_, C>,
     pointer: Word,
     at: Word,
-) -> Result<(), AllocError>
-    ensures { OnOk result (SaysLost case.now.image.now (meaning case.now.declaration.now) pointer
-        (L.text text.old) (L.text text.new)) }
-{
+) -> Result<(), AllocError> {
     let Some(lost) = lost_before(alloc, case, known, pointer, at)? else {
         return Ok(());
     };
-    if lost.loss != PrecisionLoss::Meeting {
-        return push_loss(text, case, pointer, &lost);
+    if lost.loss == PrecisionLoss::Meeting {
+        let found = lost_relation(alloc, case, pointer, lost.from, lost.to)?;
+        if let Some((relation, at)) = found {
+            return push_relation(text, case, &relation, at);
+        }
     }
-    let (from, head) = (lost.from, lost.to);
-    let found = lost_relation(alloc, case, pointer, from, head)?;
-    match found {
-        Some((relation, at)) => push_relation(text, case, pointer, &relation, at),
-        None => push_loss(text, case, pointer, &lost),
-    }
+    push_text_and_address(text, b"the bound of ", pointer)?;
+    push_place(text, case, b" was lost at ", lost.from)?;
+    push_pieces(text, &[Text(b": "), Text(lost.loss.told()), Text(b"\n")])
 }
 
 /// Adds an address behind a few words, and the name of the word there.
@@ -239,10 +214,7 @@ fn push_place<L: MessageWriter, D: Allocator, C: Allocator>(
     case: &Case<'_, D, Certificate<C>>,
     before: &[u8],
     at: Word,
-) -> Result<(), AllocError>
-    ensures { OnOk result (L.text text.new ≡
-        L.text text.old ++ place_text (meaning case.now.declaration.now) case.now.image.now before.now at) }
-{
+) -> Result<(), AllocError> {
     push_pieces(text, &[Text(before), Address(at), Text(b" ")])?;
     match case.image.get(at) {
         Some(word) => text.push_text(name(word, case.declaration.profile()).as_str().as_bytes()),
@@ -254,18 +226,14 @@ fn push_place<L: MessageWriter, D: Allocator, C: Allocator>(
 fn push_relation<L: MessageWriter, D: Allocator, C: Allocator>(
     text: &mut L,
     case: &Case<'_, D, Certificate<C>>,
-    pointer: Word,
     relation: &Relation,
     at: Word,
-) -> Result<(), AllocError>
-    ensures { OnOk result (L.text text.new ≡ L.text text.old ++ relation_line
-        (meaning case.now.declaration.now) case.now.image.now pointer relation.now.cell relation.now.more at) }
-{
+) -> Result<(), AllocError> {
     push_pieces(
         text,
         &[
             Text(b"the word in "),
-            Address(pointer),
+            Address(relation.pointer),
             Text(b" is the word in "),
             Address(relation.cell),
             Text(b" plus "),
@@ -274,19 +242,4 @@ fn push_relation<L: MessageWriter, D: Allocator, C: Allocator>(
     )?;
     push_place(text, case, b"; this is known up to ", at)?;
     text.push_text(b", and lost there\n")
-}
-
-/// Adds where the bound of a pointer was lost, and why.
-fn push_loss<L: MessageWriter, D: Allocator, C: Allocator>(
-    text: &mut L,
-    case: &Case<'_, D, Certificate<C>>,
-    pointer: Word,
-    lost: &LostBound,
-) -> Result<(), AllocError>
-    ensures { OnOk result (LosesBound case.now.image.now (meaning case.now.declaration.now) pointer
-        (L.text text.old) (L.text text.new)) }
-{
-    push_text_and_address(text, b"the bound of ", pointer)?;
-    push_place(text, case, b" was lost at ", lost.from)?;
-    push_pieces(text, &[Text(b": "), Text(lost.loss.told()), Text(b"\n")])
 }

@@ -1,9 +1,5 @@
 //! The lines for people below the line of a fault: which file, which place or line, and what may stand there; and
-//! what a declaration leaves out. Which form a line is to have is tested, not proved.
-
-ghost use Rattle.std.specs.Prelude.{OnOk};
-ghost use Rattle.std.specs.String.{string_bytes};
-ghost use Rattle.diagnostics.specs.FaultText.{SaysCertificate, SaysEvents, SaysFault, SaysFile, SaysLine, SaysMore};
+//! what a declaration leaves out. How they read is tested, not proved.
 
 mod declarations;
 mod forms;
@@ -20,7 +16,6 @@ pub(crate) use omissions::is_in_body;
 pub use omissions::{push_omissions, push_stuck_remedy};
 use peripherals::{EventsFault, NoMemory};
 use std::alloc::Allocator;
-use std::fmt::Write;
 
 /// What is said of a line of a certificate that is out of order.
 const ORDER: &str =
@@ -44,10 +39,7 @@ pub fn push_fault<A: Allocator>(
     text: &mut String<A>,
     fault: Fault,
     file: &FaultyFile<'_>,
-) -> Result<(), NoMemory>
-    ensures { OnOk result (SaysFault fault file.now.name.now
-        (string_bytes text.old) (string_bytes text.new)) }
-{
+) -> Result<(), NoMemory> {
     match fault {
         Fault::Tape(fault) => tapes::push_tape(text, fault, file),
         Fault::Declared(fault) => declarations::push_declaration(text, fault, file),
@@ -62,19 +54,9 @@ pub(crate) fn push_said<A: Allocator>(
     text: &mut String<A>,
     file: &FaultyFile<'_>,
     said: &str,
-) -> Result<(), NoMemory>
-    ensures { OnOk result (SaysFile file.now.name.now
-        (string_bytes text.old) (string_bytes text.new)) }
-{
+) -> Result<(), NoMemory> {
     let name = file.name;
     writeln!(text, "{name}: {said}").map_err(|_| NoMemory)
-}
-
-/// Adds the line that says which form a line has.
-pub(crate) fn push_form<A: Allocator>(text: &mut String<A>, form: &str) -> Result<(), NoMemory>
-    ensures { OnOk result (SaysMore (string_bytes text.old) (string_bytes text.new)) }
-{
-    writeln!(text, "{form}").map_err(|_| NoMemory)
 }
 
 /// Adds a line of a file, with its number, and the line that says which form it is to have.
@@ -83,12 +65,9 @@ pub(crate) fn push_formed<A: Allocator>(
     file: &FaultyFile<'_>,
     number: usize,
     form: &str,
-) -> Result<(), NoMemory>
-    ensures { OnOk result (SaysLine file.now.name.now number
-        (string_bytes text.old) (string_bytes text.new)) }
-{
+) -> Result<(), NoMemory> {
     push_numbered(text, file, number)?;
-    push_form(text, form)
+    writeln!(text, "{form}").map_err(|_| NoMemory)
 }
 
 /// Adds the lines on a fault of a certificate.
@@ -96,10 +75,7 @@ fn push_certificate<A: Allocator>(
     text: &mut String<A>,
     fault: CertificateFault,
     file: &FaultyFile<'_>,
-) -> Result<(), NoMemory>
-    ensures { OnOk result (SaysCertificate fault file.now.name.now
-        (string_bytes text.old) (string_bytes text.new)) }
-{
+) -> Result<(), NoMemory> {
     match fault {
         CertificateFault::Version if file.bytes.is_empty() => {
             push_said(text, file, "it is empty: is it a certificate?")
@@ -132,10 +108,7 @@ fn push_events<A: Allocator>(
     text: &mut String<A>,
     fault: EventsFault,
     file: &FaultyFile<'_>,
-) -> Result<(), NoMemory>
-    ensures { OnOk result (SaysEvents fault file.now.name.now
-        (string_bytes text.old) (string_bytes text.new)) }
-{
+) -> Result<(), NoMemory> {
     match fault {
         EventsFault::BadLine(number) => {
             let form = event_form(line_of(file.bytes, number));

@@ -1,9 +1,5 @@
 //! Texts for people, piece by piece.
 
-ghost use Rattle.std.specs.Prelude.{◌≡◌, ◌++◌, decimal, OnOk};
-ghost use Rattle.command_parts.specs.LinkText.{link_text};
-ghost use Rattle.diagnostics.specs.Pieces.{around, offset_text, piece_text, pieces_text};
-
 use command_parts::message::MessageWriter;
 use itoa::Buffer;
 use std::alloc::AllocError;
@@ -29,42 +25,26 @@ pub(crate) enum Piece<'a> {
 }
 
 /// Adds a number in decimal digits.
-fn push_number<L: MessageWriter>(text: &mut L, number: usize) -> Result<(), AllocError>
-    ensures { OnOk result (L.text text.new ≡ L.text text.old ++ decimal number) }
-{
+fn push_number<L: MessageWriter>(text: &mut L, number: usize) -> Result<(), AllocError> {
     let mut digits = Buffer::new();
     text.push_text(digits.format(number).as_bytes())
 }
 
-/// Adds an offset in octal digits.
-fn push_offset<L: MessageWriter>(text: &mut L, offset: usize) -> Result<(), AllocError>
-    ensures { OnOk result (L.text text.new ≡ L.text text.old ++ offset_text offset) }
-{
-    if offset >= 8 {
-        push_number(text, offset / 8)?;
-    }
-    push_number(text, offset % 8)
-}
-
-/// A link as a digit.
-fn digit(link: Link) -> &'static [u8]
-    ensures { result.now ≡ link_text link }
-{
-    if link.is_set() { b"1" } else { b"0" }
-}
-
 /// Adds a piece.
-fn push_piece<L: MessageWriter>(text: &mut L, piece: &Piece<'_>) -> Result<(), AllocError>
-    ensures { OnOk result (L.text text.new ≡ L.text text.old ++ piece_text piece.now) }
-{
+fn push_piece<L: MessageWriter>(text: &mut L, piece: &Piece<'_>) -> Result<(), AllocError> {
     match piece {
         Piece::Text(bytes) => text.push_text(bytes),
         Piece::Address(at) => text.push_address(*at),
         Piece::Advised(at) => text.push_advised_address(*at),
         Piece::Octal(word) => text.push_text(&word.to_octal()),
-        Piece::Digit(link) => text.push_text(digit(*link)),
+        Piece::Digit(link) => text.push_text(if link.is_set() { b"1" } else { b"0" }),
         Piece::Decimal(number) => push_number(text, *number),
-        Piece::Offset(offset) => push_offset(text, *offset),
+        Piece::Offset(offset) => {
+            if *offset >= 8 {
+                push_number(text, *offset / 8)?;
+            }
+            push_number(text, *offset % 8)
+        }
     }
 }
 
@@ -72,9 +52,7 @@ fn push_piece<L: MessageWriter>(text: &mut L, piece: &Piece<'_>) -> Result<(), A
 pub(crate) fn push_pieces<L: MessageWriter>(
     text: &mut L,
     pieces: &[Piece<'_>],
-) -> Result<(), AllocError>
-    ensures { OnOk result (L.text text.new ≡ L.text text.old ++ pieces_text pieces.now) }
-{
+) -> Result<(), AllocError> {
     for piece in pieces {
         push_piece(text, piece)?;
     }
@@ -82,15 +60,12 @@ pub(crate) fn push_pieces<L: MessageWriter>(
 }
 
 /// Adds a text, an address and a text.
-pub(crate) fn push_around<'a, L: MessageWriter>(
+pub(crate) fn push_around<L: MessageWriter>(
     text: &mut L,
-    before: &'a [u8],
+    before: &[u8],
     at: Word,
-    after: &'a [u8],
-) -> Result<(), AllocError>
-    ensures { OnOk result
-        (L.text text.new ≡ L.text text.old ++ around before.now at after.now) }
-{
+    after: &[u8],
+) -> Result<(), AllocError> {
     push_pieces(
         text,
         &[Piece::Text(before), Piece::Address(at), Piece::Text(after)],

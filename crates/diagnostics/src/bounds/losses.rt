@@ -43,7 +43,7 @@ impl PrecisionLoss {
 }
 
 /// The operation of a word, if it is a memory reference.
-fn operation(word: Word) -> Option<Operation> {
+pub(crate) fn operation(word: Word) -> Option<Operation> {
     refers_to_memory(word).then_some(Operation::of(word))
 }
 

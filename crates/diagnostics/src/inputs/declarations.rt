@@ -1,16 +1,11 @@
 //! What is said about a declaration that is refused.
 
-ghost use Rattle.std.specs.Prelude.{OnOk};
-ghost use Rattle.std.specs.String.{string_bytes};
-ghost use Rattle.diagnostics.specs.FaultText.{SaysAddress, SaysDeclared};
-
 use crate::inputs::forms::declaration_form;
 use crate::inputs::lines::line_of;
 use crate::inputs::{FaultyFile, push_formed, push_said};
 use declaration::DeclarationFault;
 use peripherals::NoMemory;
 use std::alloc::Allocator;
-use std::fmt::Write;
 use word12::Word;
 
 /// What is said of a declaration with this fault, or of the line or the address that has it. What is said of a line with no valid form
@@ -41,27 +36,25 @@ pub(crate) fn push_declaration<A: Allocator>(
     text: &mut String<A>,
     fault: DeclarationFault,
     file: &FaultyFile<'_>,
-) -> Result<(), NoMemory>
-    ensures { OnOk result (SaysDeclared fault file.now.name.now
-        (string_bytes text.old) (string_bytes text.new)) }
-{
+) -> Result<(), NoMemory> {
     let said = said_of(&fault);
     match fault {
         DeclarationFault::BadLine(number) => {
             let form = declaration_form(line_of(file.bytes, number));
             push_formed(text, file, number, form)
         }
-        DeclarationFault::TwoStarts(number) => push_formed(text, file, number, said),
-        DeclarationFault::TwoProfiles(number) => push_formed(text, file, number, said),
-        DeclarationFault::NoStart => push_said(text, file, said),
-        DeclarationFault::Overlap(at) => push_address(text, file, "", at, said),
+        DeclarationFault::TwoStarts(number) | DeclarationFault::TwoProfiles(number) => {
+            push_formed(text, file, number, said)
+        }
+        DeclarationFault::Overlap(at) | DeclarationFault::Misplaced(at) => {
+            push_address(text, file, "", at, said)
+        }
         DeclarationFault::EntryInAutoIndex(at) => push_address(text, file, "the entry ", at, said),
-        DeclarationFault::StartNotInMain => push_said(text, file, said),
         DeclarationFault::HaltNotInBody(at) => {
             push_address(text, file, "the stop or pause ", at, said)
         }
-        DeclarationFault::Misplaced(at) => push_address(text, file, "", at, said),
-        DeclarationFault::TooMany => push_said(text, file, said),
+        DeclarationFault::NoStart | DeclarationFault::StartNotInMain | DeclarationFault::TooMany =>
+            push_said(text, file, said),
         DeclarationFault::NoMemory => Ok(()),
     }
 }
@@ -73,10 +66,7 @@ fn push_address<A: Allocator>(
     before: &str,
     at: Word,
     said: &str,
-) -> Result<(), NoMemory>
-    ensures { OnOk result (SaysAddress file.now.name.now before.now at
-        (string_bytes text.old) (string_bytes text.new)) }
-{
+) -> Result<(), NoMemory> {
     let name = file.name;
     let cell = at.value();
     writeln!(text, "{name}: {before}{cell:04o}{said}").map_err(|_| NoMemory)

@@ -1,13 +1,8 @@
 //! The lines of a text.
 
-ghost use Rattle.std.specs.Prelude.{OnOk};
-ghost use Rattle.std.specs.String.{string_bytes};
-ghost use Rattle.diagnostics.specs.FaultText.{SaysLine, SaysMore};
-
 use crate::inputs::FaultyFile;
 use peripherals::NoMemory;
 use std::alloc::Allocator;
-use std::fmt::Write;
 
 /// The most characters of a line that are shown.
 const MOST_SHOWN: usize = 100;
@@ -28,7 +23,8 @@ pub(crate) fn first_word(line: &[u8]) -> &[u8] {
         .unwrap_or(b"")
 }
 
-/// Adds a line of a file, with the file's name and its number before it.
+/// Adds a line of a file, with the file's name and its number before it. A byte of the line that is no character is shown as a question
+/// mark.
 ///
 /// # Errors
 ///
@@ -37,20 +33,10 @@ pub fn push_numbered<A: Allocator>(
     text: &mut String<A>,
     file: &FaultyFile<'_>,
     number: usize,
-) -> Result<(), NoMemory>
-    ensures { OnOk result (SaysLine file.now.name.now number
-        (string_bytes text.old) (string_bytes text.new)) }
-{
+) -> Result<(), NoMemory> {
     let name = file.name;
     write!(text, "{name}:{number}: ").map_err(|_| NoMemory)?;
-    push_line(text, line_of(file.bytes, number))
-}
-
-/// Adds the characters of a line, and its end; a byte that is no character is shown as a question mark.
-fn push_line<A: Allocator>(text: &mut String<A>, line: &[u8]) -> Result<(), NoMemory>
-    ensures { OnOk result (SaysMore (string_bytes text.old) (string_bytes text.new)) }
-{
-    for byte in line.iter().take(MOST_SHOWN) {
+    for byte in line_of(file.bytes, number).iter().take(MOST_SHOWN) {
         let is_shown = matches!(*byte, b' '..=b'~' | b'\t');
         let shown = if is_shown { *byte as char } else { '?' };
         text.push(shown).map_err(|_| NoMemory)?;

@@ -1,20 +1,19 @@
-//! What a declaration leaves out, as far as that is seen by the tape and the declaration alone: no
-//! certificate can fix it, if a run comes there.
+//! What a declaration leaves out, as far as that is seen by the tape and the declaration alone: no certificate can fix it, if a run comes
+//! there. What is found is proved to be so; which of the remedies is advised, and how that reads, is tested.
 
-ghost use Rattle.std.specs.Prelude.{◌≡◌, ◌++◌, ℕ, List, Option, Some, IfSome, IfNone, OnOk, codes, false, true};
+ghost use Rattle.std.specs.Prelude.{◌≡◌, ℕ, List, Option, Some, IfSome, IfNone, false, true};
 ghost use Rattle.instruct.specs.Bits.{is_indirect};
 ghost use Rattle.instruct.specs.Instructions.{Dca, Jms, Jmp, instruction_of, kind_of, meaning_of, reference};
 ghost use Rattle.instruct.specs.declared.Instruction.TheVariants.{Memory, Unsupported};
 ghost use Rattle.bin_tape.specs.Image.{word_at};
 ghost use Rattle.declaration.specs.Declaration.{Declaration as Promise, Routine};
 ghost use Rattle.declaration.specs.DeclarationInCode.{meaning, routine_of};
-ghost use Rattle.diagnostics.specs.OmissionText.{IsHalt, IsOmitted, IsOnTape, IsViolation, Means, SaysOmissions, SaysRemedy, Stores, act_text, lack_text, omission_line, remedy_line, remedy_text, stop_for_pause, stuck_line};
-ghost use Rattle.diagnostics.specs.Pieces.{around};
+ghost use Rattle.diagnostics.specs.Omissions.{IsHalt, IsOmitted, IsOnTape, IsViolation, Means, Stores};
 
 use crate::pieces::Piece::{Advised, Text};
-use crate::pieces::push_pieces;
+use crate::pieces::{push_around, push_pieces};
 use bin_tape::Image;
-use command_parts::message::{MessageWriter, push_text_and_address};
+use command_parts::message::MessageWriter;
 use declaration::{Declaration, Owner};
 use instruct::{
     Instruction, Operation, Profile, SkipCondition, decode, halts, refers_indirectly, target,
@@ -322,72 +321,83 @@ fn omitted_at<D: Allocator>(
 }
 
 /// Adds an address within a line of a declaration that is advised, with what comes before it and after it.
-fn push_advice<'a, L: MessageWriter>(
+fn push_advice<L: MessageWriter>(
     text: &mut L,
-    before: &'a [u8],
+    before: &[u8],
     place: Word,
-    after: &'a [u8],
-) -> Result<(), AllocError>
-    ensures { OnOk result
-        (L.text text.new ≡ L.text text.old ++ around before.now place after.now) }
-{
+    after: &[u8],
+) -> Result<(), AllocError> {
     push_pieces(text, &[Text(before), Advised(place), Text(after)])
 }
 
-/// Adds what the instruction at an address does.
-fn push_act<L: MessageWriter>(text: &mut L, at: Word, omission: &Omission) -> Result<(), AllocError>
-    ensures { OnOk result (L.text text.new ≡ L.text text.old ++ act_text at omission.now) }
-{
+/// Adds what the instruction at an address does, and what is not declared of the address that it names, if it names one.
+fn push_act<L: MessageWriter>(
+    text: &mut L,
+    at: Word,
+    omission: &Omission,
+) -> Result<(), AllocError> {
     match omission {
-        Omission::NoWord => text.push_address(at),
+        Omission::NoWord => {
+            push_around(
+                text,
+                b"",
+                at,
+                b" is in a body, but the tape has no word there",
+            )
+        }
         Omission::Unsupported => text.push_text(b"the machine does not implement this word"),
         Omission::OfThe8e => {
             text.push_text(b"of the two machines modelled, only the PDP-8/E implements this word")
         }
         Omission::Halts => text.push_text(b"it halts, and no halt is declared there"),
-        Omission::Stores(cell) | Omission::StoresInEntry(cell) | Omission::StoresInOwn(cell) => {
-            push_text_and_address(text, b"it stores into ", *cell)
+        Omission::Stores(cell) => {
+            push_around(
+                text,
+                b"it stores into ",
+                *cell,
+                b", which is not a variable",
+            )
         }
-        Omission::Steps(cell) => push_text_and_address(text, b"it increments the pointer ", *cell),
+        Omission::StoresInEntry(cell) => {
+            push_around(text, b"it stores into ", *cell, b", which is an entry")
+        }
+        Omission::StoresInOwn(cell) => {
+            push_around(
+                text,
+                b"it stores into ",
+                *cell,
+                b", which is the routine's own entry",
+            )
+        }
+        Omission::Steps(cell) => {
+            push_around(
+                text,
+                b"it increments the pointer ",
+                *cell,
+                b", which is not a variable",
+            )
+        }
         Omission::Calls(place) | Omission::CallsIntoBody(place) | Omission::CallsAutoIndex(place) =>
-            push_text_and_address(text, b"it calls ", *place),
-        Omission::Jumps(place) => push_text_and_address(text, b"it jumps to ", *place),
-        Omission::JumpsAcross(place) => push_text_and_address(text, b"it jumps to ", *place),
-        Omission::JumpsToMain(place) => push_text_and_address(text, b"it jumps to ", *place),
-        Omission::GoesOn(next) => {
-            push_text_and_address(text, b"the operator may continue at ", *next)
+            push_around(text, b"it calls ", *place, b", which is not an entry"),
+        Omission::Jumps(place) | Omission::JumpsAcross(place) | Omission::JumpsToMain(place) => {
+            push_around(
+                text,
+                b"it jumps to ",
+                *place,
+                b", which is not in the same body",
+            )
         }
-        Omission::GoesAcross(next) => {
-            push_text_and_address(text, b"the operator may continue at ", *next)
-        }
-    }
-}
-
-/// What is not declared of the address that the instruction names, if it names one.
-fn lack_of(omission: &Omission) -> &'static [u8]
-    ensures { result.now ≡ lack_text omission.now }
-{
-    match omission {
-        Omission::NoWord => b" is in a body, but the tape has no word there",
-        Omission::Unsupported | Omission::OfThe8e | Omission::Halts => b"",
-        Omission::Stores(_) | Omission::Steps(_) => b", which is not a variable",
-        Omission::StoresInEntry(_) => b", which is an entry",
-        Omission::StoresInOwn(_) => b", which is the routine's own entry",
-        Omission::Calls(_) | Omission::CallsIntoBody(_) | Omission::CallsAutoIndex(_) => {
-            b", which is not an entry"
-        }
-        Omission::Jumps(_)
-        | Omission::JumpsAcross(_)
-        | Omission::JumpsToMain(_)
-        | Omission::GoesOn(_)
-        | Omission::GoesAcross(_) => b", which is not in the same body",
+        Omission::GoesOn(next) | Omission::GoesAcross(next) => push_around(
+            text,
+            b"the operator may continue at ",
+            *next,
+            b", which is not in the same body",
+        ),
     }
 }
 
 /// Adds that a stop may be declared at an address, or a pause.
-fn push_halt_remedy<L: MessageWriter>(text: &mut L, at: Word) -> Result<(), AllocError>
-    ensures { OnOk result (L.text text.new ≡ L.text text.old ++ remedy_text at Omission.Halts) }
-{
+fn push_halt_remedy<L: MessageWriter>(text: &mut L, at: Word) -> Result<(), AllocError> {
     push_pieces(
         text,
         &[
@@ -405,9 +415,7 @@ fn push_stop_for_pause<L: MessageWriter>(
     text: &mut L,
     before: &[u8],
     at: Word,
-) -> Result<(), AllocError>
-    ensures { OnOk result (L.text text.new ≡ L.text text.old ++ stop_for_pause before.now at) }
-{
+) -> Result<(), AllocError> {
     push_pieces(
         text,
         &[
@@ -425,9 +433,7 @@ fn push_remedy<L: MessageWriter>(
     text: &mut L,
     at: Word,
     omission: &Omission,
-) -> Result<(), AllocError>
-    ensures { OnOk result (L.text text.new ≡ L.text text.old ++ remedy_text at omission.now) }
-{
+) -> Result<(), AllocError> {
     match omission {
         Omission::NoWord => text.push_text(
             b"remove it from the body, or end the program before it",
@@ -472,9 +478,7 @@ fn push_remedy_line<L: MessageWriter>(
     text: &mut L,
     at: Word,
     omission: &Omission,
-) -> Result<(), AllocError>
-    ensures { OnOk result (L.text text.new ≡ L.text text.old ++ remedy_line at omission.now) }
-{
+) -> Result<(), AllocError> {
     push_remedy(text, at, omission)?;
     text.push_text(b"\n")
 }
@@ -484,25 +488,9 @@ fn push_omission<L: MessageWriter>(
     text: &mut L,
     at: Word,
     omission: &Omission,
-) -> Result<(), AllocError>
-    ensures { OnOk result (L.text text.new ≡ L.text text.old ++ omission_line at omission.now) }
-{
+) -> Result<(), AllocError> {
     push_act(text, at, omission)?;
-    text.push_text(lack_of(omission))?;
     text.push_text(b": ")?;
-    push_remedy_line(text, at, omission)
-}
-
-/// Adds the line of what to do about what is omitted at an address, if the instruction is intended.
-fn push_intended<L: MessageWriter>(
-    text: &mut L,
-    at: Word,
-    omission: &Omission,
-) -> Result<(), AllocError>
-    ensures { OnOk result (L.text text.new ≡
-        L.text text.old ++ (codes "if this is intended, " ++ remedy_line at omission.now)) }
-{
-    text.push_text(b"if this is intended, ")?;
     push_remedy_line(text, at, omission)
 }
 
@@ -512,9 +500,7 @@ fn push_stuck<L: MessageWriter>(
     text: &mut L,
     at: Word,
     omission: &Omission,
-) -> Result<(), AllocError>
-    ensures { OnOk result (L.text text.new ≡ L.text text.old ++ stuck_line at omission.now) }
-{
+) -> Result<(), AllocError> {
     match omission {
         Omission::NoWord | Omission::OfThe8e => push_omission(text, at, omission),
         Omission::StoresInOwn(_) | Omission::JumpsToMain(_) => Ok(()),
@@ -523,13 +509,16 @@ fn push_stuck<L: MessageWriter>(
         | Omission::CallsAutoIndex(_)
         | Omission::JumpsAcross(_)
         | Omission::GoesAcross(_) => push_remedy_line(text, at, omission),
-        Omission::Stores(_) | Omission::Steps(_) | Omission::Calls(_) => {
-            push_intended(text, at, omission)
+        Omission::Stores(_)
+        | Omission::Steps(_)
+        | Omission::Calls(_)
+        | Omission::CallsIntoBody(_)
+        | Omission::Jumps(_)
+        | Omission::GoesOn(_)
+        | Omission::Halts => {
+            text.push_text(b"if this is intended, ")?;
+            push_remedy_line(text, at, omission)
         }
-        Omission::CallsIntoBody(_) => push_intended(text, at, omission),
-        Omission::Jumps(_) => push_intended(text, at, omission),
-        Omission::GoesOn(_) => push_intended(text, at, omission),
-        Omission::Halts => push_intended(text, at, omission),
     }
 }
 
@@ -545,39 +534,11 @@ pub fn push_stuck_remedy<L: MessageWriter, D: Allocator>(
     image: &Image,
     declaration: &Declaration<D>,
     at: Word,
-) -> Result<(), AllocError>
-    // What is said is so of the instruction at that address: its cell, its address or its entry is the one that is named.
-    ensures { OnOk result (SaysRemedy image.now (meaning declaration.now) at
-        (L.text text.old) (L.text text.new)) }
-{
+) -> Result<(), AllocError> {
     match omitted_at(image, declaration, at) {
         Some(omission) => push_stuck(text, at, &omission),
         None => Ok(()),
     }
-}
-
-/// Adds the lines on what is omitted at an address, behind a heading where they are the first.
-fn push_found<L: MessageWriter, D: Allocator>(
-    text: &mut L,
-    image: &Image,
-    declaration: &Declaration<D>,
-    is_first: bool,
-    at: Word,
-    omission: &Omission,
-) -> Result<(), AllocError>
-    requires { IsOmitted image.now (meaning declaration.now) at omission.now }
-    ensures { (before : List ℕ) →
-        SaysOmissions image.now (meaning declaration.now) before (L.text text.old) →
-        OnOk result (SaysOmissions image.now (meaning declaration.now) before (L.text text.new)) }
-{
-    if is_first {
-        text.push_text(
-            b"with this declaration, no certificate is possible if a run reaches any of these:\n",
-        )?;
-    }
-    text.push_instruction(at, image.get(at), declaration.profile())?;
-    push_omission(text, at, omission)?;
-    Ok(())
 }
 
 /// Adds what the tape and the declaration show by themselves, of at most eight instructions in the order of their
@@ -592,11 +553,7 @@ pub fn push_omissions<L: MessageWriter, D: Allocator>(
     image: &Image,
     declaration: &Declaration<D>,
     left_out: Option<Word>,
-) -> Result<(), AllocError>
-    // Each line that is added is so of the instruction at its address.
-    ensures { OnOk result (SaysOmissions image.now (meaning declaration.now)
-        (L.text text.old) (L.text text.new)) }
-{
+) -> Result<(), AllocError> {
     let mut found = 0usize;
     for index in 0..4096usize {
         let at = Word::from_index(index);
@@ -607,10 +564,15 @@ pub fn push_omissions<L: MessageWriter, D: Allocator>(
             continue;
         };
         if found == MOST {
-            text.push_text(b"and other instructions\n")?;
-            return Ok(());
+            return text.push_text(b"and other instructions\n");
         }
-        push_found(text, image, declaration, found == 0, at, &omission)?;
+        if found == 0 {
+            text.push_text(
+                b"with this declaration, no certificate is possible if a run reaches any of these:\n",
+            )?;
+        }
+        text.push_instruction(at, image.get(at), declaration.profile())?;
+        push_omission(text, at, &omission)?;
         found = found.saturating_add(1);
     }
     Ok(())

@@ -1,15 +1,9 @@
 //! What is said about a tape that is refused.
 
-ghost use Rattle.std.specs.Prelude.{OnOk};
-ghost use Rattle.std.specs.String.{string_bytes};
-ghost use Rattle.diagnostics.specs.FaultText.{SaysChecksum, SaysFrame, SaysTape};
-
 use crate::inputs::{FaultyFile, push_said};
 use bin_tape::TapeFault;
 use peripherals::NoMemory;
 use std::alloc::Allocator;
-use std::fmt::Write;
-use word12::Word;
 
 /// What is said of a tape with this fault, or of the frame that has it.
 fn said_of(fault: &TapeFault) -> &'static str {
@@ -39,43 +33,28 @@ pub(crate) fn push_tape<A: Allocator>(
     text: &mut String<A>,
     fault: TapeFault,
     file: &FaultyFile<'_>,
-) -> Result<(), NoMemory>
-    ensures { OnOk result (SaysTape fault file.now.name.now
-        (string_bytes text.old) (string_bytes text.new)) }
-{
+) -> Result<(), NoMemory> {
     let said = said_of(&fault);
+    let name = file.name;
     match fault {
-        TapeFault::TooLong => push_said(text, file, said),
-        TapeFault::NoWord => push_said(text, file, said),
-        TapeFault::NoOrigin => push_said(text, file, said),
-        TapeFault::BadFrame(place) => push_frame(text, file, place, said),
-        TapeFault::WrongField(place) => push_frame(text, file, place, said),
-        TapeFault::Truncated => push_said(text, file, said),
-        TapeFault::NoChecksum => push_said(text, file, said),
-        TapeFault::Checksum(read, counted) => push_checksum(text, file, read, counted, said),
+        TapeFault::TooLong
+        | TapeFault::NoWord
+        | TapeFault::NoOrigin
+        | TapeFault::Truncated
+        | TapeFault::NoChecksum => push_said(text, file, said),
+        TapeFault::BadFrame(place) | TapeFault::WrongField(place) => {
+            push_frame(text, file, place, said)
+        }
+        TapeFault::Checksum(read, counted) => {
+            let (read, counted) = (read.value(), counted.value());
+            writeln!(
+                text,
+                "{name}: its last word, the checksum, is {read:04o}, and the frames of the words before it add up to {counted:04o}: {said}"
+            )
+            .map_err(|_| NoMemory)
+        }
         TapeFault::ReadFault => Ok(()),
     }
-}
-
-/// Adds the line on a checksum that was read, and another that was counted, and what is said of the tape.
-fn push_checksum<A: Allocator>(
-    text: &mut String<A>,
-    file: &FaultyFile<'_>,
-    read: Word,
-    counted: Word,
-    said: &str,
-) -> Result<(), NoMemory>
-    ensures { OnOk result (SaysChecksum file.now.name.now read counted
-        (string_bytes text.old) (string_bytes text.new)) }
-{
-    let name = file.name;
-    let read = read.value();
-    let counted = counted.value();
-    writeln!(
-        text,
-        "{name}: its last word, the checksum, is {read:04o}, and the frames of the words before it add up to {counted:04o}: {said}"
-    )
-    .map_err(|_| NoMemory)
 }
 
 /// Adds the line of a frame, and what may stand there.
@@ -84,19 +63,14 @@ fn push_frame<A: Allocator>(
     file: &FaultyFile<'_>,
     place: usize,
     said: &str,
-) -> Result<(), NoMemory>
-    ensures { OnOk result (SaysFrame file.now.name.now place
-        (string_bytes text.old) (string_bytes text.new)) }
-{
+) -> Result<(), NoMemory> {
     let name = file.name;
-    match file.bytes.get(place) {
+    let told = match file.bytes.get(place) {
         Some(frame) => writeln!(
             text,
             "{name}: frame {place}, counted from 0, is {frame:03o}: {said}"
-        )
-        .map_err(|_| NoMemory),
-        None => writeln!(text, "{name}: frame {place}, counted from 0: {said}").map_err(
-            |_| NoMemory,
         ),
-    }
+        None => writeln!(text, "{name}: frame {place}, counted from 0: {said}"),
+    };
+    told.map_err(|_| NoMemory)
 }

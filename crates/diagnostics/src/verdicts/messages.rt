@@ -3,12 +3,11 @@
 
 ghost use Rattle.std.specs.Prelude.{IfOk};
 ghost use Rattle.certificate_lines.specs.CertificateInCode.{meaning as text_of};
-ghost use Rattle.command_parts.specs.Messages.{plain};
 ghost use Rattle.declaration.specs.DeclarationInCode.{meaning};
-ghost use Rattle.diagnostics.specs.WhyText.{IsExplanationOf};
+ghost use Rattle.diagnostics.specs.CheckText.{IsVerdictOf};
 
-use crate::verdicts::explanation::push_explanation;
-use crate::verdicts::surplus_text::surplus_after;
+use crate::verdicts::explanation::explanation_of;
+use crate::verdicts::surplus_text::surplus_message;
 use crate::verdicts::verdict::{verdict_line, verdict_status};
 use bin_tape::Image;
 use certificate::Certificate;
@@ -30,7 +29,7 @@ pub struct VerdictMessage<A: Allocator> {
 }
 
 /// What `check` says about a certificate, and why the verdict is no; or, after a yes, what of the declaration is wider than need
-/// be and what routines return with, which is tested and not proved.
+/// be and what routines return with. What is said below the line of the verdict is tested, not proved.
 ///
 /// # Errors
 ///
@@ -42,24 +41,17 @@ pub fn check_message<A: Allocator + Copy, D: Allocator, C: Allocator>(
     declaration: &Declaration<D>,
     certificate: &Certificate<C>,
 ) -> Result<VerdictMessage<A>, AllocError>
-    // The line is that of the verdict. Below it is told why the verdict is no, or what more there is after a yes.
-    ensures { IfOk result (λ message. IsExplanationOf image.now (meaning declaration.now)
-        (text_of certificate.now) message.status message.line.items (plain message.details)) }
+    // The line and the status are those of the verdict.
+    ensures { IfOk result (λ message. IsVerdictOf image.now (meaning declaration.now)
+        (text_of certificate.now) message.status message.line.items) }
 {
     let mut rooms = JudgeWorkspace::boxed(alloc)?;
     let verdict = judge(image, declaration, certificate, &mut rooms);
     let line = verdict_line(alloc, declaration, &verdict)?;
-    let mut details = Message::new(alloc);
-    push_explanation(
-        alloc,
-        &mut details,
-        image,
-        declaration,
-        certificate,
-        &verdict,
-    )?;
-    let more = surplus_after(alloc, image, declaration, certificate, &verdict)?;
-    details.push_message(&more)?;
+    let details = match &verdict {
+        Ok(()) => surplus_message(alloc, image, declaration, certificate)?,
+        Err(refusal) => explanation_of(alloc, image, declaration, certificate, refusal)?,
+    };
     let status = verdict_status(&verdict);
     Ok(VerdictMessage {
         line,

@@ -1,12 +1,6 @@
 //! How the fact by which a condition fails is told from the others at its address.
 
-ghost use Rattle.std.specs.Prelude.{ℕ, ◌≡◌, ◌<◌, List, true, not, length, IfSome};
-ghost use Rattle.std.specs.List.{list_any};
-ghost use Rattle.wordset.specs.Words.{only};
-ghost use Rattle.domain.specs.LocationsInCode.{location_of};
-ghost use Rattle.domain.specs.FactInCode.{fact_in_code};
-ghost use Rattle.domain.specs.Facts as said;
-ghost use Rattle.diagnostics.specs.ReasonContexts.{AreMarks, IsMarked, IsTelling, IsTellingOf, has_mark, is_word, place_in, place_of_reason};
+ghost use Rattle.std.specs.Prelude.{◌<◌, length};
 
 use domain::{Location, Rules};
 use facts::Fact;
@@ -50,81 +44,46 @@ pub struct ReasonContext {
     pub cell: Option<Distinction>,
 }
 
-/// The place, among those at its address, of the fact of which a reason speaks, if it speaks of one.
-fn place_in(reason: &Reason) -> Option<usize>
-    ensures { result ≡ place_in reason.now }
-{
+/// The place, among those at its address, of the fact of which a reason speaks, if there is a reason and it speaks of one.
+pub(crate) fn place_of(reason: &Option<Reason>) -> Option<usize> {
     match reason {
-        Reason::OffsetInMain(index, _)
-        | Reason::SitesInMain(index)
-        | Reason::NoOffset(index, _)
-        | Reason::NoSites(index, _)
-        | Reason::TooManyWords(index, _)
-        | Reason::ByWord(index, _, _) => Some(*index),
-        Reason::AtStart(_)
-        | Reason::LineAtNoEntry
-        | Reason::InNoBody
-        | Reason::RoutineNotListed(_)
-        | Reason::ExitDeniesAssertion(..) => None,
+        Some(
+            Reason::OffsetInMain(index, _)
+            | Reason::SitesInMain(index)
+            | Reason::NoOffset(index, _)
+            | Reason::NoSites(index, _)
+            | Reason::TooManyWords(index, _)
+            | Reason::ByWord(index, _, _),
+        ) => Some(*index),
+        Some(
+            Reason::AtStart(_)
+            | Reason::LineAtNoEntry
+            | Reason::InNoBody
+            | Reason::RoutineNotListed(_)
+            | Reason::ExitDeniesAssertion(..),
+        )
+        | None => None,
     }
 }
 
-/// The same of a reason, if there is one.
-pub(crate) fn place_of(reason: &Option<Reason>) -> Option<usize>
-    ensures { result ≡ place_of_reason reason.now }
-{
-    match reason {
-        None => None,
-        Some(reason) => place_in(reason),
-    }
-}
-
-/// Whether a word is a given one.
-fn is_word(word: Word, found: &Option<Word>) -> bool
-    ensures { result ≡ is_word word found.now }
-{
-    match found {
-        None => false,
-        Some(found) => *found == word,
-    }
-}
-
-/// Whether a fact has a word alone for a name.
-fn holds_alone(fact: &Fact, name: &Location, word: Word) -> bool
-    ensures { result ≡ is_word word (only ((fact_in_code fact.now).set (location_of name.now))) }
-{
+/// Whether a fact has a word alone for a cell.
+fn holds_alone(fact: &Fact, cell: Word, word: Word) -> bool {
     let mut set = WordSet::all();
-    fact.put_set_of(name, &mut set);
-    is_word(word, &set.only())
+    fact.put_set_of(&Location::Cell(cell), &mut set);
+    set.only() == Some(word)
 }
 
 /// Whether a fact has a mark.
-fn has_mark(fact: &Fact, mark: &Distinction) -> bool
-    ensures { result ≡ has_mark (fact_in_code fact.now) mark.now }
-{
+fn has_mark(fact: &Fact, mark: &Distinction) -> bool {
     match mark {
-        Distinction::CalledFrom(site) => is_word(*site, &fact.sites().only()),
+        Distinction::CalledFrom(site) => fact.sites().only() == Some(*site),
         Distinction::LinkClear => fact.link().contains(Link::CLEAR)
             && !fact.link().contains(Link::SET),
         Distinction::LinkSet => fact.link().contains(Link::SET)
             && !fact.link().contains(Link::CLEAR),
-        Distinction::Accumulator(word) => is_word(*word, &fact.accumulator().only()),
-        Distinction::Cell(cell, word) => holds_alone(fact, &Location::Cell(*cell), *word),
+        Distinction::Accumulator(word) => fact.accumulator().only() == Some(*word),
+        Distinction::Cell(cell, word) => holds_alone(fact, *cell, *word),
     }
-}
-
-/// Whether some fact at an address lacks a mark.
-fn some_lacks<C: Claims>(claims: &C, at: Word, mark: &Distinction, given: &mut Fact) -> bool
-    ensures { result ≡ true →
-        list_any (λ f. not (has_mark f mark.now)) ((C.claims claims.now).facts at) ≡ true }
-{
-    for index in 0..claims.count_facts(at, 0) {
-        let _line = claims.put_fact(at, 0, index, given);
-        if !has_mark(given, mark) {
-            return true;
-        }
-    }
-    false
 }
 
 /// A mark, if there is one that a fact has and some fact at the address does not.
@@ -134,41 +93,35 @@ fn told<C: Claims>(
     fact: &Fact,
     mark: Option<Distinction>,
     given: &mut Fact,
-) -> Option<Distinction>
-    ensures { IfSome result
-        (IsMarked (fact_in_code fact.now) ((C.claims claims.now).facts at)) }
-{
+) -> Option<Distinction> {
     let mark = mark?;
     if !has_mark(fact, &mark) {
         return None;
     }
-    if !some_lacks(claims, at, &mark, given) {
-        return None;
+    for index in 0..claims.count_facts(at, 0) {
+        let _line = claims.put_fact(at, 0, index, given);
+        if !has_mark(given, &mark) {
+            return Some(mark);
+        }
     }
-    Some(mark)
-}
-
-/// What a fact says of the link, if it allows one link alone.
-fn link_mark(fact: &Fact) -> Distinction {
-    if fact.link().contains(Link::CLEAR) {
-        Distinction::LinkClear
-    } else {
-        Distinction::LinkSet
-    }
+    None
 }
 
 /// The first cell and the word that a fact says it holds, where that tells the fact from others at its address.
-fn cell_mark<C: Claims>(claims: &C, at: Word, fact: &Fact, given: &mut Fact) -> Option<Distinction>
-    ensures { IfSome result
-        (IsMarked (fact_in_code fact.now) ((C.claims claims.now).facts at)) }
-{
+fn cell_mark<C: Claims>(
+    claims: &C,
+    at: Word,
+    fact: &Fact,
+    given: &mut Fact,
+) -> Option<Distinction> {
     for entry in fact.told_cells() {
         let mark = entry
             .set
             .only()
             .map(|word| Distinction::Cell(entry.cell, word));
-        if let Some(mark) = told(claims, at, fact, mark, given) {
-            return Some(mark);
+        let found = told(claims, at, fact, mark, given);
+        if found.is_some() {
+            return found;
         }
     }
     None
@@ -178,54 +131,23 @@ fn cell_mark<C: Claims>(claims: &C, at: Word, fact: &Fact, given: &mut Fact) -> 
 #[inline(never)]
 fn with_marks<C: Claims>(claims: &C, at: Word, index: usize, plain: &ReasonContext) -> ReasonContext
     requires { index < length ((C.claims claims.now).facts at) }
-    ensures rules { result.rules ≡ plain.now.rules }
-    ensures count { result.count ≡ plain.now.count }
-    ensures place { result.place ≡ plain.now.place }
-    ensures marks { AreMarks ((C.claims claims.now).facts at) index result }
 {
     let mut fact = Fact::any();
     let mut given = Fact::any();
     let _line = claims.put_fact(at, 0, index, &mut fact);
     let site = fact.sites().only().map(Distinction::CalledFrom);
-    let link = Some(link_mark(&fact));
+    let link = if fact.link().contains(Link::CLEAR) {
+        Distinction::LinkClear
+    } else {
+        Distinction::LinkSet
+    };
     let accumulator = fact.accumulator().only().map(Distinction::Accumulator);
     ReasonContext {
         site: told(claims, at, &fact, site, &mut given),
-        link: told(claims, at, &fact, link, &mut given),
+        link: told(claims, at, &fact, Some(link), &mut given),
         accumulator: told(claims, at, &fact, accumulator, &mut given),
         cell: cell_mark(claims, at, &fact, &mut given),
         ..*plain
-    }
-}
-
-/// How a reason is told by certain rules where so many facts stand, without marks.
-fn plain(rules: Rules, count: usize, place: Option<usize>) -> ReasonContext
-    ensures rules { result.rules ≡ rules }
-    ensures count { result.count ≡ count }
-    ensures place { result.place ≡ place }
-    ensures marks { (facts : List said.Fact) (i : ℕ) → AreMarks facts i result }
-{
-    ReasonContext {
-        rules,
-        count,
-        place,
-        site: None,
-        link: None,
-        accumulator: None,
-        cell: None,
-    }
-}
-
-/// How a reason at an address is told.
-fn reason_context_at<C: Claims>(claims: &C, at: Word, reason: &Option<Reason>) -> ReasonContext
-    ensures { IsTelling (C.claims claims.now) at reason.now result }
-{
-    let telling = plain(claims.rules(), claims.count_facts(at, 0), place_of(reason));
-    match telling.place {
-        Some(index) if telling.count > 1 && index < telling.count => {
-            with_marks(claims, at, index, &telling)
-        }
-        _ => telling,
     }
 }
 
@@ -235,11 +157,26 @@ pub fn reason_context_of<C: Claims>(
     claims: &C,
     verdict: &Result<(), Refusal>,
     reason: &Option<Reason>,
-) -> ReasonContext
-    ensures { IsTellingOf (C.claims claims.now) verdict.now reason.now result }
-{
-    match verdict {
-        Ok(()) => plain(claims.rules(), 0, None),
-        Err(refusal) => reason_context_at(claims, refusal.address, reason),
+) -> ReasonContext {
+    let mut plain = ReasonContext {
+        rules: claims.rules(),
+        count: 0,
+        place: None,
+        site: None,
+        link: None,
+        accumulator: None,
+        cell: None,
+    };
+    let Err(refusal) = verdict else {
+        return plain;
+    };
+    let count = claims.count_facts(refusal.address, 0);
+    plain.count = count;
+    plain.place = place_of(reason);
+    match plain.place {
+        Some(index) if count > 1 && index < count => {
+            with_marks(claims, refusal.address, index, &plain)
+        }
+        _ => plain,
     }
 }

@@ -1,10 +1,5 @@
 //! The words that say why a condition fails.
 
-ghost use Rattle.std.specs.Prelude.{◌≡◌, ◌++◌, codes, OnOk};
-ghost use Rattle.diagnostics.specs.CheckText.{condition_text};
-ghost use Rattle.diagnostics.specs.Pieces.{around};
-ghost use Rattle.diagnostics.specs.WhyText.{asked_by, reason_line, reason_text, why_text, word_shown};
-
 mod asked;
 mod landing;
 mod marks;
@@ -23,16 +18,17 @@ use bin_tape::Image;
 use command_parts::message::MessageWriter;
 use domain::Rules;
 use instruct::Profile;
-use judge::{Condition, Refusal};
+use judge::Refusal;
 use reasons::Reason;
 use std::alloc::AllocError;
 use word12::Word;
 
 /// Adds what a fact in the body of a routine lacks.
-fn push_in_body<L: MessageWriter>(text: &mut L, entry: Word, lack: &[u8]) -> Result<(), AllocError>
-    ensures { OnOk result (L.text text.new ≡ L.text text.old
-        ++ around (codes "the fact is in the body of the routine ") entry lack.now) }
-{
+fn push_in_body<L: MessageWriter>(
+    text: &mut L,
+    entry: Word,
+    lack: &[u8],
+) -> Result<(), AllocError> {
     push_around(
         text,
         b"the fact is in the body of the routine ",
@@ -46,9 +42,7 @@ fn push_reason<L: MessageWriter>(
     text: &mut L,
     rules: &Rules,
     reason: &Reason,
-) -> Result<(), AllocError>
-    ensures { OnOk result (L.text text.new ≡ L.text text.old ++ reason_text rules.now reason.now) }
-{
+) -> Result<(), AllocError> {
     match reason {
         Reason::AtStart(landing) => push_start(text, landing),
         Reason::LineAtNoEntry => text.push_text(
@@ -86,50 +80,8 @@ fn push_reason<L: MessageWriter>(
     }
 }
 
-/// Adds the line of by which fact a condition fails and why, if there is a reason.
-fn push_reason_line<L: MessageWriter>(
-    text: &mut L,
-    telling: &ReasonContext,
-    reason: &Option<Reason>,
-) -> Result<(), AllocError>
-    ensures { OnOk result (L.text text.new ≡
-        L.text text.old ++ reason_line telling.now reason.now) }
-{
-    let Some(reason) = reason else {
-        return Ok(());
-    };
-    push_which(text, telling, &telling.place)?;
-    push_reason(text, &telling.rules, reason)?;
-    text.push_text(b"\n")
-}
-
-/// The word that is shown: the one that violates the condition, or else the tape's.
-fn word_shown(image: &Image, at: Word, reason: &Option<Reason>) -> Option<Word>
-    ensures { result ≡ word_shown image.now at reason.now }
-{
-    match reason {
-        Some(Reason::ByWord(_, word, _)) => Some(*word),
-        _ => image.get(at),
-    }
-}
-
-/// Adds the line of what a condition asks, by the rules.
-fn push_asked<L: MessageWriter>(
-    text: &mut L,
-    rules: &Rules,
-    condition: Condition,
-) -> Result<(), AllocError>
-    ensures { OnOk result (L.text text.new ≡ L.text text.old
-        ++ (condition_text condition ++ codes " requires: " ++ asked_by rules.now condition ++ codes "\n")) }
-{
-    text.push_text(condition_name(condition).as_bytes())?;
-    text.push_text(b" requires: ")?;
-    text.push_text(asked_of(rules, condition))?;
-    text.push_text(b"\n")
-}
-
-/// Adds why a verdict is no: the address with its word and its name, what the condition asks, and
-/// the reason, if one is given, told as it is said. To a yes it adds nothing.
+/// Adds why a verdict is no: the address with its word and its name, what the condition asks, and the reason, if one is given, told as it
+/// is said. The word is the one that violates the condition, or else that of the tape. To a yes it adds nothing.
 pub fn push_why<L: MessageWriter>(
     text: &mut L,
     profile: Profile,
@@ -137,16 +89,23 @@ pub fn push_why<L: MessageWriter>(
     verdict: &Result<(), Refusal>,
     reason: &Option<Reason>,
     telling: &ReasonContext,
-) -> Result<(), AllocError>
-    ensures { OnOk result
-        (L.text text.new ≡ L.text text.old
-        ++ why_text profile image.now verdict.now reason.now telling.now) }
-{
+) -> Result<(), AllocError> {
     let Err(refusal) = verdict else {
         return Ok(());
     };
-    let shown = word_shown(image, refusal.address, reason);
+    let shown = match reason {
+        Some(Reason::ByWord(_, word, _)) => Some(*word),
+        _ => image.get(refusal.address),
+    };
     text.push_instruction(refusal.address, shown, profile)?;
-    push_asked(text, &telling.rules, refusal.condition)?;
-    push_reason_line(text, telling, reason)
+    text.push_text(condition_name(refusal.condition).as_bytes())?;
+    text.push_text(b" requires: ")?;
+    text.push_text(asked_of(&telling.rules, refusal.condition))?;
+    text.push_text(b"\n")?;
+    let Some(reason) = reason else {
+        return Ok(());
+    };
+    push_which(text, telling)?;
+    push_reason(text, &telling.rules, reason)?;
+    text.push_text(b"\n")
 }

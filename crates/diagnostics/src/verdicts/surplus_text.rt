@@ -1,12 +1,6 @@
 //! What is said below a yes: what of the declaration is wider than the certificate needs, and what routines return with.
 
-ghost use Rattle.std.specs.Prelude.{ℕ, ◌≡◌, ◌<◌, ◌↔◌, true, length, IfOk};
-ghost use Rattle.wordset.specs.Lanes.{words};
-ghost use Rattle.certificate_lines.specs.CertificateInCode.{claims};
-ghost use Rattle.judge.specs.Judged.{judged};
-ghost use Rattle.usage.specs.Returns.{IsReturned};
-ghost use Rattle.command_parts.specs.Messages.{plain};
-ghost use Rattle.diagnostics.specs.WhyText.{IsSaidAfterYes};
+ghost use Rattle.std.specs.Prelude.{◌<◌};
 
 use crate::pieces::Piece::{Address, Octal, Offset, Text};
 use crate::pieces::{Piece, push_pieces};
@@ -14,7 +8,6 @@ use bin_tape::Image;
 use certificate::Certificate;
 use command_parts::message::{Message, MessageWriter};
 use declaration::Declaration;
-use judge::Refusal;
 use std::alloc::{AllocError, Allocator};
 use usage::{Register, Surplus, returned, surplus_of};
 use word12::Word;
@@ -38,9 +31,6 @@ impl<D: Allocator, C: Allocator> Shown<'_, D, C> {
     /// The words that a register may hold when a routine returns by an offset.
     pub fn returned(&self, register: Register, entry: Word, offset: usize) -> WordSet
         requires { offset < 64 }
-        ensures { (w : ℕ) → w < 4096 → (words result w ≡ true) ↔ IsReturned register
-            (judged self.now.image.now self.now.declaration.now (claims self.now.certificate.now))
-            entry offset w }
     {
         returned(
             register,
@@ -306,31 +296,27 @@ fn push_returns<L: MessageWriter, D: Allocator, C: Allocator>(
     Ok(())
 }
 
-/// What the declaration lists and the certificate does not need, or that it needs all.
-fn unneeded_message<A: Allocator + Copy, D: Allocator, C: Allocator>(
-    alloc: A,
+/// Adds what the declaration lists and the certificate does not need, or that it needs all.
+fn push_unneeded<A: Allocator + Copy, D: Allocator, C: Allocator>(
+    text: &mut Message<A>,
     shown: &Shown<'_, D, C>,
-) -> Result<Message<A>, AllocError>
-    ensures { IfOk result (λ message. 0 < length (plain message)) }
-{
+) -> Result<(), AllocError> {
     let surplus = surplus_of(shown.image, shown.declaration, shown.certificate);
-    let mut text = Message::new(alloc);
-    push_unused(&mut text, shown, &surplus)?;
-    push_idle_offsets(&mut text, shown, &surplus)?;
+    push_unused(text, shown, &surplus)?;
+    push_idle_offsets(text, shown, &surplus)?;
     push_cells(
-        &mut text,
+        text,
         b"Routines in `returns` lines that never return",
         &shown.asserted_in_vain(),
     )?;
-    if !text.as_bytes().is_empty() {
-        return Ok(text);
+    if text.is_empty() {
+        text.push_text(b"The certificate needs all that the declaration lists.\n")?;
     }
-    text.push_text(b"The certificate needs all that the declaration lists.\n")?;
-    Ok(text)
+    Ok(())
 }
 
 /// What is said below a yes: what the declaration lists and the certificate does not need, or that it needs all; and with what
-/// routines return.
+/// routines return. All of this is tested, not proved.
 ///
 /// # Errors
 ///
@@ -341,40 +327,16 @@ pub fn surplus_message<A: Allocator + Copy, D: Allocator, C: Allocator>(
     image: &Image,
     declaration: &Declaration<D>,
     certificate: &Certificate<C>,
-) -> Result<Message<A>, AllocError>
-    // Something is always said.
-    ensures { IfOk result (λ message. 0 < length (plain message)) }
-{
+) -> Result<Message<A>, AllocError> {
     let shown = Shown {
         image,
         declaration,
         certificate,
     };
-    let mut text = unneeded_message(alloc, &shown)?;
-    let mut returns = Message::new(alloc);
+    let mut text = Message::new(alloc);
+    push_unneeded(&mut text, &shown)?;
     for routine in declaration.routines() {
-        push_returns(&mut returns, &shown, routine.entry())?;
+        push_returns(&mut text, &shown, routine.entry())?;
     }
-    text.push_message(&returns)?;
     Ok(text)
-}
-
-/// The same if a verdict is yes, and nothing if it is no.
-///
-/// # Errors
-///
-/// Memory was refused.
-pub fn surplus_after<A: Allocator + Copy, D: Allocator, C: Allocator>(
-    alloc: A,
-    image: &Image,
-    declaration: &Declaration<D>,
-    certificate: &Certificate<C>,
-    verdict: &Result<(), Refusal>,
-) -> Result<Message<A>, AllocError>
-    ensures { IfOk result (λ message. IsSaidAfterYes verdict.now (plain message)) }
-{
-    match verdict {
-        Ok(()) => surplus_message(alloc, image, declaration, certificate),
-        Err(_) => Ok(Message::new(alloc)),
-    }
 }

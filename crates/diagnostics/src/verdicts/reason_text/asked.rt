@@ -1,15 +1,10 @@
 //! What each condition asks, by the rules.
 
-ghost use Rattle.std.specs.Prelude.{◌≡◌};
-ghost use Rattle.diagnostics.specs.WhyText.{asked_by, asked_text, sums_asked_text};
-
 use domain::Rules;
 use judge::Condition;
 
 /// What a condition asks by the rules of equations.
-fn asked(condition: Condition) -> &'static [u8]
-    ensures { result.now ≡ asked_text condition }
-{
+fn asked(condition: Condition) -> &'static [u8] {
     match condition {
         Condition::V1 =>
             b"there is a fact at the start, and it allows every state in which a run may start",
@@ -43,10 +38,8 @@ fn asked(condition: Condition) -> &'static [u8]
     }
 }
 
-/// What a condition asks by the rules of sums.
-fn sums_asked(condition: Condition) -> &'static [u8]
-    ensures { result.now ≡ sums_asked_text condition }
-{
+/// What a condition asks by the rules of sums: of most the same as by those of equations.
+fn sums_asked(condition: Condition) -> &'static [u8] {
     match condition {
         Condition::V1 => b"the facts at the start allow every state in which a run may start",
         Condition::V2 =>
@@ -57,23 +50,12 @@ fn sums_asked(condition: Condition) -> &'static [u8]
             b"the callee's routine line lists the address of the JMS as a site, and this address is at most 7776",
         Condition::V10 => b"the facts at the callee's first instruction allow every possible state",
         Condition::V11 => b"the facts at each return address allow every possible state",
-        Condition::V3 => asked(Condition::V3),
-        Condition::V5 => asked(Condition::V5),
-        Condition::V6 => asked(Condition::V6),
-        Condition::V7 => asked(Condition::V7),
-        Condition::V8 => asked(Condition::V8),
-        Condition::V12 => asked(Condition::V12),
-        Condition::V13 => asked(Condition::V13),
-        Condition::V14 => asked(Condition::V14),
-        Condition::V15 => asked(Condition::V15),
-        Condition::V16 => asked(Condition::V16),
+        _ => asked(condition),
     }
 }
 
 /// What a condition asks, by the rules.
-pub fn asked_of(rules: &Rules, condition: Condition) -> &'static [u8]
-    ensures { result.now ≡ asked_by rules.now condition }
-{
+pub fn asked_of(rules: &Rules, condition: Condition) -> &'static [u8] {
     match rules {
         Rules::OfEquations => asked(condition),
         Rules::OfSums => sums_asked(condition),

@@ -1,9 +1,5 @@
 //! Why a run does not land, and what is possible where it does not.
 
-ghost use Rattle.std.specs.Prelude.{◌≡◌, ◌++◌, OnOk};
-ghost use Rattle.domain.specs.LocationsInCode.{location_of};
-ghost use Rattle.diagnostics.specs.WhyText.{exit_text, gap_text, is_equation, landing_text, name_may_hold, possible_text, start_text, told_gap};
-
 use crate::pieces::Piece::{Address, Digit, Octal, Offset, Text};
 use crate::pieces::push_pieces;
 use crate::verdicts::reason_text::sums::{push_sum_may_be, push_told};
@@ -14,9 +10,7 @@ use std::alloc::AllocError;
 use word12::Word;
 
 /// Adds what is possible, or of an equation, what it says.
-fn push_gap<L: MessageWriter>(text: &mut L, gap: &Counterexample) -> Result<(), AllocError>
-    ensures { OnOk result (L.text text.new ≡ L.text text.old ++ gap_text gap.now) }
-{
+fn push_gap<L: MessageWriter>(text: &mut L, gap: &Counterexample) -> Result<(), AllocError> {
     match gap {
         Counterexample::Accumulator(word) => push_text_and_word(text, b"AC may be ", *word),
         Counterexample::Mq(word) => push_text_and_word(text, b"MQ may be ", *word),
@@ -52,23 +46,14 @@ fn push_gap<L: MessageWriter>(text: &mut L, gap: &Counterexample) -> Result<(), 
     }
 }
 
-/// Whether what is possible is that an equation is false.
-fn is_equation(gap: &Counterexample) -> bool
-    ensures { result ≡ is_equation gap.now }
-{
-    matches!(gap, Counterexample::Equation(..))
-}
-
 /// Adds what is possible, and that the fact or the exit line of this name excludes it; or that an equation which it requires may be
 /// false.
 fn push_excluded<L: MessageWriter>(
     text: &mut L,
     gap: &Counterexample,
     one: &[u8],
-) -> Result<(), AllocError>
-    ensures { OnOk result (L.text text.new ≡ L.text text.old ++ told_gap one.now gap.now) }
-{
-    if is_equation(gap) {
+) -> Result<(), AllocError> {
+    if matches!(gap, Counterexample::Equation(..)) {
         push_pieces(text, &[Text(one), Text(b" requires ")])?;
         push_gap(text, gap)?;
         return text.push_text(b", and this may be false");
@@ -82,10 +67,7 @@ fn push_may_hold<L: MessageWriter>(
     text: &mut L,
     name: &Location,
     word: Word,
-) -> Result<(), AllocError>
-    ensures { OnOk result (L.text text.new ≡
-        L.text text.old ++ name_may_hold (location_of name.now) word) }
-{
+) -> Result<(), AllocError> {
     match name {
         Location::Accumulator => push_text_and_word(text, b"AC may be ", word),
         Location::Cell(cell) => push_pieces(
@@ -106,12 +88,9 @@ fn push_possible<L: MessageWriter>(
     landing: &LandingFailure,
     one: &[u8],
     all: &[u8],
-) -> Result<(), AllocError>
-    ensures { OnOk result (L.text text.new ≡
-        L.text text.old ++ possible_text one.now all.now landing.now) }
-{
+) -> Result<(), AllocError> {
     match landing {
-        LandingFailure::NoFact | LandingFailure::OtherBody => text.push_text(b""),
+        LandingFailure::NoFact | LandingFailure::OtherBody => Ok(()),
         LandingFailure::Excluded(gap) => push_excluded(text, gap, one),
         LandingFailure::ExcludedUnder(link, gap) => {
             push_pieces(text, &[Text(b"if the link is "), Digit(*link), Text(b", ")])?;
@@ -140,9 +119,7 @@ fn push_possible<L: MessageWriter>(
 pub fn push_landing<L: MessageWriter>(
     text: &mut L,
     landing: &LandingFailure,
-) -> Result<(), AllocError>
-    ensures { OnOk result (L.text text.new ≡ L.text text.old ++ landing_text landing.now) }
-{
+) -> Result<(), AllocError> {
     match landing {
         LandingFailure::NoFact => text.push_text(b"there is no fact at the address reached"),
         LandingFailure::OtherBody => text.push_text(b"the address reached is not in the body"),
@@ -151,9 +128,10 @@ pub fn push_landing<L: MessageWriter>(
 }
 
 /// Adds why what is possible at a return is not among what the exit lines allow.
-pub fn push_exit<L: MessageWriter>(text: &mut L, landing: &LandingFailure) -> Result<(), AllocError>
-    ensures { OnOk result (L.text text.new ≡ L.text text.old ++ exit_text landing.now) }
-{
+pub fn push_exit<L: MessageWriter>(
+    text: &mut L,
+    landing: &LandingFailure,
+) -> Result<(), AllocError> {
     match landing {
         LandingFailure::NoFact => text.push_text(b", which has no exit line"),
         LandingFailure::OtherBody => text.push_text(b", which is not in the body"),
@@ -168,9 +146,7 @@ pub fn push_exit<L: MessageWriter>(text: &mut L, landing: &LandingFailure) -> Re
 pub fn push_start<L: MessageWriter>(
     text: &mut L,
     landing: &LandingFailure,
-) -> Result<(), AllocError>
-    ensures { OnOk result (L.text text.new ≡ L.text text.old ++ start_text landing.now) }
-{
+) -> Result<(), AllocError> {
     match landing {
         LandingFailure::NoFact => text.push_text(b"there is no fact at this address"),
         _ => {

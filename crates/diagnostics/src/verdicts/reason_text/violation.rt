@@ -1,28 +1,14 @@
 //! What a word violates: a write, a call, a return, or where it goes on.
 
-ghost use Rattle.std.specs.Prelude.{◌≡◌, ◌++◌, codes, OnOk};
-ghost use Rattle.diagnostics.specs.Pieces.{around};
-ghost use Rattle.diagnostics.specs.WhyText.{advised_text, breach_text, call_text, counting_text, denied_text, exit_line, landing_text, moving_text, return_text, subject_text, subject_word, too_high_text, undeclared_text};
-
 use crate::pieces::Piece::{Address, Advised, Decimal, Octal, Offset, Text};
 use crate::pieces::{push_around, push_pieces};
 use crate::verdicts::reason_text::landing::{push_exit, push_landing};
 use command_parts::message::{MessageWriter, push_text_and_address};
 use declaration::Subject;
 use domain::Rules;
-use reasons::{CallViolation, LandingFailure, ReturnViolation, Violation};
+use reasons::{CallViolation, ReturnViolation, Violation};
 use std::alloc::AllocError;
 use word12::Word;
-
-/// What is said of a call from an address past the last that may be a site, by the rules.
-fn too_high(rules: &Rules) -> &'static [u8]
-    ensures { result.now ≡ too_high_text rules.now }
-{
-    match rules {
-        Rules::OfEquations => b" from an address above 7767",
-        Rules::OfSums => b" from an address above 7776",
-    }
-}
 
 /// Adds an offset, and by the rules of sums the number of its exit line, counted from 1, behind a few words.
 pub fn push_exit_line<L: MessageWriter>(
@@ -31,10 +17,7 @@ pub fn push_exit_line<L: MessageWriter>(
     offset: usize,
     between: &[u8],
     index: usize,
-) -> Result<(), AllocError>
-    ensures { OnOk result (L.text text.new ≡
-        L.text text.old ++ exit_line rules.now offset between.now index) }
-{
+) -> Result<(), AllocError> {
     match rules {
         Rules::OfEquations => push_pieces(text, &[Offset(offset)]),
         Rules::OfSums => push_pieces(
@@ -53,9 +36,7 @@ fn push_call<L: MessageWriter>(
     text: &mut L,
     rules: &Rules,
     breach: &CallViolation,
-) -> Result<(), AllocError>
-    ensures { OnOk result (L.text text.new ≡ L.text text.old ++ call_text rules.now breach.now) }
-{
+) -> Result<(), AllocError> {
     match breach {
         CallViolation::NoEntry => text.push_text(b", which is not an entry"),
         CallViolation::NotListed => text.push_text(b", which has no routine line"),
@@ -81,7 +62,10 @@ fn push_call<L: MessageWriter>(
         CallViolation::NoSite => {
             text.push_text(b", whose routine line does not list this address as a site")
         }
-        CallViolation::TooHigh => text.push_text(too_high(rules)),
+        CallViolation::TooHigh => text.push_text(match rules {
+            Rules::OfEquations => b" from an address above 7767",
+            Rules::OfSums => b" from an address above 7776",
+        }),
         CallViolation::Enters(landing) => {
             text.push_text(b" and continues after the entry: ")?;
             push_landing(text, landing)
@@ -100,16 +84,15 @@ fn push_undeclared<L: MessageWriter>(
     text: &mut L,
     entry: Word,
     offset: usize,
-) -> Result<(), AllocError>
-    ensures { OnOk result (L.text text.new ≡ L.text text.old ++ undeclared_text entry offset) }
-{
+) -> Result<(), AllocError> {
+    text.push_text(b", which is not declared")?;
     if offset < 8 {
-        return text.push_text(b", which is not declared");
+        return Ok(());
     }
     push_pieces(
         text,
         &[
-            Text(b", which is not declared: add `skips "),
+            Text(b": add `skips "),
             Advised(entry),
             Text(b" "),
             Offset(offset),
@@ -123,9 +106,7 @@ fn push_return<L: MessageWriter>(
     text: &mut L,
     entry: Word,
     breach: &ReturnViolation,
-) -> Result<(), AllocError>
-    ensures { OnOk result (L.text text.new ≡ L.text text.old ++ return_text entry breach.now) }
-{
+) -> Result<(), AllocError> {
     match breach {
         ReturnViolation::OtherRoutine => text.push_text(
             b", which is not the entry of its own routine",
@@ -141,92 +122,37 @@ fn push_return<L: MessageWriter>(
     }
 }
 
-/// Adds a cell that may be written, and what is wrong with that.
-fn push_write<L: MessageWriter>(text: &mut L, cell: Word, wrong: &[u8]) -> Result<(), AllocError>
-    ensures { OnOk result
-        (L.text text.new ≡ L.text text.old ++ around (codes "it may write ") cell wrong.now) }
-{
-    push_around(text, b"it may write ", cell, wrong)
-}
-
-/// Adds a cell that may be read, though it is not on the list of reads.
-fn push_read<L: MessageWriter>(text: &mut L, cell: Word) -> Result<(), AllocError>
-    ensures { OnOk result (L.text text.new ≡ L.text text.old
-        ++ around (codes "it may read ") cell (codes ", which is not on the list of reads")) }
-{
-    push_around(
-        text,
-        b"it may read ",
-        cell,
-        b", which is not on the list of reads",
-    )
-}
-
-/// Adds of what an assertion speaks.
-fn push_subject<L: MessageWriter>(text: &mut L, subject: &Subject) -> Result<(), AllocError>
-    ensures { OnOk result (L.text text.new ≡ L.text text.old ++ subject_text subject.now) }
-{
-    match subject {
-        Subject::Accumulator => text.push_text(b"AC"),
-        Subject::Link => text.push_text(b"the link"),
-        Subject::Mq => text.push_text(b"MQ"),
-        Subject::Cell(cell) => text.push_address(*cell),
-    }
-}
-
-/// Adds a word of what an assertion speaks of.
-fn push_subject_word<L: MessageWriter>(
-    text: &mut L,
-    subject: &Subject,
-    word: Word,
-) -> Result<(), AllocError>
-    ensures { OnOk result (L.text text.new ≡ L.text text.old ++ subject_word subject.now word) }
-{
-    match subject {
-        Subject::Link => text.push_text(if word == Word::ZERO { b"0" } else { b"1" }),
-        _ => text.push_text(&word.to_octal()),
-    }
-}
-
 /// Adds that the subject of an assertion may have a word that a line of this name excludes.
 pub fn push_denied<L: MessageWriter>(
     text: &mut L,
     subject: &Subject,
     word: Word,
     line: &[u8],
-) -> Result<(), AllocError>
-    ensures { OnOk result (L.text text.new ≡
-        L.text text.old ++ denied_text subject.now word line.now) }
-{
-    push_subject(text, subject)?;
+) -> Result<(), AllocError> {
+    match subject {
+        Subject::Accumulator => text.push_text(b"AC")?,
+        Subject::Link => text.push_text(b"the link")?,
+        Subject::Mq => text.push_text(b"MQ")?,
+        Subject::Cell(cell) => text.push_address(*cell)?,
+    }
     text.push_text(b" may be ")?;
-    push_subject_word(text, subject, word)?;
+    match subject {
+        Subject::Link => text.push_text(if word == Word::ZERO { b"0" } else { b"1" })?,
+        _ => text.push_text(&word.to_octal())?,
+    }
     push_pieces(
         text,
         &[Text(b", which a `"), Text(line), Text(b"` line excludes")],
     )
 }
 
-/// How far an ISZ may increment the return word in its routine's own entry, by the rules.
-fn counting(rules: &Rules) -> &'static [u8]
-    ensures { result.now ≡ counting_text rules.now }
-{
-    match rules {
-        Rules::OfEquations => b", the routine's own entry, past offset 7",
-        Rules::OfSums => b", the routine's own entry, past offset 77 or past 7777",
-    }
-}
-
 /// Adds an address, and after it that a line with it is to be added.
-fn push_advised<'a, L: MessageWriter>(
+fn push_advised<L: MessageWriter>(
     text: &mut L,
-    before: &'a [u8],
+    before: &[u8],
     at: Word,
-    line: &'a [u8],
-) -> Result<(), AllocError>
-    ensures { OnOk result
-        (L.text text.new ≡ L.text text.old ++ advised_text before.now at line.now) }
-{
+    line: &[u8],
+) -> Result<(), AllocError> {
     push_pieces(
         text,
         &[
@@ -245,9 +171,7 @@ fn push_moving<L: MessageWriter>(
     entry: Word,
     word: Word,
     site: Word,
-) -> Result<(), AllocError>
-    ensures { OnOk result (L.text text.new ≡ L.text text.old ++ moving_text entry word site) }
-{
+) -> Result<(), AllocError> {
     push_pieces(
         text,
         &[
@@ -262,17 +186,9 @@ fn push_moving<L: MessageWriter>(
     )
 }
 
-/// Adds where a run goes on, and why it does not land there.
-fn push_going_on<L: MessageWriter>(
-    text: &mut L,
-    at: Word,
-    landing: &LandingFailure,
-) -> Result<(), AllocError>
-    ensures { OnOk result (L.text text.new ≡ L.text text.old
-        ++ (around (codes "the run may continue at ") at (codes ", and ") ++ landing_text landing.now)) }
-{
-    push_around(text, b"the run may continue at ", at, b", and ")?;
-    push_landing(text, landing)
+/// Adds a cell that may be written, and what is wrong with that.
+fn push_write<L: MessageWriter>(text: &mut L, cell: Word, wrong: &[u8]) -> Result<(), AllocError> {
+    push_around(text, b"it may write ", cell, wrong)
 }
 
 /// Adds what a word violates.
@@ -280,9 +196,7 @@ pub fn push_violation<L: MessageWriter>(
     text: &mut L,
     rules: &Rules,
     breach: &Violation,
-) -> Result<(), AllocError>
-    ensures { OnOk result (L.text text.new ≡ L.text text.old ++ breach_text rules.now breach.now) }
-{
+) -> Result<(), AllocError> {
     match breach {
         Violation::NotSupported => text.push_text(b"the machine does not implement this word"),
         Violation::WritesUndeclared(cell) => {
@@ -290,7 +204,11 @@ pub fn push_violation<L: MessageWriter>(
         }
         Violation::WritesEntry(cell) => push_write(text, *cell, b", which is an entry"),
         Violation::CountsTooFar(entry) => {
-            push_around(text, b"it may increment ", *entry, counting(rules))
+            let past: &[u8] = match rules {
+                Rules::OfEquations => b", the routine's own entry, past offset 7",
+                Rules::OfSums => b", the routine's own entry, past offset 77 or past 7777",
+            };
+            push_around(text, b"it may increment ", *entry, past)
         }
         Violation::StoresInOwn(entry) => push_advised(
             text,
@@ -312,14 +230,22 @@ pub fn push_violation<L: MessageWriter>(
             push_text_and_address(text, b"it returns through ", *entry)?;
             push_return(text, *entry, back)
         }
-        Violation::GoesOn(at, landing) => push_going_on(text, *at, landing),
+        Violation::GoesOn(at, landing) => {
+            push_around(text, b"the run may continue at ", *at, b", and ")?;
+            push_landing(text, landing)
+        }
         Violation::JumpsToMain(at) => push_advised(
             text,
             b"the run may continue at ",
             *at,
             b", which is in main's body: add `abandon ",
         ),
-        Violation::ReadsUnlisted(cell) => push_read(text, *cell),
+        Violation::ReadsUnlisted(cell) => push_around(
+            text,
+            b"it may read ",
+            *cell,
+            b", which is not on the list of reads",
+        ),
         Violation::DeniesAssertion(subject, word) => push_denied(text, subject, *word, b"holds"),
     }
 }

@@ -24,4 +24,3 @@ pub mod StoppedParts
 pub mod DeclaredRun
 pub mod StoppedWatch
 pub mod LongTrace
-pub mod ViolationText

@@ -1,5 +1,5 @@
 -- What `refute` writes.
-use Rattle.std.specs.Prelude.{ℕ, ◌≡◌, ◌+◌, ◌++◌, Bool, codes, decimal, length, List, [], Option}
+use Rattle.std.specs.Prelude.{ℕ, ◌≡◌, ◌+◌, ◌++◌, Bool, false, codes, decimal, length, List, [], Option}
 use Rattle.peripherals.specs.declared.Event.{Event}
 use Rattle.peripherals.specs.EventText.{Spells}
 use Rattle.peripherals.specs.Loading.{image_of}

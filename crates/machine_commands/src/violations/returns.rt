@@ -38,29 +38,25 @@ fn push_offset_advice<L: MessageWriter>(
 impl<D: Allocator> ViolatingStep<'_, D> {
     /// Adds the line of the addresses to which a call may return: those by the offsets that are declared of its routine.
     fn push_returns<L: MessageWriter>(&self, text: &mut L, call: &Call) -> Result<(), AllocError> {
-        let entry = Argument::Address(call.entry);
+        let entry = [Argument::Address(call.entry)];
         let mut is_one_told = false;
         for index in 0..64usize {
             let offset = Word::from_index(index);
             if !self.declaration.has_offset(call.entry, offset) {
                 continue;
             }
-            let to = Argument::Address(call.after.add(offset));
             if is_one_told {
-                push_sentence(text, " or {}", &[to])?;
+                text.push_text(b" or ")?;
             } else {
-                push_sentence(
-                    text,
-                    "the routine {} is declared to return to {}",
-                    &[entry, to],
-                )?;
+                push_sentence(text, "the routine {} is declared to return to ", &entry)?;
             }
+            text.push_address(call.after.add(offset))?;
             is_one_told = true;
         }
         if is_one_told {
             return text.push_text(b"\n");
         }
-        push_sentence(text, "no return is declared for the routine {}\n", &[entry])
+        push_sentence(text, "no return is declared for the routine {}\n", &entry)
     }
 
     /// Adds the lines of a return through an entry, to the address in it: the call that it does not return from, and where

@@ -17,7 +17,6 @@ pub mod Schedule
 pub mod Typing
 pub mod TypingParts
 pub mod Teletype
-pub mod Cuts
 pub mod Interrupted
 pub mod StoppedSession
 pub mod StoppedParts

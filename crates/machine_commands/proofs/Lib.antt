@@ -18,4 +18,3 @@ pub mod DeclaredLemmas
 pub mod InterruptedLemmas
 pub mod LongTraceLemmas
 pub mod StoppedWatchLemmas
-pub mod ViolationLemmas

@@ -1,12 +1,12 @@
 -- A run by a schedule, event by event.
-use Rattle.std.proofs.Common.{ℕ, zero, suc, ◌≡◌, ◌+◌, ◌*◌, ◌%◌, ◌==◌, ◌<◌, ◌≤◌, Bool, true, false, ◌||◌, if◌then◌else◌, List, [], ◌∷◌, ◌++◌, length, drop, take, map, refl, sym, ◌∙◌, ap, inl, inr, append_assoc, append-nil, add-zero, add-one, take_all, length-append, get_or, le_refl, arith, Some, None, Option, Result, Ok, Err, OnErr, true≢false, subst, unwrap_or}
+use Rattle.std.proofs.Common.{ℕ, zero, suc, ◌≡◌, ◌+◌, ◌*◌, ◌%◌, ◌==◌, ◌<◌, ◌≤◌, Bool, true, false, ◌||◌, if◌then◌else◌, List, [], ◌∷◌, ◌++◌, length, drop, map, refl, sym, ◌∙◌, ap, inl, inr, append_assoc, append-nil, add-zero, add-one, get_or, arith, Some, None, Option, Result, Ok, true≢false, subst, unwrap_or}
 use Rattle.std.specs.Io.KnownBytes.{Appends, Consumes}
 use Rattle.std.proofs.KnownBytes.{Appends-nil, Appends-trans}
 use Rattle.std.proofs.Transfers.{drop-appended}
-use Rattle.std.proofs.lemmas.List.{map-append, take-append-le, drop_all, length-map}
-use Rattle.std.proofs.Math.Seq.{drop-cons, take-append-add}
-use Rattle.std.specs.Prelude.{IfErr, IfSome, is_some}
-use Rattle.streams.specs.Bytes.{AppendsFront, Gave}
+use Rattle.std.proofs.lemmas.List.{map-append, drop_all}
+use Rattle.std.proofs.Math.Seq.{drop-cons}
+use Rattle.std.specs.Prelude.{IfSome, is_some}
+use Rattle.streams.specs.Bytes.{Gave}
 use Rattle.instruct.specs.declared.Profile.{Profile}
 use Rattle.instruct.specs.Devices.{word_of}
 use Rattle.instruct.specs.declared.devices.DeviceOperation.TheVariants.{ClearPrinterFlag, ClearPrinterFlagAndPrint, ClearPunchFlag, ClearPunchFlagAndPunch, Print, Punch, ReadReaderBuffer, SetPrinterFlag}
@@ -19,19 +19,16 @@ use Rattle.peripherals.specs.declared.operator.Operator.{Operator}
 use Rattle.peripherals.specs.Devices.{Devices, Writer, WorldState, Instructs, word_at_pc, devices_after, fetches, clears_keyboard, given, fetched, with_writer_flag, with_reader_flag, with_keyboard_flag}
 use Rattle.peripherals.specs.Events.{Happens, Steps, completed, done, with_devices}
 use Rattle.peripherals.specs.Operator.{Plan, due, first_due, frame_due, key_due, left_after, plan_of, round_due}
-use Rattle.peripherals.specs.EventOutcomes.{puts_out, seen_of}
+use Rattle.peripherals.specs.EventOutcomes.{seen_of}
 use Rattle.machine_commands.specs.Course.{Ran}
 use Rattle.machine_commands.specs.Follows.{goes_on, counted}
-use Rattle.command_parts.specs.declared.status.Fault.{Fault}
-use Rattle.command_parts.specs.declared.status.Fault.TheVariants.{NoMemory}
-use Rattle.command_parts.specs.Faults.{IsBytesFault, fails_to_write}
-use Rattle.command_parts.specs.Inputs.{AreFirst, HasCome, Input}
-use Rattle.machine_commands.specs.Schedule.{Comes, Cut, Due, Final, Then, Extent, ToStep, UpToAny, first_place, operating}
-use Rattle.machine_commands.specs.Session.{AppendsSome, AppendsUnless, FrontsOf, WritesAll, character, printed_in, taken, Taken, Failures}
-use Rattle.machine_commands.specs.SessionParts.{IsNext, PlayedFront, events_left, has_stepped, place_of, printed_from, rank, steps_in}
+use Rattle.command_parts.specs.Inputs.{AreFirst}
+use Rattle.machine_commands.specs.Schedule.{Comes, Due, Final, Then, Extent, ToStep, first_place, operating}
+use Rattle.machine_commands.specs.Session.{WritesAll, character, printed_in, taken, Taken}
+use Rattle.machine_commands.specs.SessionParts.{IsNext, events_left, has_stepped, place_of, printed_from, rank, steps_in}
 use Rattle.machine_commands.specs.TypingParts.{rounds_left}
 use Rattle.machine_commands.specs.Trace.{line_of, trace_of, traced}
-use Rattle.machine_commands.proofs.FollowLemmas.{Came, joined, leads_both, leads_one, front_after}
+use Rattle.machine_commands.proofs.FollowLemmas.{Came, joined, leads_both, leads_one}
 
 pub or_left : (a b : Bool) → a || b ≡ false → a ≡ false
 or_left true b is = is
@@ -41,21 +38,16 @@ pub or_right : (a b : Bool) → a || b ≡ false → b ≡ false
 or_right true b is = absurd (true≢false is)
 or_right false b is = is
 
--- nothing is a front of a piece
-pub no_front : (a : Option (List ℕ)) (piece : List ℕ) → AppendsSome a a piece
-no_front a piece = record { count = 0; within = omega arith; out = Appends-nil a }
-
--- what a printer put out stays, and one byte may come after it
+-- what a printer put out stays, and more may come after it
 pub record Grows (old new : List ℕ) : Type 0 where
   more : List ℕ
-  few : length more ≤ 1
   is : new ≡ old ++ more
 
 stays : (l : List ℕ) → Grows l l
-stays l = record { more = []; few = omega arith; is = sym (append-nil l) }
+stays l = record { more = []; is = sym (append-nil l) }
 
 puts_one : (l : List ℕ) (byte : ℕ) → Grows l (l ++ byte ∷ [])
-puts_one l byte = record { more = byte ∷ []; few = le_refl 1; is = refl }
+puts_one l byte = record { more = byte ∷ []; is = refl }
 
 -- by the tests of a device word
 by_tests : (v : Devices) (ac : ℕ) (a b c d e f g h i j : Bool) → Grows v.printer.output
@@ -117,62 +109,6 @@ printed_more p w x e happens =
     let all = rest_is w.devices.printer.output x.devices.printer.output (grows p w x e happens) in
     ap (map character) all ∙ map-append character w.devices.printer.output (drop (length w.devices.printer.output) x.devices.printer.output)
 
--- an event prints one character at most
-one_printed : (p : Profile) (w x : WorldState) (e : Event) → Happens p w e x → length (printed_from w x) ≤ 1
-one_printed p w x e happens =
-    let g = grows p w x e happens in
-    let rest : drop (length w.devices.printer.output) x.devices.printer.output ≡ g.more = drop-appended w.devices.printer.output x.devices.printer.output g.more g.is in
-    let same : length (printed_from w x) ≡ length g.more = length-map (drop (length w.devices.printer.output) x.devices.printer.output) character ∙ ap length rest in
-    let few : length g.more ≤ 1 = g.few in
-    omega (arith, few, same)
-
--- so all that was printed is one character more at most than what was typed, where some of the last was
-pub nearly_all : (p : Profile) (w x : WorldState) (e : Event) (count : ℕ) → Happens p w e x → length (printed_in x) ≤ length (printed_in w) + count + 1
-nearly_all p w x e count happens =
-    let all : length (printed_in x) ≡ length (printed_in w ++ printed_from w x) = ap length (printed_more p w x e happens) in
-    let sum : length (printed_in w ++ printed_from w x) ≡ length (printed_in w) + length (printed_from w x) = length-append (printed_in w) (printed_from w x) in
-    let one : length (printed_from w x) ≤ 1 = one_printed p w x e happens in
-    omega (arith, all, sum, one)
-
-pub one_over : (n : ℕ) → n ≤ n + 1
-one_over n = omega arith
-
--- a front that isn't all of a piece isn't all of more
-cut_of_more : (old new : Option (List ℕ)) (piece more : List ℕ) → AppendsFront old new piece → AppendsFront old new (piece ++ more)
-cut_of_more old new piece more front = record {
-  count = front.count;
-  within = let e = length-append piece more in let f = front.within in omega (arith, e, f);
-  out = let f : front.count ≤ length piece = (let within = front.within in omega (arith, within)) in rw (take-append-le front.count piece more f) front.out;
-}
-
--- some of a piece that is the same
-unfoldable pub some_same : (old new : Option (List ℕ)) (piece other : List ℕ) → piece ≡ other → AppendsSome old new other → AppendsSome old new piece
-some_same old new piece other same some = record { count = some.count; within = rw same some.within; out = rw same some.out }
-
--- a whole piece is a front of itself
-unfoldable pub whole_front : (old new : Option (List ℕ)) (piece : List ℕ) → Appends old new piece → AppendsSome old new piece
-whole_front old new piece whole = record {
-  count = length piece;
-  within = le_refl (length piece);
-  out = rw (take_all (length piece) piece (le_refl (length piece))) whole;
-}
-
--- a front of a piece that isn't all of it
-pub some_of : (old new : Option (List ℕ)) (piece : List ℕ) → AppendsFront old new piece → AppendsSome old new piece
-some_of old new piece front = record {
-  count = front.count;
-  within = let f = front.within in omega (arith, f);
-  out = front.out;
-}
-
--- a whole piece, and some of the next
-unfoldable pub some_after : (a b c : Option (List ℕ)) (first second : List ℕ) → Appends a b first → AppendsSome b c second → AppendsSome a c (first ++ second)
-some_after a b c first second whole front = record {
-  count = length first + front.count;
-  within = let e = length-append first second in let f = front.within in omega (arith, e, f);
-  out = rw (take-append-add first second front.count) (Appends-trans a b c first (take front.count second) whole front.out);
-}
-
 pub came_next : (p : Profile) (trace : Bool) (es : List Event) (e : Event) (w x y : WorldState) (n : ℕ) (what : Seen) (old mid new : Option (List ℕ)) →
     Came p true trace es w n x old mid → seen_of p x e ≡ what → goes_on true what ≡ true → Happens p x e y → Appends mid new (traced trace (trace_of p x e y)) →
     Came p true trace (es ++ e ∷ []) w (n + counted what) y old new
@@ -189,17 +125,6 @@ printed_next p x y e told mid tells happens before after =
 -- the event that is due comes after those before
 pub one_more : (es : List Event) (e : Event) (rest : List Event) → (es ++ e ∷ []) ++ rest ≡ es ++ (e ∷ rest)
 one_more es e rest = append_assoc es (e ∷ []) rest
-
--- the events up to the one that is due
-cut_after : {S : Type 0} (brings : S → Profile → WorldState → Extent → List Event → Type 0) (p : Profile) (now after : S) (x y : WorldState) (e : Event) (on : Bool) → IsNext brings now after x e → ((s : S) (q : Profile) (v : WorldState) → brings s q v UpToAny []) →
-    goes_on true (seen_of p x e) ≡ on → Happens p x e y → brings now p x UpToAny (e ∷ [])
-cut_after brings p now after x y e true next anywhere goes happens = next.on p y UpToAny [] goes happens (anywhere after p y)
-cut_after brings p now after x y e false next anywhere goes happens = next.last p UpToAny goes
-
-pub unless_joined : (reported trace : Bool) (a b c : Option (List ℕ)) (first second : List ℕ) → Appends a b (traced trace first) → AppendsUnless reported b c (traced trace second) → AppendsUnless reported a c (traced trace (first ++ second))
-unless_joined true true a b c first second whole front = front_after a b c first second whole front
-unless_joined true false a b c first second whole front = front_after a b c [] [] whole front
-unless_joined false trace a b c first second whole rest = joined trace a b c first second whole rest
 
 -- what is seen of an event that changes a device, where it is enabled
 abbrev device_seen : Bool → Seen
@@ -331,7 +256,6 @@ pub operator_next : (old new : Operator) (w : WorldState) (e : Event) → due (p
 operator_next old new w e is left next = record {
   on = λ p m extent es goes happens comes. Then (place_of old) w m e es is goes happens (rw (left, next) at comes);
   last = λ p extent ends. Final (place_of old) w e is ends;
-  output = λ p puts. Cut (place_of old) w (record { event = e; is_due = is; puts = puts });
 }
 
 -- the last event was an instruction
@@ -423,30 +347,6 @@ typed_all told now bytes from index typed past =
     let all : typed.sent ≡ map character (drop from bytes) = sym (append-nil typed.sent) ∙ ap (λ (l : List ℕ). typed.sent ++ map character l) (sym none) ∙ typed.rest in
     rw (← all) typed.wrote
 
-pub typed_front : (told now new : Option (List ℕ)) (bytes : List ℕ) (from index byte : ℕ) → Typed told now bytes from index → index < length bytes → byte ≡ get_or bytes index 0 →
-    AppendsFront now new ((byte % 128) ∷ []) → AppendsFront told new (map character (drop from bytes))
-typed_front told now new bytes from index byte typed within is front =
-    let cut : AppendsFront told new (typed.sent ++ (get_or bytes index 0 % 128) ∷ []) = front_after told now new typed.sent ((get_or bytes index 0 % 128) ∷ []) typed.wrote (rw is at front) in
-    rw (← typed_rest bytes typed.sent from index within typed.rest) (cut_of_more told new (typed.sent ++ (get_or bytes index 0 % 128) ∷ []) (map character (drop (suc index) bytes)) cut)
-
--- fronts of what one schedule brings, by another that brings the same
-pub fronts_by : (P Q : Extent → List ℕ → List ℕ → List ℕ → Type 0) (failed : Failures) (old new : Taken) → ((extent : Extent) (text printed punched : List ℕ) → P extent text printed punched → Q extent text printed punched) → FrontsOf P failed old new → FrontsOf Q failed old new
-fronts_by P Q failed old new by fronts = record {
-  extent = fronts.extent;
-  text = fronts.text;
-  printed = fronts.printed;
-  punched = fronts.punched;
-  is = by fronts.extent fronts.text fronts.printed fronts.punched fronts.is;
-  to_report = fronts.to_report;
-  to_teletype = fronts.to_teletype;
-  to_punch = fronts.to_punch;
-  teletype_whole = fronts.teletype_whole;
-  teletype_front = fronts.teletype_front;
-  typed_nearly = fronts.typed_nearly;
-  typed_before_summary = fronts.typed_before_summary;
-  punched_before_summary = fronts.punched_before_summary;
-}
-
 -- the same of what is written whole
 pub writes_by : (P Q : List ℕ → List ℕ → List ℕ → Type 0) (old new : Taken) → ((text printed punched : List ℕ) → P text printed punched → Q text printed punched) → WritesAll P old new → WritesAll Q old new
 writes_by P Q old new by writes = record {
@@ -463,47 +363,9 @@ writes_by P Q old new by writes = record {
 pub first_place_is : (plan : Plan) (o : Operator) → plan_of o ≡ plan → o.last ≡ None → place_of o ≡ first_place plan
 first_place_is plan o is first = rw (is, first) refl
 
--- a line of the trace failed, or memory was refused
-pub play_front : (p : Profile) (trace : Bool) (w : WorldState) (e : Event) (x : WorldState) (old new told : Option (List ℕ)) (marked typed : Bool) →
-    (marked ≡ true → Happens p w e x) → (marked ≡ true → trace ≡ true) → (marked ≡ true → AppendsFront old new (trace_of p w e x)) → (marked ≡ false → x ≡ w) → (marked ≡ false → puts_out w e ≡ true) → (marked ≡ false → new ≡ old) → typed ≡ false →
-    PlayedFront p trace w e x marked typed old new told told
-play_front p trace w e x old new told true typed happens asked front same wanted unwritten untyped = inr (record {
-  happens = happens refl;
-  failed = refl;
-  wrote = rw (asked refl) (front refl);
-  printed = no_front told (printed_from w x);
-  printed_whole = λ no. absurd (true≢false no);
-  printed_front = λ yes. absurd (true≢false (sym yes ∙ untyped));
-})
-play_front p trace w e x old new told false typed happens asked front same wanted unwritten untyped = inl (record { same = same refl; unfailed = untyped; wanted = wanted refl; unwritten = unwritten refl; unprinted = refl })
-
 pub or_true : (b : Bool) → b || true ≡ true
 or_true true = refl
 or_true false = refl
-
--- a character failed
-pub type_front : (p : Profile) (trace : Bool) (w : WorldState) (e : Event) (x : WorldState) (marked typed : Bool) (old new told tells : Option (List ℕ)) →
-    Happens p w e x → Appends old new (traced trace (trace_of p w e x)) → AppendsFront told tells (printed_from w x) → marked ≡ false → typed ≡ true → PlayedFront p trace w e x marked typed old new told tells
-type_front p trace w e x marked typed old new told tells happens wrote front unmarked failed = inr (record {
-  happens = happens;
-  failed = rw failed (or_true marked);
-  wrote = rw unmarked wrote;
-  printed = some_of told tells (printed_from w x) front;
-  printed_whole = λ no. absurd (true≢false (sym failed ∙ or_right marked typed no));
-  printed_front = λ yes. front;
-})
-
--- where a write failed, or memory was refused, what holds of a fault holds
-pub of_failure : {T X : Type 0} (r : Result T Fault) → fails_to_write r ≡ true → OnErr r X → X
-of_failure (Ok v) failed x = absurd (true≢false (sym failed))
-of_failure (Err fault) failed x = x
-
-pub of_refusal : {T X : Type 0} (r : Result T Fault) → r ≡ Err NoMemory → OnErr r X → X
-of_refusal r refused x = rw refused at x
-
--- bytes for which memory was refused have come in part
-pub bytes_came : {T : Type 0} (most : ℕ) (bytes : Input) (r : Result T Fault) → IfErr r (IsBytesFault most bytes) → r ≡ Err NoMemory → HasCome bytes
-bytes_came most bytes r is refused = rw refused at is
 
 -- bytes that came whole
 pub came_whole : (most : ℕ) (had left : Option (List ℕ)) (bytes : List ℕ) → Consumes had left bytes → AreFirst most had bytes → Gave had left (λ given. AreFirst most had given)

@@ -165,9 +165,9 @@ not_stopped : (stops : Stops) (p : Profile) (stopped : Bool) (es : List Event) (
 not_stopped stops p true es w none stop = absurd (none_after stops p true 0 (es ++ Step ∷ []) w (length es) none stop)
 not_stopped stops p false es w none stop = refl
 
-held_without_stops : (comes : Profile → WorldState → Extent → List Event → Type 0) (options : RunOptions) (stops : Stops) (form : SummaryForm) (extent : Extent) (image : List (Option ℕ)) (text printed punched : List ℕ) (status : Status) →
-    AreNone stops → IsHeldToStop comes options stops None form extent false image text printed punched status → IsHeld comes options form extent image text printed punched status
-held_without_stops comes options stops form extent image text printed punched status none held =
+held_without_stops : (comes : Profile → WorldState → Extent → List Event → Type 0) (options : RunOptions) (stops : Stops) (form : SummaryForm) (image : List (Option ℕ)) (text printed punched : List ℕ) (status : Status) →
+    AreNone stops → IsHeldToStop comes options stops None form false image text printed punched status → IsHeld comes options form image text printed punched status
+held_without_stops comes options stops form image text printed punched status none held =
     let un = not_stopped stops options.profile held.stopped held.events (fresh image options.start) none held.stop in
     let front : held.front ≡ traced options.trace held.lines = held.front_is in
     record {
@@ -185,9 +185,9 @@ held_without_stops comes options stops form extent image text printed punched st
     }
 
 pub sessions_without_stops : SessionsWithoutStops
-sessions_without_stops options stops form extent plan image text printed punched status none held =
-    held_without_stops (comes_by plan) options stops form extent image text printed punched status none held
+sessions_without_stops options stops form plan image text printed punched status none held =
+    held_without_stops (comes_by plan) options stops form image text printed punched status none held
 
 pub typed_without_stops : TypedWithoutStops
-typed_without_stops options stops form extent frames bytes image text printed punched status none held =
-    held_without_stops (types_by options frames bytes) (run_of options) stops form extent image text printed punched status none held
+typed_without_stops options stops form frames bytes image text printed punched status none held =
+    held_without_stops (types_by options frames bytes) (run_of options) stops form image text printed punched status none held

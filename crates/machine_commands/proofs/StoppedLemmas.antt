@@ -1,8 +1,7 @@
 -- A run by a schedule that may be stopped, event by event.
-use Rattle.std.proofs.Common.{ℕ, zero, suc, ◌≡◌, ◌+◌, ◌≤◌, Bool, true, false, ◌||◌, List, [], ◌∷◌, ◌++◌, length, refl, sym, ◌∙◌, ap, append_assoc, append-nil, add-zero, zero-add, length-append, arith, Some, None, Option, Result, Ok, Err, IfOk, OnErr, inl, inr, true≢false}
+use Rattle.std.proofs.Common.{ℕ, zero, suc, ◌≡◌, ◌+◌, ◌≤◌, Bool, true, false, List, [], ◌∷◌, ◌++◌, length, refl, sym, ◌∙◌, ap, append_assoc, append-nil, add-zero, zero-add, length-append, arith, Some, Option, true≢false}
 use Rattle.std.specs.Io.KnownBytes.{Appends}
 use Rattle.std.proofs.KnownBytes.{Appends-nil, Appends-trans}
-use Rattle.streams.specs.Bytes.{AppendsFront}
 use Rattle.instruct.specs.declared.Profile.{Profile}
 use Rattle.peripherals.specs.declared.Event.{Event}
 use Rattle.peripherals.specs.declared.Event.TheVariants.{Step, Key, PrinterDone, ReaderDone, PunchDone, Switches, Continue}
@@ -15,23 +14,21 @@ use Rattle.wordset.specs.Lanes.{words}
 use Rattle.command_parts.specs.declared.options.RunOptions.{RunOptions}
 use Rattle.command_parts.specs.declared.options.Stops.{Stops}
 use Rattle.command_parts.specs.declared.options.SummaryForm.{SummaryForm}
-use Rattle.command_parts.specs.declared.status.Fault.{Fault}
 use Rattle.command_parts.specs.declared.status.Status.{Status}
-use Rattle.command_parts.specs.Faults.{fails_to_write}
 use Rattle.machine_commands.specs.declared.follow.End.{End}
 use Rattle.machine_commands.specs.declared.follow.End.TheVariants as end
 use Rattle.machine_commands.specs.declared.follow.RunOutcome.{RunOutcome}
 use Rattle.machine_commands.specs.Follows.{Follows, Stopped, Stuck, counted, end_of, goes_on}
 use Rattle.machine_commands.specs.Running.{fresh, status_of}
-use Rattle.machine_commands.specs.Schedule.{Extent, UpToAny, UpToOutput, UpToRead, ToStep, Whole}
-use Rattle.machine_commands.specs.Session.{AppendsUnless, BrokeOff, FrontsOf, WritesAll, extent_after, extent_unread, failures, printed_in, summary_where, taken}
-use Rattle.machine_commands.specs.SessionParts.{Faltered, IsNext, Played, PlayedFront, is_step, printed_from, steps_in}
-use Rattle.machine_commands.specs.StoppedParts.{OperatedToStop, Passes, unstopped}
-use Rattle.machine_commands.specs.StoppedSession.{IsFront, IsHeldToStop, IsPartToStop, StoppedSo, extent_to_stop, form_behind, leaving, to_stop}
+use Rattle.machine_commands.specs.Schedule.{Extent, ToStep, Whole}
+use Rattle.machine_commands.specs.Session.{WritesAll, printed_in, summary_where, taken}
+use Rattle.machine_commands.specs.SessionParts.{IsNext, Played, is_step, steps_in}
+use Rattle.machine_commands.specs.StoppedParts.{OperatedToStop, Passes}
+use Rattle.machine_commands.specs.StoppedSession.{IsFront, IsHeldToStop, StoppedSo, extent_to_stop, form_behind, leaving, to_stop}
 use Rattle.machine_commands.specs.Stops.{Ends, Continues, Here, Later, NeverStops, Over, StopsAfter, stops_before, visits_with}
 use Rattle.machine_commands.specs.Trace.{trace_of, traced}
-use Rattle.machine_commands.proofs.FollowLemmas.{Came, came_here, came_none, front_after, joined, no_line, one_by}
-use Rattle.machine_commands.proofs.SessionLemmas.{came_next, device_came, device_goes, fronts_by, nearly_all, one_more, one_over, or_left, or_right, output_stays, printed_more, printed_next, printer_done, some_after, some_same, unless_joined, whole_front}
+use Rattle.machine_commands.proofs.FollowLemmas.{Came, came_here, came_none, joined, no_line}
+use Rattle.machine_commands.proofs.SessionLemmas.{came_next, device_came, device_goes, one_more, output_stays, printed_next, printer_done}
 use Rattle.machine_commands.proofs.StoppingLemmas.{step_of}
 
 -- any other event does not
@@ -163,7 +160,7 @@ un_to_stop brings stops p trace first now after e w x n visits outcome old new t
     record {
       events = un.events;
       stopped = true;
-      come = λ extent. un.come ToStep (Step ∷ []) begins;
+      come = un.come ToStep (Step ∷ []) begins;
       stop = stopped_so stops p un.events w visits x un.unmet on_step;
       lines = un.came.lines;
       last = end_of x;
@@ -180,7 +177,7 @@ pub un_all : {S : Type 0} (brings : S → Profile → WorldState → Extent → 
 un_all brings stops p trace first now w x visits outcome old new told_old told_new un over ends = record {
   events = un.events;
   stopped = false;
-  come = λ extent. let all : brings first p w extent (un.events ++ []) = un.come extent [] (over extent) in rw (append-nil un.events) at all;
+  come = let all : brings first p w Whole (un.events ++ []) = un.come Whole [] (over Whole) in rw (append-nil un.events) at all;
   stop = never_so stops p un.events w visits x un.unmet;
   lines = un.came.lines;
   last = end_of x;
@@ -198,7 +195,7 @@ un_to_halt brings stops p trace first now after e w x y n visits outcome old mid
     record {
       events = un.events ++ e ∷ [];
       stopped = false;
-      come = λ extent. un.come extent (e ∷ []) (next.last p extent over);
+      come = un.come Whole (e ∷ []) (next.last p Whole over);
       stop = never_with stops p un.events w visits e x un.unmet off over;
       lines = un.came.lines ++ trace_of p x e y;
       last = end_of y;
@@ -218,7 +215,7 @@ un_to_stuck brings stops p trace first now after e w x y n visits word outcome o
     record {
       events = un.events ++ e ∷ [];
       stopped = false;
-      come = λ extent. un.come extent (e ∷ []) (next.last p extent over);
+      come = un.come Whole (e ∷ []) (next.last p Whole over);
       stop = never_with stops p un.events w visits e x un.unmet off over;
       lines = un.came.lines ++ [];
       last = end.Unsupported y.state.pc;
@@ -227,75 +224,6 @@ un_to_stuck brings stops p trace first now after e w x y n visits word outcome o
       wrote = joined trace old mid new un.came.lines [] un.came.wrote none;
       printed = printed_next p x y e told_old told_mid told_new played.happens un.printed played.printed;
     }
-
--- the run broke off where nothing happened since: before an event that puts out a byte, or where a frame or a key was read
-broke_here : {S : Type 0} (brings : S → Profile → WorldState → Extent → List Event → Type 0) (stops : Stops) (p : Profile) (trace : Bool) (first now : S) (w x : WorldState) (n visits : ℕ) (reported typed unread : Bool) (old new told_old told_new : Option (List ℕ)) →
-    Unstopped brings stops p trace first now w x n visits old new told_old told_new → (reported || typed) ≡ false → brings now p x (extent_unread unread) [] →
-    BrokeOff (unstopped stops (brings first) p w) p trace w x reported typed unread old new told_old told_new
-unfolding whole_front
-broke_here brings stops p trace first now w x n visits reported typed unread old new told_old told_new un unfailed cut =
-    let all : brings first p w (extent_unread unread) (un.events ++ []) = un.come (extent_unread unread) [] cut in
-    record {
-      events = un.events;
-      come = (rw unfailed (rw (append-nil un.events) at all), never_so stops p un.events w visits x un.unmet);
-      lines = un.came.lines;
-      steps = n;
-      end = end_of x;
-      follows = came_here p true trace un.events w x n old new un.came;
-      wrote = rw (or_left reported typed unfailed) un.came.wrote;
-      printed = whole_front told_old told_new (printed_in x) un.printed;
-      printed_whole = λ no. un.printed;
-      printed_front = λ yes. absurd (true≢false (sym yes ∙ or_right reported typed unfailed));
-      printed_nearly = one_over (length (printed_in x));
-    }
-
--- a read of a frame or a key failed
-pub un_to_unread : {S : Type 0} (brings : S → Profile → WorldState → Extent → List Event → Type 0) (stops : Stops) (p : Profile) (trace : Bool) (first now : S) (w x : WorldState) (n visits : ℕ) (reported typed unread : Bool) (old new told_old told_new : Option (List ℕ)) →
-    Unstopped brings stops p trace first now w x n visits old new told_old told_new → reported ≡ false → typed ≡ false → unread ≡ true → brings now p x UpToRead [] →
-    BrokeOff (unstopped stops (brings first) p w) p trace w x reported typed unread old new told_old told_new
-un_to_unread brings stops p trace first now w x n visits reported typed unread old new told_old told_new un unreported untyped failed cut =
-    broke_here brings stops p trace first now w x n visits reported typed unread old new told_old told_new un (rw (unreported, untyped) refl) (rw failed cut)
-
--- the events up to the one that is due
-cut_after : {S : Type 0} (brings : S → Profile → WorldState → Extent → List Event → Type 0) (stops : Stops) (p : Profile) (first now after : S) (es : List Event) (w x y : WorldState) (visits : ℕ) (e : Event) (on : Bool) →
-    ((rest : List Event) → brings now p x UpToAny rest → brings first p w UpToAny (es ++ rest)) → Unmet stops p es w visits x → IsNext brings now after x e → ((s : S) (q : Profile) (v : WorldState) → brings s q v UpToAny []) →
-    stops_before stops p visits x e ≡ false → goes_on true (seen_of p x e) ≡ on → Happens p x e y → unstopped stops (brings first) p w UpToAny (es ++ e ∷ [])
-cut_after brings stops p first now after es w x y visits e true come unmet next anywhere off goes happens =
-    (come (e ∷ []) (next.on p y UpToAny [] goes happens (anywhere after p y)), unmet.never (e ∷ []) (Continues visits e [] x y off goes happens (Over (visits_with stops visits x e) y)))
-cut_after brings stops p first now after es w x y visits e false come unmet next anywhere off goes happens =
-    (come (e ∷ []) (next.last p UpToAny goes), never_with stops p es w visits e x unmet off goes)
-
--- the event happened, and a write of what it wrote or printed failed
-broke_after : {S : Type 0} (brings : S → Profile → WorldState → Extent → List Event → Type 0) (stops : Stops) (p : Profile) (trace : Bool) (first now after : S) (e : Event) (w x y : WorldState) (n visits : ℕ) (reported typed unread : Bool) (old mid new told_old told_mid told_new : Option (List ℕ)) →
-    Unstopped brings stops p trace first now w x n visits old mid told_old told_mid → IsNext brings now after x e → ((s : S) (q : Profile) (v : WorldState) → brings s q v UpToAny []) → stops_before stops p visits x e ≡ false →
-    Faltered p trace x e y reported typed mid new told_mid told_new → BrokeOff (unstopped stops (brings first) p w) p trace w y reported typed unread old new told_old told_new
-unfolding some_same some_after
-broke_after brings stops p trace first now after e w x y n visits reported typed unread old mid new told_old told_mid told_new un next anywhere off faltered =
-    let one = one_by p true e x y (seen_of p x e) refl faltered.happens in
-    let more = printed_more p x y e faltered.happens in
-    let line = trace_of p x e y in
-    record {
-      events = un.events ++ e ∷ [];
-      come = rw (faltered.failed) (cut_after brings stops p first now after un.events w x y visits e (goes_on true (seen_of p x e)) (un.come UpToAny) un.unmet next anywhere off refl faltered.happens);
-      lines = un.came.lines ++ line;
-      steps = n + one.steps;
-      end = one.end;
-      follows = un.came.leads (e ∷ []) line one.steps one.end y one.follows;
-      wrote = unless_joined reported trace old mid new un.came.lines line un.came.wrote faltered.wrote;
-      printed = some_same told_old told_new (printed_in y) (printed_in x ++ printed_from x y) more (some_after told_old told_mid told_new (printed_in x) (printed_from x y) un.printed faltered.printed);
-      printed_whole = λ no. printed_next p x y e told_old told_mid told_new faltered.happens un.printed (faltered.printed_whole no);
-      printed_front = λ yes. rw more (front_after told_old told_mid told_new (printed_in x) (printed_from x y) un.printed (faltered.printed_front yes));
-      printed_nearly = nearly_all p x y e faltered.printed.count faltered.happens;
-    }
-
--- an event could not be played
-pub un_to_fault : {S : Type 0} (brings : S → Profile → WorldState → Extent → List Event → Type 0) (stops : Stops) (p : Profile) (trace : Bool) (first now after : S) (e : Event) (w x y : WorldState) (n visits : ℕ) (reported typed unread : Bool) (old mid new told_old told_mid told_new : Option (List ℕ)) →
-    Unstopped brings stops p trace first now w x n visits old mid told_old told_mid → IsNext brings now after x e → ((s : S) (q : Profile) (v : WorldState) → brings s q v UpToAny []) → stops_before stops p visits x e ≡ false → unread ≡ false →
-    PlayedFront p trace x e y reported typed mid new told_mid told_new → BrokeOff (unstopped stops (brings first) p w) p trace w y reported typed unread old new told_old told_new
-un_to_fault brings stops p trace first now after e w x y n visits reported typed unread old mid new told_old told_mid told_new un next anywhere off readable (inl kept) = rw (kept.same, kept.unwritten, kept.unprinted)
-    (broke_here brings stops p trace first now w x n visits reported typed unread old mid told_old told_mid un kept.unfailed (rw readable (next.output p kept.wanted)))
-un_to_fault brings stops p trace first now after e w x y n visits reported typed unread old mid new told_old told_mid told_new un next anywhere off readable (inr faltered) =
-    broke_after brings stops p trace first now after e w x y n visits reported typed unread old mid new told_old told_mid told_new un next anywhere off faltered
 
 -- how a run is said to have ended that a key interrupted, or did not
 pub left_so : (comes : Extent → List Event → Type 0) (left : Bool) (stops : Stops) (p : Profile) (trace : Bool) (w : WorldState) (ran outcome : RunOutcome) (x : WorldState) (old new told_old told_new : Option (List ℕ)) →
@@ -314,13 +242,13 @@ left_so comes left stops p trace w ran outcome x old new told_old told_new done 
 }
 
 -- What a run leaves that came to its end or was stopped, behind this front.
-held_to_stop : (comes : Profile → WorldState → Extent → List Event → Type 0) (options : RunOptions) (stops : Stops) (shown : Option ℕ) (form : SummaryForm) (extent : Extent) (left trace : Bool) (image : List (Option ℕ)) (p : Profile) (w x : WorldState) (outcome : RunOutcome) (status : Status) (front : List ℕ) (old mid told_old told_new : Option (List ℕ)) →
+held_to_stop : (comes : Profile → WorldState → Extent → List Event → Type 0) (options : RunOptions) (stops : Stops) (shown : Option ℕ) (form : SummaryForm) (left trace : Bool) (image : List (Option ℕ)) (p : Profile) (w x : WorldState) (outcome : RunOutcome) (status : Status) (front : List ℕ) (old mid told_old told_new : Option (List ℕ)) →
     p ≡ options.profile → w ≡ fresh image options.start → (done : OperatedToStop (comes p w) left stops p trace w outcome x old mid told_old told_new) → IsFront shown (traced options.trace done.lines) front → status ≡ status_of outcome.end →
-    IsHeldToStop comes options stops shown form extent left image (front ++ summary_where (words options.show) (form_behind shown form) extent outcome.end x outcome.steps) (printed_in x) x.devices.punch.output status
-held_to_stop comes options stops shown form extent left trace image p w x outcome status front old mid told_old told_new profile begins done front_is is = record {
+    IsHeldToStop comes options stops shown form left image (front ++ summary_where (words options.show) (form_behind shown form) outcome.end x outcome.steps) (printed_in x) x.devices.punch.output status
+held_to_stop comes options stops shown form left trace image p w x outcome status front old mid told_old told_new profile begins done front_is is = record {
   events = done.events;
   stopped = done.stopped;
-  come = let come : comes p w (extent_to_stop done.stopped extent) (to_stop done.stopped done.events) = done.come extent in rw (profile, begins) at come;
+  come = let come : comes p w (extent_to_stop done.stopped) (to_stop done.stopped done.events) = done.come in rw (profile, begins) at come;
   stop = let stop : StoppedSo stops p done.stopped done.events w = done.stop in rw (profile, begins) at stop;
   lines = done.lines;
   steps = outcome.steps;
@@ -329,7 +257,7 @@ held_to_stop comes options stops shown form extent left trace image p w x outcom
   follows = let follows : Follows p true done.events w done.lines outcome.steps done.last x = done.follows in rw (profile, begins) at follows;
   front = front;
   front_is = front_is;
-  text_is = ap (λ (t : End). front ++ summary_where (words options.show) (form_behind shown form) extent t x outcome.steps) done.ends;
+  text_is = ap (λ (t : End). front ++ summary_where (words options.show) (form_behind shown form) t x outcome.steps) done.ends;
   printed_is = refl;
   punched_is = refl;
   status_is = is ∙ ap status_of done.ends;
@@ -337,157 +265,16 @@ held_to_stop comes options stops shown form extent left trace image p w x outcom
 
 pub attended_to_stop : (comes : Profile → WorldState → Extent → List Event → Type 0) (options : RunOptions) (stops : Stops) (shown : Option ℕ) (form : SummaryForm) (left trace : Bool) (image : List (Option ℕ)) (p : Profile) (w x : WorldState) (outcome : RunOutcome) (status : Status) (front : List ℕ) (old mid new kept_old kept_new told_old told_new held holds : Option (List ℕ)) →
     p ≡ options.profile → w ≡ fresh image options.start → (done : OperatedToStop (comes p w) left stops p trace w outcome x kept_old kept_new told_old told_new) → IsFront shown (traced options.trace done.lines) front → Appends held holds x.devices.punch.output →
-    Appends old mid front → Appends mid new (summary_where (words options.show) (form_behind shown form) Whole outcome.end x outcome.steps) → status ≡ status_of outcome.end →
-    WritesAll (λ text printed punched. IsHeldToStop comes options stops shown form Whole left image text printed punched status) (taken old told_old held) (taken new told_new holds)
+    Appends old mid front → Appends mid new (summary_where (words options.show) (form_behind shown form) outcome.end x outcome.steps) → status ≡ status_of outcome.end →
+    WritesAll (λ text printed punched. IsHeldToStop comes options stops shown form left image text printed punched status) (taken old told_old held) (taken new told_new holds)
 attended_to_stop comes options stops shown form left trace image p w x outcome status front old mid new kept_old kept_new told_old told_new held holds profile begins done front_is punched before wrote is =
-    let summary = summary_where (words options.show) (form_behind shown form) Whole outcome.end x outcome.steps in
+    let summary = summary_where (words options.show) (form_behind shown form) outcome.end x outcome.steps in
     record {
       text = front ++ summary;
       printed = printed_in x;
       punched = x.devices.punch.output;
-      is = held_to_stop comes options stops shown form Whole left trace image p w x outcome status front kept_old kept_new told_old told_new profile begins done front_is is;
+      is = held_to_stop comes options stops shown form left trace image p w x outcome status front kept_old kept_new told_old told_new profile begins done front_is is;
       to_report = Appends-trans old mid new front summary before wrote;
       to_teletype = done.printed;
       to_punch = punched;
     }
-
--- the summary failed
-pub summary_failed : (comes : Profile → WorldState → Extent → List Event → Type 0) (options : RunOptions) (stops : Stops) (form : SummaryForm) (left : Bool) (image : List (Option ℕ)) (p : Profile) (w x : WorldState) (outcome : RunOutcome) (reported typed unread unpunched : Bool) (old mid new told_old told_new held holds : Option (List ℕ)) →
-    p ≡ options.profile → w ≡ fresh image options.start → OperatedToStop (comes p w) left stops p options.trace w outcome x old mid told_old told_new → Appends held holds x.devices.punch.output →
-    AppendsFront mid new (summary_where (words options.show) form Whole outcome.end x outcome.steps) → reported ≡ true → typed ≡ false → unpunched ≡ false →
-    FrontsOf (IsPartToStop comes options stops form left reported typed unread image) (failures reported typed unpunched) (taken old told_old held) (taken new told_new holds)
-unfolding whole_front
-summary_failed comes options stops form left image p w x outcome reported typed unread unpunched old mid new told_old told_new held holds profile begins done punched front failed untyped is_punched = record {
-  extent = Whole;
-  text = traced options.trace done.lines ++ summary_where (words options.show) form Whole outcome.end x outcome.steps;
-  printed = printed_in x;
-  punched = x.devices.punch.output;
-  is = record { summed = λ all. failed; to_there = λ no. absurd (true≢false (sym failed ∙ or_left reported typed no)); as_left = left; if_left = λ yes. yes; status = status_of outcome.end; is = held_to_stop comes options stops None form Whole left options.trace image p w x outcome (status_of outcome.end) (traced options.trace done.lines) old mid told_old told_new profile begins done refl refl };
-  to_report = rw failed (front_after old mid new (traced options.trace done.lines) (summary_where (words options.show) form Whole outcome.end x outcome.steps) done.wrote front);
-  to_teletype = whole_front told_old told_new (printed_in x) done.printed;
-  to_punch = rw is_punched punched;
-  teletype_whole = λ no. done.printed;
-  teletype_front = λ yes. absurd (true≢false (sym yes ∙ untyped));
-  typed_nearly = one_over (length (printed_in x));
-  typed_before_summary = λ all. done.printed;
-  punched_before_summary = λ all. punched;
-}
-
-not_all : (failed unread : Bool) → extent_after failed unread ≡ Whole → ⊥
-not_all true unread is = let e : UpToAny ≡ Whole = is in cc
-not_all false true is = let e : UpToRead ≡ Whole = is in cc
-not_all false false is = let e : UpToOutput ≡ Whole = is in cc
-
-unsummed : (named : ℕ → Bool) (form : SummaryForm) (failed unread : Bool) (last : End) (x : WorldState) (steps : ℕ) → summary_where named form (extent_after failed unread) last x steps ≡ []
-unsummed named form true unread last x steps = refl
-unsummed named form false true last x steps = refl
-unsummed named form false false last x steps = refl
-
--- the run came to its end or was stopped, and the summary is not written
-done_front : (comes : Profile → WorldState → Extent → List Event → Type 0) (options : RunOptions) (stops : Stops) (form : SummaryForm) (left : Bool) (image : List (Option ℕ)) (p : Profile) (w x : WorldState) (outcome : RunOutcome) (reported typed unread unpunched : Bool) (old new told_old told_new held holds : Option (List ℕ)) →
-    p ≡ options.profile → w ≡ fresh image options.start → OperatedToStop (comes p w) left stops p options.trace w outcome x old new told_old told_new → (reported || typed) ≡ false → AppendsUnless unpunched held holds x.devices.punch.output →
-    FrontsOf (IsPartToStop comes options stops form left reported typed unread image) (failures reported typed unpunched) (taken old told_old held) (taken new told_new holds)
-unfolding whole_front
-done_front comes options stops form left image p w x outcome reported typed unread unpunched old new told_old told_new held holds profile begins done unfailed punched =
-    let extent = extent_after (reported || typed) unread in
-    let lines = traced options.trace done.lines in
-    let none : summary_where (words options.show) form extent outcome.end x outcome.steps ≡ [] = unsummed (words options.show) form (reported || typed) unread outcome.end x outcome.steps in
-    let wrote : Appends old new (lines ++ []) = rw (append-nil lines) done.wrote in
-    record {
-      extent = extent;
-      text = lines ++ [];
-      printed = printed_in x;
-      punched = x.devices.punch.output;
-      is = record {
-        summed = λ all. absurd (not_all (reported || typed) unread all);
-        to_there = λ no. rw no refl;
-        as_left = left;
-        if_left = λ yes. yes;
-        status = status_of outcome.end;
-        is = rw none at (held_to_stop comes options stops None form extent left options.trace image p w x outcome (status_of outcome.end) lines old new told_old told_new profile begins done refl refl);
-      };
-      to_report = rw (or_left reported typed unfailed) wrote;
-      to_teletype = whole_front told_old told_new (printed_in x) done.printed;
-      to_punch = punched;
-      teletype_whole = λ no. done.printed;
-      teletype_front = λ yes. absurd (true≢false (sym yes ∙ or_right reported typed unfailed));
-      typed_nearly = one_over (length (printed_in x));
-      typed_before_summary = λ all. absurd (not_all (reported || typed) unread all);
-      punched_before_summary = λ all. absurd (not_all (reported || typed) unread all);
-    }
-
--- memory was refused for the summary
-pub summary_unmade : (comes : Profile → WorldState → Extent → List Event → Type 0) (options : RunOptions) (stops : Stops) (form : SummaryForm) (left : Bool) (image : List (Option ℕ)) (p : Profile) (w x : WorldState) (outcome : RunOutcome) (reported typed unread unpunched : Bool) (old new told_old told_new held holds : Option (List ℕ)) →
-    p ≡ options.profile → w ≡ fresh image options.start → OperatedToStop (comes p w) left stops p options.trace w outcome x old new told_old told_new → Appends held holds x.devices.punch.output → (reported || typed) ≡ false → unpunched ≡ false →
-    FrontsOf (IsPartToStop comes options stops form left reported typed unread image) (failures reported typed unpunched) (taken old told_old held) (taken new told_new holds)
-summary_unmade comes options stops form left image p w x outcome reported typed unread unpunched old new told_old told_new held holds profile begins done punched unfailed is_punched =
-    done_front comes options stops form left image p w x outcome reported typed unread unpunched old new told_old told_new held holds profile begins done unfailed (rw is_punched punched)
-
--- the run broke off
-pub broke_unstopped : (comes : Profile → WorldState → Extent → List Event → Type 0) (options : RunOptions) (stops : Stops) (form : SummaryForm) (left : Bool) (image : List (Option ℕ)) (p : Profile) (w x : WorldState) (reported typed unread unpunched : Bool) (old new told_old told_new held holds : Option (List ℕ)) →
-    p ≡ options.profile → w ≡ fresh image options.start → BrokeOff (unstopped stops comes p w) p options.trace w x reported typed unread old new told_old told_new → AppendsUnless unpunched held holds x.devices.punch.output →
-    FrontsOf (IsPartToStop comes options stops form left reported typed unread image) (failures reported typed unpunched) (taken old told_old held) (taken new told_new holds)
-broke_unstopped comes options stops form left image p w x reported typed unread unpunched old new told_old told_new held holds profile begins broke punched =
-    let lines = traced options.trace broke.lines in
-    record {
-      extent = extent_after (reported || typed) unread;
-      text = lines ++ [];
-      printed = printed_in x;
-      punched = x.devices.punch.output;
-      is = record {
-        summed = λ all. absurd (not_all (reported || typed) unread all);
-        to_there = λ no. rw no refl;
-        as_left = false;
-        if_left = λ yes. absurd (true≢false (sym yes));
-        status = status_of broke.end;
-        is = record {
-          events = broke.events;
-          stopped = false;
-          come = let come : comes p w (extent_after (reported || typed) unread) broke.events = broke.come.0 in rw (profile, begins) at come;
-          stop = let stop : NeverStops stops p true 0 broke.events w = broke.come.1 in rw (profile, begins) at stop;
-          lines = broke.lines;
-          steps = broke.steps;
-          last = broke.end;
-          final = x;
-          follows = let follows : Follows p true broke.events w broke.lines broke.steps broke.end x = broke.follows in rw (profile, begins) at follows;
-          front = lines;
-          front_is = refl;
-          text_is = ap (λ (l : List ℕ). lines ++ l) (sym (unsummed (words options.show) form (reported || typed) unread broke.end x broke.steps));
-          printed_is = refl;
-          punched_is = refl;
-          status_is = refl;
-        };
-      };
-      to_report = rw (append-nil lines) broke.wrote;
-      to_teletype = broke.printed;
-      to_punch = punched;
-      teletype_whole = broke.printed_whole;
-      teletype_front = broke.printed_front;
-      typed_nearly = broke.printed_nearly;
-      typed_before_summary = λ all. absurd (not_all (reported || typed) unread all);
-      punched_before_summary = λ all. absurd (not_all (reported || typed) unread all);
-    }
-
--- what a run leaves that no key interrupted is what one may leave that a key interrupts
-part_left : (comes : Profile → WorldState → Extent → List Event → Type 0) (options : RunOptions) (stops : Stops) (form : SummaryForm) (left : Bool) (image : List (Option ℕ)) (reported typed unread : Bool) (extent : Extent) (text printed punched : List ℕ) →
-    IsPartToStop comes options stops form false reported typed unread image extent text printed punched → IsPartToStop comes options stops form left reported typed unread image extent text printed punched
-part_left comes options stops form left image reported typed unread extent text printed punched part = record {
-  summed = part.summed;
-  to_there = part.to_there;
-  as_left = part.as_left;
-  if_left = λ yes. absurd (true≢false (sym (part.if_left yes)));
-  status = part.status;
-  is = part.is;
-}
-
--- the punch failed, whatever the run brought
-pub punch_failed : (comes : Profile → WorldState → Extent → List Event → Type 0) (options : RunOptions) (stops : Stops) (form : SummaryForm) (left : Bool) (image : List (Option ℕ)) (p : Profile) (w x : WorldState) (ran : Result RunOutcome Fault) (reported typed unread unpunched : Bool) (old new told_old told_new held holds : Option (List ℕ)) →
-    p ≡ options.profile → w ≡ fresh image options.start → IfOk ran (λ outcome. OperatedToStop (comes p w) false stops p options.trace w outcome x old new told_old told_new) → OnErr ran (BrokeOff (unstopped stops comes p w) p options.trace w x reported typed unread old new told_old told_new) →
-    (reported || typed) ≡ fails_to_write ran → AppendsFront held holds x.devices.punch.output → unpunched ≡ true →
-    FrontsOf (IsPartToStop comes options stops form left reported typed unread image) (failures reported typed unpunched) (taken old told_old held) (taken new told_new holds)
-punch_failed comes options stops form left image p w x (Ok outcome) reported typed unread unpunched old new told_old told_new held holds profile begins done broke marks punched failed =
-    fronts_by _ _ (failures reported typed unpunched) (taken old told_old held) (taken new told_new holds)
-    (λ extent text printed punched part. part_left comes options stops form left image reported typed unread extent text printed punched part)
-    (done_front comes options stops form false image p w x outcome reported typed unread unpunched old new told_old told_new held holds profile begins done marks (rw failed punched))
-punch_failed comes options stops form left image p w x (Err fault) reported typed unread unpunched old new told_old told_new held holds profile begins done broke marks punched failed =
-    broke_unstopped comes options stops form left image p w x reported typed unread unpunched old new told_old told_new held holds profile begins broke (rw failed punched)

@@ -1,6 +1,5 @@
 -- What a run with an operator and a session answer that may be stopped, by what a schedule brings.
-use Rattle.std.proofs.Common.{ℕ, ◌≡◌, Bool, true, false, List, Option, None, Result, Ok, Err, IfOk, OnErr, subst, inr}
-use Rattle.std.specs.Prelude.{◌⊎◌, IfErr}
+use Rattle.std.proofs.Common.{ℕ, ◌≡◌, Bool, false, List, Option, None, Result, Ok, Err, IfOk, subst}
 use Rattle.instruct.specs.declared.Profile.{Profile}
 use Rattle.peripherals.specs.declared.Event.{Event}
 use Rattle.peripherals.specs.declared.operator.Operator.{Operator}
@@ -12,15 +11,14 @@ use Rattle.command_parts.specs.declared.options.SummaryForm.{SummaryForm}
 use Rattle.command_parts.specs.declared.options.TeletypeOptions.{TeletypeOptions}
 use Rattle.command_parts.specs.declared.status.Fault.{Fault}
 use Rattle.command_parts.specs.declared.status.Status.{Status}
-use Rattle.command_parts.specs.Faults.{is_fault_of_tape}
 use Rattle.command_parts.specs.Inputs.{AreFirst, HasImage}
-use Rattle.machine_commands.specs.Schedule.{Comes, Extent, Place, Whole, operating}
-use Rattle.machine_commands.specs.Session.{Failures, FrontsOf, Taken, WritesAll, plan_for}
+use Rattle.machine_commands.specs.Schedule.{Comes, Extent, Place, operating}
+use Rattle.machine_commands.specs.Session.{Taken, WritesAll, plan_for}
 use Rattle.machine_commands.specs.SessionParts.{place_of}
-use Rattle.machine_commands.specs.StoppedSession.{IsHeldToStop, IsPartToStop, IsSessionToStop, IsTypedToStop, NothingOrStoppedFronts, OfSession, OfTyped, StoppedSessionFronts, StoppedTypedFronts, extent_to_stop, to_stop}
+use Rattle.machine_commands.specs.StoppedSession.{IsHeldToStop, IsSessionToStop, IsTypedToStop, OfSession, OfTyped, extent_to_stop, to_stop}
 use Rattle.machine_commands.specs.Teletype.{run_of}
 use Rattle.machine_commands.specs.TypingParts.{Source}
-use Rattle.machine_commands.proofs.SessionLemmas.{first_place_is, fronts_by, writes_by}
+use Rattle.machine_commands.proofs.SessionLemmas.{first_place_is, writes_by}
 use Rattle.machine_commands.proofs.TeletypeLemmas.{begun, begun_comes}
 use Rattle.machine_commands.proofs.TypistLemmas.{all_left}
 
@@ -47,31 +45,18 @@ of_session options tape reader keys P image frames bytes o has_image frames_are 
 
 pub stopped_session_ok : (options : SessionOptions) (stops : Stops) (shown : Option ℕ) (form : SummaryForm) (tape reader keys : Option (List ℕ)) (image : List (Option ℕ)) (frames bytes : List ℕ) (o : Operator) (r : Result Status Fault) (old new : Taken) →
     HasImage tape image → AreFirst options.run.rounds reader frames → AreFirst options.run.rounds keys bytes → plan_of o ≡ plan_for options frames bytes → o.last ≡ None →
-    IfOk r (λ status. WritesAll (λ text printed punched. IsHeldToStop (operates o) options.run stops shown form Whole false image text printed punched status) old new) →
+    IfOk r (λ status. WritesAll (λ text printed punched. IsHeldToStop (operates o) options.run stops shown form false image text printed punched status) old new) →
     IfOk r (λ status. WritesAll (IsSessionToStop options stops shown form tape reader keys status) old new)
 stopped_session_ok options stops shown form tape reader keys image frames bytes o (Ok status) old new has_image frames_are bytes_are is first writes =
     writes_by _ _ old new (λ text printed punched held.
-    of_session options tape reader keys (λ comes loaded. IsHeldToStop comes options.run stops shown form Whole false loaded text printed punched status) image frames bytes o has_image frames_are bytes_are is first held) writes
+    of_session options tape reader keys (λ comes loaded. IsHeldToStop comes options.run stops shown form false loaded text printed punched status) image frames bytes o has_image frames_are bytes_are is first held) writes
 stopped_session_ok options stops shown form tape reader keys image frames bytes o (Err fault) old new has_image frames_are bytes_are is first writes = tt
 
-pub stopped_session_fronts : (options : SessionOptions) (stops : Stops) (form : SummaryForm) (tape reader keys : Option (List ℕ)) (image : List (Option ℕ)) (frames bytes : List ℕ) (o : Operator) (failed : Failures) (old new : Taken) →
-    HasImage tape image → AreFirst options.run.rounds reader frames → AreFirst options.run.rounds keys bytes → plan_of o ≡ plan_for options frames bytes → o.last ≡ None →
-    FrontsOf (IsPartToStop (operates o) options.run stops form false failed.report failed.teletype false image) failed old new → StoppedSessionFronts options stops form failed tape reader keys old new
-stopped_session_fronts options stops form tape reader keys image frames bytes o failed old new has_image frames_are bytes_are is first fronts =
-    fronts_by _ _ failed old new (λ extent text printed punched part.
-    of_session options tape reader keys (λ comes loaded. IsPartToStop comes options.run stops form false failed.report failed.teletype false loaded extent text printed punched) image frames bytes o has_image frames_are bytes_are is first part) fronts
-
-pub stopped_session_or : (options : SessionOptions) (stops : Stops) (form : SummaryForm) (tape reader keys : Option (List ℕ)) (image : List (Option ℕ)) (frames bytes : List ℕ) (o : Operator) (failed : Failures) (old new : Taken) →
-    HasImage tape image → AreFirst options.run.rounds reader frames → AreFirst options.run.rounds keys bytes → plan_of o ≡ plan_for options frames bytes → o.last ≡ None →
-    FrontsOf (IsPartToStop (operates o) options.run stops form false failed.report failed.teletype false image) failed old new → NothingOrStoppedFronts options stops form failed tape reader keys old new
-stopped_session_or options stops form tape reader keys image frames bytes o failed old new has_image frames_are bytes_are is first fronts =
-    inr (stopped_session_fronts options stops form tape reader keys image frames bytes o failed old new has_image frames_are bytes_are is first fronts)
-
 -- what a session holds from its beginning
-typed_stop_held : (options : TeletypeOptions) (stops : Stops) (shown : Option ℕ) (form : SummaryForm) (extent : Extent) (left : Bool) (tape : Option (List ℕ)) (reader keys : Source) (image : List (Option ℕ)) (status : Status) (text printed punched : List ℕ) →
-    HasImage tape image → IsHeldToStop (begun options reader keys) (run_of options) stops shown form extent left image text printed punched status →
-    OfTyped options tape reader.told keys.told (λ comes loaded. IsHeldToStop comes (run_of options) stops shown form extent left loaded text printed punched status)
-typed_stop_held options stops shown form extent left tape reader keys image status text printed punched has_image held =
+typed_stop_held : (options : TeletypeOptions) (stops : Stops) (shown : Option ℕ) (form : SummaryForm) (left : Bool) (tape : Option (List ℕ)) (reader keys : Source) (image : List (Option ℕ)) (status : Status) (text printed punched : List ℕ) →
+    HasImage tape image → IsHeldToStop (begun options reader keys) (run_of options) stops shown form left image text printed punched status →
+    OfTyped options tape reader.told keys.told (λ comes loaded. IsHeldToStop comes (run_of options) stops shown form left loaded text printed punched status)
+typed_stop_held options stops shown form left tape reader keys image status text printed punched has_image held =
     let come = held.come in
     record {
       image = image;
@@ -83,7 +68,7 @@ typed_stop_held options stops shown form extent left tape reader keys image stat
       is = record {
         events = held.events;
         stopped = held.stopped;
-        come = begun_comes options reader keys _ _ (extent_to_stop held.stopped extent) (to_stop held.stopped held.events) come;
+        come = begun_comes options reader keys _ _ (extent_to_stop held.stopped) (to_stop held.stopped held.events) come;
         stop = held.stop;
         lines = held.lines;
         steps = held.steps;
@@ -100,30 +85,8 @@ typed_stop_held options stops shown form extent left tape reader keys image stat
     }
 
 pub typed_stop_ok : (options : TeletypeOptions) (stops : Stops) (shown : Option ℕ) (form : SummaryForm) (left : Bool) (tape : Option (List ℕ)) (reader keys : Source) (image : List (Option ℕ)) (r : Result Status Fault) (old new : Taken) → HasImage tape image →
-    IfOk r (λ status. WritesAll (λ text printed punched. IsHeldToStop (begun options reader keys) (run_of options) stops shown form Whole left image text printed punched status) old new) →
+    IfOk r (λ status. WritesAll (λ text printed punched. IsHeldToStop (begun options reader keys) (run_of options) stops shown form left image text printed punched status) old new) →
     IfOk r (λ status. WritesAll (IsTypedToStop options stops shown form left tape reader.told keys.told status) old new)
 typed_stop_ok options stops shown form left tape reader keys image (Ok status) old new has_image writes =
-    writes_by _ _ old new (λ text printed punched held. typed_stop_held options stops shown form Whole left tape reader keys image status text printed punched has_image held) writes
+    writes_by _ _ old new (λ text printed punched held. typed_stop_held options stops shown form left tape reader keys image status text printed punched has_image held) writes
 typed_stop_ok options stops shown form left tape reader keys image (Err fault) old new has_image writes = tt
-
-typed_stop_fronts : (options : TeletypeOptions) (stops : Stops) (form : SummaryForm) (left : Bool) (tape : Option (List ℕ)) (reader keys : Source) (image : List (Option ℕ)) (unread : Bool) (failed : Failures) (old new : Taken) →
-    HasImage tape image → FrontsOf (IsPartToStop (begun options reader keys) (run_of options) stops form left failed.report failed.teletype unread image) failed old new →
-    StoppedTypedFronts options stops form left failed unread tape reader.told keys.told old new
-typed_stop_fronts options stops form left tape reader keys image unread failed old new has_image fronts =
-    fronts_by _ _ failed old new (λ extent text printed punched part.
-    let held = typed_stop_held options stops None form extent part.as_left tape reader keys image part.status text printed punched has_image part.is in
-    record {
-      image = held.image;
-      has_image = held.has_image;
-      frames = held.frames;
-      frames_are = held.frames_are;
-      bytes = held.bytes;
-      bytes_are = held.bytes_are;
-      is = record { summed = part.summed; to_there = part.to_there; as_left = part.as_left; if_left = part.if_left; status = part.status; is = held.is };
-    }) fronts
-
-pub typed_stop_err : {T : Type 0} (options : TeletypeOptions) (stops : Stops) (form : SummaryForm) (left : Bool) (tape : Option (List ℕ)) (reader keys : Source) (image : List (Option ℕ)) (marked unread : Bool) (failed : Failures) (old new : Taken) (r : Result T Fault) → HasImage tape image →
-    OnErr r (FrontsOf (IsPartToStop (begun options reader keys) (run_of options) stops form left failed.report failed.teletype unread image) failed old new) →
-    IfErr r (λ fault. (is_fault_of_tape fault ≡ true) ⊎ ((marked ≡ true) ⊎ StoppedTypedFronts options stops form left failed unread tape reader.told keys.told old new))
-typed_stop_err options stops form left tape reader keys image marked unread failed old new (Ok v) has_image fronts = tt
-typed_stop_err options stops form left tape reader keys image marked unread failed old new (Err fault) has_image fronts = inr (inr (typed_stop_fronts options stops form left tape reader keys image unread failed old new has_image fronts))

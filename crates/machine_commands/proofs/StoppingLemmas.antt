@@ -1,6 +1,6 @@
 -- What a run writes that is stopped.
-use Rattle.std.proofs.Common.{ℕ, zero, suc, ◌≡◌, ◌/◌, ◌<◌, Bool, true, List, [], ◌∷◌, length, take, get_or, refl, ap, inl, inr, arith}
-use Rattle.std.specs.Prelude.{Option, None, Result, Ok, Err, IfOk}
+use Rattle.std.proofs.Common.{ℕ, zero, suc, ◌≡◌, ◌/◌, ◌<◌, Bool, true, List, ◌∷◌, length, take, get_or, refl, ap, arith}
+use Rattle.std.specs.Prelude.{Option, Result, Ok, Err, IfOk}
 use Rattle.std.proofs.lemmas.Bool.{false≢true}
 use Rattle.instruct.specs.declared.Profile.{Profile}
 use Rattle.peripherals.specs.declared.Event.{Event}
@@ -10,12 +10,12 @@ use Rattle.command_parts.specs.declared.options.RunOptions.{RunOptions}
 use Rattle.command_parts.specs.declared.options.Stops.{Stops}
 use Rattle.command_parts.specs.declared.status.Fault.{Fault}
 use Rattle.command_parts.specs.declared.status.Status.{Status}
-use Rattle.command_parts.specs.Writes.{FrontOf, Writes}
+use Rattle.command_parts.specs.Writes.{Writes}
 use Rattle.machine_commands.specs.declared.follow.End.TheVariants as end
-use Rattle.machine_commands.specs.Follows.{Follows, IsTraceOfSome, rounds}
-use Rattle.machine_commands.specs.Running.{IsPartOf, IsRunText, IsRunTold, fresh}
-use Rattle.machine_commands.specs.Last.{IsCut, told}
-use Rattle.machine_commands.specs.Stopping.{IsPartWithStops, IsRunWithStops}
+use Rattle.machine_commands.specs.Follows.{rounds}
+use Rattle.machine_commands.specs.Running.{IsRunTold, fresh}
+use Rattle.machine_commands.specs.Last.{IsCut}
+use Rattle.machine_commands.specs.Stopping.{IsRunWithStops}
 use Rattle.machine_commands.specs.Stops.{Here, Later, StopsAfter, stops_before, visits_with}
 use Rattle.machine_commands.proofs.FollowLemmas.{rounds_length}
 
@@ -53,25 +53,6 @@ first_rounds (suc n) (suc (suc (suc k))) within is =
     let third : suc (suc (suc k)) / 3 ≡ suc (k / 3) = omega arith in
     rw third (ap (λ (es : List Event). Step ∷ PrinterDone ∷ PunchDone ∷ es) (first_rounds n k inside is))
 
--- the first of some first events are first events
-take_both : (a b : ℕ) (es : List Event) → (c : ℕ) × (take a (take b es) ≡ take c es)
-take_both zero b es = (zero, refl)
-take_both (suc a) zero es = (zero, refl)
-take_both (suc a) (suc b) [] = (zero, refl)
-take_both (suc a) (suc b) (e ∷ es) = let r = take_both a b es in (suc r.0, ap (λ (l : List Event). e ∷ l) r.1)
-
-some_of_first : (p : Profile) (ends : Bool) (es : List Event) (w : WorldState) (count : ℕ) (lines : List ℕ) → IsTraceOfSome p ends (take count es) w lines → IsTraceOfSome p ends es w lines
-some_of_first p ends es w count lines some =
-    let r = take_both some.count count es in
-    let follows : Follows p ends (take some.count (take count es)) w lines some.steps some.end some.final = some.follows in
-    record { count = r.0; steps = some.steps; end = some.end; final = some.final; follows = rw r.1 at follows }
-
--- the trace of some first events of a part of a run
-some_of_cut : (stops : Stops) (options : RunOptions) (ends : Bool) (events cut : List Event) (w : WorldState) (stopped : Bool) (lines : List ℕ) → IsCut stops options ends events cut w stopped →
-    IsTraceOfSome options.profile ends cut w lines → IsTraceOfSome options.profile ends events w lines
-some_of_cut stops options ends events cut w stopped lines (inl part) some = some_of_first options.profile ends events w part.0 lines (rw (part.2) at some)
-some_of_cut stops options ends events cut w stopped lines (inr whole) some = rw (whole.1) at some
-
 -- the run of a part is that of a run with stops
 pub ok_with_cut : (options : RunOptions) (stops : Stops) (shown : Option ℕ) (ends : Bool) (events cut : List Event) (stopped : Bool) (image : List (Option ℕ)) (r : Result Status Fault) (old new : Option (List ℕ)) →
     IsCut stops options ends events cut (fresh image options.start) stopped → IfOk r (λ status. Writes (λ text. IsRunTold options shown stopped ends cut image text status) old new) →
@@ -82,25 +63,3 @@ ok_with_cut options stops shown ends events cut stopped image (Ok status) old ne
   written = wrote.written;
 }
 ok_with_cut options stops shown ends events cut stopped image (Err fault) old new is_cut wrote = tt
-
-pub text_with_cut : (options : RunOptions) (stops : Stops) (shown : Option ℕ) (ends : Bool) (events cut : List Event) (stopped : Bool) (image : List (Option ℕ)) (old new : Option (List ℕ)) →
-    IsCut stops options ends events cut (fresh image options.start) stopped → FrontOf (IsRunText options shown stopped ends cut image) old new → FrontOf (IsPartWithStops options stops shown ends events image) old new
-text_with_cut options stops shown ends events cut stopped image old new is_cut front = record {
-  text = front.text;
-  is = let told = front.is in inl (told.0, record { cut = cut; stopped = stopped; is_cut = is_cut; is = told.1 });
-  front = front.front;
-}
-
-part_of_cut : (options : RunOptions) (stops : Stops) (ends : Bool) (events cut : List Event) (stopped : Bool) (image : List (Option ℕ)) (text : List ℕ) →
-    IsCut stops options ends events cut (fresh image options.start) stopped → IsPartOf options stopped ends cut image text → IsPartWithStops options stops None ends events image text
-part_of_cut options stops ends events cut stopped image text is_cut (inl told) = inl (told.0, record { cut = cut; stopped = stopped; is_cut = is_cut; is = told.1 })
-part_of_cut options stops ends events cut stopped image text is_cut (inr some) =
-    inr (refl, record { asked = some.asked; is = some_of_cut stops options ends events cut (fresh image options.start) stopped text is_cut some.is })
-
-pub part_with_cut : (options : RunOptions) (stops : Stops) (ends : Bool) (events cut : List Event) (stopped : Bool) (image : List (Option ℕ)) (old new : Option (List ℕ)) →
-    IsCut stops options ends events cut (fresh image options.start) stopped → FrontOf (IsPartOf options stopped ends cut image) old new → FrontOf (IsPartWithStops options stops None ends events image) old new
-part_with_cut options stops ends events cut stopped image old new is_cut front = record {
-  text = front.text;
-  is = part_of_cut options stops ends events cut stopped image front.text is_cut front.is;
-  front = front.front;
-}

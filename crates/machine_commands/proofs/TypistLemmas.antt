@@ -16,10 +16,10 @@ use Rattle.peripherals.specs.EventOutcomes.{puts_out, seen_of}
 use Rattle.command_parts.specs.declared.options.TeletypeOptions.{TeletypeOptions}
 use Rattle.machine_commands.specs.Follows.{goes_on}
 use Rattle.machine_commands.specs.Cuts.{some_left}
-use Rattle.machine_commands.specs.Schedule.{Comes, Over, Cut, Final, Then, Extent, UpToOutput, UpToRead, ToStep, Due}
+use Rattle.machine_commands.specs.Schedule.{Comes, Over, Final, Then, Extent, ToStep, Due}
 use Rattle.machine_commands.specs.SessionParts.{rank}
 use Rattle.machine_commands.specs.Teletype.{AreAll}
-use Rattle.machine_commands.specs.Typing.{answer_due, asked_after, asks, is_read, read_due, typed_as, typed_due, typing}
+use Rattle.machine_commands.specs.Typing.{answer_due, asked_after, asks, read_due, typed_as, typed_due, typing}
 use Rattle.machine_commands.specs.TypingParts.{Answered, Brought, IsLeft, Source, Types, bytes_left, frames_left, rounds_left, typed_plan}
 use Rattle.machine_commands.proofs.SessionLemmas.{Less, device_goes, first_less, none_is, or_true, other_less, printer_done, round_less}
 
@@ -214,6 +214,11 @@ plan_left options rounds frames bytes PunchDone = refl
 plan_left options rounds frames bytes (Switches word) = refl
 plan_left options rounds frames bytes Continue = refl
 
+-- some bytes are still to come of each source
+some_left : (told : Option (List ℕ)) (ended : Bool) → (left : List ℕ) × IsLeft told ended left
+some_left None ended = ([], λ yes. refl)
+some_left (Some bytes) ended = (bytes, refl)
+
 -- whatever is left after it, some was before it
 abbrev pub IsBrought : TeletypeOptions → WorldState → Bool → ℕ → Option Event → Source → Source → Option Event → Source → Source → Type 0
 IsBrought options w asked rounds last reader keys due reader_after keys_after =
@@ -243,11 +248,6 @@ pub answered_ok : {E : Type 0} (options : TeletypeOptions) (w : WorldState) (ask
     IfOk r (λ due. IsAnswered options asked rounds keys due keys_after) → IfOk r (λ due. IsBrought options w asked rounds (Some (ReaderDone frame)) reader keys due reader keys_after)
 answered_ok options w asked rounds frame reader keys keys_after (Ok due) answered = λ frames bytes left others. answered_after options w asked rounds frame reader keys due frames bytes left (answered bytes others)
 answered_ok options w asked rounds frame reader keys keys_after (Err fault) answered = tt
-
--- what holds anyway holds of a fault
-pub of_err : {T E X : Type 0} (r : Result T E) → X → OnErr r X
-of_err (Ok v) x = tt
-of_err (Err f) x = x
 
 pub either_second : (a b : Bool) → b ≡ true → (a || b) ≡ true
 either_second a b is = rw is (or_true a)
@@ -311,12 +311,6 @@ types_last options w asked rounds last reader keys reader_after keys_after e p e
     types_from options w asked rounds last reader keys reader_after keys_after (Some e) p extent (e ∷ []) brought
     (λ frames bytes is. Final (record { plan = typed_plan options rounds frames bytes; last = last; asked = asked }) w e is ends)
 
-pub types_output : (options : TeletypeOptions) (w : WorldState) (asked : Bool) (rounds : ℕ) (last : Option Event) (reader keys reader_after keys_after : Source) (e : Event) (p : Profile) →
-    IsBrought options w asked rounds last reader keys (Some e) reader_after keys_after → puts_out w e ≡ true → Types options asked rounds last reader keys p w UpToOutput []
-types_output options w asked rounds last reader keys reader_after keys_after e p brought puts =
-    types_from options w asked rounds last reader keys reader_after keys_after (Some e) p UpToOutput [] brought
-    (λ frames bytes is. Cut (record { plan = typed_plan options rounds frames bytes; last = last; asked = asked }) w (record { event = e; is_due = is; puts = puts }))
-
 -- the event that is due is a step
 pub types_step : (options : TeletypeOptions) (w : WorldState) (asked : Bool) (rounds : ℕ) (last : Option Event) (reader keys reader_after keys_after : Source) (e : Event) (p : Profile) →
     IsBrought options w asked rounds last reader keys (Some e) reader_after keys_after → e ≡ Step → Types options asked rounds last reader keys p w ToStep (Step ∷ [])
@@ -330,20 +324,6 @@ pub types_over : (options : TeletypeOptions) (w : WorldState) (asked : Bool) (ro
 types_over options w asked rounds last reader keys reader_after keys_after p extent brought =
     types_from options w asked rounds last reader keys reader_after keys_after None p extent [] brought
     (λ frames bytes is. Over (record { plan = typed_plan options rounds frames bytes; last = last; asked = asked }) w is)
-
--- a read failed
-pub types_read : (options : TeletypeOptions) (w : WorldState) (asked : Bool) (rounds : ℕ) (last : Option Event) (reader keys : Source) (p : Profile) →
-    is_read w asked last ≡ true → Types options asked rounds last reader keys p w UpToRead []
-types_read options w asked rounds last reader keys p is =
-    let frames = some_left reader.told reader.ended in
-    let bytes = some_left keys.told keys.ended in
-    record {
-      frames = frames.0;
-      bytes = bytes.0;
-      frames_are = frames.1;
-      bytes_are = bytes.1;
-      come = Cut (record { plan = typed_plan options rounds frames.0 bytes.0; last = last; asked = asked }) w is;
-    }
 
 -- after an instruction the two completions come
 pub types_complete : (options : TeletypeOptions) (w : WorldState) (asked : Bool) (rounds : ℕ) (reader keys : Source) (p : Profile) (extent : Extent) (es : List Event) →

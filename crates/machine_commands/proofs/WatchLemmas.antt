@@ -1,6 +1,6 @@
 -- What is seen of a watched run, from its parts.
 use Rattle.std.proofs.Common.{ℕ, ◌≡◌, Bool, List, refl}
-use Rattle.std.specs.Prelude.{Option, Result, Ok, Err, IfOk, ⊤}
+use Rattle.std.specs.Prelude.{Option}
 use Rattle.peripherals.specs.declared.Event.{Event}
 use Rattle.peripherals.specs.Devices.{WorldState}
 use Rattle.peripherals.specs.Loading.{image_of}
@@ -28,8 +28,3 @@ cells_after named image d events w x shown begins leads is = record {
   leads = rw begins at leads;
   shown_is = is;
 }
-
--- lines of which nothing is said
-pub unsaid : {T E : Type 0} (lines : Result T E) → IfOk lines (λ told. ⊤)
-unsaid (Ok told) = tt
-unsaid (Err fault) = tt

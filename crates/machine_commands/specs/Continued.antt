@@ -17,7 +17,6 @@ use Rattle.machine_commands.specs.Running.{fresh}
 use Rattle.machine_commands.specs.Schedule.{Place, Whole, first_place, operating}
 use Rattle.machine_commands.specs.Session.{comes_by}
 use Rattle.command_parts.specs.declared.status.Status.{Status}
-use Rattle.machine_commands.specs.ViolationText.{IsWhy}
 use Rattle.machine_commands.specs.WatchText.{IsSeen, IsShown, watched_status, watched_text}
 
 -- The machine is halted at a declared pause.
@@ -90,7 +89,7 @@ IsLine (Some most) image d events (Broken n r) line = line ≡ watched_text (Bro
 pub record IsToldOfRun (continues : Option ℕ) (image : List (Option ℕ)) (d : Declaration) (events : List Event) (watched : Watched) (explained : Bool) (named : ℕ → Bool) (line details : List ℕ) : Type 0 where
   pub is_line : IsLine continues image d events watched line
   pub why : List ℕ
-  pub why_is : IsWhy explained image d events watched why
+  pub unexplained : explained ≡ false → why ≡ []
   pub shown : List ℕ
   pub shows : IsShown named image d events watched shown
   pub details_is : details ≡ why ++ shown

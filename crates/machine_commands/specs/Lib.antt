@@ -17,11 +17,9 @@ pub mod Schedule
 pub mod Typing
 pub mod TypingParts
 pub mod Teletype
-pub mod Cuts
 pub mod Interrupted
 pub mod StoppedSession
 pub mod StoppedParts
 pub mod DeclaredRun
 pub mod StoppedWatch
 pub mod LongTrace
-pub mod ViolationText

@@ -1,5 +1,5 @@
 -- What `refute` writes.
-use Rattle.std.specs.Prelude.{ℕ, ◌≡◌, ◌+◌, ◌++◌, Bool, codes, decimal, length, List, [], Option}
+use Rattle.std.specs.Prelude.{ℕ, ◌≡◌, ◌+◌, ◌++◌, Bool, false, codes, decimal, length, List, [], Option}
 use Rattle.peripherals.specs.declared.Event.{Event}
 use Rattle.peripherals.specs.EventText.{Spells}
 use Rattle.peripherals.specs.Loading.{image_of}
@@ -12,7 +12,6 @@ use Rattle.command_parts.specs.declared.options.RefuteOptions.{RefuteOptions}
 use Rattle.command_parts.specs.declared.status.Status.{Status}
 use Rattle.command_parts.specs.declared.status.Status.TheVariants.{Done, Refused}
 use Rattle.machine_commands.specs.Running.{fresh}
-use Rattle.machine_commands.specs.ViolationText.{IsWhy}
 use Rattle.machine_commands.specs.WatchText.{watched_text}
 
 -- The line where nothing was found in so many steps.
@@ -21,7 +20,7 @@ unbroken_text steps = codes "not broken in " ++ decimal steps ++ codes " steps\n
 
 -- The list spells a run that violates the declaration: of these events, from the declared start with all registers and all
 -- cells that are not on the tape 0, the last one is the first step that is not legal. What is told is what `watch` says of
--- them: its place, the lowest-numbered rule that it violates, and below it, only if they are requested, the lines of that step.
+-- them: its place and the lowest-numbered rule that it violates. Lines that explain it are there only if they are requested.
 pub record IsWitnessOf (explained : Bool) (image : List (Option ℕ)) (declaration : Declaration) (list line why : List ℕ) : Type 0 where
   pub events : List Event
   pub spells : Spells list events
@@ -30,7 +29,7 @@ pub record IsWitnessOf (explained : Bool) (image : List (Option ℕ)) (declarati
   pub breaks : BreaksAt (image_of image) declaration events (fresh image declaration.start) event rule
   pub last : event + 1 ≡ length events
   pub line_is : line ≡ watched_text (Broken event rule)
-  pub why_is : IsWhy explained image declaration events (Broken event rule) why
+  pub unexplained : explained ≡ false → why ≡ []
 
 -- What is found in search of a run that violates the declaration, where these turns were taken; that each of them is a step of the
 -- search is not said here. Either the command is refused, and the list spells such a run of which this is told; or it is done, as many

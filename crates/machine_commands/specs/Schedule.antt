@@ -1,60 +1,36 @@
 -- Which events come in a run: each is due where it comes, by a schedule.
-use Rattle.std.specs.Prelude.{◌≡◌, Bool, true, false, Option, Some, None, List, [], ◌∷◌}
+use Rattle.std.specs.Prelude.{◌≡◌, true, false, Option, Some, None, List, [], ◌∷◌}
 use Rattle.instruct.specs.declared.Profile.{Profile}
 use Rattle.peripherals.specs.declared.Event.{Event}
 use Rattle.peripherals.specs.declared.Event.TheVariants.{Step}
 use Rattle.peripherals.specs.Devices.{WorldState}
 use Rattle.peripherals.specs.Events.{Happens}
 use Rattle.peripherals.specs.Operator.{Plan, due, left_after}
-use Rattle.peripherals.specs.EventOutcomes.{puts_out, seen_of}
+use Rattle.peripherals.specs.EventOutcomes.{seen_of}
 use Rattle.machine_commands.specs.Follows.{goes_on}
 
--- A schedule has states. In each it says which event is due in a world, or none if the run is over; which state comes after an
--- event in a world; and whether a frame or a key is read there.
+-- A schedule has states. In each it says which event is due in a world, or none if the run is over; and which state comes after an
+-- event in a world.
 pub record Schedule (S : Type 0) : Type 0 where
   pub due : S → WorldState → Option Event
   pub after : S → WorldState → Event → S
-  pub reads : S → WorldState → Bool
 
--- How much of a run is told: all that comes; what comes up to an event that prints or punches; what comes up to where a frame or
--- a key is read; what comes up to a step, and that step, which need not happen; or what comes up to any event. If
--- the run ends earlier, all of it is told.
+-- How much of a run is told: all that comes; or what comes up to a step, and that step, which need not happen. If the run ends earlier, all
+-- of it is told.
 pub data Extent : Type 0 where
   Whole : Extent
-  UpToOutput : Extent
-  UpToRead : Extent
   ToStep : Extent
-  UpToAny : Extent
-
--- The event that is due in a world prints or punches.
-pub record OutputIsDue {S : Type 0} (schedule : Schedule S) (s : S) (w : WorldState) : Type 0 where
-  pub event : Event
-  pub is_due : schedule.due s w ≡ Some event
-  pub puts : puts_out w event ≡ true
-
--- No more is told from here on.
-abbrev pub MayEnd : {S : Type 0} → Extent → Schedule S → S → WorldState → Type 0
-MayEnd Whole schedule s w = ⊥
-MayEnd UpToOutput schedule s w = OutputIsDue schedule s w
-MayEnd UpToRead schedule s w = schedule.reads s w ≡ true
-MayEnd ToStep schedule s w = ⊥
-MayEnd UpToAny schedule s w = Unit {0}
 
 -- The last event that is told may be a step that need not happen.
 abbrev pub EndsWithStep : Extent → Type 0
 EndsWithStep Whole = ⊥
-EndsWithStep UpToOutput = ⊥
-EndsWithStep UpToRead = ⊥
 EndsWithStep ToStep = Unit {0}
-EndsWithStep UpToAny = ⊥
 
 -- From a state of a schedule and a world these events come: each is due where it comes. They are all that come in the run, or,
--- where the run is not told whole, the first of them.
+-- where it is told up to a step, the first of them.
 pub data Comes {S : Type 0} (schedule : Schedule S) (profile : Profile) (extent : Extent) : S → WorldState → List Event → Type 0 where
   -- nothing is due any more
   Over : (s : S) (w : WorldState) → schedule.due s w ≡ None → Comes schedule profile extent s w []
-  -- what comes further is not told
-  Cut : (s : S) (w : WorldState) → MayEnd extent schedule s w → Comes schedule profile extent s w []
   -- a step is due, and it is the last event that is told
   Due : (s : S) (w : WorldState) → schedule.due s w ≡ Some Step → EndsWithStep extent → Comes schedule profile extent s w (Step ∷ [])
   -- the run ends with the event that is due: it is stuck, or the machine halts
@@ -70,12 +46,11 @@ pub record Place : Type 0 where
   pub plan : Plan
   pub last : Option Event
 
--- An operator's schedule. All frames and keys are there before the run, so none is read in it.
+-- An operator's schedule.
 abbrev pub operating : Schedule Place
 operating = record {
   due = λ s w. due s.plan w s.last;
   after = λ s w e. record { plan = left_after e s.plan; last = Some e };
-  reads = λ s w. false;
 }
 
 -- An operator with this plan, before anything came.

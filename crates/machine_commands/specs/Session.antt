@@ -1,7 +1,6 @@
 -- A run with an operator: which events come, and what is written, printed and punched.
-use Rattle.std.specs.Prelude.{ℕ, ◌≡◌, ◌+◌, ◌≤◌, ◌%◌, ◌==◌, Bool, true, false, not, ◌||◌, ◌&&◌, if◌then◌else◌, Option, List, [], ◌∷◌, ◌++◌, map, take, length}
+use Rattle.std.specs.Prelude.{ℕ, ◌≡◌, ◌+◌, ◌%◌, ◌==◌, Bool, true, false, not, ◌&&◌, if◌then◌else◌, Option, List, [], ◌∷◌, ◌++◌, map}
 use Rattle.std.specs.Io.KnownBytes.{Appends}
-use Rattle.streams.specs.Bytes.{AppendsFront}
 use Rattle.instruct.specs.declared.Profile.{Profile}
 use Rattle.peripherals.specs.declared.Event.{Event}
 use Rattle.peripherals.specs.Devices.{WorldState}
@@ -18,7 +17,7 @@ use Rattle.command_parts.specs.declared.status.Status.{Status}
 use Rattle.command_parts.specs.Faults.{IsRunFault}
 use Rattle.machine_commands.specs.Follows.{Follows}
 use Rattle.machine_commands.specs.Running.{fresh, status_of}
-use Rattle.machine_commands.specs.Schedule.{Comes, Extent, Whole, UpToOutput, UpToRead, ToStep, UpToAny, first_place, operating}
+use Rattle.machine_commands.specs.Schedule.{Comes, Extent, Whole, first_place, operating}
 use Rattle.machine_commands.specs.Summary.{closing_as}
 use Rattle.machine_commands.specs.Trace.{traced}
 
@@ -29,43 +28,6 @@ character byte = byte % 128
 -- What was printed in a world, as characters.
 abbrev pub printed_in : WorldState → List ℕ
 printed_in w = map character w.devices.printer.output
-
--- A prefix of a piece was appended to what a sink tells: all of it, a part or nothing.
-pub record AppendsSome (old new : Option (List ℕ)) (piece : List ℕ) : Type 0 where
-  pub count : ℕ
-  pub within : count ≤ length piece
-  pub out : Appends old new (take count piece)
-
--- All of a piece was appended; or, where the write of it failed, a front of it that is not all.
-abbrev pub AppendsUnless : Bool → Option (List ℕ) → Option (List ℕ) → List ℕ → Type 0
-AppendsUnless false old new piece = Appends old new piece
-AppendsUnless true old new piece = AppendsFront old new piece
-
--- Where no write failed a run breaks off where a frame or a key is read, if that read failed, and else, where memory was
--- refused, before an event that prints or punches.
-abbrev pub extent_unread : Bool → Extent
-extent_unread true = UpToRead
-extent_unread false = UpToOutput
-
--- It may break off at any event where a write failed.
-abbrev pub extent_after : Bool → Bool → Extent
-extent_after true unread = UpToAny
-extent_after false unread = extent_unread unread
-
--- It broke off in x after some first events: fronts of the trace and of the characters went out. All of the trace did
--- unless the report failed, and all the characters unless the report or the teletype did; at most the last one is missing.
-pub record BrokeOff (comes : Extent → List Event → Type 0) (profile : Profile) (trace : Bool) (w x : WorldState) (reported typed unread : Bool) (old new told tells : Option (List ℕ)) : Type 0 where
-  pub events : List Event
-  pub come : comes (extent_after (reported || typed) unread) events
-  pub lines : List ℕ
-  pub steps : ℕ
-  pub end : End
-  pub follows : Follows profile true events w lines steps end x
-  pub wrote : AppendsUnless reported old new (traced trace lines)
-  pub printed : AppendsSome told tells (printed_in x)
-  pub printed_whole : (reported || typed) ≡ false → Appends told tells (printed_in x)
-  pub printed_front : typed ≡ true → AppendsFront told tells (printed_in x)
-  pub printed_nearly : length (printed_in x) ≤ printed.count + 1
 
 -- Whether what was printed leaves a line open: its last character is not a line feed.
 abbrev pub leaves_open : List ℕ → Bool
@@ -82,26 +44,21 @@ IsHeldFault fault = IsRunFault fault
 abbrev pub parting : Bool → List ℕ → List ℕ
 parting apart printed = if apart && leaves_open printed then 10 ∷ [] else []
 
--- The summary and the cells to be shown stand after a whole run, behind the end of an open line where that is wanted.
-abbrev pub summary_where : (ℕ → Bool) → SummaryForm → Extent → End → WorldState → ℕ → List ℕ
-summary_where named form Whole end w steps = parting form.apart (printed_in w) ++ closing_as form named end w steps
-summary_where named form UpToOutput end w steps = []
-summary_where named form UpToRead end w steps = []
-summary_where named form ToStep end w steps = []
-summary_where named form UpToAny end w steps = []
+-- The summary and the cells to be shown, behind the end of an open line where that is wanted.
+abbrev pub summary_where : (ℕ → Bool) → SummaryForm → End → WorldState → ℕ → List ℕ
+summary_where named form end w steps = parting form.apart (printed_in w) ++ closing_as form named end w steps
 
 -- From an image the events that come lead to an end. The text is the trace, if one is requested, the summary, and the cells to be shown,
--- each with its word in the world in which the run ended; and these are the characters printed and the bytes punched. If the run is not
--- whole, this is what its first events leave.
-pub record IsHeld (comes : Profile → WorldState → Extent → List Event → Type 0) (options : RunOptions) (form : SummaryForm) (extent : Extent) (image : List (Option ℕ)) (text printed punched : List ℕ) (status : Status) : Type 0 where
+-- each with its word in the world in which the run ended; and these are the characters printed and the bytes punched.
+pub record IsHeld (comes : Profile → WorldState → Extent → List Event → Type 0) (options : RunOptions) (form : SummaryForm) (image : List (Option ℕ)) (text printed punched : List ℕ) (status : Status) : Type 0 where
   pub events : List Event
-  pub come : comes options.profile (fresh image options.start) extent events
+  pub come : comes options.profile (fresh image options.start) Whole events
   pub lines : List ℕ
   pub steps : ℕ
   pub end : End
   pub final : WorldState
   pub follows : Follows options.profile true events (fresh image options.start) lines steps end final
-  pub text_is : text ≡ traced options.trace lines ++ summary_where (words options.show) form extent end final steps
+  pub text_is : text ≡ traced options.trace lines ++ summary_where (words options.show) form end final steps
   pub printed_is : printed ≡ printed_in final
   pub punched_is : punched ≡ final.devices.punch.output
   pub status_is : status ≡ status_of end
@@ -111,9 +68,9 @@ abbrev pub comes_by : Plan → Profile → WorldState → Extent → List Event 
 comes_by plan profile w extent events = Comes operating profile extent (first_place plan) w events
 
 -- From an image the events of this plan lead to an end, with this text, these characters and bytes, and this status.
-abbrev pub IsSessionOf : RunOptions → SummaryForm → Extent → Plan → List (Option ℕ) → List ℕ → List ℕ → List ℕ → Status → Type 0
-IsSessionOf options form extent plan image text printed punched status =
-    IsHeld (comes_by plan) options form extent image text printed punched status
+abbrev pub IsSessionOf : RunOptions → SummaryForm → Plan → List (Option ℕ) → List ℕ → List ℕ → List ℕ → Status → Type 0
+IsSessionOf options form plan image text printed punched status =
+    IsHeld (comes_by plan) options form image text printed punched status
 
 -- The plan for these frames and keys.
 abbrev pub plan_for : SessionOptions → List ℕ → List ℕ → Plan
@@ -143,32 +100,3 @@ pub record WritesAll (P : List ℕ → List ℕ → List ℕ → Type 0) (old ne
   pub to_report : Appends old.report new.report text
   pub to_teletype : Appends old.teletype new.teletype printed
   pub to_punch : Appends old.punch new.punch punched
-
--- Which of the three failed.
-pub record Failures : Type 0 where
-  pub report : Bool
-  pub teletype : Bool
-  pub punch : Bool
-
--- Which of the sinks failed, made of whether each of them did: the report's, the teletype's and the punch's.
-abbrev pub failures : Bool → Bool → Bool → Failures
-failures report teletype punch = record { report = report; teletype = teletype; punch = punch }
-
--- A prefix of each of three such texts, which are told to some extent, was appended: all of the report and of what was punched
--- unless the write of it failed, and all that was printed unless the teletype failed or the report did, which comes before it.
--- Where a write failed its front is not all. Whatever failed, at most the last character was not typed; and before the summary,
--- which is written last, all was typed and punched.
-pub record FrontsOf (P : Extent → List ℕ → List ℕ → List ℕ → Type 0) (failed : Failures) (old new : Taken) : Type 0 where
-  pub extent : Extent
-  pub text : List ℕ
-  pub printed : List ℕ
-  pub punched : List ℕ
-  pub is : P extent text printed punched
-  pub to_report : AppendsUnless failed.report old.report new.report text
-  pub to_teletype : AppendsSome old.teletype new.teletype printed
-  pub to_punch : AppendsUnless failed.punch old.punch new.punch punched
-  pub teletype_whole : (failed.report || failed.teletype) ≡ false → Appends old.teletype new.teletype printed
-  pub teletype_front : failed.teletype ≡ true → AppendsFront old.teletype new.teletype printed
-  pub typed_nearly : length printed ≤ to_teletype.count + 1
-  pub typed_before_summary : extent ≡ Whole → Appends old.teletype new.teletype printed
-  pub punched_before_summary : extent ≡ Whole → Appends old.punch new.punch punched

@@ -13,7 +13,6 @@ use Rattle.peripherals.specs.Devices.{WorldState}
 use Rattle.peripherals.specs.Operator.{Plan}
 use Rattle.machine_commands.specs.declared.follow.End.{End}
 use Rattle.machine_commands.specs.Follows.{Follows}
-use Rattle.machine_commands.specs.Schedule.{Extent}
 use Rattle.machine_commands.specs.Session.{IsHeld, IsSessionOf, comes_by}
 use Rattle.machine_commands.specs.StoppedSession.{IsHeldToStop}
 use Rattle.machine_commands.specs.Stops.{NeverStops, StopsAfter}
@@ -58,15 +57,15 @@ pub record AreNone (stops : Stops) : Type 0 where
 -- What a run with an operator may leave that has no stops is what the events of its plan lead to, and nothing is said to have stopped it.
 abbrev pub SessionsWithoutStops : Type 0
 SessionsWithoutStops =
-    (options : RunOptions) (stops : Stops) (form : SummaryForm) (extent : Extent) (plan : Plan) (image : List (Option ℕ))
+    (options : RunOptions) (stops : Stops) (form : SummaryForm) (plan : Plan) (image : List (Option ℕ))
     (text printed punched : List ℕ) (status : Status) →
-    AreNone stops → IsHeldToStop (comes_by plan) options stops None form extent false image text printed punched status →
-    IsSessionOf options form extent plan image text printed punched status
+    AreNone stops → IsHeldToStop (comes_by plan) options stops None form false image text printed punched status →
+    IsSessionOf options form plan image text printed punched status
 
 -- The same of a session at the teletype that no key interrupts.
 abbrev pub TypedWithoutStops : Type 0
 TypedWithoutStops =
-    (options : TeletypeOptions) (stops : Stops) (form : SummaryForm) (extent : Extent) (frames bytes : List ℕ) (image : List (Option ℕ))
+    (options : TeletypeOptions) (stops : Stops) (form : SummaryForm) (frames bytes : List ℕ) (image : List (Option ℕ))
     (text printed punched : List ℕ) (status : Status) →
-    AreNone stops → IsHeldToStop (types_by options frames bytes) (run_of options) stops None form extent false image text printed punched status →
-    IsHeld (types_by options frames bytes) (run_of options) form extent image text printed punched status
+    AreNone stops → IsHeldToStop (types_by options frames bytes) (run_of options) stops None form false image text printed punched status →
+    IsHeld (types_by options frames bytes) (run_of options) form image text printed punched status

@@ -12,7 +12,7 @@ use Rattle.machine_commands.specs.Last.{told}
 use Rattle.machine_commands.specs.Schedule.{Extent}
 use Rattle.machine_commands.specs.Session.{printed_in}
 use Rattle.machine_commands.specs.StoppedSession.{StoppedSo, extent_to_stop, leaving, to_stop}
-use Rattle.machine_commands.specs.Stops.{NeverStops, stops_before, visits_with}
+use Rattle.machine_commands.specs.Stops.{stops_before, visits_with}
 use Rattle.machine_commands.specs.Trace.{traced}
 
 -- An event in w stops the run, where so many steps before it came to the address; or it does not, and so many came there with it.
@@ -25,7 +25,7 @@ Passes stops profile visits w e (Some more) = (stops_before stops profile visits
 pub record OperatedToStop (comes : Extent → List Event → Type 0) (left : Bool) (stops : Stops) (profile : Profile) (trace : Bool) (w : WorldState) (outcome : RunOutcome) (x : WorldState) (old new told_old told_new : Option (List ℕ)) : Type 0 where
   pub events : List Event
   pub stopped : Bool
-  pub come : (extent : Extent) → comes (extent_to_stop stopped extent) (to_stop stopped events)
+  pub come : comes (extent_to_stop stopped) (to_stop stopped events)
   pub stop : StoppedSo stops profile stopped events w
   pub lines : List ℕ
   pub last : End
@@ -33,7 +33,3 @@ pub record OperatedToStop (comes : Extent → List Event → Type 0) (left : Boo
   pub ends : outcome.end ≡ leaving left (told stopped last x) x
   pub wrote : Appends old new (traced trace lines)
   pub printed : Appends told_old told_new (printed_in x)
-
--- These events come, and none of them stops the run.
-abbrev pub unstopped : Stops → (Profile → WorldState → Extent → List Event → Type 0) → Profile → WorldState → Extent → List Event → Type 0
-unstopped stops comes profile w extent events = comes profile w extent events × NeverStops stops profile true 0 events w

@@ -1,5 +1,5 @@
 -- A run with an operator, or a session at the teletype, that may be stopped, and what it writes, prints and punches.
-use Rattle.std.specs.Prelude.{ℕ, ◌≡◌, Bool, true, false, ◌||◌, ◌⊎◌, ◌++◌, List, [], ◌∷◌, Option, Some, None, length}
+use Rattle.std.specs.Prelude.{ℕ, ◌≡◌, Bool, true, false, ◌++◌, List, [], ◌∷◌, Option, Some, None, length}
 use Rattle.wordset.specs.Lanes.{words}
 use Rattle.instruct.specs.declared.Profile.{Profile}
 use Rattle.peripherals.specs.declared.Event.{Event}
@@ -18,7 +18,7 @@ use Rattle.machine_commands.specs.Follows.{Follows}
 use Rattle.machine_commands.specs.Last.{told}
 use Rattle.machine_commands.specs.Running.{fresh, status_of}
 use Rattle.machine_commands.specs.Schedule.{Extent, ToStep, Whole}
-use Rattle.machine_commands.specs.Session.{Failures, FrontsOf, Taken, comes_by, extent_unread, plan_for, printed_in, summary_where}
+use Rattle.machine_commands.specs.Session.{comes_by, plan_for, printed_in, summary_where}
 use Rattle.machine_commands.specs.Stops.{NeverStops, StopsAfter}
 use Rattle.machine_commands.specs.Teletype.{AreAll, run_of, types_by}
 use Rattle.machine_commands.specs.Trace.{traced}
@@ -29,9 +29,9 @@ StoppedSo stops profile true events w = StopsAfter stops profile true 0 (events 
 StoppedSo stops profile false events w = NeverStops stops profile true 0 events w
 
 -- How much is told of the run without stops: what comes up to a step, and that step, where the run is stopped before it.
-abbrev pub extent_to_stop : Bool → Extent → Extent
-extent_to_stop true extent = ToStep
-extent_to_stop false extent = extent
+abbrev pub extent_to_stop : Bool → Extent
+extent_to_stop true = ToStep
+extent_to_stop false = Whole
 
 -- What is told of the run without stops: behind these events the step before which the run is stopped, if it is.
 abbrev pub to_stop : Bool → List Event → List Event
@@ -57,12 +57,11 @@ form_behind (Some most) form = record form { apart = false }
 
 -- From an image the events that come, up to the step before which the run is stopped if it is, and which is due then, lead to an end. The
 -- text has three parts: the trace if one is requested (where last lines are requested, any text); the summary; and the cells to be shown,
--- each with its word in the world in which the run ended. These are the characters printed and the bytes punched. If the run is not told
--- whole, this is what its first events leave.
-pub record IsHeldToStop (comes : Profile → WorldState → Extent → List Event → Type 0) (options : RunOptions) (stops : Stops) (shown : Option ℕ) (form : SummaryForm) (extent : Extent) (left : Bool) (image : List (Option ℕ)) (text printed punched : List ℕ) (status : Status) : Type 0 where
+-- each with its word in the world in which the run ended. These are the characters printed and the bytes punched.
+pub record IsHeldToStop (comes : Profile → WorldState → Extent → List Event → Type 0) (options : RunOptions) (stops : Stops) (shown : Option ℕ) (form : SummaryForm) (left : Bool) (image : List (Option ℕ)) (text printed punched : List ℕ) (status : Status) : Type 0 where
   pub events : List Event
   pub stopped : Bool
-  pub come : comes options.profile (fresh image options.start) (extent_to_stop stopped extent) (to_stop stopped events)
+  pub come : comes options.profile (fresh image options.start) (extent_to_stop stopped) (to_stop stopped events)
   pub stop : StoppedSo stops options.profile stopped events (fresh image options.start)
   pub lines : List ℕ
   pub steps : ℕ
@@ -71,21 +70,10 @@ pub record IsHeldToStop (comes : Profile → WorldState → Extent → List Even
   pub follows : Follows options.profile true events (fresh image options.start) lines steps last final
   pub front : List ℕ
   pub front_is : IsFront shown (traced options.trace lines) front
-  pub text_is : text ≡ front ++ summary_where (words options.show) (form_behind shown form) extent (leaving left (told stopped last final) final) final steps
+  pub text_is : text ≡ front ++ summary_where (words options.show) (form_behind shown form) (leaving left (told stopped last final) final) final steps
   pub printed_is : printed ≡ printed_in final
   pub punched_is : punched ≡ final.devices.punch.output
   pub status_is : status ≡ status_of (leaving left (told stopped last final) final)
-
--- What such a run that has a fault may be about to write, to print and to punch, without last lines. The summary, which a whole run alone
--- has, is written last. If neither the report nor the teletype failed, the run came to where a frame or a key was read, if that read failed,
--- or else to its end or to an event that prints or punches. It may be told as interrupted only if the key was struck.
-pub record IsPartToStop (comes : Profile → WorldState → Extent → List Event → Type 0) (options : RunOptions) (stops : Stops) (form : SummaryForm) (left reported typed unread : Bool) (image : List (Option ℕ)) (extent : Extent) (text printed punched : List ℕ) : Type 0 where
-  pub summed : extent ≡ Whole → reported ≡ true
-  pub to_there : (reported || typed) ≡ false → extent ≡ extent_unread unread
-  pub as_left : Bool
-  pub if_left : as_left ≡ true → left ≡ true
-  pub status : Status
-  pub is : IsHeldToStop comes options stops None form extent as_left image text printed punched status
 
 -- The tape is good, and P is true of its image and of what comes in a run with an operator, with the frames of a reader and the bytes of keys,
 -- as many of each as there are rounds: no more can come.
@@ -101,17 +89,7 @@ pub record OfSession (options : SessionOptions) (tape reader keys : Option (List
 -- The tape is good, and these are what a run of it with an operator brings that may be stopped. An operator never leaves.
 abbrev pub IsSessionToStop : SessionOptions → Stops → Option ℕ → SummaryForm → Option (List ℕ) → Option (List ℕ) → Option (List ℕ) → Status → List ℕ → List ℕ → List ℕ → Type 0
 IsSessionToStop options stops shown form tape reader keys status text printed punched =
-    OfSession options tape reader keys (λ comes image. IsHeldToStop comes options.run stops shown form Whole false image text printed punched status)
-
--- Fronts went out of what a run with an operator may be about to write, where these of its sinks failed. No frame or key is read in it.
-abbrev pub StoppedSessionFronts : SessionOptions → Stops → SummaryForm → Failures → Option (List ℕ) → Option (List ℕ) → Option (List ℕ) → Taken → Taken → Type 0
-StoppedSessionFronts options stops form failed tape reader keys old new =
-    FrontsOf (λ extent text printed punched. OfSession options tape reader keys
-    (λ comes image. IsPartToStop comes options.run stops form false failed.report failed.teletype false image extent text printed punched)) failed old new
-
--- Nothing was written at all, or such fronts were.
-abbrev pub NothingOrStoppedFronts : SessionOptions → Stops → SummaryForm → Failures → Option (List ℕ) → Option (List ℕ) → Option (List ℕ) → Taken → Taken → Type 0
-NothingOrStoppedFronts options stops form failed tape reader keys old new = (new ≡ old) ⊎ StoppedSessionFronts options stops form failed tape reader keys old new
+    OfSession options tape reader keys (λ comes image. IsHeldToStop comes options.run stops shown form false image text printed punched status)
 
 -- The tape is good, and P is true of its image and of what comes in a session at the teletype, by the frames of a reader and the bytes of keys.
 pub record OfTyped (options : TeletypeOptions) (tape reader keys : Option (List ℕ)) (P : (Profile → WorldState → Extent → List Event → Type 0) → List (Option ℕ) → Type 0) : Type 0 where
@@ -126,10 +104,4 @@ pub record OfTyped (options : TeletypeOptions) (tape reader keys : Option (List 
 -- The tape is good, and this is what a session with it brings that may be stopped, where the key that interrupts it was struck or not.
 abbrev pub IsTypedToStop : TeletypeOptions → Stops → Option ℕ → SummaryForm → Bool → Option (List ℕ) → Option (List ℕ) → Option (List ℕ) → Status → List ℕ → List ℕ → List ℕ → Type 0
 IsTypedToStop options stops shown form left tape reader keys status text printed punched =
-    OfTyped options tape reader keys (λ comes image. IsHeldToStop comes (run_of options) stops shown form Whole left image text printed punched status)
-
--- Fronts went out of what a session may be about to write, where these of its sinks failed, and a read of a frame or a key or none.
-abbrev pub StoppedTypedFronts : TeletypeOptions → Stops → SummaryForm → Bool → Failures → Bool → Option (List ℕ) → Option (List ℕ) → Option (List ℕ) → Taken → Taken → Type 0
-StoppedTypedFronts options stops form left failed unread tape reader keys old new =
-    FrontsOf (λ extent text printed punched. OfTyped options tape reader keys
-    (λ comes image. IsPartToStop comes (run_of options) stops form left failed.report failed.teletype unread image extent text printed punched)) failed old new
+    OfTyped options tape reader keys (λ comes image. IsHeldToStop comes (run_of options) stops shown form left image text printed punched status)

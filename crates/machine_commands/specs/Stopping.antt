@@ -1,11 +1,11 @@
 -- The run of a tape that may be stopped, and what it writes.
-use Rattle.std.specs.Prelude.{ℕ, ◌≡◌, Bool, ◌⊎◌, List, Option, None}
+use Rattle.std.specs.Prelude.{ℕ, Bool, List, Option}
 use Rattle.peripherals.specs.declared.Event.{Event}
 use Rattle.command_parts.specs.declared.options.RunOptions.{RunOptions}
 use Rattle.command_parts.specs.declared.options.Stops.{Stops}
 use Rattle.command_parts.specs.declared.status.Status.{Status}
 use Rattle.machine_commands.specs.Last.{IsCut}
-use Rattle.machine_commands.specs.Running.{IsRunTold, IsTraceOf, fresh}
+use Rattle.machine_commands.specs.Running.{IsRunTold, fresh}
 
 -- From an image the run of these events, or of those before the step that stops it, is told so, with the trace, if it is requested, or the
 -- last lines of it, if so many or all of these are.
@@ -14,10 +14,3 @@ pub record IsRunWithStops (options : RunOptions) (stops : Stops) (shown : Option
   pub stopped : Bool
   pub is_cut : IsCut stops options ends_at_halt events cut (fresh image options.start) stopped
   pub is : IsRunTold options shown stopped ends_at_halt cut image text status
-
--- What such a run may be about to write: its whole text; or, where a trace is requested and no last lines are, the trace of some first
--- events of the run without stops, which may go on behind the stop.
-abbrev pub IsPartWithStops : RunOptions → Stops → Option ℕ → Bool → List Event → List (Option ℕ) → List ℕ → Type 0
-IsPartWithStops options stops shown ends_at_halt events image text =
-    ((status : Status) × IsRunWithStops options stops shown ends_at_halt events image text status)
-    ⊎ ((shown ≡ None) × IsTraceOf options ends_at_halt events image text)

@@ -1,5 +1,5 @@
 -- A session at the teletype: a key is struck where the program asks for one, and each frame and each key is read when it is due.
-use Rattle.std.specs.Prelude.{ℕ, ◌==◌, Bool, true, false, not, ◌||◌, ◌&&◌, if◌then◌else◌, Option, Some, None, List, [], ◌∷◌, map}
+use Rattle.std.specs.Prelude.{ℕ, ◌==◌, Bool, true, false, not, ◌&&◌, if◌then◌else◌, Option, Some, None, List, [], ◌∷◌, map}
 use Rattle.instruct.specs.Devices.{word_of}
 use Rattle.instruct.specs.declared.devices.DeviceOperation.TheVariants.{SkipOnKeyboardFlag}
 use Rattle.peripherals.specs.declared.Event.{Event}
@@ -54,18 +54,11 @@ abbrev pub typed_due : Plan → WorldState → Bool → Option Event → Option 
 typed_due plan w asked None = first_due plan plan.switches
 typed_due plan w asked (Some last) = typed_after plan w asked last
 
--- A frame is read where the reader waits for one at its turn, and a key where one is requested at the keyboard's turn.
-abbrev pub is_read : WorldState → Bool → Option Event → Bool
-is_read w asked (Some PunchDone) = w.devices.reader.fetching || asked
-is_read w asked (Some (ReaderDone frame)) = asked
-is_read w asked _ = false
-
 -- The schedule of a session at the teletype.
 abbrev pub typing : Schedule Sitting
 typing = record {
   due = λ s w. typed_due s.plan w s.asked s.last;
   after = λ s w e. record { plan = left_after e s.plan; last = Some e; asked = asked_after s.asked w e };
-  reads = λ s w. is_read w s.asked s.last;
 }
 
 -- The byte of a key. As people type at a terminal a carriage return is struck for a line feed, and channel 8 is set; as the bytes

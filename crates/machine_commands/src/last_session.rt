@@ -3,7 +3,6 @@
 
 ghost use Rattle.std.specs.Prelude.{◌≡◌, ◌<◌, ◌||◌, ◌⊎◌, false, true, None, Some, IfOk, IfErr};
 ghost use Rattle.command_parts.specs.Faults.{fails_to_read, fails_to_write};
-ghost use Rattle.machine_commands.specs.Schedule.{Whole};
 ghost use Rattle.machine_commands.specs.Session.{IsHeldFault, WritesAll, taken};
 ghost use Rattle.machine_commands.specs.StoppedSession.{IsHeldToStop};
 
@@ -141,7 +140,7 @@ pub(crate) fn run_with_last<
     requires few { S.steps_to_come schedule.old < 18446744073709551616 }
     ensures run { IfOk result (λ status.
         WritesAll (λ text printed punched.
-        IsHeldToStop (S.brings schedule.old) options stops.now (Some most) form.entry Whole (S.left schedule.new) image.now
+        IsHeldToStop (S.brings schedule.old) options stops.now (Some most) form.entry (S.left schedule.new) image.now
         text printed punched status)
         (taken (W.taken out.old.report) (T.taken out.old.teletype) (P.taken out.old.punch))
         (taken (W.taken out.new.report) (T.taken out.new.teletype) (P.taken out.new.punch))) }

@@ -249,7 +249,7 @@ fn put_lines<A: Allocator + Copy, N: Statements, W: ByteSink>(
 ///
 /// # Errors
 ///
-/// `Device` where a write failed, after which a prefix of the text went out; `NoMemory`.
+/// `Device` where a write failed; `NoMemory`.
 pub fn run_with_long_trace<A: Allocator + Copy, N: Statements, W: ByteSink>(
     alloc: A,
     image: &Image,

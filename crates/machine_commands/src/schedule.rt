@@ -1,6 +1,6 @@
 //! What comes in a run: which event is due next.
 
-ghost use Rattle.std.specs.Prelude.{ℕ, ◌≡◌, ◌+◌, ◌++◌, ◌<◌, ◌≤◌, Bool, true, false, not, None, Ok, List, [], ◌∷◌, IfOk, IfErr, IfSome, OnErr, OnOk, is_err};
+ghost use Rattle.std.specs.Prelude.{ℕ, ◌≡◌, ◌+◌, ◌++◌, ◌<◌, ◌≤◌, Bool, true, false, not, None, Ok, List, [], ◌∷◌, IfOk, IfErr, IfSome, OnOk, is_err};
 ghost use Rattle.instruct.specs.declared.Profile.{Profile};
 ghost use Rattle.peripherals.specs.declared.Event.{Event};
 ghost use Rattle.peripherals.specs.declared.Event.TheVariants.{Step, PrinterDone, PunchDone};
@@ -11,7 +11,7 @@ ghost use Rattle.peripherals.specs.World.{view, profile_of};
 ghost use Rattle.command_parts.specs.declared.status.Fault.TheVariants.{Device};
 ghost use Rattle.command_parts.specs.declared.status.DeviceFault.TheVariants.{Read};
 ghost use Rattle.machine_commands.specs.Follows.{goes_on};
-ghost use Rattle.machine_commands.specs.Schedule.{Extent, ToStep, UpToAny, UpToRead};
+ghost use Rattle.machine_commands.specs.Schedule.{Extent, ToStep};
 ghost use Rattle.machine_commands.specs.SessionParts.{IsNext, steps_in};
 
 use command_parts::status::Fault;
@@ -54,8 +54,6 @@ pub(crate) trait Scheduler {
         ensures stepped { IfOk result (λ due.
             IfSome due (λ e. e ≡ Step → stepped self.new ≡ true)) }
         ensures faults { IfErr result (λ fault. fault ≡ Device Read) }
-        ensures cut { OnErr result
-            ((p : Profile) → brings self.old p (view world.now) UpToRead []) }
         ensures marks { unread self.new ≡ is_err result };
 
     /// After an instruction two events are due whatever it did, and both happen: the printer gets done,
@@ -70,16 +68,12 @@ pub(crate) trait Scheduler {
         ensures left { events_to_come self.new ≤ events_to_come self.old }
         ensures steps { steps_to_come self.new ≡ steps_to_come self.old }
         ensures marks { unread self.new ≡ unread self.old };
-
-    /// A run may be told up to anywhere.
-    ghost anywhere: { (s : Self) (p : Profile) (w : WorldState) → brings s p w UpToAny [] };
 }
 
 impl Scheduler for Operator<'_> {
     ghost use Rattle.peripherals.specs.Operator.{plan_of};
     ghost use Rattle.machine_commands.specs.Schedule.{Comes, operating};
     ghost use Rattle.machine_commands.specs.SessionParts.{events_left, has_stepped, place_of};
-    ghost use Rattle.machine_commands.specs.Cuts.{cut_operating};
 
     ghost brings = { λ o p w extent events. Comes operating p extent (place_of o) w events };
 
@@ -90,8 +84,6 @@ impl Scheduler for Operator<'_> {
     ghost unread = { λ o. false };
 
     ghost stepped = { λ o. has_stepped o.last };
-
-    ghost anywhere = { λ o p w. cut_operating p (place_of o) w };
 
     fn next_event<A: Allocator>(&mut self, world: &World<A>) -> Result<Option<Event>, Fault> {
         Ok(self.next(world))

@@ -1,17 +1,15 @@
 //! A run with an operator: frames in the reader, keys to strike, the teletype and the punch.
 
-ghost use Rattle.std.specs.Prelude.{◌≡◌, ◌<◌, ◌≤◌, ◌+◌, ◌||◌, ◌⊎◌, ◌%◌, [], ◌∷◌, false, true, None, Err, drop, get_or, is_err, map, IfSome, IfOk, IfErr, OnOk, OnErr};
+ghost use Rattle.std.specs.Prelude.{◌≡◌, ◌<◌, ◌≤◌, ◌+◌, ◌||◌, ◌⊎◌, ◌%◌, [], ◌∷◌, false, true, None, drop, get_or, is_err, map, IfSome, IfOk, IfErr, OnOk};
 ghost use Rattle.std.specs.Io.KnownBytes.{Appends};
-ghost use Rattle.streams.specs.Bytes.{AppendsFront, Gave};
+ghost use Rattle.streams.specs.Bytes.{Gave};
 ghost use Rattle.peripherals.specs.World.{view, profile_of};
-ghost use Rattle.command_parts.specs.declared.status.Fault.TheVariants.{NoMemory};
 ghost use Rattle.command_parts.specs.Faults.{is_fault_of_tape, fails_to_read, fails_to_write, IsRunFault, IsSessionFault};
-ghost use Rattle.command_parts.specs.Inputs.{AreFirst, HasCome, TakesAtMost, TakesTape, input};
-ghost use Rattle.machine_commands.specs.Schedule.{Whole};
-ghost use Rattle.machine_commands.specs.Session.{BrokeOff, FrontsOf, IsHeldFault, WritesAll, character, failures, taken};
-ghost use Rattle.machine_commands.specs.SessionParts.{Played, PlayedFront, is_step, steps_in};
-ghost use Rattle.machine_commands.specs.StoppedSession.{leaving, IsHeldToStop, IsPartToStop, IsSessionToStop, NothingOrStoppedFronts, StoppedSessionFronts};
-ghost use Rattle.machine_commands.specs.StoppedParts.{OperatedToStop, Passes, unstopped};
+ghost use Rattle.command_parts.specs.Inputs.{AreFirst, TakesAtMost, TakesTape, input};
+ghost use Rattle.machine_commands.specs.Session.{IsHeldFault, WritesAll, character, taken};
+ghost use Rattle.machine_commands.specs.SessionParts.{Played, is_step, steps_in};
+ghost use Rattle.machine_commands.specs.StoppedSession.{leaving, IsHeldToStop, IsSessionToStop};
+ghost use Rattle.machine_commands.specs.StoppedParts.{OperatedToStop, Passes};
 
 use crate::follow::{End, RunOutcome, advance, end_of};
 use crate::interrupted::OperatorPresence;
@@ -45,8 +43,6 @@ pub struct Outputs<W, T, P> {
 fn type_from<T: ByteSink>(bytes: &[u8], from: usize, teletype: &mut T) -> Result<(), Failed>
     requires unmarked { T.mark teletype.old ≡ false }
     ensures whole { OnOk result (Appends (T.taken teletype.old) (T.taken teletype.new)
-        (map character (drop from bytes.now))) }
-    ensures front { OnErr result (AppendsFront (T.taken teletype.old) (T.taken teletype.new)
         (map character (drop from bytes.now))) }
     ensures marks { T.mark teletype.new ≡ is_err result }
 {
@@ -86,11 +82,6 @@ pub(crate) fn apply_event<A: Allocator, W: ByteSink, T: ByteSink>(
     requires typable { T.mark teletype.old ≡ false }
     ensures played { IfOk result (λ seen.
         Played (profile_of world.old) trace (view world.old) event seen (view world.new)
-        (W.taken report.old) (W.taken report.new)
-        (T.taken teletype.old) (T.taken teletype.new)) }
-    ensures front { OnErr result
-        (PlayedFront (profile_of world.old) trace (view world.old) event (view world.new)
-        (W.mark report.new) (T.mark teletype.new)
         (W.taken report.old) (W.taken report.new)
         (T.taken teletype.old) (T.taken teletype.new)) }
     ensures profile { profile_of world.new ≡ profile_of world.old }
@@ -143,12 +134,6 @@ pub(crate) fn operate<A: Allocator, S: Scheduler, W: ByteSink, T: ByteSink>(
         OperatedToStop (S.brings schedule.old (profile_of world.old) (view world.old)) false stops.now
         (profile_of world.old) trace (view world.old) outcome
         (view world.new) (W.taken report.old) (W.taken report.new)
-        (T.taken teletype.old) (T.taken teletype.new)) }
-    ensures broke { OnErr result
-        (BrokeOff (unstopped stops.now (S.brings schedule.old) (profile_of world.old)
-        (view world.old)) (profile_of world.old) trace (view world.old) (view world.new)
-        (W.mark report.new) (T.mark teletype.new) (S.unread schedule.new)
-        (W.taken report.old) (W.taken report.new)
         (T.taken teletype.old) (T.taken teletype.new)) }
     ensures faults { IfErr result IsHeldFault }
     ensures marks { W.mark report.new || T.mark teletype.new ≡ fails_to_write result }
@@ -229,14 +214,8 @@ fn run_reported<
     requires few { S.steps_to_come schedule.old < 18446744073709551616 }
     ensures run { IfOk result (λ status.
         WritesAll (λ text printed punched.
-        IsHeldToStop (S.brings schedule.old) options stops.now None form.entry Whole (S.left schedule.new) image.now
+        IsHeldToStop (S.brings schedule.old) options stops.now None form.entry (S.left schedule.new) image.now
         text printed punched status)
-        (taken (W.taken out.old.report) (T.taken out.old.teletype) (P.taken out.old.punch))
-        (taken (W.taken out.new.report) (T.taken out.new.teletype) (P.taken out.new.punch))) }
-    ensures front { OnErr result (FrontsOf
-        (IsPartToStop (S.brings schedule.old) options stops.now form.entry (S.left schedule.new) (W.mark out.new.report)
-        (T.mark out.new.teletype) (S.unread schedule.new) image.now)
-        (failures (W.mark out.new.report) (T.mark out.new.teletype) (P.mark out.new.punch))
         (taken (W.taken out.old.report) (T.taken out.old.teletype) (P.taken out.old.punch))
         (taken (W.taken out.new.report) (T.taken out.new.teletype) (P.taken out.new.punch))) }
     ensures faults { IfErr result IsHeldFault }
@@ -286,14 +265,8 @@ pub(crate) fn run_scheduled<
     requires few { S.steps_to_come schedule.old < 18446744073709551616 }
     ensures run { IfOk result (λ status.
         WritesAll (λ text printed punched.
-        IsHeldToStop (S.brings schedule.old) options stops.now last form.entry Whole (S.left schedule.new) image.now
+        IsHeldToStop (S.brings schedule.old) options stops.now last form.entry (S.left schedule.new) image.now
         text printed punched status)
-        (taken (W.taken out.old.report) (T.taken out.old.teletype) (P.taken out.old.punch))
-        (taken (W.taken out.new.report) (T.taken out.new.teletype) (P.taken out.new.punch))) }
-    ensures front { last ≡ None → OnErr result (FrontsOf
-        (IsPartToStop (S.brings schedule.old) options stops.now form.entry (S.left schedule.new) (W.mark out.new.report)
-        (T.mark out.new.teletype) (S.unread schedule.new) image.now)
-        (failures (W.mark out.new.report) (T.mark out.new.teletype) (P.mark out.new.punch))
         (taken (W.taken out.old.report) (T.taken out.old.teletype) (P.taken out.old.punch))
         (taken (W.taken out.new.report) (T.taken out.new.teletype) (P.taken out.new.punch))) }
     ensures faults { IfErr result IsHeldFault }
@@ -324,8 +297,8 @@ fn are_few(rounds: u32)
 ///
 /// # Errors
 ///
-/// The tape's fault; `Device` where a read failed, or a write, after which a front went out of what
-/// was to be reported, typed and punched; `NoMemory`.
+/// The tape's fault; `Device` where a read or a write failed; `NoMemory`. What went out before a write
+/// failed is tested and not proved.
 #[tactic(auto, using(crate::proofs::UnreadLemmas::takes_no_text))]
 pub fn run_session<
     A: Allocator + Copy,
@@ -363,30 +336,7 @@ pub fn run_session<
         (input (R.mark tape.new) (R.remaining tape.old) (R.remaining tape.new))
         (input (F.mark reader.new) (F.remaining reader.old) (F.remaining reader.new))
         (input (K.mark keys.new) (K.remaining keys.old) (K.remaining keys.new))) }
-    // Unless last instructions are requested, after a fault fronts of what the first events leave went out,
-    // and all of it where no write failed, or of the whole with its summary where the report failed; or
-    // nothing at all,
-    ensures front { last ≡ None → OnErr result (NothingOrStoppedFronts options stops.now form.entry
-        (failures (W.mark out.new.report) (T.mark out.new.teletype) (P.mark out.new.punch))
-        (R.remaining tape.old) (F.remaining reader.old) (K.remaining keys.old)
-        (taken (W.taken out.old.report) (T.taken out.old.teletype) (P.taken out.old.punch))
-        (taken (W.taken out.new.report) (T.taken out.new.teletype) (P.taken out.new.punch))) }
-    // of which the fronts are sure where a write failed,
-    ensures front_of_failure { last ≡ None → fails_to_write result ≡ true → StoppedSessionFronts options stops.now form.entry
-        (failures (W.mark out.new.report) (T.mark out.new.teletype) (P.mark out.new.punch))
-        (R.remaining tape.old) (F.remaining reader.old) (K.remaining keys.old)
-        (taken (W.taken out.old.report) (T.taken out.old.teletype) (P.taken out.old.punch))
-        (taken (W.taken out.new.report) (T.taken out.new.teletype) (P.taken out.new.punch)) }
-    // and where memory was refused, unless it may have been wanted for the frames or the keys;
-    ensures broke_off { last ≡ None → result ≡ Err NoMemory →
-        HasCome (input (F.mark reader.new) (F.remaining reader.old) (F.remaining reader.new))
-        ⊎ (HasCome (input (K.mark keys.new) (K.remaining keys.old) (K.remaining keys.new))
-        ⊎ StoppedSessionFronts options stops.now form.entry
-        (failures (W.mark out.new.report) (T.mark out.new.teletype) (P.mark out.new.punch))
-        (R.remaining tape.old) (F.remaining reader.old) (K.remaining keys.old)
-        (taken (W.taken out.old.report) (T.taken out.old.teletype) (P.taken out.old.punch))
-        (taken (W.taken out.new.report) (T.taken out.new.teletype) (P.taken out.new.punch))) }
-    // and in any case nothing is written where the tape is refused or a read failed.
+    // Nothing is written where the tape is refused or a read failed.
     ensures nothing { IfErr result (λ fault. is_fault_of_tape fault ≡ true → out.new ≡ out.old) }
     ensures nothing_after_failure { fails_to_read result ≡ true → out.new ≡ out.old }
     // A write failed if and only if the answer says so, and so did a read.

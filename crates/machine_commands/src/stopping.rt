@@ -4,14 +4,14 @@ ghost use Rattle.std.specs.Prelude.{◌≡◌, ◌<◌, ◌/◌, ◌*◌, ◌&&�
 ghost use Rattle.wordset.specs.Lanes.{words};
 ghost use Rattle.wordset.specs.Words.{nothing};
 ghost use Rattle.command_parts.specs.Faults.{fails_to_write, IsRunFault};
-ghost use Rattle.command_parts.specs.Writes.{FrontOf, Writes};
+ghost use Rattle.command_parts.specs.Writes.{Writes};
 ghost use Rattle.peripherals.specs.World.{view, profile_of};
 ghost use Rattle.peripherals.specs.declared.Event.{Event};
 ghost use Rattle.machine_commands.specs.Course.{ends_at_halt, events_in};
 ghost use Rattle.machine_commands.specs.Follows.{Follows};
 ghost use Rattle.machine_commands.specs.Last.{IsCut, last_lines, told};
-ghost use Rattle.machine_commands.specs.Running.{IsRunText, IsRunTold, fresh};
-ghost use Rattle.machine_commands.specs.Stopping.{IsPartWithStops, IsRunWithStops};
+ghost use Rattle.machine_commands.specs.Running.{IsRunTold, fresh};
+ghost use Rattle.machine_commands.specs.Stopping.{IsRunWithStops};
 ghost use Rattle.machine_commands.specs.Stops.{IsStop};
 ghost use Rattle.machine_commands.specs.Summary.{closing};
 
@@ -189,9 +189,6 @@ fn run_with_last<A: Allocator + Copy, W: ByteSink>(
         image.now text status)
         (W.taken out.old) (W.taken out.new)) }
     ensures faults { IfErr result IsRunFault }
-    ensures front { W.mark out.new ≡ true → FrontOf
-        (IsRunText options.now (Some most) stopped (ends_at_halt course.now) (events_in course.now) image.now)
-        (W.taken out.old) (W.taken out.new) }
     ensures nothing { OnErr result (W.mark out.new ≡ false → W.taken out.new ≡ W.taken out.old) }
     ensures marks { W.mark out.new ≡ fails_to_write result }
 {
@@ -211,8 +208,8 @@ fn run_with_last<A: Allocator + Copy, W: ByteSink>(
 ///
 /// # Errors
 ///
-/// `Device` where a write failed, after which a prefix of the text went out; `NoMemory`, where last instructions are
-/// requested even if the trace of the whole run has no room.
+/// `Device` where a write failed; what went out before that is tested and not proved. `NoMemory`, where last
+/// instructions are requested even if the trace of the whole run has no room.
 pub fn run_with_stops<A: Allocator + Copy, W: ByteSink>(
     alloc: A,
     image: &Image,
@@ -229,12 +226,7 @@ pub fn run_with_stops<A: Allocator + Copy, W: ByteSink>(
         image.now text status)
         (W.taken out.old) (W.taken out.new)) }
     ensures faults { IfErr result IsRunFault }
-    // If a write failed, a prefix of that went out, or with a trace a prefix of the trace without stops,
-    ensures front { W.mark out.new ≡ true → FrontOf
-        (IsPartWithStops options.now stops.now last (ends_at_halt course.now) (events_in course.now)
-        image.now)
-        (W.taken out.old) (W.taken out.new) }
-    // and any other fault leaves the output as it was, unless there is a trace.
+    // A fault that is not that of a write leaves the output as it was, unless there is a trace.
     ensures nothing { OnErr result (W.mark out.new ≡ false →
         (is_none last && options.now.trace) ≡ false → W.taken out.new ≡ W.taken out.old) }
     // A write failed if and only if the answer says so.

@@ -6,7 +6,6 @@ ghost use Rattle.processor.specs.Cells.{cell_of};
 ghost use Rattle.processor.specs.Steps.{state_of};
 ghost use Rattle.peripherals.specs.World.{view};
 ghost use Rattle.command_parts.specs.LinkText.{link_text};
-ghost use Rattle.machine_commands.specs.Schedule.{Whole};
 ghost use Rattle.machine_commands.specs.Session.{character, leaves_open, parting, summary_where};
 ghost use Rattle.machine_commands.specs.Summary.{end_text, registers_text, state_line, byte_text, bytes_text, output_line, cell_line, cells_below, cells_text, closing, closing_as, frames_word, printed_line, punched_line, saved_line, summary_as};
 
@@ -296,7 +295,7 @@ pub(crate) fn closing_of<A: Allocator, B: Allocator>(
     form: &SummaryForm<'_>,
     show: &WordSet,
 ) -> Result<Vec<u8, A>, AllocError>
-    ensures { IfOk result (λ text. text.items ≡ summary_where (words show.now) form.now Whole
+    ensures { IfOk result (λ text. text.items ≡ summary_where (words show.now) form.now
         outcome.now.end (view world.now) outcome.now.steps) }
 {
     let mut text = Vec::new(alloc);

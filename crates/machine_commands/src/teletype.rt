@@ -1,10 +1,10 @@
 //! The command that holds a session at the teletype.
 
-ghost use Rattle.std.specs.Prelude.{◌≡◌, ◌||◌, ◌⊎◌, false, true, None, IfOk, IfErr};
+ghost use Rattle.std.specs.Prelude.{◌≡◌, ◌||◌, ◌⊎◌, false, true, IfOk, IfErr};
 ghost use Rattle.command_parts.specs.Faults.{is_fault_of_tape, fails_to_read, fails_to_write};
 ghost use Rattle.command_parts.specs.Inputs.{TakesTape, input};
-ghost use Rattle.machine_commands.specs.Session.{WritesAll, failures, taken};
-ghost use Rattle.machine_commands.specs.StoppedSession.{IsTypedToStop, StoppedTypedFronts};
+ghost use Rattle.machine_commands.specs.Session.{WritesAll, taken};
+ghost use Rattle.machine_commands.specs.StoppedSession.{IsTypedToStop};
 ghost use Rattle.machine_commands.specs.Teletype.{IsTypedFault, run_of};
 
 use crate::interrupted::OperatorPresence;
@@ -41,8 +41,8 @@ pub(crate) fn run_of(options: TeletypeOptions) -> RunOptions
 ///
 /// # Errors
 ///
-/// The tape's fault; `Device` where a read failed, or a write, after which a front went out of what
-/// was to be reported, typed and punched; `NoMemory`.
+/// The tape's fault; `Device` where a read or a write failed; `NoMemory`. What went out before a write
+/// failed is tested and not proved.
 pub fn teletype<
     A: Allocator + Copy,
     R: ByteSource,
@@ -75,16 +75,6 @@ pub fn teletype<
         (taken (W.taken out.new.report) (T.taken out.new.teletype) (P.taken out.new.punch))) }
     ensures faults { IfErr result (IsTypedFault
         (input (R.mark tape.new) (R.remaining tape.old) (R.remaining tape.new))) }
-    // Unless last instructions are requested, after a fault of a good tape fronts of what the first events
-    // leave went out, and all of it where no write failed: even if a read of a frame or a key failed, what
-    // was printed before is typed, and what was punched before is written.
-    ensures front { last ≡ None → IfErr result (λ fault. (is_fault_of_tape fault ≡ true) ⊎ ((R.mark tape.new ≡ true)
-        ⊎ StoppedTypedFronts typist.old.options stops.now form.entry (K.left typist.new.keys)
-        (failures (W.mark out.new.report) (T.mark out.new.teletype) (P.mark out.new.punch))
-        (F.mark typist.new.reader || K.mark typist.new.keys)
-        (R.remaining tape.old) (F.remaining typist.old.reader) (K.remaining typist.old.keys)
-        (taken (W.taken out.old.report) (T.taken out.old.teletype) (P.taken out.old.punch))
-        (taken (W.taken out.new.report) (T.taken out.new.teletype) (P.taken out.new.punch)))) }
     // Nothing is written where the tape is refused or a read of it failed, and no frame or key is read.
     ensures nothing { IfErr result (λ fault. is_fault_of_tape fault ≡ true → out.new ≡ out.old) }
     ensures nothing_after_failure { R.mark tape.new ≡ true → out.new ≡ out.old }

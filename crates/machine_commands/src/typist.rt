@@ -1,7 +1,7 @@
 //! Who sits at the teletype: strikes a key where the program asks for one, and has a tape in the
 //! reader. Frames and keys are read one by one, each when it is due.
 
-ghost use Rattle.std.specs.Prelude.{ℕ, ◌≡◌, ◌==◌, ◌||◌, ◌&&◌, not, false, true, None, Some, Ok, List, [], ◌∷◌, IfOk, IfErr, IfSome, OnErr, is_err};
+ghost use Rattle.std.specs.Prelude.{ℕ, ◌≡◌, ◌==◌, ◌||◌, ◌&&◌, not, false, true, None, Some, Ok, List, [], ◌∷◌, IfOk, IfErr, IfSome, is_err};
 ghost use Rattle.command_parts.specs.declared.status.Fault.TheVariants.{Device};
 ghost use Rattle.command_parts.specs.declared.status.DeviceFault.TheVariants.{Read};
 ghost use Rattle.instruct.specs.Devices.{word_of};
@@ -11,7 +11,7 @@ ghost use Rattle.peripherals.specs.Operator.{first_due, round_due, struck_as};
 ghost use Rattle.peripherals.specs.declared.Event.TheVariants.{PunchDone};
 ghost use Rattle.peripherals.specs.Events.{completed};
 ghost use Rattle.peripherals.specs.World.{view, profile_of};
-ghost use Rattle.machine_commands.specs.Typing.{asked_after, asks, is_read, typed_as};
+ghost use Rattle.machine_commands.specs.Typing.{asked_after, asks, typed_as};
 ghost use Rattle.machine_commands.specs.TypingParts.{Answered, Brought, IsLeft, rounds_left, source, typed_plan};
 
 use crate::schedule::Scheduler;
@@ -193,7 +193,6 @@ impl<F: ByteSource, K: ByteSource> Typist<F, K> {
             IsLeft (K.remaining self.new.keys) (K.ended self.new.keys) after →
             Answered self.old.options self.old.asked self.old.rounds
             (source (K.remaining self.old.keys) (K.ended self.old.keys)) due after) }
-        ensures asked { OnErr result (self.old.asked ≡ true) }
         ensures faults { IfErr result (λ fault. fault ≡ Device Read) }
         ensures marks { K.mark self.new.keys ≡ is_err result }
         ensures same { self.new ≡ record self.old { keys = self.new.keys } }
@@ -217,8 +216,6 @@ impl<F: ByteSource, K: ByteSource> Typist<F, K> {
             (Some PunchDone)
             (source (F.remaining self.old.reader) (F.ended self.old.reader))
             (source (K.remaining self.old.keys) (K.ended self.old.keys)) due frames bytes) }
-        ensures read { OnErr result
-            (is_read (view world.now) self.old.asked (Some PunchDone) ≡ true) }
         ensures faults { IfErr result (λ fault. fault ≡ Device Read) }
         ensures marks { F.mark self.new.reader || K.mark self.new.keys ≡ is_err result }
         ensures same { self.new ≡
@@ -259,7 +256,6 @@ impl<F: ByteSource, K: ByteSource> Typist<F, K> {
             Brought self.old.options (view world.now) self.old.asked self.old.rounds (Some last)
             (source (F.remaining self.old.reader) (F.ended self.old.reader))
             (source (K.remaining self.old.keys) (K.ended self.old.keys)) due frames bytes) }
-        ensures read { OnErr result (is_read (view world.now) self.old.asked (Some last) ≡ true) }
         ensures faults { IfErr result (λ fault. fault ≡ Device Read) }
         ensures marks { F.mark self.new.reader || K.mark self.new.keys ≡ is_err result }
         ensures same { self.new ≡
@@ -287,8 +283,6 @@ impl<F: ByteSource, K: ByteSource> Typist<F, K> {
             Brought self.old.options (view world.now) self.old.asked self.old.rounds self.old.last
             (source (F.remaining self.old.reader) (F.ended self.old.reader))
             (source (K.remaining self.old.keys) (K.ended self.old.keys)) due frames bytes) }
-        ensures read { OnErr result
-            (is_read (view world.now) self.old.asked self.old.last ≡ true) }
         ensures faults { IfErr result (λ fault. fault ≡ Device Read) }
         ensures marks { F.mark self.new.reader || K.mark self.new.keys ≡ is_err result }
         ensures same { self.new ≡
@@ -324,7 +318,6 @@ impl<F: ByteSource, K: ByteSource> Scheduler for Typist<F, K> {
     ghost use Rattle.std.specs.Prelude.{◌+◌, ◌*◌};
     ghost use Rattle.machine_commands.specs.SessionParts.{has_stepped, rank};
     ghost use Rattle.machine_commands.specs.TypingParts.{Types};
-    ghost use Rattle.machine_commands.specs.Cuts.{types_anywhere};
 
     ghost brings = { λ t p w extent events. Types t.options t.asked t.rounds t.last
         (source (F.remaining t.reader) (F.ended t.reader))
@@ -337,10 +330,6 @@ impl<F: ByteSource, K: ByteSource> Scheduler for Typist<F, K> {
     ghost unread = { λ t. F.mark t.reader || K.mark t.keys };
 
     ghost stepped = { λ t. has_stepped t.last };
-
-    ghost anywhere = { λ t p w. types_anywhere t.options w t.asked t.rounds t.last
-        (source (F.remaining t.reader) (F.ended t.reader))
-        (source (K.remaining t.keys) (K.ended t.keys)) p };
 
     fn next_event<A: Allocator>(&mut self, world: &World<A>) -> Result<Option<Event>, Fault> {
         match self.due(world)? {

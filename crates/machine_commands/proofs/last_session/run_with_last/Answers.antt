@@ -4,7 +4,6 @@ use Rattle.std.specs.Io.KnownBytes.{Appends}
 use Rattle.peripherals.specs.World.{view, profile_of}
 use Rattle.wordset.specs.Lanes.{words}
 use Rattle.machine_commands.specs.Running.{fresh}
-use Rattle.machine_commands.specs.Schedule.{Whole}
 use Rattle.machine_commands.specs.Session.{summary_where}
 use Rattle.machine_commands.specs.StoppedSession.{form_behind}
 use Rattle.machine_commands.proofs.StoppedLemmas.{attended_to_stop, left_so}
@@ -16,7 +15,7 @@ returns-clause-run g c =
     let begins : view c.load-world.result ≡ fresh c.args.image.now c.args.options.start = search rules in
     let punched : Appends (g.P.ByteSink.taken c.args.out.now.punch) (g.P.ByteSink.taken c.put.new.sink) (view c.operate-ran.new.world).devices.punch.output = search rules in
     let before : Appends (g.W.ByteSink.taken c.args.out.now.report) (g.W.ByteSink.taken c.put-2.new.sink) c.in_ok-lines.lines.items = search rules in
-    let written : Appends (g.W.ByteSink.taken c.put-2.new.sink) (g.W.ByteSink.taken c.put-3.new.sink) (summary_where (words c.args.options.show) (form_behind (Some c.args.most) c.args.form) Whole c.leaving-outcome.result.end (view c.operate-ran.new.world) c.leaving-outcome.result.steps) = search rules in
+    let written : Appends (g.W.ByteSink.taken c.put-2.new.sink) (g.W.ByteSink.taken c.put-3.new.sink) (summary_where (words c.args.options.show) (form_behind (Some c.args.most) c.args.form) c.leaving-outcome.result.end (view c.operate-ran.new.world) c.leaving-outcome.result.steps) = search rules in
     let done = left_so (g.S.Scheduler.brings c.args.schedule.now (profile_of c.load-world.result) (view c.load-world.result)) (g.S.OperatorPresence.left c.operate-ran.new.schedule) c.args.stops.now (profile_of c.load-world.result) true (view c.load-world.result) c.in_ok-came.came c.leaving-outcome.result (view c.operate-ran.new.world) _ _ _ _ c.in_ok-came.ensures.ran c.leaving-outcome.ensures.steps (rw c.has_left.ensures at c.leaving-outcome.ensures.end) in
     attended_to_stop (g.S.Scheduler.brings c.args.schedule.now) c.args.options c.args.stops.now (Some c.args.most) c.args.form (g.S.OperatorPresence.left c.operate-ran.new.schedule) true c.args.image.now _ (view c.load-world.result) (view c.operate-ran.new.world) c.leaving-outcome.result c.status_of.result c.in_ok-lines.lines.items _ _ _ _ _ _ _ _ _ profile begins done tt punched before written c.status_of.ensures
 

@@ -3,12 +3,12 @@ use Rattle.instruct.specs.declared.Profile.{Profile}
 use Rattle.peripherals.specs.declared.Event.TheVariants.{Step}
 use Rattle.peripherals.specs.declared.Seen.TheVariants.{NotEnabled, Changed, Ran, Halted, Unsupported}
 use Rattle.peripherals.specs.World.{view, profile_of}
-use Rattle.machine_commands.specs.Schedule.{Extent, ToStep, UpToRead}
-use Rattle.machine_commands.specs.SessionParts.{IsNext, Played, PlayedFront, steps_in}
+use Rattle.machine_commands.specs.Schedule.{Extent, ToStep}
+use Rattle.machine_commands.specs.SessionParts.{IsNext, Played, steps_in}
 use Rattle.machine_commands.specs.StoppedParts.{Passes}
 use Rattle.machine_commands.specs.Stops.{stops_before}
 use Rattle.machine_commands.proofs.SessionLemmas.{halted_is_step, or_left, or_right, ran_counts, ran_is_step}
-use Rattle.machine_commands.proofs.StoppedLemmas.{un_all, un_completed, un_more, un_none, un_still, un_to_fault, un_to_halt, un_to_stop, un_to_stuck, un_to_unread}
+use Rattle.machine_commands.proofs.StoppedLemmas.{un_all, un_completed, un_more, un_none, un_still, un_to_halt, un_to_stop, un_to_stuck}
 use Rattle.machine_commands.proofs.session.operate.Goals as goal
 
 pub loop-event-init : goal.loop-event-init
@@ -21,24 +21,6 @@ loop-event-init g c = record {
   unmarked = c.requires.writable;
   untyped = c.requires.typable;
 }
-
-pub returns-in_err-event-clause-broke : goal.returns-in_err-event-clause-broke
-returns-in_err-event-clause-broke g c =
-    let inv = c.loop-event.invariant in
-    let p = profile_of c.args.world.now in
-    let cut : g.S.Scheduler.brings c.loop-event.schedule p (view c.loop-event.world) UpToRead [] = c.in_err-event.ensures.cut p in
-    let failed : g.S.Scheduler.unread c.next_event.new.self ≡ true = c.in_err-event.ensures.marks in
-    search (rules, un_to_unread g.S.Scheduler.brings c.args.stops.now p c.args.trace c.args.schedule.now c.loop-event.schedule (view c.args.world.now) (view c.loop-event.world) c.loop-event.steps c.loop-event.visits _ _ _ _ _ _ _ inv.un inv.unmarked inv.untyped failed cut)
-
-pub returns-in_err-apply_event-clause-broke : goal.returns-in_err-apply_event-clause-broke
-returns-in_err-apply_event-clause-broke g c =
-    let inv = c.loop-event.invariant in
-    let p = profile_of c.args.world.now in
-    let next : IsNext g.S.Scheduler.brings c.loop-event.schedule c.next_event.new.self (view c.loop-event.world) c.in-Some.event = rw c.in-Some.is at c.in_ok-event.ensures.due in
-    let readable : g.S.Scheduler.unread c.next_event.new.self ≡ false = c.in_ok-event.ensures.marks in
-    let front : PlayedFront p c.args.trace (view c.loop-event.world) c.in-Some.event (view c.apply_event.new.world) (g.W.ByteSink.mark c.apply_event.new.report) (g.T.ByteSink.mark c.apply_event.new.teletype) (g.W.ByteSink.taken c.loop-event.report) (g.W.ByteSink.taken c.apply_event.new.report) (g.T.ByteSink.taken c.loop-event.teletype) (g.T.ByteSink.taken c.apply_event.new.teletype) = rw inv.profile at c.in_err-apply_event.ensures.front in
-    let passed : Passes c.args.stops.now p c.loop-event.visits (view c.loop-event.world) c.in-Some.event (Some c.in-Some-visits_past.more) = rw (inv.profile, c.in-Some-visits_past.is) at c.visits_past.ensures.passes in
-    search (rules, un_to_fault g.S.Scheduler.brings c.args.stops.now p c.args.trace c.args.schedule.now c.loop-event.schedule c.next_event.new.self c.in-Some.event (view c.args.world.now) (view c.loop-event.world) (view c.apply_event.new.world) c.loop-event.steps c.loop-event.visits _ _ _ _ _ _ _ _ _ inv.un next g.met.S.Scheduler.anywhere passed.0 readable front)
 
 pub overflow_add-steps : goal.overflow_add-steps
 overflow_add-steps g c =

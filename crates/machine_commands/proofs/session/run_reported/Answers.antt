@@ -1,62 +1,20 @@
-use Rattle.std.proofs.Common.{rules, ◌≡◌, ◌∙◌, ◌||◌, None, refl, sym, true, false, true≢false, inl, inr}
+use Rattle.std.proofs.Common.{rules, ◌≡◌, ◌∙◌, None, refl, sym, true, false, true≢false, inl, inr}
 use Rattle.std.proofs.lemmas.Result.{err_from_is_err_and}
 use Rattle.std.specs.Io.KnownBytes.{Appends}
-use Rattle.streams.specs.Bytes.{AppendsFront}
 use Rattle.peripherals.specs.World.{view, profile_of}
 use Rattle.wordset.specs.Lanes.{words}
 use Rattle.machine_commands.specs.Running.{fresh}
-use Rattle.machine_commands.specs.Schedule.{Whole}
-use Rattle.machine_commands.specs.Session.{AppendsUnless, summary_where}
+use Rattle.machine_commands.specs.Session.{summary_where}
 use Rattle.machine_commands.specs.Trace.{traced}
-use Rattle.machine_commands.proofs.SessionLemmas.{or_right}
-use Rattle.machine_commands.proofs.StoppedLemmas.{attended_to_stop, broke_unstopped, left_so, punch_failed, summary_failed, summary_unmade}
+use Rattle.machine_commands.proofs.StoppedLemmas.{attended_to_stop, left_so}
 use Rattle.machine_commands.proofs.session.run_reported.Goals as goal
-
-pub returns-in_err-put-clause-front : goal.returns-in_err-put-clause-front
-returns-in_err-put-clause-front g c =
-    let profile : profile_of c.load-world.result ≡ c.args.options.profile = c.load-world.ensures.profile in
-    let begins : view c.load-world.result ≡ fresh c.args.image.now c.args.options.start = search rules in
-    let front : AppendsFront (g.P.ByteSink.taken c.args.out.now.punch) (g.P.ByteSink.taken c.put.new.sink) (view c.operate-ran.new.world).devices.punch.output = search rules in
-    let failed : g.P.ByteSink.mark c.put.new.sink ≡ true = search rules in
-    search (rules, punch_failed (g.S.Scheduler.brings c.args.schedule.now) c.args.options c.args.stops.now c.args.form (g.S.OperatorPresence.left c.operate-ran.new.schedule) c.args.image.now _ (view c.load-world.result) (view c.operate-ran.new.world) c.operate-ran.result (g.W.ByteSink.mark c.operate-ran.new.report) (g.T.ByteSink.mark c.operate-ran.new.teletype) (g.S.Scheduler.unread c.operate-ran.new.schedule) (g.P.ByteSink.mark c.put.new.sink) _ _ _ _ _ _ profile begins c.operate-ran.ensures.ran c.operate-ran.ensures.broke c.operate-ran.ensures.marks front failed)
-
-pub returns-in_err-came-clause-front : goal.returns-in_err-came-clause-front
-returns-in_err-came-clause-front g c =
-    let profile : profile_of c.load-world.result ≡ c.args.options.profile = c.load-world.ensures.profile in
-    let begins : view c.load-world.result ≡ fresh c.args.image.now c.args.options.start = search rules in
-    let punched : Appends (g.P.ByteSink.taken c.args.out.now.punch) (g.P.ByteSink.taken c.put.new.sink) (view c.operate-ran.new.world).devices.punch.output = search rules in
-    let is_punched : g.P.ByteSink.mark c.put.new.sink ≡ false = search rules in
-    let unpunched : AppendsUnless (g.P.ByteSink.mark c.put.new.sink) (g.P.ByteSink.taken c.args.out.now.punch) (g.P.ByteSink.taken c.put.new.sink) (view c.operate-ran.new.world).devices.punch.output = rw is_punched punched in
-    search (rules, broke_unstopped (g.S.Scheduler.brings c.args.schedule.now) c.args.options c.args.stops.now c.args.form (g.S.OperatorPresence.left c.operate-ran.new.schedule) c.args.image.now _ (view c.load-world.result) (view c.operate-ran.new.world) (g.W.ByteSink.mark c.operate-ran.new.report) (g.T.ByteSink.mark c.operate-ran.new.teletype) (g.S.Scheduler.unread c.operate-ran.new.schedule) (g.P.ByteSink.mark c.put.new.sink) _ _ _ _ _ _ profile begins c.in_err-came.ensures.broke unpunched)
-
-pub returns-in_err-text-clause-front : goal.returns-in_err-text-clause-front
-returns-in_err-text-clause-front g c =
-    let profile : profile_of c.load-world.result ≡ c.args.options.profile = c.load-world.ensures.profile in
-    let begins : view c.load-world.result ≡ fresh c.args.image.now c.args.options.start = search rules in
-    let punched : Appends (g.P.ByteSink.taken c.args.out.now.punch) (g.P.ByteSink.taken c.put.new.sink) (view c.operate-ran.new.world).devices.punch.output = search rules in
-    let unfailed : (g.W.ByteSink.mark c.operate-ran.new.report || g.T.ByteSink.mark c.operate-ran.new.teletype) ≡ false = search rules in
-    let is_punched : g.P.ByteSink.mark c.put.new.sink ≡ false = search rules in
-    let done = left_so (g.S.Scheduler.brings c.args.schedule.now (profile_of c.load-world.result) (view c.load-world.result)) (g.S.OperatorPresence.left c.operate-ran.new.schedule) c.args.stops.now (profile_of c.load-world.result) c.args.options.trace (view c.load-world.result) c.in_ok-came.came c.leaving-outcome.result (view c.operate-ran.new.world) _ _ _ _ c.in_ok-came.ensures.ran c.leaving-outcome.ensures.steps (rw c.has_left.ensures at c.leaving-outcome.ensures.end) in
-    search (rules, summary_unmade (g.S.Scheduler.brings c.args.schedule.now) c.args.options c.args.stops.now c.args.form (g.S.OperatorPresence.left c.operate-ran.new.schedule) c.args.image.now _ (view c.load-world.result) (view c.operate-ran.new.world) c.leaving-outcome.result (g.W.ByteSink.mark c.operate-ran.new.report) (g.T.ByteSink.mark c.operate-ran.new.teletype) (g.S.Scheduler.unread c.operate-ran.new.schedule) (g.P.ByteSink.mark c.put.new.sink) _ _ _ _ _ _ profile begins done punched unfailed is_punched)
-
-pub returns-in_err-put-2-clause-front : goal.returns-in_err-put-2-clause-front
-returns-in_err-put-2-clause-front g c =
-    let profile : profile_of c.load-world.result ≡ c.args.options.profile = c.load-world.ensures.profile in
-    let begins : view c.load-world.result ≡ fresh c.args.image.now c.args.options.start = search rules in
-    let punched : Appends (g.P.ByteSink.taken c.args.out.now.punch) (g.P.ByteSink.taken c.put.new.sink) (view c.operate-ran.new.world).devices.punch.output = search rules in
-    let front : AppendsFront (g.W.ByteSink.taken c.operate-ran.new.report) (g.W.ByteSink.taken c.put-2.new.sink) (summary_where (words c.args.options.show) c.args.form Whole c.leaving-outcome.result.end (view c.operate-ran.new.world) c.leaving-outcome.result.steps) = search rules in
-    let failed : g.W.ByteSink.mark c.put-2.new.sink ≡ true = search rules in
-    let unfailed : (g.W.ByteSink.mark c.operate-ran.new.report || g.T.ByteSink.mark c.operate-ran.new.teletype) ≡ false = search rules in
-    let is_punched : g.P.ByteSink.mark c.put.new.sink ≡ false = search rules in
-    let done = left_so (g.S.Scheduler.brings c.args.schedule.now (profile_of c.load-world.result) (view c.load-world.result)) (g.S.OperatorPresence.left c.operate-ran.new.schedule) c.args.stops.now (profile_of c.load-world.result) c.args.options.trace (view c.load-world.result) c.in_ok-came.came c.leaving-outcome.result (view c.operate-ran.new.world) _ _ _ _ c.in_ok-came.ensures.ran c.leaving-outcome.ensures.steps (rw c.has_left.ensures at c.leaving-outcome.ensures.end) in
-    search (rules, summary_failed (g.S.Scheduler.brings c.args.schedule.now) c.args.options c.args.stops.now c.args.form (g.S.OperatorPresence.left c.operate-ran.new.schedule) c.args.image.now _ (view c.load-world.result) (view c.operate-ran.new.world) c.leaving-outcome.result (g.W.ByteSink.mark c.put-2.new.sink) (g.T.ByteSink.mark c.operate-ran.new.teletype) (g.S.Scheduler.unread c.operate-ran.new.schedule) (g.P.ByteSink.mark c.put.new.sink) _ _ _ _ _ _ _ profile begins done punched front failed (or_right (g.W.ByteSink.mark c.operate-ran.new.report) (g.T.ByteSink.mark c.operate-ran.new.teletype) unfailed) is_punched)
 
 pub returns-clause-run : goal.returns-clause-run
 returns-clause-run g c =
     let profile : profile_of c.load-world.result ≡ c.args.options.profile = c.load-world.ensures.profile in
     let begins : view c.load-world.result ≡ fresh c.args.image.now c.args.options.start = search rules in
     let punched : Appends (g.P.ByteSink.taken c.args.out.now.punch) (g.P.ByteSink.taken c.put.new.sink) (view c.operate-ran.new.world).devices.punch.output = search rules in
-    let written : Appends (g.W.ByteSink.taken c.operate-ran.new.report) (g.W.ByteSink.taken c.put-2.new.sink) (summary_where (words c.args.options.show) c.args.form Whole c.leaving-outcome.result.end (view c.operate-ran.new.world) c.leaving-outcome.result.steps) = search rules in
+    let written : Appends (g.W.ByteSink.taken c.operate-ran.new.report) (g.W.ByteSink.taken c.put-2.new.sink) (summary_where (words c.args.options.show) c.args.form c.leaving-outcome.result.end (view c.operate-ran.new.world) c.leaving-outcome.result.steps) = search rules in
     let done = left_so (g.S.Scheduler.brings c.args.schedule.now (profile_of c.load-world.result) (view c.load-world.result)) (g.S.OperatorPresence.left c.operate-ran.new.schedule) c.args.stops.now (profile_of c.load-world.result) c.args.options.trace (view c.load-world.result) c.in_ok-came.came c.leaving-outcome.result (view c.operate-ran.new.world) _ _ _ _ c.in_ok-came.ensures.ran c.leaving-outcome.ensures.steps (rw c.has_left.ensures at c.leaving-outcome.ensures.end) in
     attended_to_stop (g.S.Scheduler.brings c.args.schedule.now) c.args.options c.args.stops.now None c.args.form (g.S.OperatorPresence.left c.operate-ran.new.schedule) c.args.options.trace c.args.image.now _ (view c.load-world.result) (view c.operate-ran.new.world) c.leaving-outcome.result c.status_of.result (traced c.args.options.trace done.lines) _ _ _ _ _ _ _ _ _ profile begins done refl punched done.wrote written c.status_of.ensures
 

@@ -1,11 +1,9 @@
-use Rattle.std.proofs.Common.{rules, ◌≡◌, ap, inl, inr, sym, true≢false}
-use Rattle.std.proofs.lemmas.Result.{on_err_weaker}
+use Rattle.std.proofs.Common.{rules, ◌≡◌, ap, inr, sym, true≢false}
 use Rattle.peripherals.specs.Operator.{Plan, plan_of}
 use Rattle.machine_commands.specs.Session.{plan_for}
 use Rattle.machine_commands.proofs.HeldLemmas.{held_no_tape, none_failed, not_read, session_faults}
-use Rattle.machine_commands.proofs.RunLemmas.{tape_wants_none}
-use Rattle.machine_commands.proofs.SessionLemmas.{bytes_came, came_whole, of_failure, of_refusal}
-use Rattle.machine_commands.proofs.StoppedSessionLemmas.{stopped_session_fronts, stopped_session_ok, stopped_session_or}
+use Rattle.machine_commands.proofs.SessionLemmas.{came_whole}
+use Rattle.machine_commands.proofs.StoppedSessionLemmas.{stopped_session_ok}
 use Rattle.machine_commands.proofs.session.run_session.Goals as goal
 
 pub run_scheduled-requires-clause-few : goal.run_scheduled-requires-clause-few
@@ -18,30 +16,6 @@ returns-clause-run g c =
 
 pub returns-clause-faults : goal.returns-clause-faults
 returns-clause-faults g c = session_faults _ _ _ _ c.in_ok-image.image c.run_scheduled.result c.in_ok-image.ensures.tape c.run_scheduled.ensures.reads c.run_scheduled.ensures.faults
-
-pub returns-clause-front : goal.returns-clause-front
-returns-clause-front g c = λ none.
-    let is : plan_of c.new-operator.result ≡ plan_for c.args.options c.in_ok-frames.frames.items c.in_ok-struck.struck.items = search rules in
-    on_err_weaker c.run_scheduled.result (stopped_session_or c.args.options c.args.stops.now c.args.form _ _ _ c.in_ok-image.image c.in_ok-frames.frames.items c.in_ok-struck.struck.items c.new-operator.result _ _ _ c.in_ok-image.ensures.tape c.in_ok-frames.ensures.bytes c.in_ok-struck.ensures.bytes is c.new-operator.ensures.first) (c.run_scheduled.ensures.front none)
-
-pub returns-clause-front_of_failure : goal.returns-clause-front_of_failure
-returns-clause-front_of_failure g c = λ none failed.
-    let is : plan_of c.new-operator.result ≡ plan_for c.args.options c.in_ok-frames.frames.items c.in_ok-struck.struck.items = search rules in
-    stopped_session_fronts c.args.options c.args.stops.now c.args.form _ _ _ c.in_ok-image.image c.in_ok-frames.frames.items c.in_ok-struck.struck.items c.new-operator.result _ _ _ c.in_ok-image.ensures.tape c.in_ok-frames.ensures.bytes c.in_ok-struck.ensures.bytes is c.new-operator.ensures.first (of_failure c.run_scheduled.result failed (c.run_scheduled.ensures.front none))
-
-pub returns-in_err-image-clause-broke_off : goal.returns-in_err-image-clause-broke_off
-returns-in_err-image-clause-broke_off g c = λ none same. absurd (tape_wants_none _ c.tape_from.result c.tape_from.ensures.faults (search rules))
-
-pub returns-in_err-frames-clause-broke_off : goal.returns-in_err-frames-clause-broke_off
-returns-in_err-frames-clause-broke_off g c = λ none same. inl (bytes_came _ _ c.bytes_from.result c.bytes_from.ensures.faults (search rules))
-
-pub returns-in_err-struck-clause-broke_off : goal.returns-in_err-struck-clause-broke_off
-returns-in_err-struck-clause-broke_off g c = λ none same. inr (inl (bytes_came _ _ c.bytes_from-2.result c.bytes_from-2.ensures.faults (search rules)))
-
-pub returns-clause-broke_off : goal.returns-clause-broke_off
-returns-clause-broke_off g c = λ none refused.
-    let is : plan_of c.new-operator.result ≡ plan_for c.args.options c.in_ok-frames.frames.items c.in_ok-struck.struck.items = search rules in
-    inr (inr (stopped_session_fronts c.args.options c.args.stops.now c.args.form _ _ _ c.in_ok-image.image c.in_ok-frames.frames.items c.in_ok-struck.struck.items c.new-operator.result _ _ _ c.in_ok-image.ensures.tape c.in_ok-frames.ensures.bytes c.in_ok-struck.ensures.bytes is c.new-operator.ensures.first (of_refusal c.run_scheduled.result refused (c.run_scheduled.ensures.front none))))
 
 pub returns-clause-nothing : goal.returns-clause-nothing
 returns-clause-nothing g c = held_no_tape c.run_scheduled.result _ c.run_scheduled.ensures.faults

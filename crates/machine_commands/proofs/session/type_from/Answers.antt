@@ -1,18 +1,10 @@
 use Rattle.std.proofs.Common.{rules, ◌<◌, ◌≤◌, ◌%◌, [], ◌∷◌, get_or, length, refl}
 use Rattle.std.specs.Io.KnownBytes.{Appends}
-use Rattle.streams.specs.Bytes.{AppendsFront}
-use Rattle.machine_commands.proofs.SessionLemmas.{typed_all, typed_front, typed_more, typed_none}
+use Rattle.machine_commands.proofs.SessionLemmas.{typed_all, typed_more, typed_none}
 use Rattle.machine_commands.proofs.session.type_from.Goals as goal
 
 pub loop-index-init : goal.loop-index-init
 loop-index-init g c = record { typed = typed_none _ _ _; unmarked = c.requires.unmarked }
-
-pub returns-in_err-put-clause-front : goal.returns-in_err-put-clause-front
-returns-in_err-put-clause-front g c =
-    let inv = c.loop-index.invariant in
-    let within : c.loop-index.index < length c.args.bytes.now = search rules in
-    let front : AppendsFront (g.T.ByteSink.taken c.loop-index.teletype) (g.T.ByteSink.taken c.put.new.sink) ((get_or c.args.bytes.now c.loop-index.index 0 % 128) ∷ []) = search rules in
-    search (rules, typed_front _ _ _ c.args.bytes.now c.args.from c.loop-index.index _ inv.typed within refl front)
 
 pub loop-index-preserved : goal.loop-index-preserved
 loop-index-preserved g c =

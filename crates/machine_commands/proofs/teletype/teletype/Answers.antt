@@ -1,10 +1,9 @@
-use Rattle.std.proofs.Common.{◌||◌, ◌∙◌, refl, sym, inl, arith}
+use Rattle.std.proofs.Common.{◌∙◌, refl, sym, inl, arith}
 use Rattle.std.proofs.lemmas.Result.{err_from_is_err_and}
-use Rattle.machine_commands.specs.Session.{failures}
 use Rattle.machine_commands.specs.TypingParts.{source}
 use Rattle.machine_commands.proofs.HeldLemmas.{held_no_tape}
-use Rattle.machine_commands.proofs.StoppedSessionLemmas.{typed_stop_err, typed_stop_ok}
-use Rattle.machine_commands.proofs.TeletypeLemmas.{tape_failed, typed_faults}
+use Rattle.machine_commands.proofs.StoppedSessionLemmas.{typed_stop_ok}
+use Rattle.machine_commands.proofs.TeletypeLemmas.{typed_faults}
 use Rattle.machine_commands.proofs.TypistLemmas.{either_first, either_second, first_failed}
 use Rattle.machine_commands.proofs.teletype.teletype.Goals as goal
 
@@ -25,20 +24,6 @@ returns-clause-run g c =
 
 pub returns-clause-faults : goal.returns-clause-faults
 returns-clause-faults g c = typed_faults _ c.in_ok-image.image c.run_scheduled.result c.in_ok-image.ensures.tape c.run_scheduled.ensures.faults
-
-pub returns-clause-front : goal.returns-clause-front
-returns-clause-front g c = λ none.
-    let t = c.args.typist.now in
-    let n = c.run_scheduled.new.schedule in
-    let front = rw (c.begin.ensures, c.run_of-options.ensures, c.options.ensures) at (c.run_scheduled.ensures.front none) in
-    typed_stop_err t.options c.args.stops.now c.args.form _ (g.R.ByteSource.remaining c.args.tape.now) (source (g.F.ByteSource.remaining t.reader) (g.F.ByteSource.ended t.reader)) (source (g.K.ByteSource.remaining t.keys) (g.K.ByteSource.ended t.keys)) c.in_ok-image.image
-    (g.R.ByteSource.mark c.tape_from.new.source) (g.F.ByteSource.mark n.reader || g.K.ByteSource.mark n.keys) (failures (g.W.ByteSink.mark c.run_scheduled.new.out.report) (g.T.ByteSink.mark c.run_scheduled.new.out.teletype) (g.P.ByteSink.mark c.run_scheduled.new.out.punch))
-    _ _ c.run_scheduled.result c.in_ok-image.ensures.tape front
-
-pub returns-in_err-image-clause-front : goal.returns-in_err-image-clause-front
-returns-in_err-image-clause-front g c = λ none.
-    let p = err_from_is_err_and c.from_residual.result c.from_residual.ensures.1 in
-    rw (p.1, p.2) (tape_failed _ _ _ c.in_err-image.ensures.faults c.in_err-image.ensures.marks)
 
 pub returns-clause-nothing : goal.returns-clause-nothing
 returns-clause-nothing g c = held_no_tape c.run_scheduled.result _ c.run_scheduled.ensures.faults

@@ -1,12 +1,9 @@
 use Rattle.machine_commands.specs.TypingParts.{source}
-use Rattle.machine_commands.proofs.TypistLemmas.{of_err, unasked}
+use Rattle.machine_commands.proofs.TypistLemmas.{unasked}
 use Rattle.machine_commands.proofs.typist.Typist.answer_due.Goals as goal
 
 pub returns-then-self-clause-due : goal.returns-then-self-clause-due
 returns-then-self-clause-due g c = rw c.if-self.true c.key_due.ensures.due
-
-pub returns-then-self-clause-asked : goal.returns-then-self-clause-asked
-returns-then-self-clause-asked g c = of_err c.key_due.result c.if-self.true
 
 pub returns-else-self-clause-due : goal.returns-else-self-clause-due
 returns-else-self-clause-due g c = λ after is.

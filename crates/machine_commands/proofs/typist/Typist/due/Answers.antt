@@ -6,9 +6,6 @@ use Rattle.machine_commands.proofs.typist.Typist.due.Goals as goal
 pub returns-in-Some-clause-due : goal.returns-in-Some-clause-due
 returns-in-Some-clause-due g c = rw c.in-Some.is c.due_after.ensures.due
 
-pub returns-in-Some-clause-read : goal.returns-in-Some-clause-read
-returns-in-Some-clause-read g c = rw c.in-Some.is c.due_after.ensures.read
-
 pub returns-in-None-clause-due : goal.returns-in-None-clause-due
 returns-in-None-clause-due g c = λ frames bytes left others.
     let t = c.args.self.now in

@@ -18,17 +18,11 @@ returns-in-PrinterDone-clause-due g c = λ frames bytes left others.
 pub returns-in-PunchDone-clause-due : goal.returns-in-PunchDone-clause-due
 returns-in-PunchDone-clause-due g c = rw c.in-PunchDone.is c.read_due.ensures.due
 
-pub returns-in-PunchDone-clause-read : goal.returns-in-PunchDone-clause-read
-returns-in-PunchDone-clause-read g c = rw c.in-PunchDone.is c.read_due.ensures.read
-
 pub returns-in-ReaderDone-clause-due : goal.returns-in-ReaderDone-clause-due
 returns-in-ReaderDone-clause-due g c =
     let t = c.args.self.now in
     rw (c.in-ReaderDone.is, ap (λ s. s.reader) c.answer_due.ensures.same) (answered_ok t.options (view c.args.world.now) t.asked t.rounds _ (source (g.F.ByteSource.remaining t.reader) (g.F.ByteSource.ended t.reader)) (source (g.K.ByteSource.remaining t.keys) (g.K.ByteSource.ended t.keys))
     (source (g.K.ByteSource.remaining c.answer_due.new.self.keys) (g.K.ByteSource.ended c.answer_due.new.self.keys)) c.answer_due.result c.answer_due.ensures.due)
-
-pub returns-in-ReaderDone-clause-read : goal.returns-in-ReaderDone-clause-read
-returns-in-ReaderDone-clause-read g c = rw c.in-ReaderDone.is c.answer_due.ensures.asked
 
 pub returns-in-ReaderDone-clause-marks : goal.returns-in-ReaderDone-clause-marks
 returns-in-ReaderDone-clause-marks g c = second_failed (g.F.ByteSource.mark c.answer_due.new.self.reader) (g.K.ByteSource.mark c.answer_due.new.self.keys) _ (rw (ap (λ s. s.reader) c.answer_due.ensures.same) c.requires.reader) c.answer_due.ensures.marks

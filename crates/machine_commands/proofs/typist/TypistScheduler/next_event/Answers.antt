@@ -1,10 +1,8 @@
-use Rattle.std.proofs.Common.{rules, [], Some, None, refl}
-use Rattle.instruct.specs.declared.Profile.{Profile}
+use Rattle.std.proofs.Common.{Some, None, refl}
 use Rattle.peripherals.specs.World.{view}
-use Rattle.machine_commands.specs.Schedule.{UpToRead}
-use Rattle.machine_commands.specs.TypingParts.{Types, source}
+use Rattle.machine_commands.specs.TypingParts.{source}
 use Rattle.machine_commands.proofs.SessionLemmas.{Less, or_left, or_right}
-use Rattle.machine_commands.proofs.TypistLemmas.{IsBrought, brought_less, types_last, types_on, types_output, types_over, types_read, types_step}
+use Rattle.machine_commands.proofs.TypistLemmas.{IsBrought, brought_less, types_last, types_on, types_over, types_step}
 use Rattle.machine_commands.proofs.typist.TypistScheduler.next_event.Goals as goal
 
 pub due-requires : goal.due-requires
@@ -12,13 +10,6 @@ due-requires g c = record {
   reader = or_left (g.F.ByteSource.mark c.args.self.now.reader) (g.K.ByteSource.mark c.args.self.now.keys) c.requires;
   keys = or_right (g.F.ByteSource.mark c.args.self.now.reader) (g.K.ByteSource.mark c.args.self.now.keys) c.requires;
 }
-
-pub returns-in_err-event-clause-cut : goal.returns-in_err-event-clause-cut
-returns-in_err-event-clause-cut g c =
-    let t = c.args.self.now in
-    let cut : (p : Profile) → Types t.options t.asked t.rounds t.last (source (g.F.ByteSource.remaining t.reader) (g.F.ByteSource.ended t.reader)) (source (g.K.ByteSource.remaining t.keys) (g.K.ByteSource.ended t.keys)) p (view c.args.world.now) UpToRead [] =
-    λ p. types_read t.options (view c.args.world.now) t.asked t.rounds t.last (source (g.F.ByteSource.remaining t.reader) (g.F.ByteSource.ended t.reader)) (source (g.K.ByteSource.remaining t.keys) (g.K.ByteSource.ended t.keys)) p c.in_err-event.ensures.read in
-    search (rules, cut)
 
 pub returns-in-None-clause-over : goal.returns-in-None-clause-over
 returns-in-None-clause-over g c =
@@ -46,7 +37,6 @@ returns-in-Some-clause-due g c =
     record {
       on = λ p m extent es goes happens comes. types_on t.options w m t.asked t.rounds t.last reader keys reader_after keys_after e p extent es brought goes happens (rw (c.note.ensures, c.due.ensures.same) at comes);
       last = λ p extent ends. types_last t.options w t.asked t.rounds t.last reader keys reader_after keys_after e p extent brought ends;
-      output = λ p puts. types_output t.options w t.asked t.rounds t.last reader keys reader_after keys_after e p brought puts;
     }
 
 pub returns-in-Some-clause-to_step : goal.returns-in-Some-clause-to_step

@@ -1,5 +1,0 @@
-use Rattle.machine_commands.proofs.ViolationLemmas.{joined_three}
-use Rattle.machine_commands.proofs.violations.assertions.push_denied_by.Goals as goal
-
-pub returns : goal.returns
-returns g c = joined_three _ _ _ _ _ _ _ c.in_ok-push_text_and_word.ensures c.in_ok-push_text.ensures c.in_ok-push_denied_subject.ensures

@@ -1,5 +1,0 @@
-use Rattle.machine_commands.proofs.ViolationLemmas.{joined_three}
-use Rattle.machine_commands.proofs.violations.returns.push_return_to.Goals as goal
-
-pub returns : goal.returns
-returns g c = joined_three _ _ _ _ _ _ _ c.in_ok-push_text_and_address.ensures c.in_ok-push_text_and_address-2.ensures c.in_ok-push_call.ensures

@@ -1,15 +1,3 @@
-pub mod AllLemmas
-pub mod AmountLemmas
-pub mod CallLemmas
+pub mod AbsenceLemmas
 pub mod FindingLemmas
-pub mod HtmlLemmas
-pub mod EachWordLemmas
-pub mod ExtendLemmas
-pub mod ItemLemmas
-pub mod KnownLemmas
-pub mod OffsetTextLemmas
-pub mod RangeLemmas
 pub mod ReachedLemmas
-pub mod ShownLemmas
-pub mod ToldLemmas
-pub mod WritingLemmas

@@ -3,9 +3,9 @@ use Rattle.std.proofs.Common.{◌≡◌, ◌∙◌, ap, subst, refl, List, []}
 use Rattle.wordset.specs.Words.{Words}
 use Rattle.processor.specs.Machine.{State}
 use Rattle.processor.specs.Cells.{Cells}
-use Rattle.domain.specs.Facts.{Fact, Place, Rules, OfEquations, OfSums, SomeMeans}
+use Rattle.domain.specs.Facts.{Fact, Rules, OfEquations, OfSums, SomeMeans}
 use Rattle.policy.specs.Calls.{Calls, current}
-use Rattle.judge.specs.Landing.{Case, place_in, sited, sites_of, facts_in}
+use Rattle.judge.specs.Landing.{Case, place_in, sited, sites_of}
 use Rattle.judge.specs.Laws.{FactsHoldInEvents, FactsHoldInRuns, IsTrueAt}
 use Rattle.reports.specs.Laws.{IsNeverReachedInEvents, IsNeverReachedInRuns}
 

@@ -1,7 +1,4 @@
 //! What an instruction may read, write, call and jump to, as far as the fact at its address tells.
-#![tactic(auto, using(crate::proofs::ExtendLemmas::extending))]
-
-ghost use Rattle.reports.specs.Writing.{Extends};
 
 use crate::known_fact::KnownFact;
 use crate::report::{CellKind, Report};
@@ -28,19 +25,11 @@ struct Access {
 }
 
 /// Writes an item with addresses, if there are any.
-fn write_places<A: Allocator>(writer: &mut ReportWriter<'_, A>, name: &[u8], set: &WordSet)
-    ensures { Extends writer.old writer.new }
-{
-    if !set.is_empty() {
-        writer.item(name);
-        write_addresses(writer, set);
+fn write_places<A: Allocator>(writer: &mut ReportWriter<'_, A>, name: &[u8], set: &WordSet) {
+    if set.is_empty() {
+        return;
     }
-}
-
-/// Writes the addresses of a set.
-fn write_addresses<A: Allocator>(writer: &mut ReportWriter<'_, A>, set: &WordSet)
-    ensures { Extends writer.old writer.new }
-{
+    writer.item(name);
     if set.is_all() {
         writer.put(b"any");
     } else {
@@ -155,9 +144,7 @@ impl<D: Allocator> Spot<'_, '_, D> {
     }
 
     /// Writes what some words may do, beside what their names say.
-    fn write_each<A: Allocator>(&self, writer: &mut ReportWriter<'_, A>, words: &WordSet)
-        ensures { Extends writer.old writer.new }
-    {
+    fn write_each<A: Allocator>(&self, writer: &mut ReportWriter<'_, A>, words: &WordSet) {
         let access = self.access_of(words);
         write_places(writer, b"reads ", &access.reads);
         write_places(writer, b"writes ", &access.writes);
@@ -166,68 +153,18 @@ impl<D: Allocator> Spot<'_, '_, D> {
         write_places(writer, b"returns to ", &access.returns);
     }
 
-    /// Writes what the word of the tape does by an indirect reference where no other may stand.
-    fn write_indirect<A: Allocator>(&self, writer: &mut ReportWriter<'_, A>, word: Word)
-        ensures { Extends writer.old writer.new }
-    {
-        if is_indirect(self.place.declaration, word) {
-            self.write_each(writer, &WordSet::one(word));
-        }
-    }
-
     /// Writes which words may stand at the address, and what they do, unless they are many.
-    fn write_varying<A: Allocator>(&self, writer: &mut ReportWriter<'_, A>)
-        ensures { Extends writer.old writer.new }
-    {
+    fn write_varying<A: Allocator>(&self, writer: &mut ReportWriter<'_, A>) {
         let words = self.words_in(self.at);
         if words.is_all() {
-            writer.item(b"may be any word");
-        } else {
-            self.write_some(writer, &words);
+            return writer.item(b"may be any word");
         }
-    }
-
-    /// Writes that some words may stand at the address, and what they do, unless they are many.
-    fn write_some<A: Allocator>(&self, writer: &mut ReportWriter<'_, A>, words: &WordSet)
-        ensures { Extends writer.old writer.new }
-    {
         writer.item(b"may be ");
-        writer.words(words);
-        self.write_few(writer, words);
-    }
-
-    /// Writes what words at the address do, unless they are many.
-    fn write_few<A: Allocator>(&self, writer: &mut ReportWriter<'_, A>, words: &WordSet)
-        ensures { Extends writer.old writer.new }
-    {
-        if are_few(words) {
-            self.write_each(writer, words);
+        writer.words(&words);
+        if words.count() <= MOST_WORDS {
+            self.write_each(writer, &words);
         }
     }
-}
-
-/// Whether words are looked at one by one.
-fn are_few(words: &WordSet) -> bool {
-    words.count() <= MOST_WORDS
-}
-
-/// Writes the cell that a word writes by a direct reference.
-fn write_stored<A: Allocator, D: Allocator>(
-    writer: &mut ReportWriter<'_, A>,
-    declaration: &Declaration<D>,
-    at: Word,
-    word: Word,
-)
-    ensures { Extends writer.old writer.new }
-{
-    if stores_directly(declaration, word) {
-        write_places(writer, b"writes ", &WordSet::one(target(word, at)));
-    }
-}
-
-/// Whether a word is a direct memory reference that stores into its operand.
-fn stores_directly<D: Allocator>(declaration: &Declaration<D>, word: Word) -> bool {
-    !is_indirect(declaration, word) && stores(declaration, word)
 }
 
 impl<A: Allocator, D: Allocator, C: Allocator> Report<'_, A, D, C> {
@@ -253,12 +190,12 @@ impl<A: Allocator, D: Allocator, C: Allocator> Report<'_, A, D, C> {
     }
 
     /// Writes the cell that the word of the tape writes by a direct reference, whatever is known.
-    pub(crate) fn write_direct(&self, writer: &mut ReportWriter<'_, A>, at: Word)
-        ensures { Extends writer.old writer.new }
-    {
-        match self.fixed_word(at) {
-            Some(word) => write_stored(writer, self.declaration, at, word),
-            None => {}
+    pub(crate) fn write_direct(&self, writer: &mut ReportWriter<'_, A>, at: Word) {
+        let declaration = self.declaration;
+        if let Some(word) = self.fixed_word(at) {
+            if stores(declaration, word) && !is_indirect(declaration, word) {
+                write_places(writer, b"writes ", &WordSet::one(target(word, at)));
+            }
         }
     }
 
@@ -270,16 +207,17 @@ impl<A: Allocator, D: Allocator, C: Allocator> Report<'_, A, D, C> {
         kind: &CellKind,
         known: &KnownFact,
         at: Word,
-    )
-        ensures { Extends writer.old writer.new }
-    {
+    ) {
         let spot = Spot {
             place: self.place_in(kind),
             known,
             at,
         };
         match self.fixed_word(at) {
-            Some(word) => spot.write_indirect(writer, word),
+            Some(word) if is_indirect(self.declaration, word) => {
+                spot.write_each(writer, &WordSet::one(word));
+            }
+            Some(_) => {}
             None => spot.write_varying(writer),
         }
     }

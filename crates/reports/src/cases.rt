@@ -1,17 +1,12 @@
 //! What tells the facts at an address apart.
 
-ghost use Rattle.std.specs.Prelude.{◌≡◌, ◌≤◌, length, not};
-ghost use Rattle.wordset.specs.Words.{difference, some_below};
-ghost use Rattle.domain.specs.LocationsInCode.{location_of};
+ghost use Rattle.std.specs.Prelude.{◌≡◌, length};
 ghost use Rattle.certificate_lines.specs.CertificateInCode.{claims};
-ghost use Rattle.domain.specs.Offsets.{offsets_in};
-ghost use Rattle.reports.specs.FactItems.{by_nothing};
-ghost use Rattle.reports.specs.FactText.{has_same_offsets, is_by, is_uncounted};
 
 use crate::known_fact::{KnownFact, Subject};
 use bin_tape::Image;
 use certificate::Certificate;
-use domain::{Location, ReturnOffsets, is_same_location};
+use domain::{Location, ReturnOffsets};
 use std::alloc::Allocator;
 use word12::Word;
 use wordset::WordSet;
@@ -40,27 +35,16 @@ struct Names {
     single: WordSet,
 }
 
-/// Whether offsets are all among others.
-fn are_offsets_within(offsets: ReturnOffsets, others: ReturnOffsets) -> bool
-    ensures { result ≡ not (some_below 64 (difference (offsets_in offsets) (offsets_in others))) }
-{
-    offsets.is_subset(others)
-}
-
 /// Whether these are the same offsets.
-pub(crate) fn are_same_offsets(offsets: ReturnOffsets, others: ReturnOffsets) -> bool
-    ensures { result ≡ has_same_offsets (offsets_in offsets) (offsets_in others) }
-{
-    are_offsets_within(offsets, others) && are_offsets_within(others, offsets)
+pub(crate) fn are_same_offsets(offsets: ReturnOffsets, others: ReturnOffsets) -> bool {
+    offsets.is_subset(others) && others.is_subset(offsets)
 }
 
 /// Whether a return word was not counted up: there is no offset but 0.
-pub(crate) fn is_uncounted(offsets: ReturnOffsets) -> bool
-    ensures { result ≡ is_uncounted (offsets_in offsets) }
-{
+pub(crate) fn is_uncounted(offsets: ReturnOffsets) -> bool {
     let mut zero = ReturnOffsets::none();
     zero.insert(0);
-    are_offsets_within(offsets, zero)
+    offsets.is_subset(zero)
 }
 
 impl Names {
@@ -112,9 +96,7 @@ impl Names {
 
 impl FactDifferences {
     /// Nothing is to be distinguished.
-    pub(crate) fn by_nothing() -> FactDifferences
-        ensures { result ≡ by_nothing }
-    {
+    pub(crate) fn by_nothing() -> FactDifferences {
         FactDifferences {
             sites: false,
             offsets: false,
@@ -159,13 +141,8 @@ impl FactDifferences {
     }
 
     /// Whether facts are distinguished by the words of this name.
-    pub(crate) fn is_by(&self, name: &Location) -> bool
-        ensures { result ≡ is_by self.now.name (location_of name.now) }
-    {
-        match &self.name {
-            Some(found) => is_same_location(found, name),
-            None => false,
-        }
+    pub(crate) fn is_by(&self, name: &Location) -> bool {
+        self.name == Some(*name)
     }
 
     /// Whether facts are distinguished by something.

@@ -1,8 +1,7 @@
 //! The command that writes what a search for a certificate had found when it was stuck.
 
-ghost use Rattle.std.specs.Prelude.{◌≡◌, ◌++◌, IfOk, IfSome};
-ghost use Rattle.reports.specs.Head.{head_of, stuck_opening};
-ghost use Rattle.reports.specs.DraftText.{IsDraftPage, stuck_line};
+ghost use Rattle.std.specs.Prelude.{IfOk};
+ghost use Rattle.reports.specs.Pages.{HasLine, stuck_line};
 
 use crate::reporting::below_lines;
 use crate::style::push_head;
@@ -19,15 +18,6 @@ use judge::Refusal;
 use reasons::{Reason, ReasonWorkspace, why_stuck};
 use std::alloc::{AllocError, Allocator};
 use word12::Word;
-
-/// These lines, which say why a search is stuck.
-fn given_lines<A: Allocator>(alloc: A, lines: &[u8]) -> Result<Vec<u8, A>, AllocError>
-    ensures { IfOk result (λ text. text.items ≡ lines.now) }
-{
-    let mut text = Vec::new(alloc);
-    text.extend_from_slice(lines)?;
-    Ok(text)
-}
 
 /// Why a search is stuck at an address, as far as the draft tells: the condition that fails there, if one is told, and what
 /// is known of the pointer.
@@ -56,24 +46,6 @@ fn found_lines<A: Allocator + Copy, D: Allocator, C: Allocator>(
     Ok(text)
 }
 
-/// Why a search is stuck at an address: the lines that are given, or else those that the draft tells.
-fn why_lines<A: Allocator + Copy, D: Allocator, C: Allocator>(
-    alloc: A,
-    image: &Image,
-    declaration: &Declaration<D>,
-    draft: &Certificate<C>,
-    at: Word,
-    told: &Option<(Refusal, Reason)>,
-    given: Option<&[u8]>,
-) -> Result<Vec<u8, A>, AllocError>
-    ensures { IfSome given.entry (λ lines. IfOk result (λ text. text.items ≡ lines.now)) }
-{
-    match given {
-        Some(lines) => given_lines(alloc, lines),
-        None => found_lines(alloc, image, declaration, draft, at, told),
-    }
-}
-
 /// The line of a search that is stuck, with what comes before and right after it in a form, and the rest.
 fn joined<A: Allocator>(
     alloc: A,
@@ -82,8 +54,7 @@ fn joined<A: Allocator>(
     at: Word,
     rest: &[u8],
 ) -> Result<Vec<u8, A>, AllocError>
-    ensures { IfOk result (λ page. page.items ≡
-        head_of form name.now ++ (stuck_line at ++ (stuck_opening form ++ rest.now))) }
+    ensures { IfOk result (λ page. HasLine (stuck_line at) page.items) }
 {
     let mut page = Vec::new(alloc);
     push_head(&mut page, form, name)?;
@@ -110,11 +81,10 @@ pub fn draft_page<A: Allocator + Copy, D: Allocator, C: Allocator>(
     notes: Option<&SourceNotes<A>>,
     given: Option<&[u8]>,
 ) -> Result<Vec<u8, A>, AllocError>
-    ensures { IfOk result (λ page. IsDraftPage form names.entry.program.now at page.items) }
+    ensures { IfOk result (λ page. HasLine (stuck_line at) page.items) }
 {
     let mut rooms = ReasonWorkspace::boxed(alloc)?;
     let told = why_stuck(image, declaration, draft, at, &mut rooms);
-    let lines = why_lines(alloc, image, declaration, draft, at, &told, given)?;
     let failing = match &told {
         None => "",
         Some((refusal, _)) => condition_name(refusal.condition),
@@ -129,7 +99,12 @@ pub fn draft_page<A: Allocator + Copy, D: Allocator, C: Allocator>(
         names.files,
         notes,
     )?;
-    let rest = below_lines(alloc, &report, &lines, form)?;
-    let page = joined(alloc, form, names.program, at, &rest)?;
-    Ok(page)
+    let rest = match given {
+        Some(lines) => below_lines(alloc, &report, lines, form)?,
+        None => {
+            let lines = found_lines(alloc, image, declaration, draft, at, &told)?;
+            below_lines(alloc, &report, &lines, form)?
+        }
+    };
+    joined(alloc, form, names.program, at, &rest)
 }

@@ -1,14 +1,5 @@
 //! The routines as a graph: main above, and each routine below those that call it.
 
-ghost use Rattle.std.specs.Prelude.{◌≡◌};
-ghost use Rattle.wordset.specs.Lanes.{words};
-ghost use Rattle.wordset.specs.Words.{has_some, meet};
-ghost use Rattle.declaration.specs.DeclarationInCode.{subroutine_of};
-ghost use Rattle.reports.specs.CallLines.{box_at, box_middle, box_top, call_line, line_text, lines_from, lines_to};
-ghost use Rattle.reports.specs.FindingText.{ranks_text};
-ghost use Rattle.reports.specs.RoutineText.{row_text};
-ghost use Rattle.reports.specs.Writing.{WritesFirst, SaysText, Writes};
-
 use crate::map::colour_of;
 use crate::report::{Finding, Report, claimed_of};
 use crate::routines::write_return_offsets;
@@ -40,16 +31,12 @@ const MAIN: BoxPlace = BoxPlace { row: 0, column: 0 };
 
 impl BoxPlace {
     /// The middle of the box.
-    fn middle(&self) -> usize
-        ensures { result ≡ box_middle self.now }
-    {
+    fn middle(&self) -> usize {
         self.column.saturating_mul(ACROSS).saturating_add(70)
     }
 
     /// The upper edge of the box.
-    fn top(&self) -> usize
-        ensures { result ≡ box_top self.now }
-    {
+    fn top(&self) -> usize {
         self.row.saturating_mul(DOWN).saturating_add(5)
     }
 }
@@ -68,26 +55,19 @@ fn count_in(box_places: &[BoxPlace], row: usize) -> usize {
 }
 
 /// The box of the routine at a place in the order of the declaration.
-fn box_place_at(box_places: &[BoxPlace], place: usize) -> BoxPlace
-    ensures { result ≡ box_at box_places.now place }
-{
+fn box_place_at(box_places: &[BoxPlace], place: usize) -> BoxPlace {
     match box_places.get(place) {
         Some(box_place) => *box_place,
         None => MAIN,
     }
 }
 
-/// Whether a routine is called from a body, where these are its sites.
-fn is_called_from(body: &WordSet, sites: &WordSet) -> bool
-    ensures { result ≡ has_some (meet (words sites.now) (words body.now)) }
-{
-    !sites.meet(body).is_empty()
-}
-
 /// Writes a line from a caller's box to a callee's.
-fn write_line<A: Allocator>(writer: &mut ReportWriter<'_, A>, caller: &BoxPlace, callee: &BoxPlace)
-    ensures { Writes writer.old writer.new (line_text caller.now callee.now) }
-{
+fn write_line<A: Allocator>(
+    writer: &mut ReportWriter<'_, A>,
+    caller: &BoxPlace,
+    callee: &BoxPlace,
+) {
     writer.numbered(b"<path class=l d=\"M", caller.middle());
     writer.numbered(b" ", caller.top().saturating_add(40));
     writer.numbered(b"L", callee.middle());
@@ -95,45 +75,12 @@ fn write_line<A: Allocator>(writer: &mut ReportWriter<'_, A>, caller: &BoxPlace,
     writer.put(b"\" />");
 }
 
-/// Writes a line from a caller's box to a callee's, if one of the sites of the callee is in the body of the caller.
-fn write_call_line<A: Allocator>(
-    writer: &mut ReportWriter<'_, A>,
-    callee: &BoxPlace,
-    sites: &WordSet,
-    caller: &BoxPlace,
-    body: &WordSet,
-)
-    ensures { Writes writer.old writer.new (call_line callee.now (words sites.now) caller.now (words body.now)) }
-{
-    if is_called_from(body, sites) {
-        write_line(writer, caller, callee);
-    }
-}
-
-/// Writes the lines to a callee's box from those of the routines that have one of its sites in their bodies.
-fn write_lines_from<A: Allocator>(
-    writer: &mut ReportWriter<'_, A>,
-    box_places: &[BoxPlace],
-    callee: &BoxPlace,
-    sites: &WordSet,
-    routines: &[Routine],
-)
-    ensures { Writes writer.old writer.new
-        (lines_from box_places.now callee.now (words sites.now) 0 routines.now) }
-{
-    for (at, other) in routines.iter().enumerate() {
-        let caller = box_place_at(box_places, at);
-        write_call_line(writer, callee, sites, &caller, other.body());
-    }
-}
-
-/// Writes a box with a name, and with a label after it, if there is one.
+/// Writes a box: that of the routine with this entry, with its label, or that of main.
 fn write_box<A: Allocator>(
     writer: &mut ReportWriter<'_, A>,
     box_place: &BoxPlace,
     class: &[u8],
-    name: &[u8],
-    label: &[u8],
+    entry: Option<Word>,
 ) {
     let left = box_place.column.saturating_mul(ACROSS).saturating_add(10);
     writer.numbered(b"<rect class=b width=120 height=40 x=", left);
@@ -145,8 +92,13 @@ fn write_box<A: Allocator>(
     writer.numbered(b" /><text class=n x=", left.saturating_add(18));
     writer.numbered(b" y=", box_place.top().saturating_add(24));
     writer.put(b">");
-    writer.put(name);
-    writer.label(label);
+    match entry {
+        None => writer.put(b"main"),
+        Some(entry) => {
+            writer.word(entry);
+            writer.label(entry);
+        }
+    }
     writer.put(b"</text>\n");
 }
 
@@ -161,9 +113,7 @@ fn corner(box_places: &[BoxPlace]) -> BoxPlace {
 }
 
 /// What the ranks show; after a no it is only claimed.
-fn ranks_text(finding: Finding) -> &'static [u8]
-    ensures { result.now ≡ ranks_text finding }
-{
+fn ranks_text(finding: Finding) -> &'static [u8] {
     match finding {
         Finding::Shown => {
             b"Ranks fall from caller to callee, so no routine is called again before it has returned."
@@ -204,37 +154,32 @@ impl<A: Allocator, D: Allocator, C: Allocator> Report<'_, A, D, C> {
         Ok(box_places)
     }
 
-    /// Writes the lines from the callers of a routine to it.
+    /// Writes the lines to a routine from those that have one of its sites in their bodies.
     fn write_call_lines(
         &self,
         writer: &mut ReportWriter<'_, A>,
         box_places: &[BoxPlace],
         place: usize,
         routine: &Routine,
-    )
-        ensures { Writes writer.old writer.new
-            (lines_to self.now box_places.now (box_at box_places.now place) (subroutine_of routine.now).entry) }
-    {
+    ) {
         let callee = box_place_at(box_places, place);
         let sites = claimed_of(self.certificate, routine.entry()).sites;
-        write_call_line(writer, &callee, &sites, &MAIN, self.declaration.main());
-        write_lines_from(
-            writer,
-            box_places,
-            &callee,
-            &sites,
-            self.declaration.routines(),
-        );
+        if !sites.meet(self.declaration.main()).is_empty() {
+            write_line(writer, &MAIN, &callee);
+        }
+        for (at, other) in self.declaration.routines().iter().enumerate() {
+            if !sites.meet(other.body()).is_empty() {
+                write_line(writer, &box_place_at(box_places, at), &callee);
+            }
+        }
     }
 
     /// Writes the row of a routine in the table.
-    fn write_routine_row(&self, writer: &mut ReportWriter<'_, A>, routine: &Routine)
-        ensures { WritesFirst (SaysText (row_text self.now (subroutine_of routine.now).entry)) writer.old writer.new }
-    {
+    fn write_routine_row(&self, writer: &mut ReportWriter<'_, A>, routine: &Routine) {
         let entry = routine.entry();
         writer.put(b"<tr><td>");
         writer.linked(entry);
-        writer.label(self.label_at(entry));
+        writer.label(entry);
         self.write_claimed_columns(writer, entry);
         writer.put(b"<td>");
         write_return_offsets(writer, self.declaration, entry);
@@ -253,7 +198,7 @@ impl<A: Allocator, D: Allocator, C: Allocator> Report<'_, A, D, C> {
         for (place, routine) in self.declaration.routines().iter().enumerate() {
             self.write_call_lines(writer, box_places, place, routine);
         }
-        write_box(writer, &MAIN, b"m", b"main", b"");
+        write_box(writer, &MAIN, b"m", None);
         self.write_boxes(writer, box_places);
         writer.put(b"</svg>\n");
     }
@@ -267,8 +212,7 @@ impl<A: Allocator, D: Allocator, C: Allocator> Report<'_, A, D, C> {
                 writer,
                 &box_place_at(box_places, place),
                 colour_of(place),
-                &entry.to_octal(),
-                self.label_at(entry),
+                Some(entry),
             );
             writer.put(b"</a>");
         }

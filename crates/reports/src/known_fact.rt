@@ -1,28 +1,12 @@
 //! A fact as a report shows it.
 
-ghost use Rattle.std.specs.Prelude.{◌≡◌, ◌<◌, if◌then◌else◌, length, map};
-ghost use Rattle.wordset.specs.Lanes.{words};
-ghost use Rattle.wordset.specs.Words.{with_word};
-ghost use Rattle.domain.specs.CellsInCode.{cell_set_of, cell_sets_of};
-ghost use Rattle.domain.specs.ChainsInCode.{chain_of};
-ghost use Rattle.domain.specs.FactInCode.{fact_in_code, rules_of};
-ghost use Rattle.domain.specs.Locations.{Cell};
-ghost use Rattle.domain.specs.LocationsInCode.{location_of};
-ghost use Rattle.domain.specs.RelationsInCode.{relation_of};
-ghost use Rattle.facts.specs.Landing.{fact_at};
-ghost use Rattle.peripherals.specs.Loading.{image_of};
+ghost use Rattle.std.specs.Prelude.{◌<◌, length};
 ghost use Rattle.certificate_lines.specs.CertificateInCode.{claims};
-ghost use Rattle.reports.specs.FactText.{words_in};
-ghost use Rattle.reports.specs.ItemText.{is_all};
-ghost use Rattle.reports.specs.RelationItems.{narrowed};
-ghost use Rattle.reports.specs.Shown.{ShowsExit, ShowsFact};
-ghost use Rattle.reports.specs.ToldCells.{is_told, told_by};
 
 use crate::fact_context::FactContext;
-use crate::items::is_all;
 use bin_tape::Image;
 use certificate::Certificate;
-use domain::{CellSet, Chain, Location, Relation, Rules};
+use domain::{Chain, Location, Relation, Rules};
 use facts::{Fact, NarrowedFact};
 use judge::{Claims, put_asked, put_sites};
 use std::alloc::Allocator;
@@ -55,58 +39,27 @@ pub(crate) struct KnownFact {
     pub(crate) is_possible: bool,
 }
 
-/// Whether something is to be said about a cell that a fact tells: by the rules of equations always, else where it may not
-/// hold any word.
-fn is_told(rules: Rules, fact: &NarrowedFact, cell: Word) -> bool
-    ensures { result ≡ is_told (rules_of rules) ((fact_in_code fact.now).set (Cell cell)) }
-{
-    match rules {
-        Rules::OfEquations => true,
-        Rules::OfSums => !is_all_of(fact, cell),
-    }
-}
-
 /// The words that a cell may hold by a fact.
-fn words_in_cell(fact: &NarrowedFact, cell: Word) -> WordSet
-    ensures { words result ≡ (fact_in_code fact.now).set (Cell cell) }
-{
+fn words_in_cell(fact: &NarrowedFact, cell: Word) -> WordSet {
     let mut set = WordSet::empty();
     fact.put_set_of(&Location::Cell(cell), &mut set);
     set
 }
 
-/// Whether a cell may hold any word.
-fn is_all_of(fact: &NarrowedFact, cell: Word) -> bool
-    ensures { result ≡ is_all ((fact_in_code fact.now).set (Cell cell)) }
-{
-    is_all(&words_in_cell(fact, cell))
-}
-
-/// Puts a cell to others, if something is to be said about it.
-fn put_told(cells: &mut WordSet, rules: Rules, fact: &NarrowedFact, cell: Word)
-    ensures { words cells.new ≡ (if is_told (rules_of rules) ((fact_in_code fact.now).set (Cell cell)) then with_word cell (words cells.old) else words cells.old) }
-{
-    if is_told(rules, fact, cell) {
-        cells.insert(cell);
-    }
-}
-
-/// The cells of some entries about which something is to be said.
-fn cells_told(rules: Rules, fact: &NarrowedFact, entries: &[CellSet]) -> WordSet
-    ensures { words result ≡ told_by (rules_of rules) (fact_in_code fact.now) (map cell_set_of entries.now) }
-{
+/// The cells about which something is to be said: by the rules of equations each cell that the fact tells, else each of these
+/// that may not hold any word.
+fn cells_of(rules: Rules, fact: &NarrowedFact) -> WordSet {
     let mut cells = WordSet::empty();
-    for entry in entries {
-        put_told(&mut cells, rules, fact, entry.cell);
+    for entry in fact.told_cells() {
+        let is_told = match rules {
+            Rules::OfEquations => true,
+            Rules::OfSums => !words_in_cell(fact, entry.cell).is_all(),
+        };
+        if is_told {
+            cells.insert(entry.cell);
+        }
     }
     cells
-}
-
-/// The cells about which something is to be said.
-fn cells_of(rules: Rules, fact: &NarrowedFact) -> WordSet
-    ensures { words result ≡ told_by (rules_of rules) (fact_in_code fact.now) (cell_sets_of fact.now.cells) }
-{
-    cells_told(rules, fact, fact.told_cells())
 }
 
 impl KnownFact {
@@ -130,8 +83,6 @@ impl KnownFact {
         index: usize,
     )
         requires { index < length ((claims certificate.now).facts at) }
-        ensures { let c = claims certificate.now in ShowsFact c.rules (image_of image.now)
-            (words sites.now) (fact_at (c.facts at) index) self.new }
     {
         let rules = certificate.rules();
         let _line = certificate.put_fact(at, 0, index, &mut self.claimed);
@@ -151,8 +102,6 @@ impl KnownFact {
     )
         requires offset { offset < 64 }
         requires index { index < length ((claims certificate.now).exits entry offset) }
-        ensures { let c = claims certificate.now in ShowsExit c.rules (words sites.now)
-            (fact_at (c.exits entry offset) index) self.new }
     {
         let rules = certificate.rules();
         certificate.put_exit(entry, offset, index, &mut self.claimed);
@@ -164,23 +113,17 @@ impl KnownFact {
     }
 
     /// The relations that are claimed.
-    pub(crate) fn relations(&self) -> &[Relation]
-        ensures { map relation_of result.now ≡ (fact_in_code self.now.claimed).relations }
-    {
+    pub(crate) fn relations(&self) -> &[Relation] {
         self.claimed.relations().as_slice()
     }
 
     /// The chains that are claimed.
-    pub(crate) fn chains(&self) -> &[Chain]
-        ensures { map chain_of result.now ≡ (fact_in_code self.now.claimed).chains }
-    {
+    pub(crate) fn chains(&self) -> &[Chain] {
         self.claimed.chains()
     }
 
     /// The words of a subject by what conditions are checked for.
-    pub(crate) fn words_of(&self, subject: &Subject) -> WordSet
-        ensures { words result ≡ words_in subject.now (fact_in_code self.now.fact) }
-    {
+    pub(crate) fn words_of(&self, subject: &Subject) -> WordSet {
         match subject {
             Subject::Accumulator => *self.fact.accumulator(),
             Subject::Mq => *self.fact.mq(),
@@ -190,9 +133,7 @@ impl KnownFact {
     }
 
     /// The words that all that is known leaves to a name.
-    pub(crate) fn narrowed(&self, setting: &FactContext<'_>, name: &Location) -> WordSet
-        ensures { words result ≡ narrowed setting.now (location_of name.now) (fact_in_code self.now.fact) }
-    {
+    pub(crate) fn narrowed(&self, setting: &FactContext<'_>, name: &Location) -> WordSet {
         let mut set = WordSet::empty();
         self.fact
             .put_words_by(&setting.rules, setting.image, name, &mut set);
@@ -200,9 +141,7 @@ impl KnownFact {
     }
 
     /// The sites from which the running routine may have been called.
-    pub(crate) fn sites(&self) -> WordSet
-        ensures { words result ≡ (fact_in_code self.now.fact).sites }
-    {
+    pub(crate) fn sites(&self) -> WordSet {
         let mut set = WordSet::empty();
         self.fact.sites().put(&mut set);
         set

@@ -1,7 +1,7 @@
 //! The reports: what a certificate says, or what a search for one had found, as plain text or as a page of HTML.
 #![tactic(auto)]
 
-ghost use Rattle.reports.specs.ReportText.{IsFindingTrue};
+ghost use Rattle.reports.specs.Findings.{IsFindingTrue};
 
 mod access;
 mod cases;

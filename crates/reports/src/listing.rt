@@ -1,23 +1,11 @@
 //! The listing: a line for each address at which something stands, with what is known there.
 
 ghost use Rattle.std.specs.Prelude.{◌≡◌, [], length};
-ghost use Rattle.wordset.specs.Lanes.{words};
-ghost use Rattle.domain.specs.Facts.{Fact};
-ghost use Rattle.facts.specs.Landing.{fact_at};
-ghost use Rattle.peripherals.specs.Loading.{image_of};
-ghost use Rattle.declaration.specs.DeclarationInCode.{meaning};
 ghost use Rattle.certificate_lines.specs.CertificateInCode.{claims};
-ghost use Rattle.reports.specs.AbsenceText.{SaysAbsence};
-ghost use Rattle.reports.specs.DeclaredText.{declared_text};
-ghost use Rattle.reports.specs.FactItems.{SaysFact, by_nothing};
-ghost use Rattle.reports.specs.Kinds.{IsKind, routine_in};
-ghost use Rattle.reports.specs.KnownText.{SaysKnown};
-ghost use Rattle.reports.specs.ReportSetting.{report_setting, setting_in};
-ghost use Rattle.reports.specs.Shown.{ShowsFact, fact_of, is_even, unknown_of};
-ghost use Rattle.reports.specs.Writing.{WritesFirst, Writes};
+ghost use Rattle.reports.specs.Findings.{absence_of};
 
 use crate::cases::FactDifferences;
-use crate::fact_context::{ShownFact, write_apart, write_fact};
+use crate::fact_context::{ShownFact, write_apart};
 use crate::known_fact::KnownFact;
 use crate::report::{CellKind, Finding, Report, before, claimed_in};
 use crate::source_notes::SourceNote;
@@ -38,23 +26,17 @@ const ALONE: usize = 21;
 /// How many stand where no address is.
 const WITHOUT: usize = 25;
 
-/// What is said about an address without a fact.
+/// What is said about a cell of a body without a fact.
 #[derive(Clone, Copy, PartialEq, Eq)]
 pub(crate) enum FactAbsence {
     /// No run comes there.
     NeverReached,
     /// There is not a fact.
     NoFact,
-    /// The words that a variable may hold.
-    Held,
-    /// Nothing.
-    Nothing,
 }
 
 /// Whether an address is even.
-fn is_even(at: Word) -> bool
-    ensures { result ≡ is_even at }
-{
+fn is_even(at: Word) -> bool {
     at.index() % 2 == 0
 }
 
@@ -98,9 +80,6 @@ impl ClaimCache {
         at: Word,
     )
         requires { length ((claims report.now.certificate.now).facts at) ≡ 1 }
-        ensures { let c = claims report.now.certificate.now in ShowsFact c.rules
-            (image_of report.now.image.now) (words sites.now) (fact_at (c.facts at) 0)
-            (fact_of (is_even at) self.new) }
     {
         let image = report.image;
         let certificate = report.certificate;
@@ -113,19 +92,8 @@ impl ClaimCache {
     }
 
     /// The fact of an even or an odd address that was read last.
-    fn fact(&self, is_even: bool) -> &KnownFact
-        ensures { result.now ≡ fact_of is_even self.now }
-    {
+    fn fact(&self, is_even: bool) -> &KnownFact {
         if is_even { &self.even } else { &self.odd }
-    }
-
-    /// The fact on the line above an address, where that is near.
-    fn above(&self, near: bool, at: Word) -> Option<&KnownFact> {
-        if near {
-            Some(self.fact(!is_even(at)))
-        } else {
-            None
-        }
     }
 }
 
@@ -192,7 +160,7 @@ impl<A: Allocator, D: Allocator, C: Allocator> Report<'_, A, D, C> {
         writer.mark(&at.to_octal());
         writer.mark(b"><td>");
         writer.word(at);
-        writer.label(self.label_at(at));
+        writer.label(at);
         writer.put(b" ");
         writer.mark(b"<td>");
         writer.begin_items(SHORT);
@@ -209,9 +177,7 @@ impl<A: Allocator, D: Allocator, C: Allocator> Report<'_, A, D, C> {
     }
 
     /// Writes what is declared of an address.
-    fn write_declared(&self, writer: &mut ReportWriter<'_, A>, at: Word)
-        ensures { Writes writer.old writer.new (declared_text (meaning self.now.declaration.now) at) }
-    {
+    fn write_declared(&self, writer: &mut ReportWriter<'_, A>, at: Word) {
         let declaration = self.declaration;
         writer.item_if(self.is_start(at), b"start");
         writer.item_if(declaration.is_stop(at), b"stop");
@@ -235,31 +201,27 @@ impl<A: Allocator, D: Allocator, C: Allocator> Report<'_, A, D, C> {
         }
     }
 
-    /// What is said about an address of this kind without a fact.
-    fn unknown_at(&self, kind: &CellKind) -> FactAbsence
-        ensures { result ≡ unknown_of kind.now self.now.finding }
+    /// What is said about a cell of a body without a fact.
+    fn absence(&self) -> FactAbsence
+        ensures { result ≡ absence_of self.now.finding }
     {
-        match kind {
-            CellKind::Main | CellKind::Routine(_) => match self.finding {
-                Finding::Shown => FactAbsence::NeverReached,
-                Finding::Refused(_) | Finding::Stuck(_) => FactAbsence::NoFact,
-            },
-            CellKind::Variable => FactAbsence::Held,
-            CellKind::Entry | CellKind::Other | CellKind::Unset => FactAbsence::Nothing,
+        match self.finding {
+            Finding::Shown => FactAbsence::NeverReached,
+            Finding::Refused(_) | Finding::Stuck(_) => FactAbsence::NoFact,
         }
     }
 
     /// Writes what is said about an address without a fact. It is said of no other address that it is never reached.
-    fn write_unknown(&self, writer: &mut ReportWriter<'_, A>, kind: &CellKind, at: Word)
+    fn write_absence(&self, writer: &mut ReportWriter<'_, A>, kind: &CellKind, at: Word)
         requires fact { (claims self.now.certificate.now).facts at ≡ [] }
-        requires kind { IsKind self.now.image.now (meaning self.now.declaration.now) at kind.now }
-        ensures { SaysAbsence (unknown_of kind.now self.now.finding) writer.old writer.new }
     {
-        match self.unknown_at(kind) {
-            FactAbsence::NeverReached => writer.item(b"never reached"),
-            FactAbsence::NoFact => writer.item(b"no fact"),
-            FactAbsence::Held => self.write_variable(writer, at),
-            FactAbsence::Nothing => {}
+        match kind {
+            CellKind::Main | CellKind::Routine(_) => match self.absence() {
+                FactAbsence::NeverReached => writer.item(b"never reached"),
+                FactAbsence::NoFact => writer.item(b"no fact"),
+            },
+            CellKind::Variable => self.write_variable(writer, at),
+            CellKind::Entry | CellKind::Other | CellKind::Unset => {}
         }
     }
 
@@ -279,51 +241,6 @@ impl<A: Allocator, D: Allocator, C: Allocator> Report<'_, A, D, C> {
         writer.mark(b"</b>");
     }
 
-    /// Writes the items of a fact that this one shows. `claimed` is what is claimed of the routine in whose body its address is.
-    fn write_shown(
-        &self,
-        writer: &mut ReportWriter<'_, A>,
-        claimed: &RoutineClaim,
-        known: &KnownFact,
-        above: Option<&KnownFact>,
-        apart: &FactDifferences,
-    )
-        ensures { let s = report_setting self.now (words claimed.now.sites) in (f : Fact) → ShowsFact s.rules s.image s.sites f known.now →
-            SaysFact s apart.now f writer.old writer.new }
-    {
-        let shown = ShownFact {
-            setting: self.setting_of(claimed),
-            known,
-            above,
-            apart: *apart,
-        };
-        write_fact(writer, &shown);
-    }
-
-    /// Writes the items of the only fact at an address of this kind.
-    fn write_items_at(
-        &self,
-        writer: &mut ReportWriter<'_, A>,
-        cache: &mut ClaimCache,
-        kind: &CellKind,
-        at: Word,
-    )
-        requires { length ((claims self.now.certificate.now).facts at) ≡ 1 }
-        ensures { SaysFact (setting_in self.now (routine_in kind.now)) by_nothing
-            (fact_at ((claims self.now.certificate.now).facts at) 0) writer.old writer.new }
-    {
-        let near = self.is_near(cache, kind, at);
-        let claimed = claimed_in(self.certificate, kind);
-        cache.read(self, &claimed.sites, at);
-        self.write_shown(
-            writer,
-            &claimed,
-            cache.fact(is_even(at)),
-            cache.above(near, at),
-            &FactDifferences::by_nothing(),
-        );
-    }
-
     /// Whether the fact on the line above was read last, and is that of the address before this one, which is of the same kind.
     fn is_near(&self, cache: &ClaimCache, kind: &CellKind, at: Word) -> bool {
         let above = before(at);
@@ -339,17 +256,25 @@ impl<A: Allocator, D: Allocator, C: Allocator> Report<'_, A, D, C> {
         at: Word,
     )
         requires { length ((claims self.now.certificate.now).facts at) ≡ 1 }
-        ensures { WritesFirst (SaysFact (setting_in self.now (routine_in kind.now)) by_nothing
-            (fact_at ((claims self.now.certificate.now).facts at) 0)) writer.old writer.new }
     {
-        self.write_items_at(writer, cache, kind, at);
+        let near = self.is_near(cache, kind, at);
+        let claimed = claimed_in(self.certificate, kind);
+        cache.read(self, &claimed.sites, at);
+        let known = cache.fact(is_even(at));
+        let shown = ShownFact {
+            setting: self.setting_of(&claimed),
+            known,
+            above: near.then_some(cache.fact(!is_even(at))),
+            apart: FactDifferences::by_nothing(),
+        };
+        shown.write(writer);
         writer.end_same();
-        self.write_access(writer, kind, cache.fact(is_even(at)), at);
+        self.write_access(writer, kind, known, at);
         self.write_direct(writer, at);
     }
 
     /// Writes what is known and done at an address, or how many facts there are if there are several.
-    #[tactic(auto, using(crate::proofs::ShownLemmas::no_facts))]
+    #[tactic(auto, using(crate::proofs::AbsenceLemmas::no_facts))]
     fn write_known(
         &self,
         writer: &mut ReportWriter<'_, A>,
@@ -358,14 +283,12 @@ impl<A: Allocator, D: Allocator, C: Allocator> Report<'_, A, D, C> {
         count: usize,
     )
         requires { count ≡ length ((claims self.now.certificate.now).facts at) }
-        ensures { SaysKnown self.now count at writer.old writer.new }
     {
         let kind = self.kind_of(at);
         if count == 0 {
-            return self.write_unknown(writer, &kind, at);
+            return self.write_absence(writer, &kind, at);
         }
         if count == 1 {
-            self.declaration.is_declared();
             return self.write_only_fact(writer, cache, &kind, at);
         }
         cache.last = None;
@@ -384,15 +307,16 @@ impl<A: Allocator, D: Allocator, C: Allocator> Report<'_, A, D, C> {
         apart: &FactDifferences,
         at: Word,
         index: usize,
-    )
-        // The case that is shown is the fact at that place of those at the address.
-        requires { let c = claims self.now.certificate.now in ShowsFact c.rules
-            (image_of self.now.image.now) (words claimed.now.sites)
-            (fact_at (c.facts at) index) known.now }
-    {
+    ) {
         write_case_head(writer, known, apart, index);
         if known.is_possible {
-            self.write_shown(writer, claimed, known, None, apart);
+            let shown = ShownFact {
+                setting: self.setting_of(claimed),
+                known,
+                above: None,
+                apart: *apart,
+            };
+            shown.write(writer);
             self.write_access(writer, &self.kind_of(at), known, at);
         } else {
             writer.item(b"never");
@@ -482,7 +406,7 @@ impl<A: Allocator, D: Allocator, C: Allocator> Report<'_, A, D, C> {
             CellKind::Routine(entry) => {
                 writer.put(b"body of routine ");
                 writer.word(entry);
-                writer.label(self.label_at(entry));
+                writer.label(entry);
                 writer.put(b"\n");
             }
             CellKind::Entry => {

@@ -1,15 +1,8 @@
 //! Memory as a map: rows of 64 cells, two for each page of memory in which something stands.
 
-ghost use Rattle.std.specs.Prelude.{◌≡◌, ◌==◌, ◌&&◌, ◌||◌, not, position};
-ghost use Rattle.declaration.specs.DeclarationInCode.{meaning, routines_of, subroutine_of};
-ghost use Rattle.reports.specs.Drawings.{class_text, colour_text, kind_text, place_of};
-ghost use Rattle.reports.specs.Kinds.{IsKind, is_variable};
-ghost use Rattle.reports.specs.MapText.{DrawsCell, dot_text, entry_text, left_edge, marks_text, middle_of, name_text, square_text, tape_text, title_text, upper_edge};
-ghost use Rattle.reports.specs.Writing.{Writes, text_if};
-
 use crate::report::{CellKind, Report, before};
 use crate::writer::ReportWriter;
-use declaration::{Declaration, Routine};
+use declaration::Declaration;
 use instruct::name;
 use std::alloc::Allocator;
 use word12::Word;
@@ -45,17 +38,8 @@ const LEGEND: &[u8] = b"<span class=\"k e\"></span>entry of a routine\n\
 the place of a no. Each row has 0100 cells; consecutive pages of memory in which nothing stands are one row. A cell leads to its line of the listing.</p>\n";
 
 /// Where a cell stands from the left.
-fn left_of(at: Word) -> usize
-    ensures { result ≡ left_edge at }
-{
+fn left_of(at: Word) -> usize {
     LEFT + STEP * usize::from(at.low_half())
-}
-
-/// The middle of a cell with this edge.
-fn middle_of(edge: usize) -> usize
-    ensures { result ≡ middle_of edge }
-{
-    edge.saturating_add(5)
 }
 
 /// Where the rows of the map stand.
@@ -100,32 +84,14 @@ impl MapRows {
     }
 
     /// Where a cell stands from above.
-    fn top_of(&self, at: Word) -> usize
-        ensures { result ≡ upper_edge self.now at }
-    {
+    fn top_of(&self, at: Word) -> usize {
         let row = usize::from(at.high_half());
         self.tops[row / 2].saturating_add(STEP * (row % 2))
     }
 }
 
-/// The place of the first of some routines that has this entry.
-fn place_among(routines: &[Routine], entry: Word) -> Option<usize>
-    ensures { result ≡ position (λ r. (subroutine_of r).entry == entry) routines.now }
-{
-    routines.iter().position(|routine| routine.entry() == entry)
-}
-
-/// The place of a routine among those that are declared.
-fn place_of<D: Allocator>(declaration: &Declaration<D>, entry: Word) -> usize
-    ensures { result ≡ place_of (routines_of declaration.now) entry }
-{
-    place_among(declaration.routines(), entry).unwrap_or(0)
-}
-
 /// The class of a colour for a routine.
-pub(crate) fn colour_of(place: usize) -> &'static [u8]
-    ensures { result.now ≡ colour_text place }
-{
+pub(crate) fn colour_of(place: usize) -> &'static [u8] {
     match place % COLOURS {
         0 => b"r0",
         1 => b"r1",
@@ -137,13 +103,18 @@ pub(crate) fn colour_of(place: usize) -> &'static [u8]
 }
 
 /// The class of a cell's colour.
-fn class_of<D: Allocator>(declaration: &Declaration<D>, kind: &CellKind) -> &'static [u8]
-    ensures { result.now ≡ class_text (routines_of declaration.now) kind.now }
-{
+fn class_of<D: Allocator>(declaration: &Declaration<D>, kind: &CellKind) -> &'static [u8] {
     match kind {
         CellKind::Entry => b"e",
         CellKind::Main => b"m",
-        CellKind::Routine(entry) => colour_of(place_of(declaration, *entry)),
+        CellKind::Routine(entry) => {
+            let mut routines = declaration.routines().iter();
+            colour_of(
+                routines
+                    .position(|routine| routine.entry() == *entry)
+                    .unwrap_or(0),
+            )
+        }
         CellKind::Variable => b"v",
         CellKind::Other => b"o",
         CellKind::Unset => b"u",
@@ -194,102 +165,28 @@ fn write_dot<A: Allocator>(
     at: Word,
     class: &[u8],
     size: &[u8],
-)
-    ensures { Writes writer.old writer.new (dot_text rows.now at class.now size.now) }
-{
+) {
     writer.put(b"<circle class=");
     writer.put(class);
-    writer.numbered(b" cx=", middle_of(left_of(at)));
-    writer.numbered(b" cy=", middle_of(rows.top_of(at)));
+    writer.numbered(b" cx=", left_of(at).saturating_add(STEP / 2));
+    writer.numbered(b" cy=", rows.top_of(at).saturating_add(STEP / 2));
     writer.put(b" r=");
     writer.put(size);
     writer.put(b" />");
 }
 
-/// Writes a circle or a dot in the middle of a cell that has this mark.
-fn write_dot_if<A: Allocator>(
-    writer: &mut ReportWriter<'_, A>,
-    has_mark: bool,
-    rows: &MapRows,
-    at: Word,
-    class: &[u8],
-    size: &[u8],
-)
-    ensures { Writes writer.old writer.new (text_if has_mark (dot_text rows.now at class.now size.now)) }
-{
-    if has_mark {
-        write_dot(writer, rows, at, class, size);
-    }
-}
-
-/// Writes the square of a cell.
+/// Writes the square of a cell, or a frame around it.
 fn write_square<A: Allocator>(
     writer: &mut ReportWriter<'_, A>,
     rows: &MapRows,
     at: Word,
     class: &[u8],
-)
-    ensures { Writes writer.old writer.new (square_text rows.now at class.now) }
-{
+) {
     writer.put(b"<rect class=");
     writer.put(class);
     writer.numbered(b" x=", left_of(at));
     writer.numbered(b" y=", rows.top_of(at));
     writer.put(b" width=9 height=9 />");
-}
-
-/// Writes a frame around a cell that has this mark.
-fn write_frame_if<A: Allocator>(
-    writer: &mut ReportWriter<'_, A>,
-    has_mark: bool,
-    rows: &MapRows,
-    at: Word,
-    class: &[u8],
-)
-    ensures { Writes writer.old writer.new (text_if has_mark (square_text rows.now at class.now)) }
-{
-    if has_mark {
-        write_square(writer, rows, at, class);
-    }
-}
-
-/// What is said about a cell where a pointer rests on it; of a routine's its entry stands after it.
-fn kind_text(kind: &CellKind) -> &'static [u8]
-    ensures { result.now ≡ kind_text kind.now }
-{
-    match kind {
-        CellKind::Entry => b" entry",
-        CellKind::Main => b" main",
-        CellKind::Routine(_) => b" routine ",
-        CellKind::Variable => b" variable",
-        CellKind::Other => b" other word",
-        CellKind::Unset => b" unset",
-    }
-}
-
-/// Whether a kind is that of a variable outside all bodies.
-fn is_variable(kind: &CellKind) -> bool
-    ensures { result ≡ is_variable kind.now }
-{
-    match kind {
-        CellKind::Variable => true,
-        CellKind::Entry
-        | CellKind::Main
-        | CellKind::Routine(_)
-        | CellKind::Other
-        | CellKind::Unset => false,
-    }
-}
-
-/// Writes the entry of the routine in whose body a cell of this kind is, if it is in one.
-fn write_title_entry<A: Allocator>(writer: &mut ReportWriter<'_, A>, kind: &CellKind)
-    ensures { Writes writer.old writer.new (entry_text kind.now) }
-{
-    match kind {
-        CellKind::Routine(entry) => writer.cell(*entry),
-        CellKind::Entry | CellKind::Main | CellKind::Variable | CellKind::Other | CellKind::Unset =>
-            {}
-    }
 }
 
 impl<A: Allocator, D: Allocator, C: Allocator> Report<'_, A, D, C> {
@@ -317,20 +214,6 @@ impl<A: Allocator, D: Allocator, C: Allocator> Report<'_, A, D, C> {
         empty
     }
 
-    /// Whether a cell of this kind is a variable that is also in a body.
-    fn is_inner_variable(&self, kind: &CellKind, at: Word) -> bool
-        ensures { result ≡ ((meaning self.now.declaration.now).variable at && not (is_variable kind.now)) }
-    {
-        self.declaration.is_variable(at) && !is_variable(kind)
-    }
-
-    /// Whether a cell is a declared halt.
-    fn is_halt(&self, at: Word) -> bool
-        ensures { result ≡ ((meaning self.now.declaration.now).stop at || (meaning self.now.declaration.now).pause at) }
-    {
-        self.declaration.is_stop(at) || self.declaration.is_pause(at)
-    }
-
     /// Writes the marks of a cell: a variable in a body, a halt, the start, the place of a no.
     fn write_marks(
         &self,
@@ -338,75 +221,57 @@ impl<A: Allocator, D: Allocator, C: Allocator> Report<'_, A, D, C> {
         rows: &MapRows,
         at: Word,
         kind: &CellKind,
-    )
-        ensures { Writes writer.old writer.new (marks_text self.now rows.now at kind.now) }
-    {
-        write_dot_if(
-            writer,
-            self.is_inner_variable(kind, at),
-            rows,
-            at,
-            b"w",
-            b"2.5",
-        );
-        write_dot_if(writer, self.is_halt(at), rows, at, b"h", b"3");
-        write_frame_if(writer, self.is_start(at), rows, at, b"s");
-        write_frame_if(writer, self.is_marked(at), rows, at, b"\"s bad\"");
-    }
-
-    /// Writes the name of a word that is told as an instruction.
-    fn write_title_name(
-        &self,
-        writer: &mut ReportWriter<'_, A>,
-        at: Word,
-        kind: &CellKind,
-        word: Word,
-    )
-        ensures { Writes writer.old writer.new (name_text self.now at kind.now word) }
-    {
-        if self.is_code_in(kind, at) {
-            writer.put(b" ");
-            writer.say(name(word, self.declaration.profile()).as_str().as_bytes());
+    ) {
+        let declaration = self.declaration;
+        if declaration.is_variable(at) && *kind != CellKind::Variable {
+            write_dot(writer, rows, at, b"w", b"2.5");
+        }
+        if declaration.is_stop(at) || declaration.is_pause(at) {
+            write_dot(writer, rows, at, b"h", b"3");
+        }
+        if self.is_start(at) {
+            write_square(writer, rows, at, b"s");
+        }
+        if self.is_marked(at) {
+            write_square(writer, rows, at, b"\"s bad\"");
         }
     }
 
-    /// Writes the word that the tape has for a cell, if it has one.
-    fn write_title_word(
-        &self,
-        writer: &mut ReportWriter<'_, A>,
-        at: Word,
-        kind: &CellKind,
-        word: Option<Word>,
-    )
-        ensures { Writes writer.old writer.new (tape_text self.now at kind.now word) }
-    {
-        match word {
-            None => {}
-            Some(word) => {
-                writer.put(b": ");
-                writer.word(word);
-                self.write_title_name(writer, at, kind, word);
-            }
-        }
-    }
-
-    /// Writes what is shown where a pointer rests on a cell.
-    fn write_cell_title(&self, writer: &mut ReportWriter<'_, A>, at: Word, kind: &CellKind)
-        ensures { Writes writer.old writer.new (title_text self.now at kind.now) }
-    {
+    /// Writes what is shown where a pointer rests on a cell: what stands there, and the word that the tape has for it.
+    fn write_cell_title(&self, writer: &mut ReportWriter<'_, A>, at: Word, kind: &CellKind) {
         writer.put(b"<title>");
         writer.word(at);
-        writer.label(self.label_at(at));
-        writer.put(kind_text(kind));
-        write_title_entry(writer, kind);
-        self.write_title_word(writer, at, kind, self.image.get(at));
+        writer.label(at);
+        match kind {
+            CellKind::Entry => writer.put(b" entry"),
+            CellKind::Main => writer.put(b" main"),
+            CellKind::Routine(entry) => {
+                writer.put(b" routine ");
+                writer.cell(*entry);
+            }
+            CellKind::Variable => writer.put(b" variable"),
+            CellKind::Other => writer.put(b" other word"),
+            CellKind::Unset => writer.put(b" unset"),
+        }
+        if let Some(word) = self.image.get(at) {
+            writer.put(b": ");
+            writer.word(word);
+            if self.is_code(at) {
+                writer.put(b" ");
+                writer.say(name(word, self.declaration.profile()).as_str().as_bytes());
+            }
+        }
         writer.put(b"</title>");
     }
 
     /// Writes a cell, which leads to its line.
-    fn write_map_cell(&self, writer: &mut ReportWriter<'_, A>, rows: &MapRows, at: Word, line: Word)
-        ensures { DrawsCell self.now rows.now at line writer.old writer.new }
-    {
+    fn write_map_cell(
+        &self,
+        writer: &mut ReportWriter<'_, A>,
+        rows: &MapRows,
+        at: Word,
+        line: Word,
+    ) {
         let kind = self.kind_of(at);
         writer.link(line);
         self.write_cell_title(writer, at, &kind);
@@ -437,7 +302,7 @@ impl<A: Allocator, D: Allocator, C: Allocator> Report<'_, A, D, C> {
             writer.put(colour_of(place));
             writer.put(b"\"></span>routine ");
             writer.linked(routine.entry());
-            writer.label(self.label_at(routine.entry()));
+            writer.label(routine.entry());
             writer.put(b"\n");
         }
         writer.put(LEGEND);

@@ -1,8 +1,6 @@
 //! The page: what the verdict means, memory, routines, variables, and the listing.
 
-ghost use Rattle.std.specs.Prelude.{◌≡◌};
-ghost use Rattle.reports.specs.FindingText.{listed_text};
-ghost use Rattle.reports.specs.ReportText.{IsFindingTrue};
+ghost use Rattle.reports.specs.Findings.{IsFindingTrue};
 
 use crate::listing::ClaimCache;
 use crate::promises::{write_assertions, write_moves, write_returns};
@@ -189,9 +187,7 @@ fn write_files<A: Allocator>(writer: &mut ReportWriter<'_, A>, files: &[u8]) {
 }
 
 /// What stands beside an instruction; after a no it is only claimed.
-fn listed_text(finding: Finding) -> &'static [u8]
-    ensures { result.now ≡ listed_text finding }
-{
+fn listed_text(finding: Finding) -> &'static [u8] {
     match finding {
         Finding::Shown => b"what is known in every run <b>before</b> it is executed",
         Finding::Refused(_) => {
@@ -255,7 +251,7 @@ impl<A: Allocator, D: Allocator, C: Allocator> Report<'_, A, D, C> {
     fn write_variable_row(&self, writer: &mut ReportWriter<'_, A>, cell: Word) {
         writer.put(b"<tr><td>");
         writer.linked(cell);
-        writer.label(self.label_at(cell));
+        writer.label(cell);
         writer.put(b"<td>");
         match self.image.get(cell) {
             Some(word) => writer.word(word),

@@ -4,7 +4,6 @@ use crate::items::{offsets_where, write_offsets};
 use crate::writer::ReportWriter;
 use declaration::{Assertion, Declaration, PlaceAssertion, ReturnAssertion, Subject};
 use std::alloc::Allocator;
-use word12::Word;
 use wordset::WordSet;
 
 /// How many offsets there are by which a routine may return.

@@ -1,14 +1,6 @@
 //! What a report is made of.
 
-ghost use Rattle.std.specs.Prelude.{◌≡◌, ◌==◌, IfOk, Some};
-ghost use Rattle.wordset.specs.Lanes.{words};
-ghost use Rattle.declaration.specs.DeclarationInCode.{meaning};
-ghost use Rattle.reports.specs.FactItems.{setting_of};
-ghost use Rattle.reports.specs.Kinds.{IsKind, IsOutside, routine_in, tells_instruction};
-ghost use Rattle.reports.specs.Labels.{label_in};
-ghost use Rattle.reports.specs.Marks.{is_marked_by};
-ghost use Rattle.reports.specs.ReportSetting.{report_setting};
-ghost use Rattle.reports.specs.RoutineClaims.{IsClaim, IsUnclaimed};
+ghost use Rattle.std.specs.Prelude.{◌≡◌, IfOk};
 
 use crate::fact_context::FactContext;
 use crate::source_notes::{SourceNote, SourceNotes};
@@ -70,40 +62,8 @@ pub struct Report<'a, A: Allocator, D: Allocator, C: Allocator> {
     pub(crate) held: VariableSummaries<A>,
 }
 
-/// What stands at an address outside all bodies, which is not an entry.
-fn kind_outside<D: Allocator>(image: &Image, declaration: &Declaration<D>, at: Word) -> CellKind
-    requires { IsOutside (meaning declaration.now) at }
-    ensures { IsKind image.now (meaning declaration.now) at result }
-{
-    if declaration.is_variable(at) {
-        return CellKind::Variable;
-    }
-    match image.get(at) {
-        Some(_) => CellKind::Other,
-        None => CellKind::Unset,
-    }
-}
-
-/// What stands at an address.
-fn kind_at<D: Allocator>(image: &Image, declaration: &Declaration<D>, at: Word) -> CellKind
-    ensures { IsKind image.now (meaning declaration.now) at result }
-{
-    if declaration.is_entry(at) {
-        return CellKind::Entry;
-    }
-    let Some(owner) = declaration.owner_of(at) else {
-        return kind_outside(image, declaration, at);
-    };
-    match owner {
-        Owner::Main => CellKind::Main,
-        Owner::Routine(entry) => CellKind::Routine(entry),
-    }
-}
-
 /// A routine of rank 0 that is called from nowhere and writes nothing, as nothing is claimed about it.
-pub(crate) fn unclaimed() -> RoutineClaim
-    ensures { IsUnclaimed result }
-{
+pub(crate) fn unclaimed() -> RoutineClaim {
     RoutineClaim {
         rank: 0,
         sites: WordSet::empty(),
@@ -112,9 +72,7 @@ pub(crate) fn unclaimed() -> RoutineClaim
 }
 
 /// What is claimed about a routine, or that it is called from nowhere and writes nothing.
-pub(crate) fn claimed_of<C: Claims>(certificate: &C, entry: Word) -> RoutineClaim
-    ensures { IsClaim (C.claims certificate.now) (Some entry) result }
-{
+pub(crate) fn claimed_of<C: Claims>(certificate: &C, entry: Word) -> RoutineClaim {
     match certificate.routine(entry) {
         Some(routine) => routine,
         None => unclaimed(),
@@ -122,13 +80,10 @@ pub(crate) fn claimed_of<C: Claims>(certificate: &C, entry: Word) -> RoutineClai
 }
 
 /// What is claimed about the routine in whose body an address of this kind is; nothing if it is in none, or in main's.
-pub(crate) fn claimed_in<C: Claims>(certificate: &C, kind: &CellKind) -> RoutineClaim
-    ensures { IsClaim (C.claims certificate.now) (routine_in kind.now) result }
-{
+pub(crate) fn claimed_in<C: Claims>(certificate: &C, kind: &CellKind) -> RoutineClaim {
     match kind {
         CellKind::Routine(entry) => claimed_of(certificate, *entry),
-        CellKind::Entry | CellKind::Main | CellKind::Variable | CellKind::Other | CellKind::Unset =>
-            unclaimed(),
+        _ => unclaimed(),
     }
 }
 
@@ -155,8 +110,6 @@ impl<'a, A: Allocator + Copy, D: Allocator, C: Allocator> Report<'a, A, D, C> {
         ensures program { IfOk result (λ report.
             (report.image.now ≡ image.now) × (report.declaration.now ≡ declaration.now)) }
         ensures certificate { IfOk result (λ report. report.certificate.now ≡ certificate.now) }
-        ensures files { IfOk result (λ report. report.files.now ≡ files.now) }
-        ensures notes { IfOk result (λ report. report.notes ≡ notes.entry) }
     {
         let mut facts = WordSet::empty();
         let held = held_of(alloc, image, declaration, certificate, &mut facts)?;
@@ -176,25 +129,22 @@ impl<'a, A: Allocator + Copy, D: Allocator, C: Allocator> Report<'a, A, D, C> {
 
 impl<A: Allocator, D: Allocator, C: Allocator> Report<'_, A, D, C> {
     /// What stands at an address.
-    pub(crate) fn kind_of(&self, at: Word) -> CellKind
-        ensures { IsKind self.now.image.now (meaning self.now.declaration.now) at result }
-    {
-        kind_at(self.image, self.declaration, at)
+    pub(crate) fn kind_of(&self, at: Word) -> CellKind {
+        if self.declaration.is_entry(at) {
+            return CellKind::Entry;
+        }
+        match self.declaration.owner_of(at) {
+            Some(Owner::Main) => CellKind::Main,
+            Some(Owner::Routine(entry)) => CellKind::Routine(entry),
+            None if self.declaration.is_variable(at) => CellKind::Variable,
+            None if self.image.get(at).is_some() => CellKind::Other,
+            None => CellKind::Unset,
+        }
     }
 
     /// What the source says about an address; nothing if it is not known.
     pub(crate) fn note_at(&self, at: Word) -> Option<SourceNote<'_>> {
         self.notes?.at(at)
-    }
-
-    /// The label of an address; empty where the source says none.
-    pub(crate) fn label_at(&self, at: Word) -> &[u8]
-        ensures { result.now ≡ label_in self.now.notes at }
-    {
-        match self.notes {
-            Some(notes) => notes.label(at),
-            None => b"",
-        }
     }
 
     /// What is known about a variable, if something is.
@@ -233,67 +183,37 @@ impl<A: Allocator, D: Allocator, C: Allocator> Report<'_, A, D, C> {
 
     /// Whether the word at an address is told as an instruction: in a body, or where there is a fact.
     pub(crate) fn is_code(&self, at: Word) -> bool {
-        self.is_code_in(&self.kind_of(at), at)
-    }
-
-    /// Whether the word at an address of this kind is told as an instruction.
-    pub(crate) fn is_code_in(&self, kind: &CellKind, at: Word) -> bool
-        ensures { result ≡ tells_instruction kind.now (words self.now.facts at) }
-    {
-        match kind {
-            CellKind::Main | CellKind::Routine(_) => true,
-            CellKind::Entry | CellKind::Variable | CellKind::Other | CellKind::Unset => self
-                .facts
-                .contains(at),
-        }
+        matches!(self.kind_of(at), CellKind::Main | CellKind::Routine(_)) || self.facts.contains(at)
     }
 
     /// Whether a run begins at an address.
-    pub(crate) fn is_start(&self, at: Word) -> bool
-        ensures { result ≡ ((meaning self.now.declaration.now).start == at) }
-    {
+    pub(crate) fn is_start(&self, at: Word) -> bool {
         self.declaration.start() == at
     }
 
     /// Whether an address is that at which the verdict is no or the search is stuck.
-    pub(crate) fn is_marked(&self, at: Word) -> bool
-        ensures { result ≡ is_marked_by self.now.finding at }
-    {
+    pub(crate) fn is_marked(&self, at: Word) -> bool {
         match self.finding {
             Finding::Shown => false,
             Finding::Refused(place) | Finding::Stuck(place) => place == at,
         }
     }
-}
 
-/// The address before another one.
-pub(crate) fn before(at: Word) -> Word {
-    at.add(Word::from_index(4095))
-}
-
-/// The entry of the routine in whose body an address of this kind is, if it is in one.
-pub(crate) fn routine_of(kind: &CellKind) -> Option<Word> {
-    match kind {
-        CellKind::Routine(entry) => Some(*entry),
-        _ => None,
-    }
-}
-
-impl<A: Allocator, D: Allocator, C: Allocator> Report<'_, A, D, C> {
     /// The place of the facts at an address of this kind.
     pub(crate) fn place_in(&self, kind: &CellKind) -> Place<'_, D> {
         Place {
             image: self.image,
             declaration: self.declaration,
-            routine: routine_of(kind),
+            routine: match kind {
+                CellKind::Routine(entry) => Some(*entry),
+                _ => None,
+            },
             rules: self.certificate.rules(),
         }
     }
 
     /// Where the facts of a routine, or of main, stand. `claimed` is what is claimed about the routine.
-    pub(crate) fn setting_of(&self, claimed: &RoutineClaim) -> FactContext<'_>
-        ensures { setting_of result ≡ report_setting self.now (words claimed.now.sites) }
-    {
+    pub(crate) fn setting_of(&self, claimed: &RoutineClaim) -> FactContext<'_> {
         FactContext {
             image: self.image,
             rules: self.certificate.rules(),
@@ -301,4 +221,9 @@ impl<A: Allocator, D: Allocator, C: Allocator> Report<'_, A, D, C> {
             sites: claimed.sites,
         }
     }
+}
+
+/// The address before another one.
+pub(crate) fn before(at: Word) -> Word {
+    at.add(Word::from_index(4095))
 }

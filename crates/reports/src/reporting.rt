@@ -1,12 +1,12 @@
 //! The command that writes what a certificate says.
 
-ghost use Rattle.std.specs.Prelude.{◌≡◌, ◌++◌, false, IfOk, IfErr};
+ghost use Rattle.std.specs.Prelude.{◌≡◌, false, IfErr, IfOk};
 ghost use Rattle.certificate_lines.specs.CertificateInCode.{meaning as text_of};
 ghost use Rattle.declaration.specs.DeclarationInCode.{meaning};
 ghost use Rattle.command_parts.specs.Answers.{IsMemoryFault};
 ghost use Rattle.command_parts.specs.Faults.{fails_to_write};
-ghost use Rattle.reports.specs.Head.{head_of, opening};
-ghost use Rattle.reports.specs.ReportText.{IsReportOf, IsFindingTrue, failing_of, finding_of};
+ghost use Rattle.reports.specs.Findings.{IsFindingTrue, failing_of, finding_of};
+ghost use Rattle.reports.specs.Pages.{HasLine, IsReportOf};
 
 use crate::style::push_head;
 use crate::{Finding, Report, listing_below, opening, page_below};
@@ -95,8 +95,7 @@ fn joined<A: Allocator>(
     line: &[u8],
     rest: &[u8],
 ) -> Result<Vec<u8, A>, AllocError>
-    ensures { IfOk result (λ page. page.items ≡
-        head_of form name.now ++ (line.now ++ (opening form verdict.now ++ rest.now))) }
+    ensures { IfOk result (λ page. HasLine line.now page.items) }
 {
     let mut page = Vec::new(alloc);
     push_head(&mut page, form, name)?;
@@ -118,7 +117,7 @@ pub fn report_of<A: Allocator + Copy>(
     names: PageNames<'_>,
     notes: Option<&SourceNotes<A>>,
 ) -> Result<CommandResult<A>, Fault>
-    ensures page { IfOk result (λ page. IsReportOf form names.entry.program.now certified.now.program.image
+    ensures page { IfOk result (λ page. IsReportOf certified.now.program.image
         (meaning certified.now.program.declaration) (text_of certified.now.certificate)
         page.status page.text.items) }
     ensures faults { IfErr result IsMemoryFault }

@@ -1,8 +1,5 @@
 //! What the source of a program says about its addresses.
 
-ghost use Rattle.std.specs.Prelude.{◌≡◌};
-ghost use Rattle.reports.specs.Labels.{label_at, spanned};
-
 use std::alloc::{AllocError, Allocator};
 use word12::Word;
 
@@ -168,16 +165,12 @@ impl<A: Allocator> SourceNotes<A> {
     }
 
     /// The bytes of a span.
-    fn spanned(&self, span: &Span) -> &[u8]
-        ensures { result.now ≡ spanned self.now.bytes.items span.now }
-    {
+    fn spanned(&self, span: &Span) -> &[u8] {
         self.bytes.get(span.from..span.to).unwrap_or(b"")
     }
 
     /// The label of an address; empty if the source gives it no word, or a word without a label.
-    pub(crate) fn label(&self, at: Word) -> &[u8]
-        ensures { result.now ≡ label_at self.now at }
-    {
+    fn label(&self, at: Word) -> &[u8] {
         match self.entries.get(at.index()) {
             Some(Some(entry)) => self.spanned(&entry.label),
             _ => b"",
@@ -194,5 +187,13 @@ impl<A: Allocator> SourceNotes<A> {
             text: self.spanned(&entry.text),
             is_first: entry.is_first,
         })
+    }
+}
+
+/// The label that the notes, where there are some, give an address; empty where they give none.
+pub(crate) fn label_in<A: Allocator>(notes: Option<&SourceNotes<A>>, at: Word) -> &[u8] {
+    match notes {
+        Some(notes) => notes.label(at),
+        None => b"",
     }
 }

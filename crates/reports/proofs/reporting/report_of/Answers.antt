@@ -1,4 +1,3 @@
-use Rattle.std.proofs.Common.{rules}
 use Rattle.declaration.specs.DeclarationInCode.{meaning}
 use Rattle.certificate_lines.specs.CertificateInCode.{meaning as text_of}
 use Rattle.diagnostics.specs.CheckText.{checked_case}
@@ -29,6 +28,5 @@ returns-clause-page g c = record {
     line_is = c.in_ok-line.ensures;
     status_is = c.verdict_status-status.ensures;
   };
-  rest = c.in_ok-rest.rest.items;
-  page_is = search rules;
+  has = c.in_ok-text.ensures;
 }

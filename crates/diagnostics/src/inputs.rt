@@ -16,6 +16,7 @@ pub(crate) use omissions::is_in_body;
 pub use omissions::{push_omissions, push_stuck_remedy};
 use peripherals::{EventsFault, NoMemory};
 use std::alloc::Allocator;
+use std::fmt::Write;
 
 /// What is said of a line of a certificate that is out of order.
 const ORDER: &str =

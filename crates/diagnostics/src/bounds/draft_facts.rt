@@ -4,6 +4,7 @@ use bin_tape::Image;
 use certificate::Certificate;
 use domain::{Location, Sum, Term};
 use facts::Fact;
+use judge::Claims;
 use std::alloc::Allocator;
 use word12::Word;
 use wordset::WordSet;

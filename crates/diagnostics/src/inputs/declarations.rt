@@ -6,6 +6,7 @@ use crate::inputs::{FaultyFile, push_formed, push_said};
 use declaration::DeclarationFault;
 use peripherals::NoMemory;
 use std::alloc::Allocator;
+use std::fmt::Write;
 use word12::Word;
 
 /// What is said of a declaration with this fault, or of the line or the address that has it. What is said of a line with no valid form

@@ -3,6 +3,7 @@
 use crate::inputs::FaultyFile;
 use peripherals::NoMemory;
 use std::alloc::Allocator;
+use std::fmt::Write;
 
 /// The most characters of a line that are shown.
 const MOST_SHOWN: usize = 100;

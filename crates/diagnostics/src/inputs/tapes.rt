@@ -4,6 +4,7 @@ use crate::inputs::{FaultyFile, push_said};
 use bin_tape::TapeFault;
 use peripherals::NoMemory;
 use std::alloc::Allocator;
+use std::fmt::Write;
 
 /// What is said of a tape with this fault, or of the frame that has it.
 fn said_of(fault: &TapeFault) -> &'static str {

@@ -123,24 +123,6 @@ impl<A: Allocator + Copy> Message<A> {
 impl<A: Allocator> Message<A> {
     ghost use Rattle.command_parts.specs.Messages.{plain};
 
-    /// A text in which nothing is marked.
-    pub fn of(alloc: A, bytes: Vec<u8, A>) -> Message<A>
-        ensures { plain result ≡ bytes.items }
-    {
-        Message {
-            bytes,
-            marks: Vec::new(alloc),
-        }
-    }
-
-    /// The text as it reads without a source.
-    pub fn into_bytes(self) -> Vec<u8, A>
-        ensures { result.items ≡ plain self }
-    {
-        let Message { bytes, .. } = self;
-        bytes
-    }
-
     /// The text as it reads without a source.
     pub fn as_bytes(&self) -> &[u8]
         ensures { result.now ≡ plain self.now }

@@ -6,13 +6,6 @@ use Rattle.machine_commands.specs.Running.{fresh}
 use Rattle.machine_commands.proofs.WatchLemmas.{is_seen}
 use Rattle.machine_commands.proofs.stopped_watch.watch_of.Goals as goal
 
-pub why_of-requires : goal.why_of-requires
-why_of-requires g c =
-    let image = c.args.image.now in
-    let d = meaning c.args.declaration.now in
-    let begins : loaded (image_of image) d.start c.zero.result ≡ fresh image d.start = search rules in
-    is_seen image d c.args.events.now c.in_ok-watched.watched (loaded (image_of image) d.start c.zero.result) begins c.in_ok-watched.ensures.clean c.in_ok-watched.ensures.broken
-
 pub returns-clause-told : goal.returns-clause-told
 returns-clause-told g c =
     let image = c.args.image.now in

@@ -60,7 +60,7 @@ fn equation_of(relation: &Relation) -> Option<Equation> {
 impl ShownFact<'_, '_, '_> {
     /// Whether a subject has other words than the usual ones, or had them on the line above.
     fn is_unusual(&self, subject: &Subject, set: &WordSet, usual: &WordSet) -> bool {
-        set != usual
+        *set != *usual
             || self
                 .above
                 .is_some_and(|above| above.words_of(subject) != *usual)

@@ -27,7 +27,7 @@ const ALONE: usize = 21;
 const WITHOUT: usize = 25;
 
 /// What is said about a cell of a body without a fact.
-#[derive(Clone, Copy, PartialEq, Eq)]
+#[derive(Clone, Copy)]
 pub(crate) enum FactAbsence {
     /// No run comes there.
     NeverReached,

@@ -272,9 +272,10 @@ impl<'a, A: Allocator> ReportWriter<'a, A> {
 
     /// Writes in a page how many items that are the same as on the line above were left out.
     pub(crate) fn end_same(&mut self) {
-        if self.is_page && self.same > MOST_SAME {
+        let more = self.same.saturating_sub(MOST_SAME);
+        if self.is_page && more > 0 {
             self.separate();
-            self.numbered(b"<i>and ", self.same - MOST_SAME);
+            self.numbered(b"<i>and ", more);
             self.put(b" more as above</i>");
         }
     }

@@ -1,8 +1,6 @@
-use Rattle.std.proofs.Common.{◌++◌, ◌∙◌, List, ℕ, ap}
+use Rattle.std.proofs.Common.{◌∙◌, ap, rules}
 use Rattle.declaration.specs.DeclarationInCode.{meaning}
-use Rattle.command_parts.specs.Messages.{plain}
 use Rattle.search_commands.specs.VerifyText.{proposed_text}
-use Rattle.search_commands.specs.WidenedText.{reason_text}
 use Rattle.search_commands.proofs.messages.verify_proposed_message.Goals as goal
 
 pub returns-clause-told : goal.returns-clause-told
@@ -14,12 +12,9 @@ returns-clause-told g c =
       declares = settled.text;
       start_is = settled.start_is ∙ c.in_ok-proposal.ensures.fits.start;
       profile_is = settled.profile_is ∙ c.in_ok-proposal.ensures.fits.profile;
-      answers = c.in_ok-told.ensures.told.answers;
+      answers = rw c.in_ok-told.ensures.same settled.answers;
       reason = rw c.in_ok-told.ensures.same settled.reason;
-      is = record {
-        why = plain c.in_ok-told.told.why;
-        plain = c.in_ok-told.ensures.plain;
-        explains = c.in_ok-told.ensures.why;
-        told_is = ap (λ (t : List ℕ). t ++ plain c.in_ok-told.told.why) (c.in_ok-lines.ensures ∙ ap (λ (t : List ℕ). t ++ reason_text c.in_ok-last.last.obstacle) first);
-      };
+      told = c.in_ok-reason.reason.items;
+      untold = c.in_ok-reason.ensures;
+      line_is = search rules;
     }

@@ -216,8 +216,9 @@ fn message_of<A: Allocator + Copy, D: Allocator>(
     found: AnswerWithDraft<A>,
     explained: bool,
 ) -> Result<AnswerMessage<A>, Fault>
-    ensures line { IfOk result (λ told.
-        told.line.items ≡ answer_text (meaning declaration.now) told.answer) }
+    requires { IsAnswer image.now (meaning declaration.now) found.answer }
+    ensures told { IfOk result (λ told.
+        IsVerifiedOf image.now (meaning declaration.now) told.answer told.line.items) }
     ensures same { IfOk result (λ told. told.answer ≡ found.answer) }
     ensures plain { IfOk result (λ told. explained ≡ false → plain told.why ≡ []) }
     ensures faults { IfErr result IsMemoryFault }

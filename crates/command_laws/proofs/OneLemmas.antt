@@ -14,10 +14,10 @@ use Rattle.wordset.specs.Lanes.{words}
 use Rattle.command_parts.specs.declared.options.SummaryForm.{SummaryForm}
 use Rattle.command_parts.specs.declared.options.RunOptions.{RunOptions}
 use Rattle.machine_commands.specs.Follows.{Follows, Ended, Stuck, Stopped, Went, end_of, goes_on, counted}
-use Rattle.command_laws.specs.Laws.{RunsAreOne, SessionsAreOne, TypedAreOne, WatchedAsRun}
+use Rattle.command_laws.specs.Laws.{RunsAreOne, SessionsAreOne, TypedAreOne}
 use Rattle.machine_commands.specs.Running.{fresh, status_of}
 use Rattle.machine_commands.specs.Schedule.{Comes, Over, Cut, Due, Final, Then, Schedule, Whole, first_place, operating}
-use Rattle.machine_commands.specs.Session.{IsHeld, plan_for, printed_in, summary_where}
+use Rattle.machine_commands.specs.Session.{IsHeld, printed_in, summary_where}
 use Rattle.machine_commands.specs.Teletype.{run_of}
 use Rattle.machine_commands.specs.Typing.{first_sitting, typing}
 use Rattle.command_parts.specs.declared.status.Status.{Status}
@@ -132,8 +132,3 @@ sessions_are_one options form plan image text text' printed printed' punched pun
 pub typed_are_one : TypedAreOne
 typed_are_one options form frames bytes image text text' printed printed' punched punched' status status' a b =
     held_one typing (first_sitting options.switches options.manner frames bytes) (run_of options) form image text text' printed printed' punched punched' status status' a b
-
--- the events that are watched are those of the run
-pub watched_as_run : WatchedAsRun
-watched_as_run options form image d frames keys stops last explained named lines details seen written printed punched status watched run =
-    comes_one operating d.profile (first_place (plan_for options frames keys)) (fresh image d.start) watched.events run.events watched.come run.come

@@ -15,7 +15,7 @@ use Rattle.command_parts.proofs.AnswerLemmas.{refused, same_fault}
 use Rattle.command_parts.proofs.InputLemmas.{takes_no_text}
 use Rattle.diagnostics.specs.CertificateFaults.{IsCertificateInputFault}
 use Rattle.diagnostics.specs.CertificateInputs.{TakesCertificate}
-use Rattle.command_laws.specs.InOrder.{OneInOrder, ThreeInOrder, TwoInOrder, Work, Tells, Searches, Proposes, Migrates, later_fault}
+use Rattle.command_laws.specs.InOrder.{OneInOrder, ThreeInOrder, TwoInOrder, Work, Tells, Searches, Migrates, later_fault}
 
 -- an input that was not touched
 pub record IsAsItWas (one : Input) : Type 0 where
@@ -201,8 +201,6 @@ work_reads_nothing Tells (inl is) = not_memory is refl
 work_reads_nothing Tells (inr is) = absurd is
 work_reads_nothing Searches (inl is) = not_memory is refl
 work_reads_nothing Searches (inr is) = absurd is
-work_reads_nothing Proposes (inl is) = not_memory is refl
-work_reads_nothing Proposes (inr is) = absurd is
 work_reads_nothing Migrates (inl is) = absurd is
 work_reads_nothing Migrates (inr is) = absurd is
 
@@ -211,8 +209,6 @@ work_of_tape Tells f (inl is) = not_memory is refl
 work_of_tape Tells f (inr is) = absurd is
 work_of_tape Searches f (inl is) = not_memory is refl
 work_of_tape Searches f (inr is) = absurd is
-work_of_tape Proposes f (inl is) = not_memory is refl
-work_of_tape Proposes f (inr is) = absurd is
 work_of_tape Migrates f (inl is) = absurd is
 work_of_tape Migrates f (inr is) = absurd is
 
@@ -221,8 +217,6 @@ work_of_text Tells f (inl is) = not_memory is refl
 work_of_text Tells f (inr is) = absurd is
 work_of_text Searches f (inl is) = not_memory is refl
 work_of_text Searches f (inr is) = absurd is
-work_of_text Proposes f (inl is) = not_memory is refl
-work_of_text Proposes f (inr is) = absurd is
 work_of_text Migrates f (inl is) = absurd is
 work_of_text Migrates f (inr is) = absurd is
 

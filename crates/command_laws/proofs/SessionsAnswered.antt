@@ -15,7 +15,7 @@ use Rattle.machine_commands.specs.declared.follow.End.TheVariants.{Unsupported}
 use Rattle.machine_commands.specs.Follows.{Ended, Stuck, Stopped, Went, end_of, goes_on, counted}
 use Rattle.command_laws.specs.Laws.{Carries, CarriesAll, SessionsEnd}
 use Rattle.machine_commands.specs.Running.{fresh, status_of}
-use Rattle.machine_commands.specs.Schedule.{Comes, Over, Final, Then, Place, Whole, operating}
+use Rattle.machine_commands.specs.Schedule.{Comes, Over, Final, Then, Whole, operating}
 use Rattle.wordset.specs.Lanes.{words}
 use Rattle.machine_commands.specs.Session.{printed_in, summary_where}
 use Rattle.machine_commands.specs.Trace.{trace_of, traced}

@@ -1,9 +1,8 @@
 -- A source, its tape and its image, and its faults.
-use Rattle.std.proofs.Common.{ℕ, ◌≡◌, ◌≤◌, Bool, List, [], ◌∷◌, map, take, length, refl, sym, ap, ◌∙◌, subst, arith, Option, Some, None}
+use Rattle.std.proofs.Common.{ℕ, ◌≡◌, List, [], ◌∷◌, take, refl, sym, ap, ◌∙◌, subst, arith, Option, Some}
 use Rattle.std.proofs.lemmas.List.{take_all}
 use Rattle.instruct.specs.declared.Profile.{Profile}
 use Rattle.bin_tape.specs.declared.word.TapeWord.{TapeWord}
-use Rattle.bin_tape.specs.declared.word.TapeWord.TheVariants.{Data}
 use Rattle.bin_tape.specs.Image.{IsEmptyImage}
 use Rattle.bin_tape.specs.Reading.{Progress, Ended}
 use Rattle.bin_tape.specs.Tape.{Part, IsTape, IsImage, words}
@@ -17,14 +16,12 @@ use Rattle.pal_acts.specs.Permanent.{permanent_symbols}
 use Rattle.pal_asm.specs.Laws.{MeaningIsOne, FaultIsOne, MeaningIsNoFault, MeantAreWords}
 use Rattle.pal_asm.specs.Sources.{Means, IsFault}
 use Rattle.pal_asm.specs.declared.fault.PalFault.{PalFault}
-use Rattle.command_parts.specs.declared.status.Fault.{Fault}
 use Rattle.command_parts.specs.declared.status.Fault.TheVariants.{Tape, EmptyImage, Source, Declared, Certificate, Events, Guess, Declare, Device}
 use Rattle.command_parts.specs.declared.status.Fault.TheVariants as fault
-use Rattle.command_parts.specs.declared.status.DeviceFault.TheVariants.{Read, Write}
-use Rattle.source_commands.specs.AssembleText.{IsAssembled, IsListing, IsListFault, IsSourceFault, HasFault}
+use Rattle.source_commands.specs.AssembleText.{IsAssembled, IsListing, HasFault}
 use Rattle.source_commands.specs.WrittenSource.{IsTapeSource}
 use Rattle.command_parts.specs.Inputs.{HasImage}
-use Rattle.command_laws.specs.Laws.{telling, TapeIsThere, EmptyHasNoTape, MayMiss, MayBeTold, TapeIsOne, MeantIsRead, ReadIsMeant, MeantIsWritten, FaultIsTold, FaultIsNotWritten, MeantIsListed, FaultIsTheOne, WrittenIsAssembled, AssembledIsWritten}
+use Rattle.command_laws.specs.Laws.{telling, TapeIsThere, EmptyHasNoTape, TapeIsOne, MeantIsRead, ReadIsMeant, MeantIsWritten, FaultIsTold, FaultIsNotWritten, MeantIsListed, FaultIsTheOne, WrittenIsAssembled, AssembledIsWritten}
 use Rattle.source_commands.specs.SourceTexts.{AreRead}
 
 -- sources whose bytes are known hold these parts alone

@@ -1,5 +1,5 @@
 -- Inputs have at most one verdict, and a migrated certificate has that of its original.
-use Rattle.std.proofs.Common.{ℕ, ◌≡◌, ◌≤◌, true, List, [], ◌∷◌, length, take, Option, Some, refl, sym, ap, ◌∙◌, subst, arith}
+use Rattle.std.proofs.Common.{ℕ, ◌≡◌, ◌≤◌, List, [], ◌∷◌, length, take, Option, Some, refl, sym, ap, ◌∙◌, subst}
 use Rattle.std.specs.Prelude.{Result, Ok, Err}
 use Rattle.bin_tape.proofs.OneAnswer.{one_tape}
 use Rattle.peripherals.specs.Loading.{image_of}

@@ -6,7 +6,7 @@ use Rattle.command_parts.specs.Faults.{IsDeclarationInputFault, IsEventsInputFau
 use Rattle.command_parts.specs.Inputs.{Input, IsGoodDeclaration, IsGoodEvents, IsGoodTape, TakesAtMost, TakesTape}
 use Rattle.command_parts.specs.declared.status.Fault.{Fault}
 use Rattle.command_parts.specs.declared.status.Fault.TheVariants.{NoMemory}
-use Rattle.search_commands.specs.SearchFaults.{IsProposeFault, IsSearchFault}
+use Rattle.search_commands.specs.SearchFaults.{IsSearchFault}
 use Rattle.diagnostics.specs.CertificateFaults.{IsCertificateInputFault}
 use Rattle.diagnostics.specs.CertificateInputs.{IsGoodCertificate, TakesCertificate}
 
@@ -16,8 +16,6 @@ pub data Work : Type 0 where
   Tells : Work
   -- the command searches for a certificate
   Searches : Work
-  -- the command proposes a declaration, or completes one
-  Proposes : Work
   -- the command migrates a certificate
   Migrates : Work
 
@@ -25,7 +23,6 @@ pub data Work : Type 0 where
 abbrev pub later_fault : Work → Fault → Type 0
 later_fault Tells = IsLaterFault IsMemoryFault
 later_fault Searches = IsLaterFault IsSearchFault
-later_fault Proposes = IsLaterFault IsProposeFault
 later_fault Migrates = IsLaterFault NeverFails
 
 -- What the answer of a command says about its one input. The parameters say which faults the input may have, when it is

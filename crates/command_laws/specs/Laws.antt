@@ -1,6 +1,6 @@
 -- Laws of the definitions. Every run of events has an answer, and so has every run with an operator; and what a source
 -- means, what is written for it and what is read from that agree.
-use Rattle.std.specs.Prelude.{None, ℕ, ◌≡◌, ◌<◌, ◌≤◌, Bool, Option, Some, List, [], ◌∷◌, IfSome, length, map, ⊤}
+use Rattle.std.specs.Prelude.{ℕ, ◌≡◌, ◌<◌, ◌≤◌, Bool, Option, Some, List, [], ◌∷◌, IfSome, length, map, ⊤}
 use Rattle.std.specs.List.{AllByRecursion}
 use Rattle.peripherals.specs.declared.Event.{Event}
 use Rattle.peripherals.specs.declared.Event.TheVariants.{Step, Key, PrinterDone, ReaderDone, PunchDone, Switches, Continue}
@@ -29,16 +29,12 @@ use Rattle.machine_commands.specs.Running.{IsRunOf}
 use Rattle.peripherals.specs.Operator.{Plan}
 use Rattle.machine_commands.specs.Follows.{Follows}
 use Rattle.machine_commands.specs.Schedule.{Whole}
-use Rattle.machine_commands.specs.Session.{IsHeld, IsSessionOf, plan_for}
+use Rattle.machine_commands.specs.Session.{IsHeld, IsSessionOf}
 use Rattle.machine_commands.specs.Teletype.{run_of, types_by}
 use Rattle.machine_commands.specs.declared.follow.End.{End}
 use Rattle.command_parts.specs.declared.options.TeletypeOptions.{TeletypeOptions}
 use Rattle.peripherals.specs.Devices.{WorldState}
 use Rattle.processor.specs.Runs.{Run, Taken}
-use Rattle.machine_commands.specs.StoppedWatch.{IsPlanToStop}
-use Rattle.command_parts.specs.declared.options.Stops.{Stops}
-use Rattle.declaration.specs.Declaration.{Declaration}
-use Rattle.command_parts.specs.declared.options.SessionOptions.{SessionOptions}
 
 -- The number that an event carries, if any, is a byte or a word.
 abbrev pub Carries : Event → Type 0
@@ -104,20 +100,6 @@ FollowsTheTable =
     (profile : Profile) (ends_at_halt : Bool) (events : List Event) (w x : WorldState) (lines : List ℕ) (steps : ℕ) (end : End) →
     Follows profile ends_at_halt events w lines steps end x →
     (taken : List Taken) × (length taken ≡ steps) × Run profile w.state taken x.state
-
--- The same options with the start and the machine of the declaration.
-abbrev pub as_declared : Declaration → SessionOptions → SessionOptions
-as_declared d options = record options { run = record options.run { start = d.start; profile = d.profile } }
-
--- The events of a watched run with an operator who never presses CONTINUE, wherever it is stopped, are those of the run with
--- the same options on the declared machine and from the declared start.
-abbrev pub WatchedAsRun : Type 0
-WatchedAsRun =
-    (options : SessionOptions) (form : SummaryForm) (image : List (Option ℕ)) (d : Declaration) (frames keys : List ℕ)
-    (stops : Stops) (last : Option ℕ) (explained : Bool) (named : ℕ → Bool) (lines details : List ℕ) (seen : Status) (written printed punched : List ℕ) (status : Status) →
-    (watched : IsPlanToStop None (plan_for options frames keys) stops last explained named image d seen lines details) →
-    (run : IsSessionOf (as_declared d options).run form Whole (plan_for (as_declared d options) frames keys) image written printed punched status) →
-    watched.events ≡ run.events
 
 -- Sources whose bytes are known, and are these parts.
 abbrev pub telling : List (List ℕ) → List (Option (List ℕ))

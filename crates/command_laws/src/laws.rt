@@ -6,7 +6,7 @@ ghost use Rattle.command_parts.specs.Inputs.{Input, input};
 ghost use Rattle.command_parts.specs.declared.status.Fault.{Fault};
 ghost use Rattle.diagnostics.specs.CertificateFaults.{ReadsCertificate, ReadsCertified};
 ghost use Rattle.command_laws.specs.InOrder.{CertificateInOrder, CertifiedInOrder, RunInOrder, TapeInOrder, TwoInOrder, Work, later_fault};
-ghost use Rattle.command_laws.specs.Laws.{AssembledIsWritten, ChecksAreOne, EmptyHasNoTape, FaultIsNotWritten, FaultIsTheOne, FaultIsTold, FollowsTheTable, GuessIsAccepted, GuessIsRead, MeantIsListed, MeantIsRead, MeantIsWritten, MigratedIsCheckedAlike, ReadIsMeant, RunsAreOne, RunsEnd, SessionsAreOne, SessionsEnd, TapeIsOne, TapeIsThere, TypedAreOne, WatchedAsRun, WrittenIsAssembled};
+ghost use Rattle.command_laws.specs.Laws.{AssembledIsWritten, ChecksAreOne, EmptyHasNoTape, FaultIsNotWritten, FaultIsTheOne, FaultIsTold, FollowsTheTable, GuessIsAccepted, GuessIsRead, MeantIsListed, MeantIsRead, MeantIsWritten, MigratedIsCheckedAlike, ReadIsMeant, RunsAreOne, RunsEnd, SessionsAreOne, SessionsEnd, TapeIsOne, TapeIsThere, TypedAreOne, WrittenIsAssembled};
 
 use pal_asm::laws::{meant_are_words, sources_have_one_answer};
 use peripherals::laws::events_are_runs;
@@ -38,12 +38,6 @@ pub fn runs_follow_the_table()
 {
     events_are_runs();
 }
-
-/// `watch` with an operator watches exactly the events that `run` makes from the same options, if the run is on the
-/// declared machine and begins at the declared start.
-pub fn watched_sessions_are_runs()
-    ensures { WatchedAsRun }
-{}
 
 /// A source, its tape and the image that is read from the tape determine one another in both directions. A source that
 /// means an image with at least one word has a tape, and one without words has none. `assemble` writes only one tape;

@@ -5,9 +5,9 @@ ghost use Rattle.std.specs.Prelude.{◌≡◌, false};
 
 use crate::fixtures::{HALT, HALT_CERTIFICATE, HALT_DECLARED, HALT_SEVERAL, LETTER, UNDECLARED};
 use analyser::{Attempt, guess_or_draft};
-use command_parts::inputs::bytes_from;
+use command_parts::inputs::{bytes_from, tape_from};
 use command_parts::options::{DeclareOptions, RunOptions, SessionOptions, SummaryForm};
-use command_parts::outcome::write_text;
+use command_parts::outcome::{deliver, write_text};
 use command_parts::programs::program_from;
 use command_parts::status::{DeviceFault, Fault, Status};
 use diagnostics::verdicts::certificates::{certified_from, write_certificate};
@@ -19,7 +19,7 @@ use machine_commands::stopped_watch::{WatchOptions, watch_session_message_to_sto
 use machine_commands::stopping::no_stops;
 use machine_commands::watching::watch;
 use search_commands::checking::check;
-use search_commands::declaring::declare;
+use search_commands::declaring::proposed;
 use search_commands::guessing::guess;
 use search_commands::migrating::migrate;
 use search_commands::stuck::draft_message;
@@ -283,7 +283,8 @@ fn promised<A: Allocator + Copy>(
                 profile: MACHINE,
                 reads: false,
             };
-            declare(alloc, &mut tape, options, out)
+            let image = tape_from(&mut tape)?;
+            deliver(proposed(alloc, &image, &options), out)
         }
         Command::DeclaredSource => declared_source(alloc, &mut tape, &mut text, out),
         Command::Guess => guess(alloc, &mut tape, &mut text, out),

@@ -1,15 +1,14 @@
 -- The same bytes never get both a no and a yes, and `certify` says yes exactly when `check` does.
-use Rattle.std.proofs.Common.{ℕ, ◌≡◌, Bool, List, Option, Some, Result, Ok, Err, refl, sym, ap, ◌∙◌, subst, take}
+use Rattle.std.proofs.Common.{ℕ, ◌≡◌, List, Option, Some, Result, Ok, Err, refl, sym, ap, ◌∙◌, subst, take}
 use Rattle.bin_tape.proofs.OneAnswer.{one_tape, no_fault}
 use Rattle.certificate_lines.specs.CertificateInCode as certified
 use Rattle.certificate_lines.specs.Reading.{Text, reading}
 use Rattle.certificate.proofs.SumExactLemmas.{reading_law}
 use Rattle.declaration.proofs.AnswerLemmas.{one_declaration, no_fault as no_declaration_fault}
 use Rattle.declaration.specs.Declaration.{Declaration}
-use Rattle.judge.specs.Certifying.{AreRead, IsRefused, Parts, case_of, declaration_of, words_of}
-use Rattle.judge.specs.Conditions.{IsFirst, IsValid}
+use Rattle.judge.specs.Certifying.{AreRead, Parts, case_of, declaration_of}
+use Rattle.judge.specs.Conditions.{IsValid}
 use Rattle.judge.specs.Landing.{Case}
-use Rattle.judge.specs.declared.verdict.CertifyFault.{CertifyFault}
 use Rattle.judge.specs.declared.verdict.CertifyFault.TheVariants as fault
 use Rattle.judge.proofs.ReadingLemmas.{none_fails, not_both}
 use Rattle.judge.specs.declared.judging.Refusal.{Refusal}
@@ -33,7 +32,7 @@ safe_alike : (i k : List (Option ℕ)) (d e : Declaration) → i ≡ k → d ≡
 safe_alike i k d e words promised safe = rw (words, promised) at safe
 
 pub no_is_never_yes : (A : Type 0) → NoIsNeverYes A
-no_is_never_yes A w tape declaration certificate told line explained said checked =
+no_is_never_yes A w tape declaration certificate told line said checked =
     let accepted : IsYes (checked_case checked.image checked.declaration checked.lines) = yes_of _ checked.is.verdict checked.is.is checked.is.status_is in
     let words : checked.image ≡ said.image = one_tape (take 65536 tape) checked.image said.image checked.tape said.tape in
     let promised : checked.declaration ≡ said.declaration = one_declaration declaration checked.declaration said.declaration checked.declares said.declares in

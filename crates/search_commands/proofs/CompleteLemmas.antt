@@ -13,7 +13,6 @@ use Rattle.command_parts.proofs.InputLemmas.{all_or_more}
 use Rattle.search_commands.proofs.DeclareLemmas.{refused_not_done}
 use Rattle.search_commands.specs.Adding.{AddsOnly, IsNoWider, lists}
 use Rattle.search_commands.specs.CompleteText.{Completes, CompletesBy, IsExtensionBy, IsFit}
-use Rattle.search_commands.specs.Keeping.{KeepsLines}
 use Rattle.search_commands.specs.Keeping.KeepsLines.{unchanged}
 
 -- a declaration allows nothing that it does not allow, whatever is proposed
@@ -48,7 +47,7 @@ own_extension given proposed text declares = (
 
 -- with a certificate for the declaration itself
 pub own_completes : (reads : Bool) (image : List (Option ℕ)) (d : Declaration) (text : List ℕ) → Declares text d → IsSafe (image_of image) d →
-    Completes (Some text) reads image d Done text
+    Completes text reads image d Done text
 own_completes reads image d text declares safe = record {
   is = record { declaration = d; declares = declares; extends = extends_own d; keeps = unchanged text };
   unlisted = λ off a small listed. listed;
@@ -73,7 +72,7 @@ listed_before false proposed a none listed = rw none at listed
 -- what completes a declaration by what is proposed completes it; reads are listed in what is proposed only if that is
 -- requested
 pub completes_by : (reads : Bool) (image : List (Option ℕ)) (bytes : List ℕ) (given proposed : Declaration) (status : Status) (text : List ℕ) →
-    (reads ≡ false → proposed.reads ≡ None) → CompletesBy bytes image given proposed status text → Completes (Some bytes) reads image given status text
+    (reads ≡ false → proposed.reads ≡ None) → CompletesBy bytes image given proposed status text → Completes bytes reads image given status text
 completes_by reads image bytes given proposed status text off by = record {
   is = record { declaration = by.is.0; declares = by.is.1.declares; extends = by.is.1.extends; keeps = by.is.1.keeps };
   unlisted = λ is a small listed. listed_before (lists given.reads a) proposed.reads a (off is) ((by.is.1.adds a small).read listed);
@@ -85,18 +84,3 @@ completes_by reads image bytes given proposed status text off by = record {
 pub whole_text : (had : Option (List ℕ)) (text : List ℕ) (d : Declaration) → IfSome had (λ bytes. text ≡ take 16385 bytes) → Declares text d → IfSome had (λ bytes. bytes ≡ text)
 whole_text had text d is declares =
     all_or_more (λ bytes. bytes ≡ text) had text 16384 is refl (λ bytes long more e. absurd (let short = declares.good.short in omega (arith, short, long)))
-
--- a text that keeps the lines of what was read from a source keeps the lines of the source
-keeps_source : (source : Option (List ℕ)) (bytes text : List ℕ) → IfSome source (λ all. all ≡ bytes) → KeepsLines bytes text → IfSome source (λ all. KeepsLines all text)
-keeps_source None bytes text is keeps = tt
-keeps_source (Some all) bytes text is keeps = rw is keeps
-
--- so it completes the declaration of the source
-pub completes_source : (source : Option (List ℕ)) (bytes : List ℕ) (reads : Bool) (image : List (Option ℕ)) (given : Declaration) (status : Status) (text : List ℕ)
-    → IfSome source (λ all. all ≡ bytes) → Completes (Some bytes) reads image given status text → Completes source reads image given status text
-completes_source source bytes reads image given status text all is = record {
-  is = record { declaration = is.is.declaration; declares = is.is.declares; extends = is.is.extends; keeps = keeps_source source bytes text all is.is.keeps };
-  unlisted = is.unlisted;
-  ends = is.ends;
-  safe = is.safe;
-}

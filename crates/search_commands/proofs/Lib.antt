@@ -6,4 +6,3 @@ mod KeepingLemmas
 pub mod RefiningLemmas
 pub mod AddingLemmas
 pub mod AssertingLemmas
-mod WhyLemmas

@@ -1,5 +1,5 @@
 -- What the answers to several calls on the same bytes say about one another.
-use Rattle.std.specs.Prelude.{ℕ, ◌≡◌, Bool, List, Some}
+use Rattle.std.specs.Prelude.{ℕ, ◌≡◌, List, Some}
 use Rattle.command_parts.specs.declared.status.Status.TheVariants.{Done}
 use Rattle.judge.specs.Certifying.{AreRead, IsRefused, Parts, case_of, declaration_of, words_of}
 use Rattle.judge.specs.Conditions.{IsValid}
@@ -15,8 +15,8 @@ use Rattle.diagnostics.specs.CheckText.{IsCheckedSo, yes_text}
 -- bytes never get both a no and a yes.
 abbrev pub NoIsNeverYes : Type 0 → Type 0
 NoIsNeverYes A =
-    (w : Witness A) (tape declaration certificate told line : List ℕ) (explained : Bool) →
-    IsVerified (Some tape) (Some declaration) explained (No w) told →
+    (w : Witness A) (tape declaration certificate told line : List ℕ) →
+    IsVerified (Some tape) (Some declaration) (No w) told →
     IsCheckedSo (Some tape) (Some declaration) (Some certificate) line Done → ⊥
 
 -- If `certify` says yes, `check` says yes: every condition holds for the parts that are read, the program is safe, and

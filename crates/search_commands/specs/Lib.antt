@@ -2,9 +2,7 @@ pub mod SearchFaults
 pub mod GuessText
 pub mod DeclareText
 pub mod CompleteText
-pub mod StuckText
 pub mod VerifyText
-pub mod WidenedText
 pub mod WidenedSearch
 pub mod Laws
 pub mod Adding

@@ -6,8 +6,7 @@ use Rattle.proposer.specs.Obstacles.{IsObstacle}
 use Rattle.proposer.specs.Widenings.{Supersedes}
 use Rattle.proposer.specs.declared.learning.Obstacle.{Obstacle}
 use Rattle.refuter.specs.declared.Witness.{Witness}
-use Rattle.search_commands.specs.VerifyText.{IsAnswer}
-use Rattle.search_commands.specs.WidenedText.{HasReason}
+use Rattle.search_commands.specs.VerifyText.{HasReason, IsAnswer}
 use Rattle.search_commands.specs.declared.verifying.Answer.TheVariants.{No}
 use Rattle.search_commands.specs.declared.widening.Ending.{Ending}
 use Rattle.search_commands.specs.declared.widening.Ending.TheVariants.{Open, Broken}

@@ -1,9 +1,9 @@
-//! The command that adds what is missing to a declaration.
+//! Adds what is missing to a declaration.
 
-ghost use Rattle.std.specs.Prelude.{◌≡◌, false, Some, IfSome, IfOk, IfErr, ℕ, List, Option};
-ghost use Rattle.command_parts.specs.Answers.{IsLaterFault, IsMemoryFault, NeverFails, OfProgram, ReadsTwo, WritesAnswer, output};
-ghost use Rattle.command_parts.specs.Faults.{IsDeclarationInputFault, fails_to_read, fails_to_write};
-ghost use Rattle.command_parts.specs.Inputs.{HasDeclaration, HasImage, TakesAtMost, input};
+ghost use Rattle.std.specs.Prelude.{◌≡◌, false, IfSome, IfOk, IfErr, ℕ, List, Option};
+ghost use Rattle.command_parts.specs.Answers.{IsMemoryFault};
+ghost use Rattle.command_parts.specs.Faults.{IsDeclarationInputFault};
+ghost use Rattle.command_parts.specs.Inputs.{HasDeclaration, input};
 ghost use Rattle.search_commands.specs.CompleteText.{Completes, CompletesBy, IsExtensionBy, IsFit};
 ghost use Rattle.search_commands.specs.SearchFaults.{IsProposeFault};
 ghost use Rattle.declaration.specs.DeclarationInCode.{meaning};
@@ -15,14 +15,13 @@ use crate::keeping::keeps_lines;
 use crate::merging::merged;
 use crate::verifying::{InconclusiveReason, certificate_for};
 use bin_tape::Image;
-use command_parts::inputs::tape_from;
 use command_parts::options::DeclareOptions;
-use command_parts::outcome::{CommandResult, deliver};
+use command_parts::outcome::CommandResult;
 use command_parts::status::{Fault, Status};
 use declaration::{Declaration, DeclarationFault};
 use proposer::{ObservedRuns, Proposal};
 use std::alloc::{AllocError, Allocator};
-use streams::{ByteSink, ByteSource, read_at_most};
+use streams::{ByteSource, read_at_most};
 use turns::Turns;
 use wordset::WordSet;
 
@@ -31,20 +30,19 @@ const MOST_BYTES: usize = 16_385;
 
 /// A declaration and its text.
 #[derive(Drop)]
-struct ParsedDeclaration<A: Allocator> {
-    text: Vec<u8, A>,
-    declaration: Declaration<A>,
-}
-
-/// The words of a tape, and a declaration with its text.
-#[derive(Drop)]
-struct ParsedProgram<A: Allocator> {
-    image: Image,
-    given: ParsedDeclaration<A>,
+pub struct ParsedDeclaration<A: Allocator> {
+    /// The text.
+    pub text: Vec<u8, A>,
+    /// What it declares.
+    pub declaration: Declaration<A>,
 }
 
 /// Reads a declaration, and keeps its text.
-fn given_from<A: Allocator + Copy, R: ByteSource>(
+///
+/// # Errors
+///
+/// The fault of the declaration; `Device` if a read failed; `NoMemory` if memory was refused.
+pub fn given_from<A: Allocator + Copy, R: ByteSource>(
     alloc: A,
     source: &mut R,
 ) -> Result<ParsedDeclaration<A>, Fault>
@@ -57,40 +55,12 @@ fn given_from<A: Allocator + Copy, R: ByteSource>(
         IfSome (R.remaining source.old) (λ bytes. bytes ≡ given.text.items)) }
     ensures faults { IfErr result (IsDeclarationInputFault
         (input (R.mark source.new) (R.remaining source.old) (R.remaining source.new))) }
-    ensures marks { R.mark source.new ≡ fails_to_read result }
-    ensures takes { TakesAtMost 16385 (R.remaining source.old) (R.remaining source.new) }
 {
     let text = read_at_most(alloc, source, MOST_BYTES)?;
     match Declaration::parse(alloc, &text) {
         Ok(declaration) => Ok(ParsedDeclaration { text, declaration }),
         Err(fault) => Err(Fault::from(fault)),
     }
-}
-
-/// Reads a tape and, if that has no fault, a declaration, whose text it keeps.
-fn given_program_from<A: Allocator + Copy, R: ByteSource, D: ByteSource>(
-    alloc: A,
-    tape: &mut R,
-    declaration: &mut D,
-) -> Result<ParsedProgram<A>, Fault>
-    requires readable { R.mark tape.old ≡ false }
-    requires declaration_readable { D.mark declaration.old ≡ false }
-    ensures image { IfOk result (λ program. HasImage (R.remaining tape.old) program.image) }
-    ensures declares { IfOk result (λ program.
-        HasDeclaration (D.remaining declaration.old) (meaning program.given.declaration)) }
-    ensures text { IfOk result (λ program.
-        Declares program.given.text.items (meaning program.given.declaration)) }
-    ensures whole { IfOk result (λ program. IfSome (D.remaining declaration.old)
-        (λ bytes. bytes ≡ program.given.text.items)) }
-    ensures reads { ReadsTwo NeverFails
-        (input (R.mark tape.new) (R.remaining tape.old) (R.remaining tape.new))
-        (input (D.mark declaration.new) (D.remaining declaration.old) (D.remaining declaration.new))
-        (declaration.new ≡ declaration.old) result }
-    ensures unwritten { fails_to_write result ≡ false }
-{
-    let image = tape_from(tape)?;
-    let given = given_from(alloc, declaration)?;
-    Ok(ParsedProgram { image, given })
 }
 
 /// What a text declares, if it keeps the lines of a given declaration and extends that declaration by what is proposed
@@ -212,21 +182,33 @@ fn completed<A: Allocator + Copy>(
     }
 }
 
-/// The text that completes a declaration, and whether compliance with it is shown. What is proposed for the tape has a
-/// list of reads if the declaration has one and that is requested.
-fn completion_of<A: Allocator + Copy>(
+/// Adds to a declaration what it lacks according to the words of the tape. What it said before is kept: each line stays
+/// unchanged, except that the line of a routine may get ranges and offsets, with a comment that names them; other lines
+/// come at the end, each with the comment `/ added`. A declaration for which a certificate is found is returned
+/// unchanged. The status `Done` means that no run of the program violates what is written. Otherwise the status is
+/// `Refused`: no certificate that would show this is found, and comments after the text say why, if there is room for
+/// them. What is added is what `declare` proposes for the tape, the start and the machine, except for what has another
+/// role already; cells that may be read are added too, if reads are listed and `reads` is set. Which cells these are, and
+/// what the comments say, is tested, not proved.
+///
+/// # Errors
+///
+/// `Declare` if what is found cannot be declared; `NoMemory` if memory was refused.
+pub fn complete<A: Allocator + Copy>(
     alloc: A,
-    program: ParsedProgram<A>,
+    image: &Image,
+    given: ParsedDeclaration<A>,
     reads: bool,
 ) -> Result<CommandResult<A>, Fault>
-    requires { Declares program.given.text.items (meaning program.given.declaration) }
-    ensures completes { IfOk result (λ told. Completes (Some program.given.text.items) reads
-        program.image (meaning program.given.declaration) told.status told.text.items) }
+    requires { Declares given.text.items (meaning given.declaration) }
+    // What is written declares a program, extends the given declaration, and keeps its lines in their order, after which
+    // there are only comments and lines that end with `/ added`. Unless that is requested, no reads are added to a list.
+    // If the command is done, no run of the program violates what is written.
+    ensures completes { IfOk result (λ told. Completes given.text.items reads image.now
+        (meaning given.declaration) told.status told.text.items) }
     ensures faults { IfErr result IsProposeFault }
-    ensures unwritten { fails_to_write result ≡ false }
 {
-    let ParsedProgram { image, given } = program;
-    match certificate_for(alloc, &image, &given.declaration)? {
+    match certificate_for(alloc, image, &given.declaration)? {
         Ok(_certificate) => {
             let ParsedDeclaration { text, .. } = given;
             let status = Status::Done;
@@ -239,51 +221,8 @@ fn completion_of<A: Allocator + Copy>(
                 reads: reads && given.declaration.reads_listed(),
             };
             let mut turns = Turns::new(MOST_TURNS);
-            let proposal = proposal_for(alloc, &image, &options, &mut turns)?;
-            completed(alloc, &image, &given, lack, &proposal)
+            let proposal = proposal_for(alloc, image, &options, &mut turns)?;
+            completed(alloc, image, &given, lack, &proposal)
         }
-    }
-}
-
-/// Adds to a declaration what it lacks according to the tape, and writes its text. What it said before is kept: each
-/// line stays unchanged, except that the line of a routine may get ranges and offsets, with a comment that names them;
-/// other lines come at the end, each with the comment `/ added`. A declaration for which a certificate is found is
-/// written unchanged. The status `Done` means that no run of the program violates what is written. Otherwise the status
-/// is `Refused`: no certificate that would show this is found, and comments after the text say why, if there is room
-/// for them. What is added is what `declare` proposes for the tape, the start and the machine, except for what has
-/// another role already; cells that may be read are added too, if reads are listed and `reads` is set. Which cells
-/// these are, and what the comments say, is tested, not proved.
-///
-/// # Errors
-///
-/// The fault of the tape or of the declaration: each of them is read and, if it has a fault, refused before the next is
-/// read; `Declare` if what is found cannot be declared; `Device` if a read failed, or if a write failed after a prefix
-/// of the text had gone out; `NoMemory` if memory was refused. Nothing is written unless a write failed.
-pub fn complete<A: Allocator + Copy, R: ByteSource, D: ByteSource, W: ByteSink>(
-    alloc: A,
-    tape: &mut R,
-    declaration: &mut D,
-    reads: bool,
-    out: &mut W,
-) -> Result<Status, Fault>
-    requires readable { R.mark tape.old ≡ false }
-    requires declaration_readable { D.mark declaration.old ≡ false }
-    requires writable { W.mark out.old ≡ false }
-    // What is written declares a program, extends the declaration that is read, and keeps its lines in their order,
-    // after which there are only comments and lines that end with `/ added`. Unless that is requested, no reads are added
-    // to a list. If the command is done, no run of the tape's program violates what is written.
-    ensures completed { WritesAnswer
-        (OfProgram (R.remaining tape.old) (D.remaining declaration.old)
-        (Completes (D.remaining declaration.old) reads))
-        (output (W.mark out.new) (W.taken out.old) (W.taken out.new)) result }
-    // The inputs are read in order. If both are good, what was found may be undeclarable, or a write may fail.
-    ensures reads { ReadsTwo (IsLaterFault IsProposeFault)
-        (input (R.mark tape.new) (R.remaining tape.old) (R.remaining tape.new))
-        (input (D.mark declaration.new) (D.remaining declaration.old) (D.remaining declaration.new))
-        (declaration.new ≡ declaration.old) result }
-{
-    match given_program_from(alloc, tape, declaration) {
-        Ok(program) => deliver(completion_of(alloc, program, reads), out),
-        Err(fault) => Err(fault),
     }
 }

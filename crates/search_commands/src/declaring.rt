@@ -1,27 +1,23 @@
-//! The command that proposes a declaration.
+//! Proposes a declaration.
 
 ghost use Rattle.std.specs.Prelude.{◌≡◌, None, false, true, IfOk, IfErr};
-ghost use Rattle.command_parts.specs.Answers.{IsLaterFault, ReadsOne, WritesAnswer, output};
-ghost use Rattle.command_parts.specs.Faults.{fails_to_read, fails_to_write};
-ghost use Rattle.command_parts.specs.Inputs.{input};
-ghost use Rattle.search_commands.specs.DeclareText.{IsBare, IsProposal, IsProposalOf};
+ghost use Rattle.command_parts.specs.Faults.{fails_to_write};
+ghost use Rattle.search_commands.specs.DeclareText.{IsBare, IsProposalOf};
 ghost use Rattle.search_commands.specs.SearchFaults.{IsProposeFault};
 ghost use Rattle.declaration.specs.DeclarationInCode.{meaning};
 ghost use Rattle.declaration.specs.Text.{Declares};
-ghost use Rattle.proposer.specs.Proposals.{AreNeeded, AreWritten, Fits, IsListed, IsShown, IsTold};
+ghost use Rattle.proposer.specs.Proposals.{Fits, IsListed, IsShown, IsTold};
 
 use crate::verifying::InconclusiveReason;
 use bin_tape::Image;
-use command_parts::inputs::tape_from;
 pub use command_parts::options::DeclareOptions;
-use command_parts::outcome::{CommandResult, deliver};
+use command_parts::outcome::CommandResult;
 use command_parts::status::{Fault, Status};
 use command_parts::text::push_place;
 use declaration::{Declaration, DeclarationFault};
 use itoa::Buffer;
 use proposer::{ObservedRuns, Proposal, Verdict, propose, propose_with_reads};
 use std::alloc::{AllocError, Allocator};
-use streams::{ByteSink, ByteSource};
 use turns::{ProposeFault, Turns};
 use wordset::WordSet;
 
@@ -97,9 +93,6 @@ pub(crate) fn proposal_for<A: Allocator + Copy>(
     ensures shown { IfOk result (λ p. IsShown image.now p.declaration p.verdict) }
     ensures listed { options.now.reads ≡ true →
         IfOk result (λ p. IsListed p.declaration p.verdict) }
-    ensures needed { options.now.reads ≡ true →
-        IfOk result (λ p. AreNeeded image.now p.declaration p.verdict) }
-    ensures written { IfOk result (λ p. AreWritten image.now p.declaration p.verdict) }
     ensures unlisted { options.now.reads ≡ false →
         IfOk result (λ p. (meaning p.declaration).reads ≡ None) }
     ensures faults { IfErr result IsTold }
@@ -150,8 +143,7 @@ fn declares_for<A: Allocator + Copy>(
 ) -> Result<bool, Fault>
     ensures declares { IfOk result (λ yes. yes ≡ true → IsBare options.now text.now) }
     ensures faults { IfErr result IsProposeFault }
-    ensures wrote { fails_to_write result ≡ false }
-    ensures read { fails_to_read result ≡ false }
+    ensures unwritten { fails_to_write result ≡ false }
 {
     match Declaration::parse(alloc, text) {
         Ok(found) => {
@@ -177,8 +169,7 @@ fn remarked<A: Allocator + Copy>(
     requires unlisted { (meaning proposal.now.declaration).reads ≡ None }
     ensures declares { IfOk result (λ text. IsBare options.now text.items) }
     ensures faults { IfErr result IsProposeFault }
-    ensures wrote { fails_to_write result ≡ false }
-    ensures read { fails_to_read result ≡ false }
+    ensures unwritten { fails_to_write result ≡ false }
 {
     let text = remarks_and_text(alloc, proposal)?;
     if declares_for(alloc, &text, options)? {
@@ -187,7 +178,10 @@ fn remarked<A: Allocator + Copy>(
     Ok(copy_of(alloc, &proposal.text)?)
 }
 
-/// What is proposed for a tape's words: the text of a declaration, and whether compliance with it is shown.
+/// Proposes what the program of a tape may do, from its words, its start and the machine alone: the text of a declaration.
+/// The status `Done` means that no run of the program violates the declaration. Otherwise the status is `Refused`: no
+/// certificate that would show this is found, and comments before the text say why, if there is room for them. What the
+/// comments say is tested, not proved.
 ///
 /// # Errors
 ///
@@ -197,6 +191,8 @@ pub fn proposed<A: Allocator + Copy>(
     image: &Image,
     options: &DeclareOptions,
 ) -> Result<CommandResult<A>, Fault>
+    // The text declares a program with that start, on that machine. If the command is done, the program is safe, and
+    // there is a list of reads if one was requested. Otherwise there is no list.
     ensures proposal { IfOk result (λ told.
         IsProposalOf options.now image.now told.status told.text.items) }
     ensures faults { IfErr result IsProposeFault }
@@ -212,37 +208,4 @@ pub fn proposed<A: Allocator + Copy>(
     let text = remarked(alloc, &proposal, options)?;
     let status = Status::Refused;
     Ok(CommandResult { text, status })
-}
-
-/// Proposes what the program of a tape may do, from the tape, its start and the machine alone, and writes this as the
-/// text of a declaration. The status `Done` means that no run of the program violates the declaration. Otherwise the
-/// status is `Refused`: no certificate that would show this is found, and comments before the text say why, if there is
-/// room for them. What the comments say is tested, not proved.
-///
-/// # Errors
-///
-/// The fault of the tape; `Declare` if what is found cannot be declared; `Device` if a read failed, or if a write
-/// failed after a prefix of the text had gone out; `NoMemory` if memory was refused. Nothing is written unless a write
-/// failed.
-pub fn declare<A: Allocator + Copy, R: ByteSource, W: ByteSink>(
-    alloc: A,
-    tape: &mut R,
-    options: DeclareOptions,
-    out: &mut W,
-) -> Result<Status, Fault>
-    requires readable { R.mark tape.old ≡ false }
-    requires writable { W.mark out.old ≡ false }
-    // What is written declares a program with that start, on that machine. If the command is done, the tape's program
-    // is safe, its variables are cells that some possible word may write by the facts of a certificate, and if a list
-    // of reads was requested, there is one, of cells that some possible word may read. Otherwise there is no list.
-    ensures declared { WritesAnswer (IsProposal options (R.remaining tape.old))
-        (output (W.mark out.new) (W.taken out.old) (W.taken out.new)) result }
-    // The tape is read. If it is good, what was found may be undeclarable, or a write may fail.
-    ensures reads { ReadsOne (IsLaterFault IsProposeFault)
-        (input (R.mark tape.new) (R.remaining tape.old) (R.remaining tape.new)) result }
-{
-    match tape_from(tape) {
-        Ok(image) => deliver(proposed(alloc, &image, &options), out),
-        Err(fault) => Err(fault),
-    }
 }

@@ -1,28 +1,21 @@
 //! Whether a program complies with its declaration, and why. The addresses in these messages are marked, for readers
-//! who have the source of the program. The commands write the same as plain text.
+//! who have the source of the program. The commands write the same as plain text. The lines that say why are tested, not
+//! proved.
 
-ghost use Rattle.std.specs.Prelude.{◌≡◌, ◌++◌, ◌⊎◌, false, true, take, [], None, IfOk, IfErr, IfSome, if◌then◌else◌};
+ghost use Rattle.std.specs.Prelude.{◌≡◌, false, [], None, IfOk, IfErr};
 ghost use Rattle.declaration.specs.DeclarationInCode.{meaning};
-ghost use Rattle.analyser.specs.Attempts.{IsAcceptedIfFound, IsDraftIfStuck, claimed_by};
-ghost use Rattle.certificate.specs.Exact.{AreLines};
-ghost use Rattle.certificate_lines.specs.CertificateInCode.{meaning as lines_of};
 ghost use Rattle.command_parts.specs.Answers.{IsMemoryFault};
 ghost use Rattle.command_parts.specs.Faults.{fails_to_write};
 ghost use Rattle.command_parts.specs.Messages.{plain};
-ghost use Rattle.machine_commands.specs.Running.{fresh};
-ghost use Rattle.machine_commands.specs.ViolationText.{IsToldAfter};
-ghost use Rattle.peripherals.specs.Loading.{image_of};
-ghost use Rattle.refuter.specs.Witnesses.{Breaks};
 ghost use Rattle.search_commands.specs.SearchFaults.{IsProposeFault};
-ghost use Rattle.search_commands.specs.StuckText.{IsToldOfDraft};
-ghost use Rattle.search_commands.specs.VerifyText.{IsAnswer, IsDraftAt, IsDraftFor, IsDraftOf, IsProposedAnswerOf, IsVerifiedOf, IsWhy, IsWhyNotKnown, IsWhyOfDraft, IsWhyOfDraftFor, IsWhyStuck, answer_text, lack_text, no_text, proposed_text};
+ghost use Rattle.search_commands.specs.VerifyText.{IsAnswer, IsProposedAnswerOf, IsVerifiedOf, answer_text, lack_text, no_text, proposed_text};
 
 use crate::stuck::draft_message;
 use crate::verifying::{
     Answer, InconclusiveReason, MOST_TURNS, ProposalAnswer, RefuteOptions, VerifyOptions,
     inconclusive_reason_of,
 };
-use crate::widening::{FinalProposal, settle, with_reason};
+use crate::widening::{FinalProposal, reason_line, settle};
 use analyser::{Attempt, GuessFault, guess_or_draft};
 use bin_tape::Image;
 use certificate::Certificate;
@@ -36,7 +29,7 @@ use itoa::Buffer;
 use machine_commands::violations::violation_lines;
 use policy::Rule;
 use proposer::propose;
-use refuter::{Witness, refute_within};
+use refuter::refute_within;
 use std::alloc::{AllocError, Allocator};
 use turns::Turns;
 use word12::Word;
@@ -72,23 +65,28 @@ pub struct ProposalMessage<A: Allocator> {
     pub why: Message<A>,
 }
 
-/// Searches for a run that violates a declaration for which no certificate was found, and keeps what the search for a
-/// certificate had found, if that is known.
-fn answer_on<A: Allocator + Copy, D: Allocator>(
+/// The answer about a given declaration, with the draft of a search that is stuck. Only one search for a certificate is
+/// made; if it finds none, a run that violates the declaration is searched for.
+fn answer_of<A: Allocator + Copy, D: Allocator>(
     alloc: A,
     image: &Image,
     declaration: &Declaration<D>,
     options: &RefuteOptions,
-    lack: InconclusiveReason,
-    draft: Option<Certificate<A>>,
 ) -> Result<AnswerWithDraft<A>, Fault>
-    requires { IfSome draft (IsDraftFor (meaning declaration.now) lack) }
     ensures answer { IfOk result (λ found.
         IsAnswer image.now (meaning declaration.now) found.answer) }
-    ensures draft { IfOk result (λ found.
-        IfSome found.draft (IsDraftOf (meaning declaration.now) found.answer)) }
     ensures faults { IfErr result IsMemoryFault }
 {
+    let (lack, draft) = match guess_or_draft(alloc, image, declaration) {
+        Ok(Attempt::Found(certificate)) => {
+            return Ok(AnswerWithDraft {
+                answer: Answer::Yes(certificate),
+                draft: None,
+            });
+        }
+        Ok(Attempt::Stuck(at, draft)) => (InconclusiveReason::Stuck(at), Some(draft)),
+        Err(fault) => (inconclusive_reason_of(fault)?, None),
+    };
     let mut turns = Turns::new(options.steps);
     let seed = u64::from(options.seed);
     match refute_within(alloc, image, declaration, seed, &mut turns)? {
@@ -100,58 +98,6 @@ fn answer_on<A: Allocator + Copy, D: Allocator>(
             answer: Answer::NotKnown(lack),
             draft,
         }),
-    }
-}
-
-/// The answer after a search for a certificate that came to this result.
-fn answer_by_attempt<A: Allocator + Copy, D: Allocator>(
-    alloc: A,
-    image: &Image,
-    declaration: &Declaration<D>,
-    options: &RefuteOptions,
-    attempt: Attempt<A>,
-) -> Result<AnswerWithDraft<A>, Fault>
-    requires accepted { IsAcceptedIfFound image.now declaration.now attempt }
-    requires lines { AreLines (lines_of (claimed_by attempt)) }
-    requires draft { IsDraftIfStuck (meaning declaration.now) attempt }
-    ensures answer { IfOk result (λ found.
-        IsAnswer image.now (meaning declaration.now) found.answer) }
-    ensures draft { IfOk result (λ found.
-        IfSome found.draft (IsDraftOf (meaning declaration.now) found.answer)) }
-    ensures faults { IfErr result IsMemoryFault }
-{
-    match attempt {
-        Attempt::Found(certificate) => Ok(AnswerWithDraft {
-            answer: Answer::Yes(certificate),
-            draft: None,
-        }),
-        Attempt::Stuck(at, draft) => {
-            let lack = InconclusiveReason::Stuck(at);
-            answer_on(alloc, image, declaration, options, lack, Some(draft))
-        }
-    }
-}
-
-/// The answer about a given declaration, with the draft of a search that is stuck. Only one search for a certificate is
-/// made.
-fn answer_of<A: Allocator + Copy, D: Allocator>(
-    alloc: A,
-    image: &Image,
-    declaration: &Declaration<D>,
-    options: &RefuteOptions,
-) -> Result<AnswerWithDraft<A>, Fault>
-    ensures answer { IfOk result (λ found.
-        IsAnswer image.now (meaning declaration.now) found.answer) }
-    ensures draft { IfOk result (λ found.
-        IfSome found.draft (IsDraftOf (meaning declaration.now) found.answer)) }
-    ensures faults { IfErr result IsMemoryFault }
-{
-    match guess_or_draft(alloc, image, declaration) {
-        Ok(attempt) => answer_by_attempt(alloc, image, declaration, options, attempt),
-        Err(fault) => {
-            let lack = inconclusive_reason_of(fault)?;
-            answer_on(alloc, image, declaration, options, lack, None)
-        }
     }
 }
 
@@ -216,149 +162,53 @@ fn proposed_line<A: Allocator + Copy>(
     Ok(text)
 }
 
-/// What a search for a certificate lacks that came to this result, if it is stuck at this address.
-#[tactic(auto, using(crate::proofs::WhyLemmas::why_of_draft))]
-fn attempt_message<A: Allocator + Copy, D: Allocator>(
-    alloc: A,
-    image: &Image,
-    declaration: &Declaration<D>,
-    attempt: &Attempt<A>,
-    at: Word,
-) -> Result<Message<A>, AllocError>
-    requires lines { AreLines (lines_of (claimed_by attempt.now)) }
-    requires draft { IsDraftIfStuck (meaning declaration.now) attempt.now }
-    ensures { IfOk result (λ text. (plain text ≡ []) ⊎
-        IsWhyStuck image.now (meaning declaration.now) at (plain text)) }
-{
-    match attempt {
-        Attempt::Stuck(place, draft) if *place == at => {
-            draft_message(alloc, image, declaration, draft, at)
-        }
-        _ => Ok(Message::new(alloc)),
-    }
-}
-
-/// What another search for a certificate lacks, if it is stuck at this address and there is a draft of what it had
-/// found.
-fn searched_message<A: Allocator + Copy, D: Allocator>(
-    alloc: A,
-    image: &Image,
-    declaration: &Declaration<D>,
-    at: Word,
-) -> Result<Message<A>, AllocError>
-    ensures { IfOk result (λ text. (plain text ≡ []) ⊎
-        IsWhyStuck image.now (meaning declaration.now) at (plain text)) }
-{
-    match guess_or_draft(alloc, image, declaration) {
-        Ok(attempt) => attempt_message(alloc, image, declaration, &attempt, at),
-        Err(GuessFault::NoMemory) => Err(AllocError),
-        Err(_) => Ok(Message::new(alloc)),
-    }
-}
-
-/// What the search for a certificate lacks: the lines of `guess --why` after its first one, from the draft if that is
-/// known, and otherwise from another search.
-#[tactic(auto, using(crate::proofs::WhyLemmas::why_of_draft))]
+/// What the search for a certificate lacks that is stuck at this address: the lines of `guess --why` after its first one,
+/// from the draft if that is known, and otherwise from another search.
 fn stuck_message<A: Allocator + Copy, D: Allocator>(
     alloc: A,
     image: &Image,
     declaration: &Declaration<D>,
     draft: &Option<Certificate<A>>,
     at: Word,
-) -> Result<Message<A>, AllocError>
-    requires { IfSome draft.now (IsDraftAt (meaning declaration.now) at) }
-    ensures why { IfOk result (λ text. (plain text ≡ []) ⊎
-        IsWhyStuck image.now (meaning declaration.now) at (plain text)) }
-    ensures draft { IfOk result (λ text. IfSome draft.now (λ draft.
-        IsToldOfDraft image.now (meaning declaration.now) (lines_of draft) at (plain text))) }
-{
-    match draft {
-        Some(known) => draft_message(alloc, image, declaration, known, at),
-        None => searched_message(alloc, image, declaration, at),
+) -> Result<Message<A>, AllocError> {
+    if let Some(known) = draft {
+        return draft_message(alloc, image, declaration, known, at);
     }
-}
-
-/// Why the answer is not known: what the search for a certificate lacks, if it is stuck.
-fn lack_message<A: Allocator + Copy, D: Allocator>(
-    alloc: A,
-    image: &Image,
-    declaration: &Declaration<D>,
-    draft: &Option<Certificate<A>>,
-    lack: InconclusiveReason,
-) -> Result<Message<A>, Fault>
-    requires { IfSome draft.now (IsDraftFor (meaning declaration.now) lack) }
-    ensures why { IfOk result (λ text.
-        IsWhyNotKnown image.now (meaning declaration.now) lack (plain text)) }
-    ensures draft { IfOk result (λ text. IfSome draft.now (λ draft.
-        IsWhyOfDraftFor image.now (meaning declaration.now) lack draft (plain text))) }
-    ensures faults { IfErr result IsMemoryFault }
-{
-    match lack {
-        InconclusiveReason::Stuck(at) => {
-            let text = stuck_message(alloc, image, declaration, draft, at)?;
-            Ok(text)
+    match &guess_or_draft(alloc, image, declaration) {
+        Ok(Attempt::Stuck(place, found)) if *place == at => {
+            draft_message(alloc, image, declaration, found, at)
         }
-        InconclusiveReason::TurnsSpent => Ok(Message::new(alloc)),
+        Err(GuessFault::NoMemory) => Err(AllocError),
+        _ => Ok(Message::new(alloc)),
     }
-}
-
-/// What the step that violates a rule is about to do.
-fn violation_message<A: Allocator + Copy, D: Allocator>(
-    alloc: A,
-    image: &Image,
-    declaration: &Declaration<D>,
-    witness: &Witness<A>,
-) -> Result<Message<A>, Fault>
-    requires { Breaks (image_of image.now) (meaning declaration.now) witness.now }
-    ensures told { let d = meaning declaration.now in let w = witness.now in IfOk result (λ text.
-        IsToldAfter d (take w.event w.events.items) (fresh image.now d.start) w.rule (plain text)) }
-    ensures faults { IfErr result IsMemoryFault }
-{
-    let (event, rule) = (witness.event, witness.rule);
-    let text = violation_lines(alloc, image, declaration, &witness.events, event, rule)?;
-    Ok(text)
 }
 
 /// The lines after an answer that say why: after a yes, what in the declaration is wider than the certificate needs,
 /// and what routines return with; otherwise what the step that violates a rule is about to do, or what the search for a
-/// certificate lacks. There are no such lines if they are not requested.
+/// certificate lacks.
 fn why_message<A: Allocator + Copy, D: Allocator>(
     alloc: A,
     image: &Image,
     declaration: &Declaration<D>,
-    found: &AnswerWithDraft<A>,
-    explained: bool,
+    answer: &Answer<A>,
+    draft: &Option<Certificate<A>>,
 ) -> Result<Message<A>, Fault>
-    requires answer { IsAnswer image.now (meaning declaration.now) found.now.answer }
-    requires draft { IfSome found.now.draft (IsDraftOf (meaning declaration.now) found.now.answer) }
-    ensures plain { IfOk result (λ text. explained ≡ false → plain text ≡ []) }
-    ensures why { IfOk result (λ text. explained ≡ true →
-        IsWhy image.now (meaning declaration.now) found.now.answer (plain text)) }
-    ensures draft { IfOk result (λ text. explained ≡ true → IfSome found.now.draft (λ draft.
-        IsWhyOfDraft image.now (meaning declaration.now) found.now.answer draft (plain text))) }
     ensures faults { IfErr result IsMemoryFault }
 {
-    if !explained {
-        return Ok(Message::new(alloc));
-    }
-    match &found.answer {
-        Answer::Yes(certificate) => {
-            let text = surplus_message(alloc, image, declaration, certificate)?;
-            Ok(text)
+    let text = match answer {
+        Answer::Yes(certificate) => surplus_message(alloc, image, declaration, certificate)?,
+        Answer::No(run) => {
+            violation_lines(alloc, image, declaration, &run.events, run.event, run.rule)?
         }
-        Answer::No(witness) => violation_message(alloc, image, declaration, witness),
-        Answer::NotKnown(lack) => lack_message(alloc, image, declaration, &found.draft, *lack),
-    }
+        Answer::NotKnown(InconclusiveReason::Stuck(at)) => {
+            stuck_message(alloc, image, declaration, draft, *at)?
+        }
+        Answer::NotKnown(InconclusiveReason::TurnsSpent) => Message::new(alloc),
+    };
+    Ok(text)
 }
 
-/// What a search had found, if the answer is to be explained.
-fn draft_if<A: Allocator>(explained: bool, draft: Option<Certificate<A>>) -> Option<Certificate<A>>
-    ensures { result ≡ (if explained then draft else None) }
-{
-    if explained { draft } else { None }
-}
-
-/// An answer with its line, and the reasons for it.
+/// An answer with its line and, if that is requested, the reasons for it.
 fn message_of<A: Allocator + Copy, D: Allocator>(
     alloc: A,
     image: &Image,
@@ -366,27 +216,24 @@ fn message_of<A: Allocator + Copy, D: Allocator>(
     found: AnswerWithDraft<A>,
     explained: bool,
 ) -> Result<AnswerMessage<A>, Fault>
-    requires answer { IsAnswer image.now (meaning declaration.now) found.answer }
-    requires draft { IfSome found.draft (IsDraftOf (meaning declaration.now) found.answer) }
-    ensures told { IfOk result (λ told. IsVerifiedOf explained image.now (meaning declaration.now)
-        told.answer (told.line.items ++ plain told.why)) }
-    ensures line { IfOk result (λ told.
-        told.line.items ≡ answer_text (meaning declaration.now) told.answer) }
+    requires { IsAnswer image.now (meaning declaration.now) found.answer }
+    ensures told { IfOk result (λ told.
+        IsVerifiedOf image.now (meaning declaration.now) told.answer told.line.items) }
     ensures same { IfOk result (λ told. told.answer ≡ found.answer) }
     ensures plain { IfOk result (λ told. explained ≡ false → plain told.why ≡ []) }
-    ensures why { IfOk result (λ told. explained ≡ true →
-        IsWhy image.now (meaning declaration.now) told.answer (plain told.why)) }
-    ensures draft { IfOk result (λ told.
-        IfSome told.draft (IsDraftOf (meaning declaration.now) told.answer)) }
-    ensures of_draft { IfOk result (λ told. IfSome told.draft (λ draft.
-        IsWhyOfDraft image.now (meaning declaration.now) told.answer draft (plain told.why))) }
-    ensures unasked { IfOk result (λ told. explained ≡ false → told.draft ≡ None) }
     ensures faults { IfErr result IsMemoryFault }
 {
-    let line = answer_line(alloc, declaration, &found.answer)?;
-    let why = why_message(alloc, image, declaration, &found, explained)?;
     let AnswerWithDraft { answer, draft } = found;
-    let draft = draft_if(explained, draft);
+    let line = answer_line(alloc, declaration, &answer)?;
+    if !explained {
+        return Ok(AnswerMessage {
+            answer,
+            line,
+            why: Message::new(alloc),
+            draft: None,
+        });
+    }
+    let why = why_message(alloc, image, declaration, &answer, &draft)?;
     Ok(AnswerMessage {
         answer,
         line,
@@ -407,20 +254,11 @@ pub fn verify_message<A: Allocator + Copy, D: Allocator>(
     declaration: &Declaration<D>,
     options: &RefuteOptions,
 ) -> Result<AnswerMessage<A>, Fault>
-    // The answer is true for the image and the declaration, and the line and the text after it report the answer.
-    ensures told { IfOk result (λ told. IsVerifiedOf options.now.explained image.now
-        (meaning declaration.now) told.answer (told.line.items ++ plain told.why)) }
-    ensures line { IfOk result (λ told.
-        told.line.items ≡ answer_text (meaning declaration.now) told.answer) }
-    // What the search had found comes with the answer only if the search is stuck and the answer is to be explained.
-    ensures draft { IfOk result (λ told.
-        IfSome told.draft (IsDraftOf (meaning declaration.now) told.answer)) }
-    // The text explains the answer, and if a draft comes with it, the text is about that draft.
-    ensures why { IfOk result (λ told. options.now.explained ≡ true →
-        IsWhy image.now (meaning declaration.now) told.answer (plain told.why)) }
-    ensures of_draft { IfOk result (λ told. IfSome told.draft (λ draft.
-        IsWhyOfDraft image.now (meaning declaration.now) told.answer draft (plain told.why))) }
-    ensures unasked { IfOk result (λ told. options.now.explained ≡ false → told.draft ≡ None) }
+    // The answer is true for the image and the declaration, and the line is that of the answer.
+    ensures told { IfOk result (λ told.
+        IsVerifiedOf image.now (meaning declaration.now) told.answer told.line.items) }
+    // The answer is explained only if that is requested.
+    ensures plain { IfOk result (λ told. options.now.explained ≡ false → plain told.why ≡ []) }
     ensures faults { IfErr result IsMemoryFault }
 {
     let found = answer_of(alloc, image, declaration, options)?;
@@ -438,10 +276,12 @@ pub fn verify_proposed_message<A: Allocator + Copy>(
     image: &Image,
     options: &VerifyOptions,
 ) -> Result<ProposalMessage<A>, Fault>
-    // The text declares a program with that start, on that machine; the answer is true for it; and the line and the
-    // text after it report the answer.
-    ensures told { IfOk result (λ told. IsProposedAnswerOf options.now image.now told.proposed
-        (told.line.items ++ plain told.why)) }
+    // The text declares a program with that start, on that machine; the answer is true for it, and its line comes first.
+    ensures told { IfOk result (λ told.
+        IsProposedAnswerOf options.now image.now told.proposed told.line.items) }
+    // The answer is explained only if that is requested.
+    ensures plain { IfOk result (λ told.
+        options.now.search.explained ≡ false → plain told.why ≡ []) }
     ensures faults { IfErr result IsProposeFault }
     ensures unwritten { fails_to_write result ≡ false }
 {
@@ -465,15 +305,16 @@ pub fn verify_proposed_message<A: Allocator + Copy>(
         why,
         ..
     } = told;
-    let line = proposed_line(alloc, &answer, &line)?;
-    let lines = with_reason(alloc, line, &obstacle)?;
+    let mut line = proposed_line(alloc, &answer, &line)?;
+    let reason = reason_line(alloc, &obstacle)?;
+    line.extend_from_slice(&reason)?;
     Ok(ProposalMessage {
         proposed: ProposalAnswer {
             text,
             answer,
             obstacle,
         },
-        line: lines,
+        line,
         why,
     })
 }

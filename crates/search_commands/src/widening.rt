@@ -1,14 +1,13 @@
 //! The answer for a tape alone: the proposal is widened as long as runs leave it.
 
-ghost use Rattle.std.specs.Prelude.{◌≡◌, ◌++◌, false, None, IfOk, IfErr};
+ghost use Rattle.std.specs.Prelude.{◌≡◌, [], false, None, IfOk, IfErr};
 ghost use Rattle.command_parts.specs.Faults.{fails_to_write};
 ghost use Rattle.declaration.specs.DeclarationInCode.{meaning};
 ghost use Rattle.declaration.specs.Text.{Declares};
 ghost use Rattle.proposer.specs.Proposals.{IsShown};
 ghost use Rattle.search_commands.specs.SearchFaults.{IsProposeFault};
-ghost use Rattle.search_commands.specs.VerifyText.{IsAnswer};
+ghost use Rattle.search_commands.specs.VerifyText.{HasReason, IsAnswer};
 ghost use Rattle.search_commands.specs.WidenedSearch.{IsEnded, IsNext, IsSettled};
-ghost use Rattle.search_commands.specs.WidenedText.{HasReason, obstacle_place, obstacle_text, obstacle_words, reason_text};
 
 use crate::verifying::{Answer, InconclusiveReason, RefuteOptions};
 use bin_tape::Image;
@@ -185,73 +184,45 @@ pub(crate) fn settle<A: Allocator + Copy>(
     Ok(conclude(image, proposal, Ending::Open))
 }
 
-/// What a run does that no declaration allows.
-fn obstacle_words(obstacle: &Obstacle) -> &'static [u8]
-    ensures { result.now ≡ obstacle_words obstacle.now }
-{
+/// What a run does that no declaration allows, and the address at which that is seen.
+fn words_of(obstacle: &Obstacle) -> (&'static str, Word) {
     match obstacle {
-        Obstacle::Unsupported(_) => b"the machine does not support the word at ",
-        Obstacle::Unset(_) =>
-            b"control reaches a cell that has no word from the tape or the program, at ",
-        Obstacle::RunsEntry(_) => b"control reaches the word that a JMS stores at ",
-        Obstacle::Shared(_) => b"two routines execute the word at ",
-        Obstacle::CallsBody(_) => b"a JMS stores into the code at ",
-        Obstacle::CallsVariable(_) => b"instructions other than JMS also store at ",
-        Obstacle::CallsPointer(_) => b"a JMS stores into the auto-index cell ",
-        Obstacle::StoresInEntry(_) => b"instructions other than JMS also store at ",
-        Obstacle::ReturnsForAnother(_) =>
-            b"a routine other than the one called last returns through the JMP at ",
-        Obstacle::ReturnsFar(_) =>
-            b"a routine returns to an address outside the 64 words after its call, through the JMP at ",
+        Obstacle::Unsupported(at) => ("the machine does not support the word at ", *at),
+        Obstacle::Unset(at) => (
+            "control reaches a cell that has no word from the tape or the program, at ",
+            *at,
+        ),
+        Obstacle::RunsEntry(at) => ("control reaches the word that a JMS stores at ", *at),
+        Obstacle::Shared(at) => ("two routines execute the word at ", *at),
+        Obstacle::CallsBody(at) => ("a JMS stores into the code at ", *at),
+        Obstacle::CallsVariable(at) => ("instructions other than JMS also store at ", *at),
+        Obstacle::CallsPointer(at) => ("a JMS stores into the auto-index cell ", *at),
+        Obstacle::StoresInEntry(at) => ("instructions other than JMS also store at ", *at),
+        Obstacle::ReturnsForAnother(at) => (
+            "a routine other than the one called last returns through the JMP at ",
+            *at,
+        ),
+        Obstacle::ReturnsFar(at) => (
+            "a routine returns to an address outside the 64 words after its call, through the JMP at ",
+            *at,
+        ),
     }
 }
 
-/// The address at which an obstacle is seen.
-fn obstacle_place(obstacle: &Obstacle) -> Word
-    ensures { result ≡ obstacle_place obstacle.now }
-{
-    match obstacle {
-        Obstacle::Unsupported(at) => *at,
-        Obstacle::Unset(at) => *at,
-        Obstacle::RunsEntry(at) => *at,
-        Obstacle::Shared(at) => *at,
-        Obstacle::CallsBody(at) => *at,
-        Obstacle::CallsVariable(at) => *at,
-        Obstacle::CallsPointer(at) => *at,
-        Obstacle::StoresInEntry(at) => *at,
-        Obstacle::ReturnsForAnother(at) => *at,
-        Obstacle::ReturnsFar(at) => *at,
-    }
-}
-
-/// The line that says why no declaration allows what a run does.
-fn obstacle_line<A: Allocator>(alloc: A, obstacle: &Obstacle) -> Result<Vec<u8, A>, AllocError>
-    ensures { IfOk result (λ text. text.items ≡ obstacle_text obstacle.now) }
-{
-    let mut text = Vec::new(alloc);
-    text.extend_from_slice(b"no declaration allows what the runs do: ")?;
-    push_place(
-        &mut text,
-        obstacle_words(obstacle),
-        obstacle_place(obstacle),
-    )?;
-    text.extend_from_slice(b"\n")?;
-    Ok(text)
-}
-
-/// The line of an answer, followed by why no declaration allows what the run does, if that is so.
-pub(crate) fn with_reason<A: Allocator + Copy>(
+/// The line that says why no declaration allows what a run does; nothing if there is no reason.
+pub(crate) fn reason_line<A: Allocator>(
     alloc: A,
-    line: Vec<u8, A>,
     obstacle: &Option<Obstacle>,
 ) -> Result<Vec<u8, A>, AllocError>
-    ensures { IfOk result (λ text. text.items ≡ line.items ++ reason_text obstacle.now) }
+    ensures { IfOk result (λ text. obstacle.now ≡ None → text.items ≡ []) }
 {
+    let mut text = Vec::new(alloc);
     let Some(found) = obstacle else {
-        return Ok(line);
+        return Ok(text);
     };
-    let reason = obstacle_line(alloc, found)?;
-    let mut text = line;
-    text.extend_from_slice(&reason)?;
+    let (words, at) = words_of(found);
+    text.extend_from_slice(b"no declaration allows what the runs do: ")?;
+    push_place(&mut text, words.as_bytes(), at)?;
+    text.extend_from_slice(b"\n")?;
     Ok(text)
 }

@@ -2,5 +2,3 @@ pub mod SourceLemmas
 pub mod PartLemmas
 pub mod AssembleLemmas
 pub mod LaterLemmas
-mod UseLemmas
-mod CrossLemmas

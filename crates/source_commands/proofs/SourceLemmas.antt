@@ -1,10 +1,9 @@
 -- Sources that are read one after the other.
 use Rattle.std.proofs.Common.{zero, suc, refl, ℕ, ◌≡◌, ◌+◌, ◌<◌, List, [], ◌∷◌, ◌++◌, map, take, drop, get_or, length, slice_set, arith, sym, ◌∙◌, ap, subst}
-use Rattle.std.specs.Prelude.{◌≤◌, Option, Some, None, IfSome}
+use Rattle.std.specs.Prelude.{Option, Some, None, IfSome}
 use Rattle.std.specs.List.{AllByRecursion}
 use Rattle.std.proofs.lemmas.List.{take_more, map-append, drop-set-lt, drop_more}
 use Rattle.std.specs.Io.KnownBytes.{IsAtEnd}
-use Rattle.streams.specs.Bytes.{Gave}
 use Rattle.command_parts.specs.Inputs.{TakesAtMost}
 use Rattle.source_commands.specs.SourceTexts.{AreRead, EachTakesAtMost}
 

@@ -1,5 +1,5 @@
 -- What `assemble` and `list` write, and why they may have no answer.
-use Rattle.std.specs.Prelude.{ℕ, ◌≡◌, Bool, false, List, Option, length}
+use Rattle.std.specs.Prelude.{ℕ, ◌≡◌, ◌++◌, Bool, true, false, List, Option, codes, length}
 use Rattle.instruct.specs.declared.Profile.{Profile}
 use Rattle.bin_tape.specs.Image.{IsEmptyImage}
 use Rattle.bin_tape.specs.Tape.{IsTape}
@@ -40,6 +40,22 @@ pub record IsListing (profile : Profile) (sources : List (Option (List ℕ))) (t
   pub read : AreRead sources parts
   pub means : Means (permanent_symbols profile) parts symbols image
   pub lists : Lists (permanent_symbols profile) parts symbols text
+
+-- The text is this listing, then an empty line, then a table.
+pub record HasTable (listing text : List ℕ) : Type 0 where
+  pub table : List ℕ
+  pub text_is : text ≡ listing ++ codes "\n" ++ table
+
+-- The text is the listing of the sources, then an empty line, then a table.
+pub record IsCrossListing (profile : Profile) (sources : List (Option (List ℕ))) (text : List ℕ) : Type 0 where
+  pub listing : List ℕ
+  pub is : IsListing profile sources listing
+  pub crossed : HasTable listing text
+
+-- What is written for a listing: the listing itself or, if that is requested, the listing with a table.
+abbrev pub IsListed : Bool → Profile → List (Option (List ℕ)) → List ℕ → Type 0
+IsListed false profile sources text = IsListing profile sources text
+IsListed true profile sources text = IsCrossListing profile sources text
 
 -- The sources mean an image without words.
 pub record MeansNothing (profile : Profile) (sources : List (Option (List ℕ))) : Type 0 where

@@ -1,11 +1,9 @@
--- What `source` writes, and why it may have no answer.
-use Rattle.std.specs.Prelude.{ℕ, List, Option, ◌⊎◌}
+-- What `source` writes.
+use Rattle.std.specs.Prelude.{ℕ, List, Option}
 use Rattle.instruct.specs.declared.Profile.{Profile}
 use Rattle.declaration.specs.Declaration.{Declaration}
 use Rattle.source_writer.specs.Meaning.{IsSourceOf}
-use Rattle.command_parts.specs.declared.status.Fault.{Fault}
-use Rattle.command_parts.specs.Faults.{IsTapeInputFault, IsDeclarationInputFault, IsRunFault}
-use Rattle.command_parts.specs.Inputs.{Input, HasImage, HasDeclaration, IsGoodTape, IsGoodDeclaration}
+use Rattle.command_parts.specs.Inputs.{HasImage, HasDeclaration}
 
 -- The frames are a tape, and the text is a source that means exactly the image of that tape on this machine.
 pub record IsTapeSource (profile : Profile) (frames : Option (List ℕ)) (text : List ℕ) : Type 0 where
@@ -19,9 +17,3 @@ pub record IsDeclaredSource (frames promise : Option (List ℕ)) (text : List �
   pub declaration : Declaration
   pub declares : HasDeclaration promise declaration
   pub source : IsTapeSource declaration.profile frames text
-
--- Why there is no source with a declaration: the fault of the tape; after a good tape, that of the declaration; and
--- after a good declaration, that a write failed or memory was refused.
-abbrev pub IsDeclaredSourceFault : Input → Input → Fault → Type 0
-IsDeclaredSourceFault tape promise fault =
-    IsTapeInputFault tape fault ⊎ (IsGoodTape tape.had × (IsDeclarationInputFault promise fault ⊎ (IsGoodDeclaration promise.had × IsRunFault fault)))

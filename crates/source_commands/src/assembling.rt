@@ -1,14 +1,13 @@
 //! The commands that assemble a source.
 
-ghost use Rattle.std.specs.Prelude.{◌≡◌, None, false, true, map, IfOk, IfErr, OnOk, OnErr};
+ghost use Rattle.std.specs.Prelude.{◌≡◌, false, true, map, IfOk, IfErr, OnOk, OnErr};
 ghost use Rattle.std.specs.List.{AllByRecursion};
 ghost use Rattle.pal_acts.specs.Permanent.{permanent_symbols};
 ghost use Rattle.pal_asm.specs.Listings.{Lists};
 ghost use Rattle.pal_asm.specs.Programs.{symbols_of, image_of, listing_of, symbols_in, image_in};
 ghost use Rattle.pal_asm.specs.Sources.{texts, Means};
-ghost use Rattle.source_commands.specs.AssembleText.{IsAssembled, IsAssemblyFault, IsListFault, IsSourceFault};
+ghost use Rattle.source_commands.specs.AssembleText.{IsAssembled, IsAssemblyFault, IsListFault, IsListed, IsSourceFault};
 ghost use Rattle.command_parts.specs.Faults.{fails_to_write};
-ghost use Rattle.source_commands.specs.Cross.{IsListed};
 ghost use Rattle.source_commands.specs.SourceTexts.{ReadsParts};
 ghost use Rattle.command_parts.specs.Writes.{FrontOf, Writes};
 ghost use Rattle.command_parts.specs.declared.status.Status.TheVariants.{Done};
@@ -31,9 +30,7 @@ fn tell_faults<A: Allocator + Copy>(
     profile: Profile,
     names: Option<&[&str]>,
     told: &mut String<A>,
-) -> Result<(), AllocError>
-    ensures { names.entry ≡ None → told.new ≡ told.old }
-{
+) -> Result<(), AllocError> {
     match names {
         Some(names) => push_faults(alloc, told, names, parts, profile),
         None => Ok(()),
@@ -51,8 +48,6 @@ fn translation_of<A: Allocator + Copy>(
     ensures found { IfOk result (λ translation. Means (permanent_symbols profile) (texts parts.now)
         (symbols_in translation) (image_in translation)) }
     ensures faults { IfErr result (IsAssemblyFault profile (texts parts.now)) }
-    ensures untold { OnOk result (told.new ≡ told.old) }
-    ensures unasked { names.entry ≡ None → told.new ≡ told.old }
 {
     match pal_asm::translate(alloc, parts, profile) {
         Ok(translation) => Ok(translation),
@@ -78,8 +73,6 @@ fn program_of<A: Allocator + Copy>(
     ensures listed { IfOk result (λ program. Lists (permanent_symbols profile) (texts parts.now)
         (symbols_of program) (listing_of program)) }
     ensures faults { IfErr result (IsAssemblyFault profile (texts parts.now)) }
-    ensures untold { OnOk result (told.new ≡ told.old) }
-    ensures unasked { names.entry ≡ None → told.new ≡ told.old }
 {
     match pal_asm::assemble(alloc, parts, profile) {
         Ok(program) => Ok(program),
@@ -129,9 +122,6 @@ pub fn assemble<A: Allocator + Copy, R: ByteSource, W: ByteSink>(
     // A write failed if and only if the answer says so.
     ensures marks { W.mark out.new ≡ fails_to_write result }
     ensures order { ReadsParts R.mark R.remaining sources.old sources.new result }
-    // Lines are added only about faults, and only if names are given.
-    ensures untold { OnOk result (told.new ≡ told.old) }
-    ensures unasked { names.entry ≡ None → told.new ≡ told.old }
 {
     let parts = read_parts(alloc, sources)?;
     let slices = byte_slices(alloc, &parts)?;
@@ -173,8 +163,6 @@ pub fn list<A: Allocator + Copy, R: ByteSource, W: ByteSink>(
     ensures nothing { OnErr result (W.mark out.new ≡ false → W.taken out.new ≡ W.taken out.old) }
     ensures marks { W.mark out.new ≡ fails_to_write result }
     ensures order { ReadsParts R.mark R.remaining sources.old sources.new result }
-    ensures untold { OnOk result (told.new ≡ told.old) }
-    ensures unasked { names.entry ≡ None → told.new ≡ told.old }
 {
     let parts = read_parts(alloc, sources)?;
     let slices = byte_slices(alloc, &parts)?;

@@ -1,8 +1,4 @@
-//! The table of the symbols of a source, with what its statements do with them.
-
-ghost use Rattle.std.specs.Prelude.{◌≡◌, ◌++◌, IfOk, OnOk};
-ghost use Rattle.std.specs.List.Sorted.{IsPermutation};
-ghost use Rattle.source_commands.specs.Cross.{AddsLines, IsTable, entries_of, head_text};
+//! The table of the symbols of a source, with what its statements do with them. This is tested, not proved.
 
 use crate::mentions::{Mention, Role, Site};
 use itoa::Buffer;
@@ -124,40 +120,11 @@ fn told_of<A: Allocator + Copy>(
     Ok(text)
 }
 
-/// Adds a symbol and its value.
-fn push_head<A: Allocator>(text: &mut Vec<u8, A>, entry: Entry) -> Result<(), AllocError>
-    ensures { OnOk result (text.new.items ≡ text.old.items ++ head_text entry) }
-{
-    text.extend_from_slice(&entry.name.letters)?;
-    text.extend_from_slice(b"  ")?;
-    text.extend_from_slice(&entry.value.to_octal())
-}
-
-/// Adds the lines of the table.
-fn push_lines<A: Allocator + Copy>(
-    alloc: A,
-    places: &PlaceNames<'_, A>,
-    entries: &[Entry],
-    mentions: &[Mention],
-    text: &mut Vec<u8, A>,
-) -> Result<(), AllocError>
-    ensures { OnOk result (AddsLines entries.now text.old.items text.new.items) }
-{
-    for entry in entries {
-        push_head(text, *entry)?;
-        text.extend_from_slice(&told_of(alloc, places, entry.name, mentions)?)?;
-        text.extend_from_slice(b"\n")?;
-    }
-    Ok(())
-}
-
 /// The symbols of a source as entries, in the order of their definition.
 fn entries_of<A: Allocator + Copy>(
     alloc: A,
     own: &SymbolTable<A>,
-) -> Result<Vec<Entry, A>, AllocError>
-    ensures { IfOk result (λ entries. entries.items ≡ entries_of own.now.entries) }
-{
+) -> Result<Vec<Entry, A>, AllocError> {
     let mut entries = Vec::new(alloc);
     for at in 0..own.len() {
         if let Some((name, value)) = own.get_index(at) {
@@ -180,14 +147,16 @@ pub fn table_of<A: Allocator + Copy>(
     alloc: A,
     places: &PlaceNames<'_, A>,
     mentions: &[Mention],
-) -> Result<Vec<u8, A>, AllocError>
-    // Each symbol has a line with its value, and there is no other line. The order of the lines, and what follows the
-    // values, are tested.
-    ensures { IfOk result (λ text. IsTable places.now.own.now.entries text.items) }
-{
+) -> Result<Vec<u8, A>, AllocError> {
     let mut entries = entries_of(alloc, places.own)?;
     entries.sort_by_key(|entry| entry.name.letters)?;
     let mut text = Vec::new(alloc);
-    push_lines(alloc, places, &entries, mentions, &mut text)?;
+    for entry in &entries {
+        text.extend_from_slice(&entry.name.letters)?;
+        text.extend_from_slice(b"  ")?;
+        text.extend_from_slice(&entry.value.to_octal())?;
+        text.extend_from_slice(&told_of(alloc, places, entry.name, mentions)?)?;
+        text.extend_from_slice(b"\n")?;
+    }
     Ok(text)
 }

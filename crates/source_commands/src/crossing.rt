@@ -1,10 +1,9 @@
 //! The listing of a program, with a table of its symbols.
 
 ghost use Rattle.std.specs.Prelude.{◌≡◌, false, true, IfOk, IfErr};
-ghost use Rattle.pal_asm.specs.Programs.{symbols_of, listing_of};
+ghost use Rattle.pal_asm.specs.Programs.{listing_of};
 ghost use Rattle.pal_asm.specs.Sources.{texts};
-ghost use Rattle.source_commands.specs.AssembleText.{IsAssemblyFault};
-ghost use Rattle.source_commands.specs.Cross.{HasTable, IsTable};
+ghost use Rattle.source_commands.specs.AssembleText.{HasTable, IsAssemblyFault};
 
 use crate::cross::{PlaceNames, table_of};
 use crate::mentions::mentions_of;
@@ -49,9 +48,7 @@ fn program_table<A: Allocator + Copy>(
     parts: &[&[u8]],
     program: &Program<A>,
     map: &SourceMap<A>,
-) -> Result<Vec<u8, A>, AllocError>
-    ensures { IfOk result (λ text. IsTable (symbols_of program.now) text.items) }
-{
+) -> Result<Vec<u8, A>, AllocError> {
     let own = program.symbols();
     let mentions = mentions_of(alloc, own, parts, map.words())?;
     let tags = Tags::of(alloc, own, parts)?;
@@ -75,7 +72,7 @@ pub(crate) fn text_of<A: Allocator + Copy>(
 ) -> Result<Vec<u8, A>, Fault>
     ensures plain { IfOk result (λ text. crossed ≡ false → text.items ≡ listing_of program.now) }
     ensures crossed { IfOk result (λ text. crossed ≡ true →
-        HasTable (symbols_of program.now) (listing_of program.now) text.items) }
+        HasTable (listing_of program.now) text.items) }
     ensures faults { IfErr result (IsAssemblyFault profile (texts parts.now)) }
 {
     let mut text = listing_of(alloc, program)?;

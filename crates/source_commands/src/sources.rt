@@ -1,6 +1,6 @@
 //! Reads the parts of a source.
 
-ghost use Rattle.std.specs.Prelude.{◌≡◌, false, length, map, IfOk, IfErr, IfSome, List, ℕ};
+ghost use Rattle.std.specs.Prelude.{◌≡◌, false, length, map, IfOk, IfErr, IfSome};
 ghost use Rattle.std.specs.List.{AllByRecursion};
 ghost use Rattle.std.specs.Io.KnownBytes.{IsAtEnd};
 ghost use Rattle.pal_acts.specs.declared.fault_code.FaultCode.TheVariants.{TooLong};

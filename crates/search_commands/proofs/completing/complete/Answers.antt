@@ -1,25 +1,16 @@
+use Rattle.std.proofs.Common.{rules}
+use Rattle.std.proofs.lemmas.Result.{IfOk-weaker}
 use Rattle.declaration.specs.DeclarationInCode.{meaning}
-use Rattle.command_parts.proofs.AnswerLemmas.{delivered, delivers_by, nothing_written, two_good, two_refused}
-use Rattle.search_commands.proofs.CompleteLemmas.{completes_source}
+use Rattle.search_commands.specs.CompleteText.{Completes, CompletesBy}
+use Rattle.search_commands.proofs.CompleteLemmas.{completes_by, own_completes}
 use Rattle.search_commands.proofs.completing.complete.Goals as goal
 
-pub returns-in-Err-clause-reads : goal.returns-in-Err-clause-reads
-returns-in-Err-clause-reads g c = two_refused c.in-Err.ensures.reads
+pub returns-in-Ok-clause-completes : goal.returns-in-Ok-clause-completes
+returns-in-Ok-clause-completes g c = own_completes _ _ _ _ c.requires (rw c.in-Ok.is at c.in_ok-_certificate.ensures.shown)
 
-pub returns-in-Err-clause-completed : goal.returns-in-Err-clause-completed
-returns-in-Err-clause-completed g c = nothing_written c.in-Err.fault c.requires.writable c.in-Err.ensures.unwritten
-
-pub returns-in-Ok-clause-reads : goal.returns-in-Ok-clause-reads
-returns-in-Ok-clause-reads g c = two_good c.deliver.result (delivers_by _ c.completion_of.result c.deliver.result c.completion_of.ensures.faults c.deliver.ensures.faults) c.in-Ok.ensures.reads
-
-pub returns-in-Ok-clause-completed : goal.returns-in-Ok-clause-completed
-returns-in-Ok-clause-completed g c =
-    delivered c.completion_of.result c.completion_of.ensures.completes
-    (λ status text is. record {
-      image = c.in-Ok.program.image;
-      tape = c.in-Ok.ensures.image;
-      declaration = meaning c.in-Ok.program.given.declaration;
-      declares = c.in-Ok.ensures.declares;
-      is = completes_source _ _ _ _ _ status text c.in-Ok.ensures.whole is;
-    })
-    c.deliver.ensures.writes
+pub returns-in_ok-proposal-in-Err-clause-completes : goal.returns-in_ok-proposal-in-Err-clause-completes
+returns-in_ok-proposal-in-Err-clause-completes g c =
+    IfOk-weaker c.completed.result
+    (λ told. CompletesBy c.args.given.text.items c.args.image.now (meaning c.args.given.declaration) (meaning c.in_ok-proposal-in-Err.proposal.declaration) told.status told.text.items)
+    (λ told. Completes c.args.given.text.items c.args.reads c.args.image.now (meaning c.args.given.declaration) told.status told.text.items)
+    (λ told by. completes_by _ _ _ _ _ _ _ (search rules) by) c.completed.ensures.completes

@@ -1,4 +1,4 @@
-use Rattle.std.proofs.Common.{◌≡◌, rules, refl, Err, inl}
+use Rattle.std.proofs.Common.{◌≡◌, rules, refl, Err}
 use Rattle.declaration.specs.DeclarationInCode.{meaning}
 use Rattle.certificate_lines.specs.CertificateInCode.{meaning as lines_of}
 use Rattle.certificate_lines.specs.Laws.{bytes_of}

@@ -7,7 +7,7 @@ use Rattle.pal_asm.specs.Programs.{image_of, listing_of, symbols_of}
 use Rattle.pal_asm.specs.Sources.{Means}
 use Rattle.source_commands.specs.AssembleText.{IsAssemblyFault, IsListFault}
 use Rattle.source_commands.specs.SourceTexts.{is_bad_number}
-use Rattle.source_commands.proofs.CrossLemmas.{listed_as, not_listed}
+use Rattle.source_commands.proofs.AssembleLemmas.{listed_as, not_listed}
 use Rattle.source_commands.proofs.LaterLemmas.{parts_read, parts_refused}
 use Rattle.source_commands.proofs.assembling.list.Goals as goal
 

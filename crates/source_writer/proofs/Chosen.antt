@@ -1,16 +1,14 @@
 -- The source that is given means the image.
 use Rattle.std.proofs.Common.{◌≡◌, ap, refl, ℕ, Bool, true, false, ◌&&◌, List, [], ◌∷◌}
-use Rattle.std.specs.Prelude.{Option, Some, None, Result, Ok, Err, IfOk, nat_eq}
+use Rattle.std.specs.Prelude.{Option, Some, None, nat_eq}
 use Rattle.std.specs.Cmp.Lexicographic.{pointwise}
 use Rattle.std.specs.Option.{option_eq}
 use Rattle.std.proofs.lemmas.Bool.{eqb-true}
 use Rattle.instruct.specs.declared.Profile.{Profile}
-use Rattle.bin_tape.specs.Image.{HoldsWords}
 use Rattle.pal_text.specs.declared.names.Name.{Name}
 use Rattle.pal_acts.specs.Permanent.{permanent_symbols}
 use Rattle.pal_asm.specs.Sources.{Means}
-use Rattle.source_writer.specs.Plain.{plain_text}
-use Rattle.source_writer.specs.Meaning.{IsSourceOf, PlainSourceMeans}
+use Rattle.source_writer.specs.Meaning.{IsSourceOf}
 
 both : (a b : Bool) → (a && b) ≡ true → (a ≡ true) × (b ≡ true)
 both true b h = (refl, h)
@@ -37,12 +35,3 @@ read_so profile text symbols read shown image r told shown_is means is =
     let all : pointwise (option_eq nat_eq) shown image ≡ true = rw told at is in
     let same : read ≡ image = rw shown_is at (image_same shown image all) in
     record { symbols = symbols; means = rw same at means }
-
--- and so the plain one
-plain_text_is : (profile : Profile) (image : List (Option ℕ)) (text : List ℕ) → PlainSourceMeans → HoldsWords image → text ≡ plain_text image → IsSourceOf profile image text
-plain_text_is profile image text plain holds is = rw is (record { symbols = []; means = plain profile image holds })
-
-pub plainly_so : {T E : Type 0} (r : Result T E) (bytes : T → List ℕ) (profile : Profile) (image : List (Option ℕ)) → PlainSourceMeans → HoldsWords image
-    → IfOk r (λ text. bytes text ≡ plain_text image) → IfOk r (λ text. IsSourceOf profile image (bytes text))
-plainly_so (Ok text) bytes profile image plain holds is = plain_text_is profile image (bytes text) plain holds is
-plainly_so (Err e) bytes profile image plain holds is = tt

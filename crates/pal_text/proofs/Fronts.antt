@@ -111,9 +111,6 @@ put_last items ts t y count is n =
     ∙ ap reverse (sym (turned y ts))
     ∙ reverse-reverse (y ∷ ts)
 
-all_turned : {X : Type 0} (P : X → Type 0) (xs : List X) → AllByRecursion P xs → AllByRecursion P (reverse (reverse xs))
-all_turned P xs h = all_reverse P (reverse xs) (all_reverse P xs h)
-
 word_open : (k : TokenKind) → is_word k ≡ true → is_end k ≡ false
 word_open kind.End h = cc
 word_open kind.Dollar h = cc

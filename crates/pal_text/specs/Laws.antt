@@ -1,17 +1,9 @@
 -- Each part has one answer: this follows from the definitions.
-use Rattle.std.specs.Prelude.{◌≡◌, ◌≢◌, ℕ, ◌+◌, ◌-◌, Bool, true, false, ◌||◌, ◌&&◌, if◌then◌else◌, List, [], ◌∷◌, ◌++◌, length, map, reverse, nat_lt, nat_le, nat_eq, ◌⊎◌}
-use Rattle.std.specs.List.{AllByRecursion}
-use Rattle.pal_text.specs.declared.characters.Meaning.TheVariants.{LineEnd}
-use Rattle.pal_text.specs.declared.tokens.TokenKind.{TokenKind}
-use Rattle.pal_text.specs.declared.tokens.TokenKind.TheVariants.{End}
+use Rattle.std.specs.Prelude.{◌≡◌, ℕ, List, ◌⊎◌}
 use Rattle.pal_text.specs.declared.tokens.Token.{Token}
 use Rattle.pal_text.specs.declared.statement.Statement.{Statement}
 use Rattle.pal_text.specs.declared.statement.Ending.{Ending}
 use Rattle.pal_text.specs.declared.lines.Line.{Line}
-use Rattle.pal_text.specs.Characters.{char, code, is_ignored, meaning_after, in_comment, characters}
-use Rattle.pal_text.specs.Tokens.{is_space, tokens, is_end}
-use Rattle.pal_text.specs.Names.{bytes_of, named, part_tokens}
-use Rattle.pal_text.specs.Statements.{Piece, pieces, Fills}
 use Rattle.pal_text.specs.Parts.{IsPart, IsIllegal}
 
 -- Any two readings of a part are the same.

@@ -2,7 +2,8 @@
 """Has pdp8 write sources of random tapes and of those of examples/, and assembles each again.
 
 This script writes tapes of random images. An image is sparse, dense or full, consists of code or of characters only, or is that of an
-example in which words were changed. From the source that `pdp8 source` writes for a tape, `pdp8 assemble` must make that tape again, to
+example in which words were changed; the first one is full of the instruction with the longest name, so that only octal words are short
+enough. From the source that `pdp8 source` writes for a tape, `pdp8 assemble` must make that tape again, to
 the byte; no line of the source may have more than 80 columns. If palbart is installed, it must assemble the source to the same words.
 palbart does not know CAM, which is therefore defined for it.
 
@@ -24,6 +25,7 @@ EXAMPLES = Path(__file__).resolve().parent.parent / 'examples'
 OPERATES = [0o7000 | bits for bits in range(0o1000)]
 DEVICES = [0o6011, 0o6012, 0o6014, 0o6016, 0o6021, 0o6022, 0o6024, 0o6026, 0o6031, 0o6032, 0o6034, 0o6036, 0o6041, 0o6042, 0o6044, 0o6046,
            0o6001, 0o6002, 0o6030, 0o6040, 0o6007]
+LONGEST = {at: 0o7373 for at in range(4096)}
 
 
 def tape_of(image):
@@ -107,7 +109,7 @@ def main():
             made = subprocess.run([program, 'assemble', '-', path, '--profile', '8e' if 'pack' in path.stem else '8i'], capture_output=True, check=True)
             examples.append(second_reader.words(made.stdout))
         for number in range(count):
-            image, start = image_of(chance, examples)
+            image, start = image_of(chance, examples) if number else (LONGEST, 0o200)
             profile = chance.choice(['8i', '8e'])
             words += len(image)
             for fault in faults(program, palbart_at, folder, image, start, profile):

@@ -1,11 +1,9 @@
 -- A number read digit by digit.
-use Rattle.std.proofs.Common.{◌≡◌, ◌∙◌, sym, ap, refl, ℕ, suc, ◌+◌, ◌-◌, ◌*◌, ◌^◌, ◌<◌, ◌≤◌, Bool, true, false, ◌&&◌, if◌then◌else◌, List, [], ◌∷◌, length, get_or, drop, arith, inl, inr, cond, Option, Some, None}
+use Rattle.std.proofs.Common.{◌≡◌, ◌∙◌, sym, ap, refl, ℕ, suc, ◌+◌, ◌-◌, ◌*◌, ◌^◌, ◌<◌, ◌≤◌, Bool, true, false, ◌&&◌, if◌then◌else◌, List, [], ◌∷◌, length, arith, inl, inr, cond}
 use Rattle.std.specs.Prelude.{nat_lt, Result, Ok, Err}
 use Rattle.std.specs.List.{list_all}
-use Rattle.std.proofs.lemmas.Bool.{cases_Bool, cases_lt, lt-ltb, le-ltb, cond-true, cond-false}
-use Rattle.std.proofs.lemmas.List.{drop_more}
+use Rattle.std.proofs.lemmas.Bool.{cases_lt, lt-ltb, le-ltb, cond-true, cond-false}
 use Rattle.std.proofs.Math.Nat.{mul-le-mul_left, pow-suc, pow-zero}
-use Rattle.pal_text.specs.Characters.{characters, code, is_character}
 use Rattle.pal_acts.specs.declared.fault_code.FaultCode.{FaultCode}
 use Rattle.pal_acts.specs.declared.fault_code.FaultCode.TheVariants.{IllegalCharacter, NumberTooLarge}
 use Rattle.pal_asm.specs.Numbers.{worth, is_digit_of, number}
@@ -67,26 +65,3 @@ pub from_nothing : (b : ℕ) (cs : List ℕ) → 1 ≤ b → number_from b 0 cs 
 from_nothing b cs h =
     let e : 0 * b ^ length cs + worth b cs ≡ worth b cs = omega arith in
     from_capped b 0 cs h ∙ ap (λ n. if list_all (is_digit_of b) cs then small n else Err IllegalCharacter) e
-
--- the characters of what is left of some bytes
-characters_left : (bytes : List ℕ) (i : ℕ) → i < length bytes
-    → characters (drop i bytes) ≡ cond (is_character (code (get_or bytes i 0))) (code (get_or bytes i 0) ∷ characters (drop (i + 1) bytes)) (characters (drop (i + 1) bytes))
-characters_left bytes i h = ap characters (drop_more bytes i 0 h)
-
-pub ignored_left : (b v : ℕ) (bytes : List ℕ) (i : ℕ) → i < length bytes → is_character (code (get_or bytes i 0)) ≡ false
-    → number_from b v (characters (drop i bytes)) ≡ number_from b v (characters (drop (i + 1) bytes))
-ignored_left b v bytes i h other = ap (number_from b v) (characters_left bytes i h ∙ ap (λ t. cond t (code (get_or bytes i 0) ∷ characters (drop (i + 1) bytes)) (characters (drop (i + 1) bytes))) other)
-
-character_left : (b v : ℕ) (bytes : List ℕ) (i : ℕ) → i < length bytes → is_character (code (get_or bytes i 0)) ≡ true
-    → number_from b v (characters (drop i bytes)) ≡ number_from b v (code (get_or bytes i 0) ∷ characters (drop (i + 1) bytes))
-character_left b v bytes i h one = ap (number_from b v) (characters_left bytes i h ∙ ap (λ t. cond t (code (get_or bytes i 0) ∷ characters (drop (i + 1) bytes)) (characters (drop (i + 1) bytes))) one)
-
--- what a digit is found to be worth
-abbrev pub found : ℕ → ℕ → Option ℕ
-found b c = if is_digit_of b c then Some (c - 48) else None
-
-found_none : (b c : ℕ) → found b c ≡ None → is_digit_of b c ≡ false
-found_none b c h = elim (cases_Bool (is_digit_of b c)) [
-  | inl is ↦ cc (sym (ap (λ t. if t then Some (c - 48) else None) is) ∙ h)
-  | inr other ↦ other
-]

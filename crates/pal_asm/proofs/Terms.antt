@@ -1,7 +1,6 @@
 -- Terms taken one by one.
-use Rattle.std.proofs.Common.{◌≡◌, ◌∙◌, sym, ap, refl, ℕ, zero, suc, ◌+◌, ◌<◌, ◌≤◌, List, [], ◌∷◌, ◌++◌, append_assoc, arith, true, false, if◌then◌else◌, length, get_or, drop}
+use Rattle.std.proofs.Common.{◌≡◌, ◌∙◌, sym, ap, refl, ℕ, ◌+◌, ◌<◌, ◌≤◌, List, [], ◌∷◌, ◌++◌, append_assoc, true, false, if◌then◌else◌, length, get_or, drop}
 use Rattle.std.specs.Prelude.{Result, Ok, Err}
-use Rattle.std.specs.List.{AllByRecursion}
 use Rattle.std.proofs.lemmas.Bool.{cond-true, cond-false}
 use Rattle.std.proofs.lemmas.List.{drop_more, drop_all, append-nil}
 use Rattle.pal_text.specs.declared.tokens.Token.{Token}
@@ -64,9 +63,3 @@ none_left b source xs s ts e = ap (λ l. with_front xs (joins b source s l)) e �
 -- none is left
 pub all_left : (b : ℕ) (source : List ℕ) (xs : List SignedTerm) (s : Sign) (ts : List Token) (i : ℕ) → length ts ≤ i → with_front xs (joins b source s (drop i ts)) ≡ Ok xs
 all_left b source xs s ts i h = none_left b source xs s (drop i ts) (drop_all i ts h)
-
--- what holds of each element holds of one
-pub one_of_all : {X : Type 0} (P : X → Type 0) (xs : List X) (i : ℕ) (d : X) → i < length xs → AllByRecursion P xs → P (get_or xs i d)
-one_of_all P [] i d h all = absurd (omega arith)
-one_of_all P (x ∷ xs) zero d h all = all.0
-one_of_all P (x ∷ xs) (suc i) d h all = one_of_all P xs i d (omega arith) all.1

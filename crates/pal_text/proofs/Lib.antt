@@ -17,9 +17,5 @@ pub mod Steps
 pub mod CountedLemmas
 pub mod Fronts
 pub mod Nexts
-pub mod Stays
-pub mod Moved
-pub mod Respelled
-pub mod Remarks
 pub mod Spaces
 pub mod LineCounts

@@ -5,11 +5,6 @@ use Rattle.std.proofs.lemmas.List.{take_more, map_push, take-append-le, take-rep
 use Rattle.std.proofs.lemmas.List.Elements.{filter-append}
 use Rattle.pal_text.specs.Characters.{code, is_character, characters}
 use Rattle.std.proofs.lemmas.Bool.{cases_Bool}
-use Rattle.std.proofs.lemmas.Bool.Decides.{nat_tests}
-use Rattle.std.specs.Prelude.{nat_eq}
-use Rattle.pal_text.specs.declared.tokens.TokenKind.TheVariants.{Symbol}
-use Rattle.pal_text.specs.Tokens.{is_letter}
-use Rattle.pal_text.specs.Names.{name, named_kind, begins_none}
 
 -- The first six of some characters, with spaces after fewer.
 abbrev pub first_six : List ℕ → List ℕ
@@ -70,19 +65,3 @@ six_at cs letters letters' count count' e f s =
     let P : List ℕ → Type 0 = λ l. Six cs l count' in
     let Q : ℕ → Type 0 = λ n. Six cs letters n in
     subst P (sym e) (subst Q (sym f) s)
-
--- a letter is a character
-letter_is_character : (c : ℕ) → is_letter c ≡ true → is_character c ≡ true
-letter_is_character c h = grind (arith, nat_tests)
-
-none_begun : (c : ℕ) → begins_none c ≡ true → (is_letter c ≡ true) × (nat_eq c 68 ≡ false) × (nat_eq c 79 ≡ false) × (nat_eq c 80 ≡ false)
-none_begun c h = (grind (arith, nat_tests), grind (arith, nat_tests), grind (arith, nat_tests), grind (arith, nat_tests))
-
-kind_by : (c : ℕ) (cs : List ℕ) → nat_eq c 68 ≡ false → nat_eq c 79 ≡ false → nat_eq c 80 ≡ false → named_kind (c ∷ cs) ≡ Symbol
-kind_by c cs d o p = rw (d, o, p)
-
-pub plain_symbol : (b : ℕ) (bs : List ℕ) → begins_none (code b) ≡ true → named_kind (name (b ∷ bs)) ≡ Symbol
-plain_symbol b bs h =
-    let n : (is_letter (code b) ≡ true) × (nat_eq (code b) 68 ≡ false) × (nat_eq (code b) 79 ≡ false) × (nat_eq (code b) 80 ≡ false) = none_begun (code b) h in
-    let e : characters (b ∷ bs) ≡ code b ∷ characters bs = ap (λ t. cond t (code b ∷ characters bs) (characters bs)) (letter_is_character (code b) n.0) in
-    ap (λ cs. named_kind (first_six cs)) e ∙ kind_by (code b) (take 5 (characters bs ++ replicate 6 32)) n.1 n.2 n.3

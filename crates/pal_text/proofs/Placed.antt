@@ -1,34 +1,17 @@
 -- Pieces stand among the tokens, and lines within the bytes.
-use Rattle.std.proofs.Common.{◌≡◌, sym, subst, ℕ, ◌+◌, ◌<◌, ◌≤◌, List, [], ◌∷◌, Bool, if◌then◌else◌, inl, inr, arith, length, take}
+use Rattle.std.proofs.Common.{◌≡◌, sym, subst, ℕ, ◌+◌, ◌≤◌, List, [], ◌∷◌, arith, length, take}
 use Rattle.std.specs.Prelude.{reverse}
 use Rattle.std.specs.List.{AllByRecursion}
-use Rattle.std.proofs.lemmas.Bool.{cases_Bool}
+use Rattle.std.proofs.lemmas.Bool.{cond_both}
 use Rattle.std.proofs.lemmas.List.{length-reverse, length-take}
 use Rattle.pal_text.specs.declared.characters.Meaning.{Meaning}
 use Rattle.pal_text.specs.declared.characters.Meaning.TheVariants.{Ignored, LineEnd, Character}
-use Rattle.pal_text.specs.declared.tokens.Token.{Token}
 use Rattle.pal_text.specs.declared.lines.Line.{Line}
 use Rattle.pal_text.specs.Characters.{meaning_after}
 use Rattle.pal_text.specs.Lines.{line_start, is_begun, ended_lines, line_of, lines, all_lines}
 use Rattle.pal_text.specs.Order.{IsLineWithin}
-use Rattle.pal_text.specs.Tokens.{is_end}
-use Rattle.pal_text.specs.Statements.{Piece, piece, pieces}
 use Rattle.pal_text.proofs.Rises.{all_reverse}
 use Rattle.pal_text.proofs.ByMeaning.{lines_by, start_by}
-
--- a piece stands before so many tokens
-pub record IsBefore (n : ℕ) (p : Piece) : Type 0 where
-  pub forward : p.first ≤ p.last
-  pub inside : p.last < n
-
-pub pieces_before : (n first at : ℕ) (ts : List Token) → first ≤ at → at + length ts ≤ n → AllByRecursion (IsBefore n) (pieces first at ts)
-pieces_before n first at [] f h = tt
-pieces_before n first at (t ∷ ts) f h = elim (cases_Bool (is_end t.kind)) [
-  | inl ends ↦ (let P : Bool → Type 0 = λ b. AllByRecursion (IsBefore n) (if b then piece first at t ∷ pieces (at + 1) (at + 1) ts else pieces first (at + 1) ts) in
-      subst P (sym ends) (record { forward = f; inside = omega arith }, pieces_before n (at + 1) (at + 1) ts (omega arith) (omega arith)))
-  | inr other ↦ (let P : Bool → Type 0 = λ b. AllByRecursion (IsBefore n) (if b then piece first at t ∷ pieces (at + 1) (at + 1) ts else pieces first (at + 1) ts) in
-      subst P (sym other) (pieces_before n first (at + 1) ts (omega arith) (omega arith)))
-]
 
 start_by_within : (start n : ℕ) (m : Meaning) → start ≤ n → start_by start (n + 1) m ≤ n + 1
 start_by_within start n LineEnd h = omega arith
@@ -54,12 +37,9 @@ ended_within (b ∷ before) = lines_by_within (length (b ∷ before)) (ended_lin
     (wider (length before) (length (b ∷ before)) (ended_lines before) (omega arith) (ended_within before))
 
 lines_within : (before : List ℕ) → AllByRecursion (IsLineWithin (length before)) (lines before)
-lines_within before = elim (cases_Bool (is_begun before)) [
-  | inl begun ↦ (let P : Bool → Type 0 = λ b. AllByRecursion (IsLineWithin (length before)) (if b then line_of (line_start before) (length before) ∷ ended_lines before else ended_lines before) in
-      subst P (sym begun) (record { forward = start_within before; inside = omega arith }, ended_within before))
-  | inr ended ↦ (let P : Bool → Type 0 = λ b. AllByRecursion (IsLineWithin (length before)) (if b then line_of (line_start before) (length before) ∷ ended_lines before else ended_lines before) in
-      subst P (sym ended) (ended_within before))
-]
+lines_within before =
+    cond_both (is_begun before) (line_of (line_start before) (length before) ∷ ended_lines before) (ended_lines before) (λ ls. AllByRecursion (IsLineWithin (length before)) ls)
+    (λ is. (record { forward = start_within before; inside = omega arith }, ended_within before)) (λ is. ended_within before)
 
 -- the lines of a front of the bytes
 pub lines_within_by : (source : List ℕ) (stop : ℕ) (ls : List Line) → ls ≡ all_lines (take stop source) → AllByRecursion (IsLineWithin (length source)) ls

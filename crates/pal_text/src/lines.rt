@@ -1,6 +1,6 @@
 //! The lines of a part.
 
-ghost use Rattle.std.specs.Prelude.{◌≡◌, ◌≢◌, ◌≤◌, [], length, reverse, IfOk, OnOk, OnErr};
+ghost use Rattle.std.specs.Prelude.{◌≡◌, ◌≢◌, [], IfOk, OnOk, OnErr};
 ghost use Rattle.pal_text.specs.Lines.{all_lines};
 
 use crate::characters::{Meaning, meaning_of, returned_after};

@@ -1,6 +1,6 @@
 //! Symbols by their first six characters.
 
-ghost use Rattle.std.specs.Prelude.{◌≡◌, ◌≤◌, length, map};
+ghost use Rattle.std.specs.Prelude.{◌≡◌, length, map};
 ghost use Rattle.std.specs.List.{AllByRecursion};
 ghost use Rattle.pal_text.specs.Names.{name, named_kind, with_name, begins_none, named, IsWithin};
 

@@ -1,13 +1,12 @@
 //! The tokens of a statement, read from the bytes.
 
-ghost use Rattle.std.specs.Prelude.{◌≡◌, ◌≤◌, ◌<◌, ◌+◌, ◌^◌, false, true, List, [], length, reverse, OnOk, OnErr, IfOk, get_or, Some};
-ghost use Rattle.pal_text.specs.declared.tokens.Token.{Token as Tokened};
+ghost use Rattle.std.specs.Prelude.{◌≡◌, ◌≤◌, ◌<◌, ◌+◌, false, true, [], length, reverse, OnErr, IfOk, Some};
 ghost use Rattle.pal_text.specs.declared.tokens.TokenKind.TheVariants.{Symbol};
 ghost use Rattle.pal_text.specs.Tokens.{is_letter, longer};
 ghost use Rattle.pal_text.specs.Adding.{tokens};
 ghost use Rattle.pal_text.specs.Characters.{code, line, returned, in_comment};
 ghost use Rattle.pal_text.specs.Readers.{HasToken};
-ghost use Rattle.pal_text.specs.Scan.{trimmed, mark, next_place, brings, is_line_code, mark_kind, line_past, front, IsStop, IsQuiet, IsOutside, IsPlaceIn, IsOwn, is_word, IsRun, IsOnward};
+ghost use Rattle.pal_text.specs.Scan.{trimmed, mark, next_place, brings, is_line_code, front, IsStop, IsQuiet, IsOutside, IsPlaceIn, IsOwn, is_word, IsRun, IsOnward};
 
 use crate::characters::{FORM_FEED, NULL, RUBOUT};
 use crate::tokens::{Token, TokenKind, add, is_a_space, kind_for};

@@ -1,8 +1,8 @@
 //! The command that writes a source for a tape.
 
-ghost use Rattle.std.specs.Prelude.{◌≡◌, false, IfOk, OnOk};
+ghost use Rattle.std.specs.Prelude.{◌≡◌, ◌⊎◌, false, Ok, IfOk};
 ghost use Rattle.command_parts.specs.Writes.{Writes};
-ghost use Rattle.command_parts.specs.declared.status.Status.TheVariants.{Done};
+ghost use Rattle.command_parts.specs.declared.status.Status.TheVariants.{Done, Refused};
 ghost use Rattle.source_commands.specs.WrittenSource.{IsDeclaredSource, IsTapeSource};
 
 use command_parts::inputs::{declaration_from, tape_from};
@@ -14,12 +14,13 @@ use streams::{ByteSink, ByteSource, put};
 use word12::Word;
 
 /// Writes a source for a tape, whose program starts at the given address and is for the given machine. `assemble` makes
-/// the same words from it.
+/// the same words from it. It is refused, and nothing is written, if the assembler reads no text that was tried as the
+/// tape's words.
 ///
 /// # Errors
 ///
 /// The fault of the tape, and then nothing is written; `Device` if a read failed, or if a write failed after a prefix
-/// of the source had gone out; `NoMemory` if memory was refused. Every tape that can be read has a source.
+/// of the source had gone out; `NoMemory` if memory was refused.
 pub fn source<A: Allocator + Copy, R: ByteSource, W: ByteSink>(
     alloc: A,
     tape: &mut R,
@@ -29,19 +30,23 @@ pub fn source<A: Allocator + Copy, R: ByteSource, W: ByteSink>(
 ) -> Result<Status, Fault>
     requires readable { R.mark tape.old ≡ false }
     requires writable { W.mark out.old ≡ false }
-    // What is written is a source that means exactly the tape's image.
-    ensures done { IfOk result (λ status. status ≡ Done) }
-    ensures source { OnOk result (Writes (IsTapeSource profile (R.remaining tape.old))
-        (W.taken out.old) (W.taken out.new)) }
+    // If it is done, what is written is a source that means exactly the tape's image. Otherwise it is
+    // refused, and nothing is written.
+    ensures done { IfOk result (λ status. (status ≡ Done) ⊎ (status ≡ Refused)) }
+    ensures source { result ≡ Ok Done → Writes (IsTapeSource profile (R.remaining tape.old))
+        (W.taken out.old) (W.taken out.new) }
+    ensures refused { result ≡ Ok Refused → W.taken out.new ≡ W.taken out.old }
 {
     let image = tape_from(tape)?;
-    let text = source_of(alloc, &image, start, profile)?;
+    let Some(text) = source_of(alloc, &image, start, profile)? else {
+        return Ok(Status::Refused);
+    };
     put(out, &text)?;
     Ok(Status::Done)
 }
 
 /// Writes a source for a tape, whose program has a declaration. `assemble` makes the same words from it, for the
-/// declared machine.
+/// declared machine. It is refused as [`source`] is.
 ///
 /// # Errors
 ///
@@ -57,15 +62,19 @@ pub fn declared_source<A: Allocator + Copy, R: ByteSource, D: ByteSource, W: Byt
     requires readable { R.mark tape.old ≡ false }
     requires declaration_readable { D.mark declaration.old ≡ false }
     requires writable { W.mark out.old ≡ false }
-    // What is written is a source that means exactly the tape's image.
-    ensures done { IfOk result (λ status. status ≡ Done) }
-    ensures source { OnOk result (Writes
+    // If it is done, what is written is a source that means exactly the tape's image. Else it is refused,
+    // and nothing is written.
+    ensures done { IfOk result (λ status. (status ≡ Done) ⊎ (status ≡ Refused)) }
+    ensures source { result ≡ Ok Done → Writes
         (IsDeclaredSource (R.remaining tape.old) (D.remaining declaration.old))
-        (W.taken out.old) (W.taken out.new)) }
+        (W.taken out.old) (W.taken out.new) }
+    ensures refused { result ≡ Ok Refused → W.taken out.new ≡ W.taken out.old }
 {
     let image = tape_from(tape)?;
     let promised = declaration_from(alloc, declaration)?;
-    let text = declared_source_of(alloc, &image, &promised)?;
+    let Some(text) = declared_source_of(alloc, &image, &promised)? else {
+        return Ok(Status::Refused);
+    };
     put(out, &text)?;
     Ok(Status::Done)
 }

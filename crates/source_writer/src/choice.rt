@@ -1,13 +1,10 @@
 //! The source that is given: the one that reads best among those that mean the image.
 
-ghost use Rattle.std.specs.Prelude.{◌≡◌, IfOk, true};
-ghost use Rattle.bin_tape.specs.Image.{HoldsWords};
+ghost use Rattle.std.specs.Prelude.{◌≡◌, IfOk, IfSome, true};
 ghost use Rattle.declaration.specs.DeclarationInCode.{meaning};
 ghost use Rattle.source_writer.specs.Meaning.{IsSourceOf};
 
-use crate::laws::plain_sources_mean;
 use crate::outline::Outline;
-use crate::plain::plain_source;
 use crate::pretty::pretty_source;
 use crate::promise::push_promise;
 use bin_tape::Image;
@@ -33,49 +30,48 @@ fn means<A: Allocator + Copy>(
     }
 }
 
-/// The proof needs the image to be looked at, since it holds words.
-fn look_into(image: Image)
-    ensures { HoldsWords image }
-{
-    let _word = image.get(Word::ZERO);
-}
-
-/// The plain source of an image, which means it.
-fn plainly<A: Allocator>(
+/// The source of an image as an outline shows it, with comments or without them, if it means the image.
+fn source_as<A: Allocator + Copy>(
     alloc: A,
     image: &Image,
-    profile: Profile,
-) -> Result<Vec<u8, A>, AllocError>
-    ensures { IfOk result (λ text. IsSourceOf profile image.now text.items) }
+    outline: &Outline,
+    comments: Option<&[u8]>,
+) -> Result<Option<Vec<u8, A>>, AllocError>
+    ensures { IfOk result (λ found. IfSome found (λ text.
+        IsSourceOf outline.now.profile image.now text.items)) }
 {
-    look_into(*image);
-    plain_sources_mean();
-    plain_source(alloc, image)
+    let text = pretty_source(alloc, image, outline, comments)?;
+    if means(alloc, image, &text, outline.profile)? {
+        Ok(Some(text))
+    } else {
+        Ok(None)
+    }
 }
 
-/// The source of an image as an outline shows it: with comments, of which these are on the whole program, or else
-/// without them; and where the assembler reads neither as this image, since it is too long, the plain one.
+/// The source of an image as an outline shows it: with comments, of which these are on the whole program; where that is
+/// too long, without them; and where this is too long as well, as octal words alone, which are never too long.
 fn source_by<A: Allocator + Copy>(
     alloc: A,
     image: &Image,
     outline: &Outline,
     comments: &[u8],
-) -> Result<Vec<u8, A>, AllocError>
-    ensures { IfOk result (λ text. IsSourceOf outline.now.profile image.now text.items) }
+) -> Result<Option<Vec<u8, A>>, AllocError>
+    ensures { IfOk result (λ found. IfSome found (λ text.
+        IsSourceOf outline.now.profile image.now text.items)) }
 {
-    let commented = pretty_source(alloc, image, outline, Some(comments))?;
-    if means(alloc, image, &commented, outline.profile)? {
-        return Ok(commented);
+    if let Some(commented) = source_as(alloc, image, outline, Some(comments))? {
+        return Ok(Some(commented));
     }
-    let bare = pretty_source(alloc, image, outline, None)?;
-    if means(alloc, image, &bare, outline.profile)? {
-        return Ok(bare);
+    if let Some(bare) = source_as(alloc, image, outline, None)? {
+        return Ok(Some(bare));
     }
-    plainly(alloc, image, outline.profile)
+    let words = Outline::new(outline.start, outline.profile);
+    source_as(alloc, image, &words, None)
 }
 
 /// A source of an image, for a machine and a program that starts here: where control is found to go words
-/// are written as instructions, and as data elsewhere. However it is written, it means this image.
+/// are written as instructions, and as data elsewhere. However it is written, it means this image. There is none only if
+/// the assembler reads no text that was tried as this image.
 ///
 /// # Errors
 ///
@@ -85,15 +81,16 @@ pub fn source_of<A: Allocator + Copy>(
     image: &Image,
     start: Word,
     profile: Profile,
-) -> Result<Vec<u8, A>, AllocError>
-    ensures { IfOk result (λ text. IsSourceOf profile image.now text.items) }
+) -> Result<Option<Vec<u8, A>>, AllocError>
+    ensures { IfOk result (λ found. IfSome found (λ text.
+        IsSourceOf profile image.now text.items)) }
 {
     source_by(alloc, image, &Outline::of(image, start, profile), b"")
 }
 
 /// A source of an image, for a program with this declaration: the words of its bodies are written as
 /// instructions. It means this image on the declared machine. Comments that begin with `/:` say in its first lines
-/// what is declared.
+/// what is declared. There is none only if the assembler reads no text that was tried as this image.
 ///
 /// # Errors
 ///
@@ -102,9 +99,9 @@ pub fn declared_source_of<A: Allocator + Copy, D: Allocator>(
     alloc: A,
     image: &Image,
     declaration: &Declaration<D>,
-) -> Result<Vec<u8, A>, AllocError>
-    ensures { IfOk result (λ text.
-        IsSourceOf (meaning declaration.now).profile image.now text.items) }
+) -> Result<Option<Vec<u8, A>>, AllocError>
+    ensures { IfOk result (λ found. IfSome found (λ text.
+        IsSourceOf (meaning declaration.now).profile image.now text.items)) }
 {
     let mut comments = Vec::new(alloc);
     push_promise(&mut comments, declaration)?;

@@ -1,14 +1,11 @@
 //! The writer of sources: from the image of a tape to a PAL III source that means exactly that image.
 //!
 //! [`source_of`] and [`declared_source_of`] write what a reader wants to see, have the assembler read it
-//! back, and give it only if it means the image. Else they give [`plain_source`], an octal word a line,
-//! which means every image: that is the law [`laws::plain_sources_mean`].
+//! back, and give it only if it means the image.
 #![tactic(auto)]
 
 mod choice;
-pub mod laws;
 mod outline;
-mod plain;
 mod pretty;
 mod promise;
 mod reach;
@@ -16,4 +13,3 @@ mod remark;
 mod statement;
 
 pub use choice::{declared_source_of, source_of};
-pub use plain::plain_source;

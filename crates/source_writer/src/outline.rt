@@ -122,7 +122,10 @@ impl Outline {
         outline
     }
 
-    fn new(start: Word, profile: Profile) -> Outline {
+    /// That of a program of which nothing is known: each cell is data.
+    pub(crate) fn new(start: Word, profile: Profile) -> Outline
+        ensures { result.profile ≡ profile }
+    {
         Outline {
             start,
             profile,

@@ -6,6 +6,7 @@ use crate::files::{finish, open_input, open_output};
 use crate::of_machine::places::stops_of;
 use crate::of_machine::words::words_of;
 use crate::standard_error::open_input_if;
+use crate::telling::tell_lines;
 use bin_tape::Image;
 use command_line::{DumpRequest, RunRequest, SourceRequest, StopOptions};
 use command_parts::inputs::{events_from, tape_from};
@@ -132,8 +133,11 @@ pub fn run_from<R: Files + Input + Print>(
     run_on(rt, alloc, request, &mut frames, &statements)
 }
 
+/// The message about a tape for which no source was found.
+const UNSPELLED: &str = "pdp8: source: no text was found that the assembler reads as this tape\n";
+
 /// Writes a source for the tape of these frames, with a declaration if one is given.
-fn write_source<R: Files + Print, S: ByteSource, D: ByteSource>(
+fn write_source<R: Files + Print + Eprint, S: ByteSource, D: ByteSource>(
     rt: &R,
     alloc: Global,
     request: &SourceRequest<'_>,
@@ -150,6 +154,9 @@ fn write_source<R: Files + Print, S: ByteSource, D: ByteSource>(
     } else {
         source(alloc, frames, request.start, request.profile, &mut text)?
     };
+    if status == Status::Refused {
+        tell_lines(rt, UNSPELLED);
+    }
     finish(&mut file, status)
 }
 
@@ -159,7 +166,7 @@ fn write_source<R: Files + Print, S: ByteSource, D: ByteSource>(
 ///
 /// As for `source` and `declared_source`, and `Device` if a file cannot be opened, created or put in its place.
 #[inline(never)]
-pub fn source_from<R: Files + Input + Print>(
+pub fn source_from<R: Files + Input + Print + Eprint>(
     rt: &R,
     alloc: Global,
     request: &SourceRequest<'_>,

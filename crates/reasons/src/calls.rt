@@ -1,5 +1,7 @@
 //! What a call violates.
 
+ghost use Rattle.std.specs.Prelude.{◌<◌};
+
 use crate::filter::ReasonFilter;
 use crate::outcomes::misses;
 use crate::violation::{CallViolation, LandingFailure, Violation};

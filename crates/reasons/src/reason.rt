@@ -1,6 +1,6 @@
 //! Why a condition fails.
 
-ghost use Rattle.std.specs.Prelude.{◌<◌, length};
+ghost use Rattle.std.specs.Prelude.{◌≡◌, ◌<◌, length};
 
 use crate::filter::ReasonFilter;
 use crate::lines::why_placed;
@@ -11,7 +11,9 @@ use crate::workspace::ReasonWorkspace;
 use bin_tape::Image;
 use declaration::{Declaration, Owner, Subject};
 use facts::{Condition, NarrowedFact, Place};
-use judge::{Body, Case, Claims, Point, Refusal, RoutineClaim, place_of, put_asked, put_sites};
+use judge::{
+    Body, Case, Claims, NarrowedPoint, Point, Refusal, RoutineClaim, place_of, put_asked, put_sites,
+};
 use std::alloc::Allocator;
 use word12::Word;
 use wordset::WordSet;
@@ -85,6 +87,27 @@ pub(crate) fn why_words<A: Allocator, C: Claims, M: Allocator>(
     None
 }
 
+/// A fact for which conditions are checked at an address of a body.
+fn point_of<'x, A: Allocator, C: Claims>(
+    case: &Case<'x, A, C>,
+    body: &'x Body,
+    at: Word,
+    fact: &'x NarrowedFact,
+) -> NarrowedPoint<'x, A, C>
+    ensures { result.fact.now ≡ fact.now }
+{
+    let rules = case.claims.rules();
+    Point {
+        claims: case.claims,
+        place: place_of(case.image, case.declaration, &body.routine, rules),
+        body,
+        at,
+        fact,
+        following: None,
+        near: 0,
+    }
+}
+
 /// The same of the fact at this place of those at an address of a body.
 fn why_fact<A: Allocator, C: Claims, M: Allocator>(
     case: &Case<'_, A, C>,
@@ -108,15 +131,7 @@ fn why_fact<A: Allocator, C: Claims, M: Allocator>(
     if !put_asked(&rules, case.image, claimed, fact) {
         return None;
     }
-    let point = Point {
-        claims: case.claims,
-        place: place_of(case.image, case.declaration, &body.routine, rules),
-        body,
-        at,
-        fact: &*fact,
-        following: None,
-        near: 0,
-    };
+    let point = point_of(case, body, at, fact);
     first_violation(&point, sought, index, condition, word)
 }
 

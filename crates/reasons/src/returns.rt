@@ -1,5 +1,7 @@
 //! What a return violates.
 
+ghost use Rattle.std.specs.Prelude.{◌<◌};
+
 use crate::filter::ReasonFilter;
 use crate::landing::what_is_left;
 use crate::violation::{LandingFailure, ReturnViolation, Violation};

@@ -116,8 +116,7 @@ class Judge:
             return None
         return next((entry for entry, (body, _) in self.declared.routines.items() if at in body), False)
 
-    def place(self, at):
-        entry = self.owner(at)
+    def place(self, entry):
         line = self.certificate.routines.get(entry)
         return Place(self.image, self.declared, entry, line.sites if line else 0)
 
@@ -220,19 +219,20 @@ class Judge:
         return all(offset in self.declared.offsets(entry) and (entry, offset) in exits and
                    entails(fact, exits[entry, offset], offsets=False) for offset in fact.offsets)
 
-    def holds_15(self, fact, at, word, place):
+    def cells_read(self, fact, at, word, place):
+        """The cells that a word may read."""
         if word >= 0o6000:
-            return True
-        read = sets.one(named_cell(word, at)) if word & 0o400 else 0
-        if word >> 9 < 3:
-            read |= targets(fact, at, word, place)[1]
+            return 0
+        pointer = sets.one(named_cell(word, at)) if word & 0o400 else 0
+        return pointer | (targets(fact, at, word, place)[1] if word >> 9 < 3 else 0)
+
+    def holds_15(self, fact, at, word, place):
         listed = sets.of(self.declared.reads) | (sets.one(place.entry) if place.entry is not None else 0)
-        return not read & ~listed
+        return not self.cells_read(fact, at, word, place) & ~listed
 
     def exits_hold(self, entry):
         """By each exit of a routine what is declared of its returns is so."""
-        line = self.certificate.routines.get(entry)
-        place = Place(self.image, self.declared, entry, line.sites if line else 0)
+        place = self.place(entry)
         return all(self.asserted(said, fact, place) for (of, offset), fact in self.certificate.exits.items() if of == entry
                    for said in self.declared.held_by(entry, offset))
 
@@ -246,7 +246,7 @@ class Judge:
             fact = self.certificate.facts.get(at)
             if fact is None:
                 return None if self.exits_hold(at) else 16
-            place = self.place(at)
+            place = self.place(self.owner(at))
             members = possible(fact, at, place)
             if number == 3:
                 if members.bit_count() > 64 or not all(supported(word, self.declared) for word in sets.words(members)):

@@ -362,14 +362,16 @@ class Judge:
             offset in self.declared.offsets(entry) and self.returns_well(fact, offset, entry)
             for offset in fact.offsets)
 
-    def holds_15(self, fact, at, word, place):
+    def cells_read(self, fact, at, word, place):
+        """The cells that a word may read."""
         if word >= 0o6000:
-            return True
-        read_ = sets.one(named_cell(word, at)) if word & 0o400 else 0
-        if word >> 9 < 3:
-            read_ |= targets(fact, at, word, place)[1]
+            return 0
+        pointer = sets.one(named_cell(word, at)) if word & 0o400 else 0
+        return pointer | (targets(fact, at, word, place)[1] if word >> 9 < 3 else 0)
+
+    def holds_15(self, fact, at, word, place):
         listed = sets.of(self.declared.reads) | (sets.one(place.entry) if place.entry is not None else 0)
-        return not read_ & ~listed
+        return not self.cells_read(fact, at, word, place) & ~listed
 
     def fails_at(self, at):
         """The first condition that fails at an address, or None."""

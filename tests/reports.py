@@ -130,7 +130,8 @@ class Report:
 
     def access(self, at, fact):
         """What the words at an address may do."""
-        place, words = self.judge.place(at), possible(fact, at, self.judge.place(at))
+        place = self.judge.place(self.judge.owner(at))
+        words = possible(fact, at, place)
         items, count = [], words.bit_count()
         if at in self.declared.variables or count > 64:
             items.append("may be any word" if words == sets.ALL else "may be " + shown(words))

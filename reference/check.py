@@ -4,8 +4,9 @@ A certificate is taken as well formed: faults of its text aren't told apart.
 """
 from dataclasses import dataclass, field, replace
 
+import facts
 import sets
-from facts import AC, Fact, Place, entails, in_reach, joined, possible, post, supported, targets, values
+from facts import AC, Fact, Place, entails, in_reach, possible, supported
 from machine import named_cell
 from watch import is_halt
 
@@ -31,13 +32,7 @@ class Certificate:
 
 def set_text(members):
     """A set as its maximal runs."""
-    runs = []
-    for word in sets.words(members):
-        if runs and runs[-1][1] == word - 1:
-            runs[-1][1] = word
-        else:
-            runs.append([word, word])
-    return ",".join(f"{a:04o}" if a == b else f"{a:04o}-{b:04o}" for a, b in runs) or "-"
+    return ",".join(f"{a:04o}" if a == b else f"{a:04o}-{b:04o}" for a, b in sets.runs(members)) or "-"
 
 
 def set_of(text):
@@ -105,7 +100,8 @@ def holds_before(fact, image):
 
 
 class Judge:
-    """The conditions at one address, by their numbers."""
+    """The conditions at one address, by their numbers; with how facts change, and the last address that may be a site."""
+    rules, last_site = facts, 0o7767
 
     def __init__(self, image, declared, certificate):
         self.image, self.declared, self.certificate = image, declared, certificate
@@ -129,12 +125,12 @@ class Judge:
         """The cells that a word may write, those of a JMS apart."""
         if word >= 0o6000:
             return 0
-        cell, (_, cells) = named_cell(word, at), targets(fact, at, word, place)
+        cell, (_, cells) = named_cell(word, at), self.rules.targets(fact, at, word, place)
         stepped = sets.one(cell) if word & 0o400 and 0o10 <= cell <= 0o17 else 0
         return stepped | (cells if word >> 9 in (2, 3) else 0)
 
     def callees(self, fact, at, word, place):
-        return list(sets.words(targets(fact, at, word, place)[1])) if word >> 9 == 4 else []
+        return list(sets.words(self.rules.targets(fact, at, word, place)[1])) if word >> 9 == 4 else []
 
     def is_return(self, at, word):
         return word >> 9 == 5 and bool(word & 0o400) and named_cell(word, at) in self.declared.routines
@@ -169,21 +165,29 @@ class Judge:
             if word >> 9 == 4 or self.is_return(at, word):
                 return True
             return all(self.lands_beyond(outcome.fact, following, entry, word)
-                       for outcome in post(fact, at, word, place) for following in outcome.nexts)
+                       for outcome in self.rules.post(fact, at, word, place) for following in outcome.nexts)
         return self.declared.reads is None or self.holds_15(fact, at, word, place)
 
     def lands_beyond(self, fact, at, entry, word):
         """The fact lands in the same body; or as one of main's, where a JMP in a routine abandons all calls."""
         if entry is not None and word >> 9 == 5 and at in self.declared.abandons:
-            return self.lands(replace(fact, offsets=frozenset()), at, None)
+            return self.lands(self.abandoned(fact), at, None)
         return self.lands(fact, at, entry)
+
+    def called(self, fact, at):
+        """What is known at the first instruction of a routine that is called from an address."""
+        return replace(fact, offsets=frozenset((0,)))
+
+    def abandoned(self, fact):
+        """What is known in main after all calls have been abandoned."""
+        return replace(fact, offsets=frozenset())
 
     def asserted(self, said, fact, place):
         """By a fact what is asserted is so."""
         if said.subject == "link":
             return fact.link <= said.words
         known = {"ac": fact.narrowed(AC), "mq": fact.mq}.get(said.subject)
-        return not (values(fact, said.subject, place) if known is None else known) & ~sets.of(said.words)
+        return not (self.rules.values(fact, said.subject, place) if known is None else known) & ~sets.of(said.words)
 
     def holds_5(self, written, fact, word, place, own):
         return not written & ~sets.of(self.declared.variables | set(self.declared.routines))
@@ -205,11 +209,13 @@ class Judge:
         if number == 8:
             return entry is None or not ((line.writes | sets.one(callee)) & ~own.writes or line.writes >> entry & 1)
         if number == 9:
-            return bool(line.sites >> at & 1) and at <= 0o7767
+            return bool(line.sites >> at & 1) and at <= self.last_site
         if number == 10:
-            called = Fact(fact.ac, fact.mq, fact.link, fact.cells, fact.equations, frozenset((0,)))
-            return self.lands(called, (callee + 1) % 4096, callee)
-        return all(self.lands(joined(fact, known, line.writes), (at + 1 + offset) % 4096, entry)
+            return self.lands(self.called(fact, at), (callee + 1) % 4096, callee)
+        return self.holds_11(fact, at, callee, entry, line)
+
+    def holds_11(self, fact, at, callee, entry, line):
+        return all(self.lands(self.rules.joined(fact, known, line.writes), (at + 1 + offset) % 4096, entry)
                    for (of, offset), known in self.certificate.exits.items() if of == callee)
 
     def holds_12(self, fact, at, word, entry):
@@ -224,7 +230,7 @@ class Judge:
         if word >= 0o6000:
             return 0
         pointer = sets.one(named_cell(word, at)) if word & 0o400 else 0
-        return pointer | (targets(fact, at, word, place)[1] if word >> 9 < 3 else 0)
+        return pointer | (self.rules.targets(fact, at, word, place)[1] if word >> 9 < 3 else 0)
 
     def holds_15(self, fact, at, word, place):
         listed = sets.of(self.declared.reads) | (sets.one(place.entry) if place.entry is not None else 0)

@@ -30,6 +30,9 @@ class Fact:
     def set_of(self, name):
         return self.relations.get(((name, 1),), sets.ALL)
 
+    # A fact is narrowed as a whole; in the versions before, name by name.
+    narrowed = set_of
+
     def with_set(self, name, members):
         return replace(self, relations=self.relations | {((name, 1),): members})
 

@@ -15,7 +15,7 @@ import re
 import subprocess
 import sys
 import tempfile
-from dataclasses import dataclass, replace
+from dataclasses import dataclass
 from pathlib import Path
 
 TOP = Path(__file__).resolve().parent.parent
@@ -73,11 +73,6 @@ def is_beyond(members, others, word):
     return members >> word & ~(others >> word) & 1
 
 
-def words(fact, name):
-    """The words that a name may have by a fact."""
-    return fact.set_of(name) if isinstance(fact, facts3.Fact) else fact.narrowed(name)
-
-
 def listed(found):
     """The facts at a place of a certificate, which is one or, in version 3, a list."""
     return found if isinstance(found, list) else [] if found is None else [found]
@@ -92,12 +87,12 @@ says("mark", "[{A}] = {A}")(lambda fact, cell, word: fact.set_of(cell) == sets.o
 
 # What is possible by the fact a and excluded by the fact b --------------------------------------------------------
 
-says("gap", "AC may be {A}")(lambda a, b, place, word: is_beyond(words(a, AC), b.set_of(AC), word))
+says("gap", "AC may be {A}")(lambda a, b, place, word: is_beyond(a.narrowed(AC), b.set_of(AC), word))
 says("gap", "MQ may be {A}")(lambda a, b, place, word: is_beyond(a.mq, b.mq, word))
 says("gap", "the link may be {O}")(lambda a, b, place, link: link in a.link - b.link)
 says("gap", "the routine may have been called from {A}")(lambda a, b, place, site: is_beyond(a.sites, b.sites, site))
 says("gap", "the return word may be the return address plus {O}")(lambda a, b, place, offset: offset in a.offsets - b.offsets)
-says("gap", "the cell {A} may hold {A}")(lambda a, b, place, cell, word: is_beyond(words(a, cell), b.set_of(cell), word))
+says("gap", "the cell {A} may hold {A}")(lambda a, b, place, cell, word: is_beyond(a.narrowed(cell), b.set_of(cell), word))
 
 
 @says("gap", "while the cell {A} holds {A}, AC may be {A} with the link {O}")
@@ -191,7 +186,7 @@ def is_excluded(landing, gap):
 def is_not_known(landing, left, right):
     fact, (b,) = landing.fact, landing.among
     equations = [(x, y, k) for x, y, k in b.equations - fact.equations if (term_text(x), term_text(y) + added_text(k)) == (left, right)]
-    only = [(sets.only(words(fact, x)), sets.only(words(fact, y)), k) for x, y, k in equations]
+    only = [(sets.only(fact.narrowed(x)), sets.only(fact.narrowed(y)), k) for x, y, k in equations]
     return any(None in (one, other) or one != (other + k) % 4096 for one, other, k in only)
 
 
@@ -210,9 +205,9 @@ class Refused:
 
     def __init__(self, image, declared, certificate, number, at):
         self.third = isinstance(certificate, check3.Certificate)
-        self.by = check3 if self.third else check
         self.image, self.declared, self.certificate, self.number, self.at = image, declared, certificate, number, at
-        self.judge = self.by.Judge(image, declared, certificate)
+        self.judge = (check3 if self.third else check).Judge(image, declared, certificate)
+        self.rules = self.judge.rules
         self.routines, self.entry = certificate.routines, self.judge.owner(at)
         self.place, self.own = self.judge.place(self.entry), self.routines.get(self.entry)
         self.claimed = self.fact = self.word = None
@@ -245,7 +240,7 @@ class Refused:
         return is_true("mark", text, self.claimed) and not all(is_true("mark", text, fact) for fact in known)
 
     def possible(self):
-        return self.by.possible(self.fact, self.at, self.place) if self.fact else 0
+        return self.rules.possible(self.fact, self.at, self.place) if self.fact else 0
 
     def violates(self):
         """The word is possible by the fact, and violates the condition."""
@@ -262,7 +257,7 @@ class Refused:
 
     def calls(self, entry):
         """The word violates the condition and is a JMS that may call an address."""
-        return self.violates() and self.word >> 9 == 4 and self.by.targets(self.fact, self.at, self.word, self.place)[1] >> entry & 1
+        return self.violates() and self.word >> 9 == 4 and self.rules.targets(self.fact, self.at, self.word, self.place)[1] >> entry & 1
 
     def returns(self, entry):
         """The word violates the condition and returns through an entry."""
@@ -278,9 +273,9 @@ class Refused:
         name = {"AC": "ac", "MQ": "mq", "the link": "link"}.get(subject)
         if name is None:
             name = octal(subject)
-            members = self.by.values(fact, name, self.place)
+            members = self.rules.values(fact, name, self.place)
         else:
-            members = {"ac": words(fact, AC), "mq": fact.mq, "link": sets.of(fact.link)}[name]
+            members = {"ac": fact.narrowed(AC), "mq": fact.mq, "link": sets.of(fact.link)}[name]
         return any(one.subject == name and is_beyond(members, sets.of(one.words), word) for one in said)
 
 
@@ -317,9 +312,9 @@ says(3, "the machine does not implement this word")(
 
 def ways_on(case, at):
     """The facts with which a run may go on at an address, each with the routine whose body this must be."""
-    for outcome in case.by.post(case.fact, case.at, case.word, case.place):
+    for outcome in case.rules.post(case.fact, case.at, case.word, case.place):
         if at in outcome.nexts and case.entry is not None and case.word >> 9 == 5 and at in case.declared.abandons:
-            yield replace(outcome.fact, offsets=frozenset(), **{"sites": 0} if case.third else {}), None
+            yield case.judge.abandoned(outcome.fact), None
         elif at in outcome.nexts:
             yield outcome.fact, case.entry
 
@@ -360,13 +355,12 @@ says(8, "the JMS calls {A}, which may write the caller's entry")(
 says(9, "the JMS calls {A}, whose routine line does not list this address as a site")(
     lambda case, entry: case.calls(entry) and not case.routines[entry].sites >> case.at & 1)
 says(9, "the JMS calls {A} from an address above {A}")(
-    lambda case, entry, last: case.calls(entry) and case.at > last == (0o7776 if case.third else 0o7767))
+    lambda case, entry, last: case.calls(entry) and case.at > last == case.judge.last_site)
 
 
 @says(10, "the JMS calls {A} and continues after the entry: {T}")
 def does_not_enter(case, entry, text):
-    called = replace(case.fact, offsets=frozenset((0,)), **{"sites": sets.one(case.at)} if case.third else {})
-    return case.calls(entry) and case.misses(text, called, entry, (entry + 1) % 4096)
+    return case.calls(entry) and case.misses(text, case.judge.called(case.fact, case.at), entry, (entry + 1) % 4096)
 
 
 @says(11, "the JMS calls {A}, which returns with offset {O}, according to exit line {D}: {T}")
@@ -374,7 +368,7 @@ def does_not_come_back(case, entry, offset, number, text):
     exits = listed(case.certificate.exits.get((entry, offset)))
     found = exits[number - 1] if 1 <= number <= len(exits) else None
     return case.calls(entry) and found and (not case.third or found.sites >> case.at & 1) and case.misses(
-        text, case.by.joined(case.fact, found, case.routines[entry].writes), case.entry, (case.at + 1 + offset) % 4096)
+        text, case.rules.joined(case.fact, found, case.routines[entry].writes), case.entry, (case.at + 1 + offset) % 4096)
 
 
 says(11, "the JMS calls {A}, which returns with offset {O}: {T}")(
@@ -418,7 +412,7 @@ says(14, "it may write {A}, the routine's own entry: add `moves {A}`")(
 @says(14, "it may store the word {A} in {A}, but the word there must be the return address of the call at {A} plus 0 to 77")
 def moves_too_far(case, word, entry, site):
     sites = case.fact.sites if case.third else case.place.sites
-    possible = sites >> site & 1 and words(case.fact, AC) >> word & 1
+    possible = sites >> site & 1 and case.fact.narrowed(AC) >> word & 1
     return case.names_own(3, entry) and possible and not site < word <= site + 0o100
 
 
@@ -447,6 +441,49 @@ says(16, "when it returns with offset {O}, {T} may be {W}, which a `returns` lin
 # The cases -------------------------------------------------------------------------------------------------------
 
 
+LINES = re.compile(r"^(?:routine|fact|exit) .*\n(?:(?:cell|equal|sum|func) .*\n)*", re.M)
+
+
+def in_order(text):
+    """A certificate with its lines in their order."""
+    kinds = ("routine", "fact", "exit")
+    lines = sorted(LINES.findall(text), key=lambda line: (kinds.index(line.split()[0]), line.split()[1:2 + line.startswith("exit")]))
+    return text[:text.index("\n") + 1] + "".join(lines) + "end\n"
+
+
+class Forger(verdicts.Changes):
+    """Changes as in verdicts.py, and others, by which each kind of line is changed as often."""
+
+    def changed_line(self, text):
+        """A certificate in which a line of some kind is left out, or has another digit or set."""
+        lines = text.splitlines(True)
+        kind = self.one(sorted({line.split()[0] for line in lines[1:-1]}))
+        at = self.one(at for at, line in enumerate(lines) if line.startswith(kind))
+        change = self.one([lambda _: "", self.with_a_digit, self.with_a_set if verdicts.SET.search(lines[at]) else self.with_a_digit])
+        return in_order("".join([*lines[:at], change(lines[at]), *lines[at + 1:]]))
+
+    def changed_image(self, image):
+        """A tape on which a word is any other word, or a memory reference that names the cell of another one, or an auto-index cell."""
+        at, other = self.one(image), self.one(image)
+        cell = self.one([named_cell(image[other], other), named_cell(image[other], other), 0o10])
+        if self.numbers.random() < 0.3 or 0o200 <= cell != at & 0o7600 | cell & 0o177:
+            return super().changed_image(image)
+        return image | {at: self.numbers.randrange(12) << 8 | (cell >= 0o200) << 7 | cell & 0o177}
+
+    def changed_certificate(self, text):
+        for _ in range(self.one([0, 1, 1, 2])):
+            text = self.changed_line(text)
+        return text if self.numbers.random() < 0.7 else super().changed_certificate(text)
+
+    def well_formed(self, known):
+        """A program with its declaration and certificate, changed, where the certificate has its form."""
+        while True:
+            name, *parts = self.one(known)
+            parts = self.changed(*parts)
+            if verdicts.declaration_of(parts[1]) and verdicts.certificate_of(parts[2]):
+                return name, *parts
+
+
 def guessed(program):
     """The programs in the style of 1970 for which `guess` finds a certificate: name, words of the tape, declaration and certificate."""
     for source in sorted((TOP / "tests").glob("style-of-1970*/*.pal")):
@@ -455,15 +492,17 @@ def guessed(program):
             yield source.stem, *labels.program(source.read_bytes()), ran.stdout
 
 
-def with_a_wrong_number(lines, changes):
-    """The lines with one number of the reason increased by 1."""
-    at = next(at for at, line in enumerate(lines) if " requires: " in line) + 1
-    number = changes.one(re.finditer("[0-7]+", lines[at]) if re.search("[0-7]", lines[at]) else [])
-    more = f"{int(number[0], 8) + 1:0{len(number[0])}o}"[-len(number[0]):]
-    return [*lines[:at], lines[at][:number.start()] + more + lines[at][number.end():], *lines[at + 1:]]
+def with_a_wrong_number(text, changes):
+    """What the program says with one number of the reason increased by 1, if it has one."""
+    reason = re.search("(?<= requires: ).*\n(.*)", text)
+    number = reason and changes.one([*re.finditer(r"\b[0-7]+\b", text[:reason.end()][reason.start(1):]), None])
+    if not number:
+        return None
+    start, length = reason.start(1) + number.start(), len(number[0])
+    return text[:start] + f"{octal(number[0]) + 1:0{length}o}"[-length:] + text[start + length:]
 
 
-def what_is_wrong(image, declaration, certificate, said, changes=None):
+def what_is_wrong(image, declaration, certificate, said):
     """What is wrong in what the program says about a certificate, or None."""
     first, *lines = said.splitlines()
     wanted = verdicts.verdict(image, declaration, certificate)
@@ -475,8 +514,8 @@ def what_is_wrong(image, declaration, certificate, said, changes=None):
     case = Refused(image, verdicts.declaration_of(declaration), verdicts.certificate_of(certificate), int(number), octal(at))
     try:
         return None if case.is_so(lines, certificate) else "the reason is wrong"
-    except Unknown as unknown:
-        return f"unknown sentence: {unknown}"
+    except (Unknown, IndexError, KeyError, TypeError, ValueError) as fault:
+        return f"not understood: {fault!r}"
 
 
 def said(program, case):
@@ -497,19 +536,26 @@ def arguments():
 
 def main():
     asked, folder = arguments(), Path(tempfile.mkdtemp())
-    changes, kinds, wrong = verdicts.Changes(asked.seed), collections.Counter(), []
+    changes, kinds, refused, wrong = Forger(asked.seed), collections.Counter(), collections.Counter(), []
     known = verdicts.programs(TOP / "examples") + verdicts.programs(TOP / "tests/version3") + (list(guessed(asked.program)) if asked.guess else [])
     for number in range(asked.count):
-        name, *parts = changes.one(known)
-        parts = changes.changed(*parts)
+        name, *parts = changes.well_formed(known)
         case = verdicts.Case(folder / f"{number:06}-{name}", *parts, [])
         told = said(asked.program, case)
+        if asked.wrong:
+            changed = with_a_wrong_number(told, changes)
+            refused[changed and what_is_wrong(*parts, changed) is not None] += 1
+            case.forget()
+            continue
         fault = what_is_wrong(*parts, told)
         kinds[re.split(" at |: .* cells|\n", told)[0]] += 1
         if fault:
             wrong.append(f"pdp8 check --why {case.tape} {case.declaration} {case.certificate}: {fault}\n{told}")
         else:
             case.forget()
+    if asked.wrong:
+        print(f"{refused[True]} of {refused[True] + refused[False]} reasons with a wrong number are refused")
+        return int(refused[True] < 8 * refused[False])
     print("\n".join(wrong[:20]))
     print(", ".join(f"{kind} {times}" for kind, times in sorted(kinds.items())))
     unreached = [f"{kind}: {sentence}" for kind, known in SENTENCES.items() for sentence in known if (kind, sentence) not in REACHED]

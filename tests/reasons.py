@@ -6,8 +6,8 @@ Changes.changed of verdicts.py forges the certificates, from those of examples/ 
 `guess` finds for the programs in the style of 1970. The verdict must be that of the reference. If it is no, each sentence below it must be
 known here and true: the word that is shown is possible at the address by the fact that is shown, and it violates the condition; the cell,
 word, sum, offset, site or rank that is named is as it is said to be. Cases for which this is not so are kept, with the commands that repeat
-them. The sentences that no case reached are listed. With --wrong, one number in each reason is increased by 1 first, so that nearly every
-reason must be found to be wrong.
+them. The sentences that no case reached are listed. With --wrong, one number in each reason is increased by 1 first, so that most reasons must
+be found to be wrong; those in which the next number is right, too, are not.
 """
 import argparse
 import collections
@@ -231,7 +231,8 @@ class Refused:
         if index is not None:
             self.claimed = known[index]
             self.fact = self.narrowed(self.claimed)
-        return (asked.startswith(f"V{self.number} requires: ") and shown == ([] if index is None else facts[index].splitlines()) and
+        return (asked.startswith(f"V{self.number} requires: ") and (self.word == self.image.get(self.at) or self.possible() >> self.word & 1) and
+                shown == ([] if index is None else facts[index].splitlines()) and
                 (count is None or 1 < int(count) == len(known)) and
                 all(self.is_mark(mark, known) for mark in (marks or "").split(", ")[1:]) and is_true(self.number, reason, self))
 
@@ -471,7 +472,7 @@ class Forger(verdicts.Changes):
         return image | {at: self.numbers.randrange(12) << 8 | (cell >= 0o200) << 7 | cell & 0o177}
 
     def changed_certificate(self, text):
-        for _ in range(self.one([0, 1, 1, 2])):
+        for _ in range(self.one([1, 1, 2, 3])):
             text = self.changed_line(text)
         return text if self.numbers.random() < 0.7 else super().changed_certificate(text)
 
@@ -493,13 +494,10 @@ def guessed(program):
 
 
 def with_a_wrong_number(text, changes):
-    """What the program says with one number of the reason increased by 1, if it has one."""
-    reason = re.search("(?<= requires: ).*\n(.*)", text)
-    number = reason and changes.one([*re.finditer(r"\b[0-7]+\b", text[:reason.end()][reason.start(1):]), None])
-    if not number:
-        return None
-    start, length = reason.start(1) + number.start(), len(number[0])
-    return text[:start] + f"{octal(number[0]) + 1:0{length}o}"[-length:] + text[start + length:]
+    """What the program says, with one number of the reason increased by 1."""
+    def more(number):
+        return f"{octal(number) + 1:0{len(number)}o}"[-len(number):]
+    return re.sub(r"( requires: .*\n)(.*)", lambda found: found[1] + changes.in_a_line(found[2], r"\b([0-7]+)\b", more), text)
 
 
 def what_is_wrong(image, declaration, certificate, said):
@@ -536,26 +534,19 @@ def arguments():
 
 def main():
     asked, folder = arguments(), Path(tempfile.mkdtemp())
-    changes, kinds, refused, wrong = Forger(asked.seed), collections.Counter(), collections.Counter(), []
+    changes, kinds, wrong = Forger(asked.seed), collections.Counter(), []
     known = verdicts.programs(TOP / "examples") + verdicts.programs(TOP / "tests/version3") + (list(guessed(asked.program)) if asked.guess else [])
     for number in range(asked.count):
         name, *parts = changes.well_formed(known)
         case = verdicts.Case(folder / f"{number:06}-{name}", *parts, [])
         told = said(asked.program, case)
-        if asked.wrong:
-            changed = with_a_wrong_number(told, changes)
-            refused[changed and what_is_wrong(*parts, changed) is not None] += 1
-            case.forget()
-            continue
-        fault = what_is_wrong(*parts, told)
         kinds[re.split(" at |: .* cells|\n", told)[0]] += 1
+        told = with_a_wrong_number(told, changes) if asked.wrong else told
+        fault = what_is_wrong(*parts, told)
         if fault:
             wrong.append(f"pdp8 check --why {case.tape} {case.declaration} {case.certificate}: {fault}\n{told}")
-        else:
+        if not fault or asked.wrong:
             case.forget()
-    if asked.wrong:
-        print(f"{refused[True]} of {refused[True] + refused[False]} reasons with a wrong number are refused")
-        return int(refused[True] < 8 * refused[False])
     print("\n".join(wrong[:20]))
     print(", ".join(f"{kind} {times}" for kind, times in sorted(kinds.items())))
     unreached = [f"{kind}: {sentence}" for kind, known in SENTENCES.items() for sentence in known if (kind, sentence) not in REACHED]

@@ -6,8 +6,8 @@ from dataclasses import dataclass, field, replace
 
 import facts
 import sets
-from facts import AC, Fact, Place, entails, in_reach, possible, supported
-from machine import named_cell
+from facts import AC, Fact, Place, entails, in_reach
+from machine import is_supported, named_cell
 from watch import is_halt
 
 ORDER = [2, 3, 5, 14, 6, 13, 7, 8, 9, 10, 12, 11, 4, 15, 16]
@@ -97,6 +97,12 @@ def holds_before(fact, image):
     if any((sets.one(image[cell]) if cell in image else sets.ALL) & ~members for cell, members in fact.cells.items()):
         return False
     return all(x in image and y in image and image[x] == (image[y] + k) % 4096 for x, y, k in fact.equations)
+
+
+def listed(found, key):
+    """The facts of a certificate at an address, or for an entry and an offset: one or, in version 3, a list."""
+    facts_there = found.get(key, [])
+    return facts_there if isinstance(facts_there, list) else [facts_there]
 
 
 class Judge:
@@ -236,30 +242,32 @@ class Judge:
         listed = sets.of(self.declared.reads) | (sets.one(place.entry) if place.entry is not None else 0)
         return not self.cells_read(fact, at, word, place) & ~listed
 
+    def narrowed(self, fact, place):
+        """What is asked about a fact, or None if no state satisfies it."""
+        return fact
+
     def exits_hold(self, entry):
-        """By each exit of a routine what is declared of its returns is so."""
-        place = self.place(entry)
-        return all(self.asserted(said, fact, place) for (of, offset), fact in self.certificate.exits.items() if of == entry
+        """By each exit of a routine that some state may satisfy what is declared of its returns is so."""
+        place, exits = self.place(entry), self.certificate.exits
+        asked = [(offset, self.narrowed(fact, place)) for of, offset in exits if of == entry for fact in listed(exits, (of, offset))]
+        return all(self.asserted(said, fact, place) for offset, fact in asked if fact is not None
                    for said in self.declared.held_by(entry, offset))
 
     def fails_at(self, at):
         """The first condition that fails at an address, or None."""
-        for number in ORDER:
-            if number == 2:
-                if not self.holds_2(at):
-                    return 2
-                continue
-            fact = self.certificate.facts.get(at)
-            if fact is None:
-                return None if self.exits_hold(at) else 16
-            place = self.place(self.owner(at))
-            members = possible(fact, at, place)
-            if number == 3:
-                if members.bit_count() > 64 or not all(supported(word, self.declared) for word in sets.words(members)):
-                    return 3
-            elif not all(self.holds(number, fact, at, word, place) for word in sets.words(members)):
-                return number
-        return None
+        if not self.holds_2(at):
+            return 2
+        place = self.place(self.owner(at))
+        asked = [self.narrowed(fact, place) for fact in listed(self.certificate.facts, at)]
+        asked = [(fact, self.rules.possible(fact, at, place)) for fact in asked if fact is not None]
+        for number in ORDER[1:]:
+            for fact, members in asked:
+                if number == 3:
+                    if members.bit_count() > 64 or not all(is_supported(word, self.declared.profile) for word in sets.words(members)):
+                        return 3
+                elif not all(self.holds(number, fact, at, word, place) for word in sets.words(members)):
+                    return number
+        return None if self.exits_hold(at) else 16
 
 
 def judge(image, declared, certificate):

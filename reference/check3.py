@@ -7,9 +7,9 @@ from dataclasses import dataclass, field, replace
 import check
 import facts3
 import sets
-from check import ORDER, Routine, set_of, set_text
-from facts3 import AC, MINUS, Fact, Place, in_reach, lands_by, narrowed, order, parts, possible, spelled
-from machine import is_supported, named_cell
+from check import Routine, set_of, set_text
+from facts3 import AC, MINUS, Fact, Place, in_reach, lands_by, order, parts, spelled
+from machine import named_cell
 
 LIMITS = {"cell": 64, "sum": 32, "func": 4}
 MOST = 64
@@ -260,12 +260,8 @@ class Judge(check.Judge):
     def abandoned(self, fact):
         return replace(super().abandoned(fact), sites=0)
 
-    def exits_hold(self, entry):
-        """By each exit of a routine that some state may satisfy what is declared of its returns is so."""
-        place = self.place(entry)
-        asked = [(offset, narrowed(fact, place)) for (of, offset), facts in self.certificate.exits.items() if of == entry for fact in facts]
-        return all(self.asserted(said, fact, place) for offset, fact in asked if fact is not None
-                   for said in self.declared.held_by(entry, offset))
+    def narrowed(self, fact, place):
+        return facts3.narrowed(fact, place)
 
     def returns_well(self, fact, offset, entry):
         """A fact lands among the exits of an offset."""
@@ -297,22 +293,6 @@ class Judge(check.Judge):
         return named_cell(word, at) == entry and all(
             offset in self.declared.offsets(entry) and self.returns_well(fact, offset, entry)
             for offset in fact.offsets)
-
-    def fails_at(self, at):
-        """The first condition that fails at an address, or None."""
-        if not self.holds_2(at):
-            return 2
-        place = self.place(self.owner(at))
-        asked = [narrowed(fact, place) for fact in self.certificate.facts.get(at, [])]
-        asked = [(fact, possible(fact, at, place)) for fact in asked if fact is not None]
-        for number in ORDER[1:]:
-            for fact, members in asked:
-                if number == 3:
-                    if members.bit_count() > 64 or not all(is_supported(word, self.declared.profile) for word in sets.words(members)):
-                        return 3
-                elif not all(self.holds(number, fact, at, word, place) for word in sets.words(members)):
-                    return number
-        return None if self.exits_hold(at) else 16
 
 
 def judge(image, declared, certificate):

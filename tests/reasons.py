@@ -73,11 +73,6 @@ def is_beyond(members, others, word):
     return members >> word & ~(others >> word) & 1
 
 
-def listed(found):
-    """The facts at a place of a certificate, which is one or, in version 3, a list."""
-    return found if isinstance(found, list) else [] if found is None else [found]
-
-
 # What tells a fact from others at its address ----------------------------------------------------------------------
 
 says("mark", "for the call from {A}")(lambda fact, site: fact.sites == sets.one(site))
@@ -213,10 +208,10 @@ class Refused:
         self.claimed = self.fact = self.word = None
 
     def facts(self, at):
-        return listed(self.certificate.facts.get(at))
+        return check.listed(self.certificate.facts, at)
 
-    def narrowed(self, fact):
-        return facts3.narrowed(fact, self.place) if self.third else fact
+    def exits(self, entry, offset):
+        return check.listed(self.certificate.exits, (entry, offset))
 
     def is_so(self, lines, text):
         """The lines of a reason are true, and those of the fact that it shows are in the text of the certificate."""
@@ -230,7 +225,7 @@ class Refused:
         index = int(index) - 1 if index else 0 if len(known) == 1 else None
         if index is not None:
             self.claimed = known[index]
-            self.fact = self.narrowed(self.claimed)
+            self.fact = self.judge.narrowed(self.claimed, self.place)
         return (asked.startswith(f"V{self.number} requires: ") and (self.word == self.image.get(self.at) or self.possible() >> self.word & 1) and
                 shown == ([] if index is None else facts[index].splitlines()) and
                 (count is None or 1 < int(count) == len(known)) and
@@ -366,7 +361,7 @@ def does_not_enter(case, entry, text):
 
 @says(11, "the JMS calls {A}, which returns with offset {O}, according to exit line {D}: {T}")
 def does_not_come_back(case, entry, offset, number, text):
-    exits = listed(case.certificate.exits.get((entry, offset)))
+    exits = case.exits(entry, offset)
     found = exits[number - 1] if 1 <= number <= len(exits) else None
     return case.calls(entry) and found and (not case.third or found.sites >> case.at & 1) and case.misses(
         text, case.rules.joined(case.fact, found, case.routines[entry].writes), case.entry, (case.at + 1 + offset) % 4096)
@@ -396,7 +391,7 @@ says(12, "it returns through {A} with offset {O}, which has no exit line")(
 
 @says(12, "it returns through {A} with offset {O}: {T}")
 def is_no_exit(case, entry, offset, text):
-    landing = Landing(case.fact, listed(case.certificate.exits.get((entry, offset))), case.place, offsets=False)
+    landing = Landing(case.fact, case.exits(entry, offset), case.place, offsets=False)
     return returns_by(case, entry, offset) and is_true("exit", text, landing)
 
 
@@ -429,9 +424,8 @@ says(16, "{T} may be {W}, which a `holds` line excludes")(
 
 @says(16, "when it returns with offset {O} by exit line {D}, {T} may be {W}, which a `returns` line excludes")
 def exit_denies(case, offset, number, subject, word):
-    exits = listed(case.certificate.exits.get((case.at, offset)))
-    case.place = case.judge.place(case.at)
-    fact = case.narrowed(exits[number - 1]) if 1 <= number <= len(exits) else None
+    exits, case.place = case.exits(case.at, offset), case.judge.place(case.at)
+    fact = case.judge.narrowed(exits[number - 1], case.place) if 1 <= number <= len(exits) else None
     return fact and case.denies(case.declared.held_by(case.at, offset), fact, subject, word)
 
 

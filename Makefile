@@ -39,8 +39,8 @@ run:
 # The gate. First come quick checks: that the page of definitions and the texts of explain are up to date, that the links of pages lead
 # somewhere and README.md is not too long, that each edit applies, and that there are not too many edits. Then come every proof from
 # nothing, the edits in must-fail/, every test, and the program. The program that was proved is then used to check that help,
-# docs/COMMANDS.md, man page and completions agree, that the reports of the examples are what the reference makes, and to
-# run all cases.
+# docs/COMMANDS.md, man page and completions agree, that the reports of the examples are what the reference makes, that the reasons for
+# refusing forged certificates are true, and to run all cases.
 test:
 	python3 tests/definitions.py
 	python3 tests/explanations.py
@@ -49,6 +49,7 @@ test:
 	RT_JOBS=$(LANES) rt ci
 	python3 tests/agreement.py $(BUILT)
 	python3 tests/reports.py $(BUILT)
+	python3 tests/reasons.py $(BUILT) --count 300
 	python3 tests/cases.py $(BUILT)
 
 # Runs all cases with the program that has been built.

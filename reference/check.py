@@ -4,9 +4,10 @@ A certificate is taken as well formed: faults of its text aren't told apart.
 """
 from dataclasses import dataclass, field, replace
 
+import facts
 import sets
-from facts import AC, Fact, Place, entails, in_reach, joined, possible, post, supported, targets, values
-from machine import named_cell
+from facts import AC, Fact, Place, entails, in_reach
+from machine import is_supported, named_cell
 from watch import is_halt
 
 ORDER = [2, 3, 5, 14, 6, 13, 7, 8, 9, 10, 12, 11, 4, 15, 16]
@@ -31,13 +32,7 @@ class Certificate:
 
 def set_text(members):
     """A set as its maximal runs."""
-    runs = []
-    for word in sets.words(members):
-        if runs and runs[-1][1] == word - 1:
-            runs[-1][1] = word
-        else:
-            runs.append([word, word])
-    return ",".join(f"{a:04o}" if a == b else f"{a:04o}-{b:04o}" for a, b in runs) or "-"
+    return ",".join(f"{a:04o}" if a == b else f"{a:04o}-{b:04o}" for a, b in sets.runs(members)) or "-"
 
 
 def set_of(text):
@@ -104,8 +99,15 @@ def holds_before(fact, image):
     return all(x in image and y in image and image[x] == (image[y] + k) % 4096 for x, y, k in fact.equations)
 
 
+def listed(found, key):
+    """The facts of a certificate at an address, or for an entry and an offset: one or, in version 3, a list."""
+    facts_there = found.get(key, [])
+    return facts_there if isinstance(facts_there, list) else [facts_there]
+
+
 class Judge:
-    """The conditions at one address, by their numbers."""
+    """The conditions at one address, by their numbers; with how facts change, and the last address that may be a site."""
+    rules, last_site = facts, 0o7767
 
     def __init__(self, image, declared, certificate):
         self.image, self.declared, self.certificate = image, declared, certificate
@@ -116,8 +118,7 @@ class Judge:
             return None
         return next((entry for entry, (body, _) in self.declared.routines.items() if at in body), False)
 
-    def place(self, at):
-        entry = self.owner(at)
+    def place(self, entry):
         line = self.certificate.routines.get(entry)
         return Place(self.image, self.declared, entry, line.sites if line else 0)
 
@@ -130,12 +131,12 @@ class Judge:
         """The cells that a word may write, those of a JMS apart."""
         if word >= 0o6000:
             return 0
-        cell, (_, cells) = named_cell(word, at), targets(fact, at, word, place)
+        cell, (_, cells) = named_cell(word, at), self.rules.targets(fact, at, word, place)
         stepped = sets.one(cell) if word & 0o400 and 0o10 <= cell <= 0o17 else 0
         return stepped | (cells if word >> 9 in (2, 3) else 0)
 
     def callees(self, fact, at, word, place):
-        return list(sets.words(targets(fact, at, word, place)[1])) if word >> 9 == 4 else []
+        return list(sets.words(self.rules.targets(fact, at, word, place)[1])) if word >> 9 == 4 else []
 
     def is_return(self, at, word):
         return word >> 9 == 5 and bool(word & 0o400) and named_cell(word, at) in self.declared.routines
@@ -170,21 +171,29 @@ class Judge:
             if word >> 9 == 4 or self.is_return(at, word):
                 return True
             return all(self.lands_beyond(outcome.fact, following, entry, word)
-                       for outcome in post(fact, at, word, place) for following in outcome.nexts)
+                       for outcome in self.rules.post(fact, at, word, place) for following in outcome.nexts)
         return self.declared.reads is None or self.holds_15(fact, at, word, place)
 
     def lands_beyond(self, fact, at, entry, word):
         """The fact lands in the same body; or as one of main's, where a JMP in a routine abandons all calls."""
         if entry is not None and word >> 9 == 5 and at in self.declared.abandons:
-            return self.lands(replace(fact, offsets=frozenset()), at, None)
+            return self.lands(self.abandoned(fact), at, None)
         return self.lands(fact, at, entry)
+
+    def called(self, fact, at):
+        """What is known at the first instruction of a routine that is called from an address."""
+        return replace(fact, offsets=frozenset((0,)))
+
+    def abandoned(self, fact):
+        """What is known in main after all calls have been abandoned."""
+        return replace(fact, offsets=frozenset())
 
     def asserted(self, said, fact, place):
         """By a fact what is asserted is so."""
         if said.subject == "link":
             return fact.link <= said.words
         known = {"ac": fact.narrowed(AC), "mq": fact.mq}.get(said.subject)
-        return not (values(fact, said.subject, place) if known is None else known) & ~sets.of(said.words)
+        return not (self.rules.values(fact, said.subject, place) if known is None else known) & ~sets.of(said.words)
 
     def holds_5(self, written, fact, word, place, own):
         return not written & ~sets.of(self.declared.variables | set(self.declared.routines))
@@ -206,11 +215,13 @@ class Judge:
         if number == 8:
             return entry is None or not ((line.writes | sets.one(callee)) & ~own.writes or line.writes >> entry & 1)
         if number == 9:
-            return bool(line.sites >> at & 1) and at <= 0o7767
+            return bool(line.sites >> at & 1) and at <= self.last_site
         if number == 10:
-            called = Fact(fact.ac, fact.mq, fact.link, fact.cells, fact.equations, frozenset((0,)))
-            return self.lands(called, (callee + 1) % 4096, callee)
-        return all(self.lands(joined(fact, known, line.writes), (at + 1 + offset) % 4096, entry)
+            return self.lands(self.called(fact, at), (callee + 1) % 4096, callee)
+        return self.holds_11(fact, at, callee, entry, line)
+
+    def holds_11(self, fact, at, callee, entry, line):
+        return all(self.lands(self.rules.joined(fact, known, line.writes), (at + 1 + offset) % 4096, entry)
                    for (of, offset), known in self.certificate.exits.items() if of == callee)
 
     def holds_12(self, fact, at, word, entry):
@@ -220,40 +231,43 @@ class Judge:
         return all(offset in self.declared.offsets(entry) and (entry, offset) in exits and
                    entails(fact, exits[entry, offset], offsets=False) for offset in fact.offsets)
 
-    def holds_15(self, fact, at, word, place):
+    def cells_read(self, fact, at, word, place):
+        """The cells that a word may read."""
         if word >= 0o6000:
-            return True
-        read = sets.one(named_cell(word, at)) if word & 0o400 else 0
-        if word >> 9 < 3:
-            read |= targets(fact, at, word, place)[1]
+            return 0
+        pointer = sets.one(named_cell(word, at)) if word & 0o400 else 0
+        return pointer | (self.rules.targets(fact, at, word, place)[1] if word >> 9 < 3 else 0)
+
+    def holds_15(self, fact, at, word, place):
         listed = sets.of(self.declared.reads) | (sets.one(place.entry) if place.entry is not None else 0)
-        return not read & ~listed
+        return not self.cells_read(fact, at, word, place) & ~listed
+
+    def narrowed(self, fact, place):
+        """What is asked about a fact, or None if no state satisfies it."""
+        return fact
 
     def exits_hold(self, entry):
-        """By each exit of a routine what is declared of its returns is so."""
-        line = self.certificate.routines.get(entry)
-        place = Place(self.image, self.declared, entry, line.sites if line else 0)
-        return all(self.asserted(said, fact, place) for (of, offset), fact in self.certificate.exits.items() if of == entry
+        """By each exit of a routine that some state may satisfy what is declared of its returns is so."""
+        place, exits = self.place(entry), self.certificate.exits
+        asked = [(offset, self.narrowed(fact, place)) for of, offset in exits if of == entry for fact in listed(exits, (of, offset))]
+        return all(self.asserted(said, fact, place) for offset, fact in asked if fact is not None
                    for said in self.declared.held_by(entry, offset))
 
     def fails_at(self, at):
         """The first condition that fails at an address, or None."""
-        for number in ORDER:
-            if number == 2:
-                if not self.holds_2(at):
-                    return 2
-                continue
-            fact = self.certificate.facts.get(at)
-            if fact is None:
-                return None if self.exits_hold(at) else 16
-            place = self.place(at)
-            members = possible(fact, at, place)
-            if number == 3:
-                if members.bit_count() > 64 or not all(supported(word, self.declared) for word in sets.words(members)):
-                    return 3
-            elif not all(self.holds(number, fact, at, word, place) for word in sets.words(members)):
-                return number
-        return None
+        if not self.holds_2(at):
+            return 2
+        place = self.place(self.owner(at))
+        asked = [self.narrowed(fact, place) for fact in listed(self.certificate.facts, at)]
+        asked = [(fact, self.rules.possible(fact, at, place)) for fact in asked if fact is not None]
+        for number in ORDER[1:]:
+            for fact, members in asked:
+                if number == 3:
+                    if members.bit_count() > 64 or not all(is_supported(word, self.declared.profile) for word in sets.words(members)):
+                        return 3
+                elif not all(self.holds(number, fact, at, word, place) for word in sets.words(members)):
+                    return number
+        return None if self.exits_hold(at) else 16
 
 
 def judge(image, declared, certificate):

@@ -4,11 +4,12 @@ docs/FORMATS.md, docs/TRANSFER.md and docs/THEOREM.md alone, for comparing.
 import re
 from dataclasses import dataclass, field, replace
 
+import check
+import facts3
 import sets
-from check import ORDER, Routine, set_of, set_text
-from facts3 import AC, MINUS, Fact, Place, in_reach, joined, lands_by, narrowed, order, parts, possible, post, spelled, targets, values
-from machine import is_supported, named_cell
-from watch import is_halt
+from check import Routine, set_of, set_text
+from facts3 import AC, MINUS, Fact, Place, in_reach, lands_by, order, parts, spelled
+from machine import named_cell
 
 LIMITS = {"cell": 64, "sum": 32, "func": 4}
 MOST = 64
@@ -234,18 +235,13 @@ def start_fact(image):
     return Fact(relations={((cell, 1),): sets.one(word) for cell, word in image.items()})
 
 
-class Judge:
-    """The conditions at one address, by their numbers."""
+class Judge(check.Judge):
+    """The conditions at one address, by their numbers, where they are others than those on the versions before."""
+    rules, last_site = facts3, 0o7776
 
     def __init__(self, image, declared, certificate):
-        self.image, self.declared, self.certificate = image, declared, certificate
+        super().__init__(image, declared, certificate)
         self.places = {}
-
-    def owner(self, at):
-        """The routine whose body has an address (None for main), or False."""
-        if at in self.declared.main:
-            return None
-        return next((entry for entry, (body, _) in self.declared.routines.items() if at in body), False)
 
     def place(self, entry):
         if entry not in self.places:
@@ -258,41 +254,19 @@ class Judge:
         found, known = parts(fact, place), self.certificate.facts.get(at, [])
         return not found or (at in self.declared.body(entry) and all(lands_by(part, known, place, True) for part in found))
 
-    def lands_beyond(self, fact, at, entry, word):
-        """The fact lands in the same body; or as one of main's, where a JMP in a routine abandons all calls."""
-        if entry is not None and word >> 9 == 5 and at in self.declared.abandons:
-            return self.lands(replace(fact, sites=0, offsets=frozenset()), at, None)
-        return self.lands(fact, at, entry)
+    def called(self, fact, at):
+        return replace(super().called(fact, at), sites=sets.one(at))
 
-    def asserted(self, said, fact, place):
-        """By a narrowed fact what is asserted is so."""
-        if said.subject == "link":
-            return fact.link <= said.words
-        known = {"ac": fact.set_of(AC), "mq": fact.mq}.get(said.subject)
-        return not (values(fact, said.subject, place) if known is None else known) & ~sets.of(said.words)
+    def abandoned(self, fact):
+        return replace(super().abandoned(fact), sites=0)
 
-    def exits_hold(self, entry):
-        """By each exit of a routine that some state may satisfy what is declared of its returns is so."""
-        place = self.place(entry)
-        asked = [(offset, narrowed(fact, place)) for (of, offset), facts in self.certificate.exits.items() if of == entry for fact in facts]
-        return all(self.asserted(said, fact, place) for offset, fact in asked if fact is not None
-                   for said in self.declared.held_by(entry, offset))
+    def narrowed(self, fact, place):
+        return facts3.narrowed(fact, place)
 
     def returns_well(self, fact, offset, entry):
         """A fact lands among the exits of an offset."""
         place, known = self.place(entry), self.certificate.exits.get((entry, offset), [])
         return all(lands_by(part, known, place, False) for part in parts(fact, place))
-
-    def cells_written(self, fact, at, word, place):
-        """The cells that a word may write, those of a JMS apart."""
-        if word >= 0o6000:
-            return 0
-        cell, (_, cells) = named_cell(word, at), targets(fact, at, word, place)
-        stepped = sets.one(cell) if word & 0o400 and 0o10 <= cell <= 0o17 else 0
-        return stepped | (cells if word >> 9 in (2, 3) else 0)
-
-    def is_return(self, at, word):
-        return word >> 9 == 5 and bool(word & 0o400) and named_cell(word, at) in self.declared.routines
 
     def holds_2(self, at):
         lines, facts, entry = self.certificate.routines, self.certificate.facts.get(at, []), self.owner(at)
@@ -302,58 +276,16 @@ class Judge:
             return all(not fact.offsets and not fact.sites for fact in facts)
         return all(entry in lines and fact.offsets and fact.sites for fact in facts)
 
-    def holds(self, number, fact, at, word, place):
-        """A condition on one possible word, from a narrowed fact."""
-        entry, lines = place.entry, self.certificate.routines
-        own = lines.get(entry)
-        if number == 16:
-            return all(self.asserted(said, fact, place) for said in self.declared.held_at(at))
-        if number in (5, 6, 14):
-            written = self.cells_written(fact, at, word, place)
-            return getattr(self, f"holds_{number}")(written, fact, word, place, own)
-        if number == 13:
-            return not is_halt(word) or at in self.declared.stops | self.declared.pauses
-        if number in (7, 8, 9, 10, 11):
-            if word >> 9 != 4:
-                return True
-            if number == 7 and word & 0o400 and 0o10 <= named_cell(word, at) <= 0o17:
-                return False
-            return all(self.holds_of_call(number, fact, at, callee, entry, own)
-                       for callee in sets.words(targets(fact, at, word, place)[1]))
-        if number == 12:
-            return not self.is_return(at, word) or self.holds_12(fact, at, word, entry)
-        if number == 4:
-            return word >> 9 == 4 or self.is_return(at, word) or all(
-                self.lands_beyond(outcome.fact, following, entry, word)
-                for outcome in post(fact, at, word, place) for following in outcome.nexts)
-        return self.declared.reads is None or self.holds_15(fact, at, word, place)
-
-    def holds_5(self, written, fact, word, place, own):
-        return not written & ~sets.of(self.declared.variables | set(self.declared.routines))
-
     def holds_14(self, written, fact, word, place, own):
         entries, entry = written & sets.of(self.declared.routines), place.entry
         counted = (entry is not None and word >> 9 == 2 and sets.only(written) == entry and 0o77 not in fact.offsets and
-                   not values(fact, entry, place) >> 0o7777 & 1)
+                   not facts3.values(fact, entry, place) >> 0o7777 & 1)
         moved = (entry is not None and word >> 9 == 3 and not word & 0o400 and sets.only(written) == entry and
                  entry in self.declared.moves and in_reach(fact))
         return not entries or counted or moved
 
-    def holds_6(self, written, fact, word, place, own):
-        return place.entry is None or not written & ~(own.writes | sets.one(place.entry))
-
-    def holds_of_call(self, number, fact, at, callee, entry, own):
-        line = self.certificate.routines.get(callee)
-        if number == 7:
-            return callee in self.declared.routines and line is not None and (entry is None or line.rank < own.rank)
-        if number == 8:
-            return entry is None or not ((line.writes | sets.one(callee)) & ~own.writes or line.writes >> entry & 1)
-        if number == 9:
-            return bool(line.sites >> at & 1) and at <= 0o7776
-        if number == 10:
-            called = replace(fact, sites=sets.one(at), offsets=frozenset((0,)))
-            return self.lands(called, (callee + 1) % 4096, callee)
-        return all(self.lands(joined(fact, known, line.writes), (at + 1 + offset) % 4096, entry)
+    def holds_11(self, fact, at, callee, entry, line):
+        return all(self.lands(facts3.joined(fact, known, line.writes), (at + 1 + offset) % 4096, entry)
                    for (of, offset), facts in self.certificate.exits.items() if of == callee
                    for known in facts if known.sites >> at & 1)
 
@@ -361,31 +293,6 @@ class Judge:
         return named_cell(word, at) == entry and all(
             offset in self.declared.offsets(entry) and self.returns_well(fact, offset, entry)
             for offset in fact.offsets)
-
-    def holds_15(self, fact, at, word, place):
-        if word >= 0o6000:
-            return True
-        read_ = sets.one(named_cell(word, at)) if word & 0o400 else 0
-        if word >> 9 < 3:
-            read_ |= targets(fact, at, word, place)[1]
-        listed = sets.of(self.declared.reads) | (sets.one(place.entry) if place.entry is not None else 0)
-        return not read_ & ~listed
-
-    def fails_at(self, at):
-        """The first condition that fails at an address, or None."""
-        if not self.holds_2(at):
-            return 2
-        place = self.place(self.owner(at))
-        asked = [narrowed(fact, place) for fact in self.certificate.facts.get(at, [])]
-        asked = [(fact, possible(fact, at, place)) for fact in asked if fact is not None]
-        for number in ORDER[1:]:
-            for fact, members in asked:
-                if number == 3:
-                    if members.bit_count() > 64 or not all(is_supported(word, self.declared.profile) for word in sets.words(members)):
-                        return 3
-                elif not all(self.holds(number, fact, at, word, place) for word in sets.words(members)):
-                    return number
-        return None if self.exits_hold(at) else 16
 
 
 def judge(image, declared, certificate):

@@ -30,6 +30,9 @@ class Fact:
     def set_of(self, name):
         return self.relations.get(((name, 1),), sets.ALL)
 
+    # A fact is narrowed as a whole; in the versions before, name by name.
+    narrowed = set_of
+
     def with_set(self, name, members):
         return replace(self, relations=self.relations | {((name, 1),): members})
 
@@ -501,14 +504,19 @@ def lands_by(part, known, place, offsets):
     return any(is_split_by(name, part, known, place, offsets) for name in sorted(told | {AC, untold}))
 
 
+def taken(name, part, b, place, offsets):
+    """The words of a name in the set of a fact, if the part with this set entails it or has no state; else none."""
+    members = part.set_of(name) & b.set_of(name)
+    met = narrowed(part.with_set(name, members), place)
+    return members if met is None or entails(met, b, place, offsets) else 0
+
+
 def is_split_by(name, part, known, place, offsets):
-    """Each word of a name is in the set of a fact that the part, with this set, entails or has no state with."""
+    """Each word of a name is taken by a fact."""
     covered = 0
     for b in known:
-        members = part.set_of(name) & b.set_of(name)
-        if members & ~covered:
-            met = narrowed(part.with_set(name, members), place)
-            covered |= members if met is None or entails(met, b, place, offsets) else 0
+        if part.set_of(name) & b.set_of(name) & ~covered:
+            covered |= taken(name, part, b, place, offsets)
     return covered == part.set_of(name)
 
 

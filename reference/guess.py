@@ -7,7 +7,7 @@ from dataclasses import replace
 
 import sets
 from check import Certificate, Judge, Routine
-from facts import AC, Fact, Place, equation, joined, possible, post, supported
+from facts import AC, Fact, equation, joined, possible, post, supported
 from machine import named_cell
 
 GROWTHS = 24  # so often a set may grow at an address before it becomes all words
@@ -92,15 +92,11 @@ class Guess:
         return {equation(x, y, single[x][0] - single[y][0]) for x in single for y in single
                 if x < y and (single[x][0] - single[y][0] - single[x][1] + single[y][1]) % 4096 == 0}
 
-    def place(self, at):
-        entry = self.judge.owner(at)
-        return Place(self.image, self.declared, entry, self.found.routines[entry].sites if entry is not None else 0)
-
     def visit(self, at):
         """Goes on from an address."""
         if self.judge.owner(at) is False:
             raise Stuck(f"{at:04o}")
-        fact, place = self.found.facts[at], self.place(at)
+        fact, place = self.found.facts[at], self.judge.place(self.judge.owner(at))
         members = possible(fact, at, place)
         if members.bit_count() > 64 or not all(supported(word, self.declared) for word in sets.words(members)):
             raise Stuck(f"{at:04o}")

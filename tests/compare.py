@@ -114,8 +114,8 @@ def compare_verdicts(asked, folder):
     return all([worker('verdicts.py', asked.program, programs, folder, count, asked.seed) for programs in ('examples', 'tests/version3')])
 
 
-def compare_forged(asked, folder):
-    return all([worker('forged.py', asked.program, programs, folder, asked.seed) for programs in ('tests/version3', 'examples')])
+def compare_reasons(asked, folder):
+    return worker('reasons.py', asked.program, '--guess', '--count', str(asked.count or 5000), '--seed', str(asked.seed))
 
 
 def compare_watched(asked, folder):
@@ -171,7 +171,7 @@ COMPARISONS = {
     'facts': (compare_facts, 'generated facts of all versions and their outcomes with those in reference/'),
     'watched': (compare_watched, 'random runs of the programs that get a yes, of those in the style of 1970 and those for version 3'),
     'verdicts': (compare_verdicts, 'verdicts on changed programs and certificates of all versions with the checkers in reference/'),
-    'forged': (compare_forged, 'verdicts on certificates of version 3 with one line, or one word of a set, left out in turn'),
+    'reasons': (compare_reasons, 'verdicts on forged certificates of all versions, and the reasons, with what reference/ says'),
     'second-reader': (compare_second_reader, 'the fullest tape with a reader in Python'),
     'palbart': (compare_palbart, 'images with palbart'),
     'written-sources': (compare_written_sources, 'sources of generated tapes, read back, with palbart'),

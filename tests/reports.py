@@ -32,19 +32,9 @@ BEGIN, END = "\1", "\2"
 ADDRESS = BEGIN + "{:04o}" + END
 
 
-def runs_of(members):
-    runs = []
-    for word in sets.words(members):
-        if runs and runs[-1][1] == word - 1:
-            runs[-1][1] = word
-        else:
-            runs.append([word, word])
-    return runs
-
-
 def shown(members, address="{:04o}"):
     """A set as its first ranges, and how many more words there are. `address` says how the first word of a range is written."""
-    runs = runs_of(members)
+    runs = list(sets.runs(members))
     text = ",".join(address.format(a) + ("" if a == b else f"-{b:04o}") for a, b in runs[:MOST_RUNS]) or "-"
     more = sum(b - a + 1 for a, b in runs[MOST_RUNS:])
     return text + (f" and {more} more" if more else "")
@@ -130,7 +120,8 @@ class Report:
 
     def access(self, at, fact):
         """What the words at an address may do."""
-        place, words = self.judge.place(at), possible(fact, at, self.judge.place(at))
+        place = self.judge.place(self.judge.owner(at))
+        words = possible(fact, at, place)
         items, count = [], words.bit_count()
         if at in self.declared.variables or count > 64:
             items.append("may be any word" if words == sets.ALL else "may be " + shown(words))

@@ -11,6 +11,7 @@ import random
 import re
 import subprocess
 import sys
+from functools import lru_cache
 from pathlib import Path
 
 sys.path.insert(0, str(Path(__file__).parent.parent / "reference"))
@@ -41,6 +42,7 @@ def is_third(text):
     return text.startswith("PDP8-CERTIFICATE 3\n")
 
 
+@lru_cache(2)
 def certificate_of(text):
     """The certificate that a text spells, or None if it spells none."""
     if is_third(text):
@@ -57,6 +59,7 @@ def certificate_of(text):
     return found if is_sound(found) and judge.text(found) == text else None
 
 
+@lru_cache(2)
 def declaration_of(text):
     try:
         return watch.declaration(text.encode())
@@ -102,7 +105,7 @@ class Changes:
         return self.in_a_line(text, r"rank (\d\d)", lambda old: self.one(["00", "01", "02", "03", "77"]))
 
     def with_offsets(self, text):
-        several = ["-", "00", "01", "00-01", "07", "00-02,07"] if is_third(text) else ["-", "0", "1", "01", "7", "0127"]
+        several = ["-", "00", "01", "00-01", "07", "00-02,07", "00-77"] if is_third(text) else ["-", "0", "1", "01", "7", "0127"]
         return self.in_a_line(text, r"offsets ([-0-7,]+)", lambda old: self.one(several))
 
     def with_links(self, text):

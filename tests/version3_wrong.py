@@ -43,7 +43,7 @@ WRONG = [
     ("OSR sets no bits", "sets.or_any(ac, 0o7777) if word & 4 else ac", "ac"),
     ("what a fact says of a sum forgets the rest", "sets.added(found, known(fact, rest, place)) if rest", "found if rest"),
     ("a chain is entailed by another", "        if not allowed <= results(chain, word):", "        if not allowed & results(chain, word):"),
-    ("a word of a name is covered where a fact says nothing of it", "covered |= members if met is None or", "covered |= members if met is not None or"),
+    ("a word of a name is covered where a fact says nothing of it", "return members if met is None or", "return members if met is not None or"),
     ("after a call the sums of the caller are kept, if one cell was not written",
      "if not any(name == AC or written >> name & 1 for name in names(form)):", "if not all(name == AC or written >> name & 1 for name in names(form)):"),
 ]

@@ -194,21 +194,17 @@ class Page(Report):
         routines, claims = self.declared.routines, self.certificate.routines
         if not routines:
             return "<h2 id=routines>Routines, addresses in octal and ranks in decimal</h2>\n<p>There are none: everything is main.</p>\n"
-        rank = {entry: min(claims[entry].rank, 63) if entry in claims else 0 for entry in routines}
-        spots, in_row = {None: (0, 0)}, {}
-        for entry in routines:
-            row = len({it for it in rank.values() if it > rank[entry]}) + 1
-            spots[entry] = row, in_row.get(row, 0)
-            in_row[row] = in_row.get(row, 0) + 1
-        width, height = 150 * (max(column for _, column in spots.values()) + 1), 80 * (max(row for row, _ in spots.values()) + 1) - 30
+        rank = {entry: claims[entry].rank if entry in claims else 0 for entry in routines}
+        places = {entry: place for place, entry in enumerate([None, *sorted(routines, key=lambda it: -rank[it])])}
+        width, height = 150 + 24 * len(routines), 60 * len(routines) + 50
         parts = [f'<h2 id=routines>Routines, addresses in octal and ranks in decimal</h2>\n<svg role=img aria-label="graph of calls" width={width} viewBox="0 0 {width} {height}">\n']
         for entry in routines:
             owners = {self.judge.owner(site) for site in sets.words(claims[entry].sites)} if entry in claims else set()
-            parts += [self.arrow(spots[caller], spots[entry]) for caller in spots if caller in owners]
-        parts.append(self.box(spots[None], "m", "main"))
+            parts += [self.arrow(places[caller], places[entry]) for caller in [None, *routines] if caller in owners]
+        parts.append(self.box(0, "m", "main"))
         for entry in routines:
-            parts.append(f"<a href=#a{entry:04o}>{self.box(spots[entry], self.colour(entry), f'{entry:04o}')}</a>")
-        parts.append("</svg>\n<p>A line leads from a caller down to what it calls. ")
+            parts.append(f"<a href=#a{entry:04o}>{self.box(places[entry], self.colour(entry), f'{entry:04o}')}</a>")
+        parts.append("</svg>\n<p>An arc leads from a caller down to what it calls. ")
         parts.append("Ranks fall from caller to callee, so no routine is called again before it has returned." if self.refused is None
                      else "Ranks should fall from caller to callee; this certificate does not show that they do.")
         parts.append("</p>\n<table>\n<tr><th>entry<th>rank<th>called from<th>the routine and what it calls may write"
@@ -223,13 +219,14 @@ class Page(Report):
 
     @staticmethod
     def arrow(caller, callee):
-        return f'<path class=l d="M{150 * caller[1] + 70} {80 * caller[0] + 45}L{150 * callee[1] + 70} {80 * callee[0] + 5}" />'
+        start, end, aside = 60 * caller + 33, 60 * callee + 17, 130 + 24 * abs(caller - callee)
+        return f'<path class=l d="M130 {start}C{aside} {start} {aside} {end} 130 {end}" />'
 
     @staticmethod
-    def box(spot, kind, name):
-        left, top = 150 * spot[1] + 10, 80 * spot[0] + 5
-        return (f"<rect class=b width=120 height=40 x={left} y={top} /><rect width=10 height=40 class={kind} x={left} y={top} />"
-                f"<text class=n x={left + 18} y={top + 24}>{name}</text>\n")
+    def box(place, kind, name):
+        top = 60 * place + 5
+        return (f"<rect class=b width=120 height=40 x=10 y={top} /><rect width=10 height=40 class={kind} x=10 y={top} />"
+                f"<text class=n x=28 y={top + 24}>{name}</text>\n")
 
     # Variables
 

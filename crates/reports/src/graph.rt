@@ -1,4 +1,4 @@
-//! The routines as a graph: main above, and each routine below those that call it.
+//! The routines as a graph: one below the other, main first and each routine below those that call it, with an arc for each call.
 
 use crate::map::colour_of;
 use crate::report::{Finding, Report, claimed_of};
@@ -7,90 +7,57 @@ use crate::writer::ReportWriter;
 use declaration::Routine;
 use std::alloc::{AllocError, Allocator};
 use word12::Word;
-use wordset::WordSet;
 
-/// How far it is from one box to the next, and from one row to the next.
-const ACROSS: usize = 150;
+/// How far it is from the upper edge of one box to that of the next.
+const DOWN: usize = 60;
 
-const DOWN: usize = 80;
-
-/// Where a box stands: its row, and its place in the row.
-#[derive(Clone, Copy)]
-struct BoxPlace {
-    row: usize,
-    column: usize,
-}
+/// How much farther a line goes to the side for each box that it passes.
+const ASIDE: usize = 24;
 
 /// What stands between what ranks show and the rows of the table.
 const COLUMNS: &[u8] =
     b"</p>\n<table>\n<tr><th>entry<th>rank<th>called from<th>the routine and what it calls may write\
 <th>words skipped after the call when it returns\n";
 
-/// The box of main, which is the first.
-const MAIN: BoxPlace = BoxPlace { row: 0, column: 0 };
+/// The place of the box of main, which is the first.
+const MAIN: usize = 0;
 
-impl BoxPlace {
-    /// The middle of the box.
-    fn middle(&self) -> usize {
-        self.column.saturating_mul(ACROSS).saturating_add(70)
-    }
-
-    /// The upper edge of the box.
-    fn top(&self) -> usize {
-        self.row.saturating_mul(DOWN).saturating_add(5)
-    }
+/// The upper edge of the box at a place.
+fn top(place: usize) -> usize {
+    place.saturating_mul(DOWN).saturating_add(5)
 }
 
-/// How many of some words are greater than one.
-fn greater(words: &WordSet, word: Word) -> usize {
-    words.minus(&WordSet::range(Word::ZERO, word)).count()
-}
-
-/// How many boxes are in a row.
-fn count_in(box_places: &[BoxPlace], row: usize) -> usize {
-    box_places
-        .iter()
-        .filter(|box_place| box_place.row == row)
-        .count()
-}
-
-/// The box of the routine at a place in the order of the declaration.
-fn box_place_at(box_places: &[BoxPlace], place: usize) -> BoxPlace {
-    match box_places.get(place) {
-        Some(box_place) => *box_place,
-        None => MAIN,
-    }
-}
-
-/// Writes a line from a caller's box to a callee's.
-fn write_line<A: Allocator>(
-    writer: &mut ReportWriter<'_, A>,
-    caller: &BoxPlace,
-    callee: &BoxPlace,
-) {
-    writer.numbered(b"<path class=l d=\"M", caller.middle());
-    writer.numbered(b" ", caller.top().saturating_add(40));
-    writer.numbered(b"L", callee.middle());
-    writer.numbered(b" ", callee.top());
+/// Writes a line from a caller's box to a callee's: it leaves the one box below its middle, and comes to the other above its
+/// middle, in an arc that goes the farther to the side the more boxes it passes.
+fn write_line<A: Allocator>(writer: &mut ReportWriter<'_, A>, caller: usize, callee: usize) {
+    let from = top(caller).saturating_add(28);
+    let to = top(callee).saturating_add(12);
+    let aside = caller
+        .abs_diff(callee)
+        .saturating_mul(ASIDE)
+        .saturating_add(130);
+    writer.numbered(b"<path class=l d=\"M130 ", from);
+    writer.numbered(b"C", aside);
+    writer.numbered(b" ", from);
+    writer.numbered(b" ", aside);
+    writer.numbered(b" ", to);
+    writer.numbered(b" 130 ", to);
     writer.put(b"\" />");
 }
 
 /// Writes a box: that of the routine with this entry, with its label, or that of main.
 fn write_box<A: Allocator>(
     writer: &mut ReportWriter<'_, A>,
-    box_place: &BoxPlace,
+    place: usize,
     class: &[u8],
     entry: Option<Word>,
 ) {
-    let left = box_place.column.saturating_mul(ACROSS).saturating_add(10);
-    writer.numbered(b"<rect class=b width=120 height=40 x=", left);
-    writer.numbered(b" y=", box_place.top());
+    let top = top(place);
+    writer.numbered(b"<rect class=b width=120 height=40 x=10 y=", top);
     writer.put(b" /><rect width=10 height=40 class=");
     writer.put(class);
-    writer.numbered(b" x=", left);
-    writer.numbered(b" y=", box_place.top());
-    writer.numbered(b" /><text class=n x=", left.saturating_add(18));
-    writer.numbered(b" y=", box_place.top().saturating_add(24));
+    writer.numbered(b" x=10 y=", top);
+    writer.numbered(b" /><text class=n x=28 y=", top.saturating_add(24));
     writer.put(b">");
     match entry {
         None => writer.put(b"main"),
@@ -102,14 +69,16 @@ fn write_box<A: Allocator>(
     writer.put(b"</text>\n");
 }
 
-/// The lowest row and the last column that have a box.
-fn corner(box_places: &[BoxPlace]) -> BoxPlace {
-    let mut corner = MAIN;
-    for box_place in box_places {
-        corner.row = corner.row.max(box_place.row);
-        corner.column = corner.column.max(box_place.column);
+/// The place of the box of the routine that is at this place of the declaration: below main, by falling ranks.
+fn place_of(ranks: &[usize], at: usize) -> usize {
+    let own = ranks.get(at).copied().unwrap_or(0);
+    let mut place = 1usize;
+    for (other, rank) in ranks.iter().enumerate() {
+        if *rank > own || (*rank == own && other < at) {
+            place = place.saturating_add(1);
+        }
     }
-    corner
+    place
 }
 
 /// What the ranks show; after a no it is only claimed.
@@ -128,48 +97,31 @@ fn ranks_text(finding: Finding) -> &'static [u8] {
 }
 
 impl<A: Allocator, D: Allocator, C: Allocator> Report<'_, A, D, C> {
-    /// The rank of a routine as a word.
-    fn rank_of(&self, entry: Word) -> Word {
-        Word::from_index(claimed_of(self.certificate, entry).rank.min(63))
-    }
-
-    /// The ranks of all routines.
-    fn ranks_of(&self) -> WordSet {
-        let mut ranks = WordSet::empty();
+    /// The ranks of the routines, in the order of the declaration.
+    fn ranks_of(&self, alloc: A) -> Result<Vec<usize, A>, AllocError> {
+        let mut ranks = Vec::new(alloc);
         for routine in self.declaration.routines() {
-            ranks.insert(self.rank_of(routine.entry()));
+            ranks.push(claimed_of(self.certificate, routine.entry()).rank)?;
         }
-        ranks
-    }
-
-    /// Where the box of each routine stands, in the order of the declaration.
-    fn spots_of(&self, alloc: A) -> Result<Vec<BoxPlace, A>, AllocError> {
-        let ranks = self.ranks_of();
-        let mut box_places = Vec::new(alloc);
-        for routine in self.declaration.routines() {
-            let row = greater(&ranks, self.rank_of(routine.entry())).saturating_add(1);
-            let column = count_in(&box_places, row);
-            box_places.push(BoxPlace { row, column })?;
-        }
-        Ok(box_places)
+        Ok(ranks)
     }
 
     /// Writes the lines to a routine from those that have one of its sites in their bodies.
     fn write_call_lines(
         &self,
         writer: &mut ReportWriter<'_, A>,
-        box_places: &[BoxPlace],
-        place: usize,
+        ranks: &[usize],
+        at: usize,
         routine: &Routine,
     ) {
-        let callee = box_place_at(box_places, place);
+        let callee = place_of(ranks, at);
         let sites = claimed_of(self.certificate, routine.entry()).sites;
         if !sites.meet(self.declaration.main()).is_empty() {
-            write_line(writer, &MAIN, &callee);
+            write_line(writer, MAIN, callee);
         }
-        for (at, other) in self.declaration.routines().iter().enumerate() {
-            if !sites.meet(other.body()).is_empty() {
-                write_line(writer, &box_place_at(box_places, at), &callee);
+        for (other, caller) in self.declaration.routines().iter().enumerate() {
+            if !sites.meet(caller.body()).is_empty() {
+                write_line(writer, place_of(ranks, other), callee);
             }
         }
     }
@@ -187,33 +139,26 @@ impl<A: Allocator, D: Allocator, C: Allocator> Report<'_, A, D, C> {
     }
 
     /// Writes the drawing: the lines, and above them the boxes.
-    fn write_drawing(&self, writer: &mut ReportWriter<'_, A>, box_places: &[BoxPlace]) {
-        let BoxPlace { row, column } = corner(box_places);
-        let width = column.saturating_add(1).saturating_mul(ACROSS);
-        let height = row.saturating_add(1).saturating_mul(DOWN);
+    fn write_drawing(&self, writer: &mut ReportWriter<'_, A>, ranks: &[usize]) {
+        let width = ranks.len().saturating_mul(ASIDE).saturating_add(150);
         writer.numbered(b"<svg role=img aria-label=\"graph of calls\" width=", width);
         writer.numbered(b" viewBox=\"0 0 ", width);
-        writer.numbered(b" ", height.saturating_sub(30));
+        writer.numbered(b" ", top(ranks.len()).saturating_add(45));
         writer.put(b"\">\n");
-        for (place, routine) in self.declaration.routines().iter().enumerate() {
-            self.write_call_lines(writer, box_places, place, routine);
+        for (at, routine) in self.declaration.routines().iter().enumerate() {
+            self.write_call_lines(writer, ranks, at, routine);
         }
-        write_box(writer, &MAIN, b"m", None);
-        self.write_boxes(writer, box_places);
+        write_box(writer, MAIN, b"m", None);
+        self.write_boxes(writer, ranks);
         writer.put(b"</svg>\n");
     }
 
     /// Writes the boxes of the routines, which lead to their lines.
-    fn write_boxes(&self, writer: &mut ReportWriter<'_, A>, box_places: &[BoxPlace]) {
-        for (place, routine) in self.declaration.routines().iter().enumerate() {
+    fn write_boxes(&self, writer: &mut ReportWriter<'_, A>, ranks: &[usize]) {
+        for (at, routine) in self.declaration.routines().iter().enumerate() {
             let entry = routine.entry();
             writer.link(entry);
-            write_box(
-                writer,
-                &box_place_at(box_places, place),
-                colour_of(place),
-                Some(entry),
-            );
+            write_box(writer, place_of(ranks, at), colour_of(at), Some(entry));
             writer.put(b"</a>");
         }
     }
@@ -229,9 +174,9 @@ impl<A: Allocator, D: Allocator, C: Allocator> Report<'_, A, D, C> {
             writer.put(b"<p>There are none: everything is main.</p>\n");
             return Ok(());
         }
-        let box_places = self.spots_of(alloc)?;
-        self.write_drawing(writer, &box_places);
-        writer.put(b"<p>A line leads from a caller down to what it calls. ");
+        let ranks = self.ranks_of(alloc)?;
+        self.write_drawing(writer, &ranks);
+        writer.put(b"<p>An arc leads from a caller down to what it calls. ");
         writer.put(ranks_text(self.finding));
         writer.put(COLUMNS);
         for routine in self.declaration.routines() {

@@ -197,15 +197,14 @@ fn push_lost<A: Allocator + Copy, L: MessageWriter, D: Allocator, C: Allocator>(
     let Some(lost) = lost_before(alloc, case, known, pointer, at)? else {
         return Ok(());
     };
-    if lost.loss == PrecisionLoss::Meeting {
-        let found = lost_relation(alloc, case, pointer, lost.from, lost.to)?;
-        if let Some((relation, at)) = found {
-            return push_relation(text, case, &relation, at);
-        }
+    if lost.loss != PrecisionLoss::Meeting {
+        return push_loss(text, case, pointer, &lost);
     }
-    push_text_and_address(text, b"the bound of ", pointer)?;
-    push_place(text, case, b" was lost at ", lost.from)?;
-    push_pieces(text, &[Text(b": "), Text(lost.loss.told()), Text(b"\n")])
+    let found = lost_relation(alloc, case, pointer, lost.from, lost.to)?;
+    match found {
+        Some((relation, at)) => push_relation(text, case, &relation, at),
+        None => push_loss(text, case, pointer, &lost),
+    }
 }
 
 /// Adds an address behind a few words, and the name of the word there.
@@ -242,4 +241,16 @@ fn push_relation<L: MessageWriter, D: Allocator, C: Allocator>(
     )?;
     push_place(text, case, b"; this is known up to ", at)?;
     text.push_text(b", and lost there\n")
+}
+
+/// Adds where the bound of a pointer was lost, and why.
+fn push_loss<L: MessageWriter, D: Allocator, C: Allocator>(
+    text: &mut L,
+    case: &Case<'_, D, Certificate<C>>,
+    pointer: Word,
+    lost: &LostBound,
+) -> Result<(), AllocError> {
+    push_text_and_address(text, b"the bound of ", pointer)?;
+    push_place(text, case, b" was lost at ", lost.from)?;
+    push_pieces(text, &[Text(b": "), Text(lost.loss.told()), Text(b"\n")])
 }

@@ -60,11 +60,11 @@ pub(crate) fn push_pieces<L: MessageWriter>(
 }
 
 /// Adds a text, an address and a text.
-pub(crate) fn push_around<L: MessageWriter>(
+pub(crate) fn push_around<'a, L: MessageWriter>(
     text: &mut L,
-    before: &[u8],
+    before: &'a [u8],
     at: Word,
-    after: &[u8],
+    after: &'a [u8],
 ) -> Result<(), AllocError> {
     push_pieces(
         text,

@@ -321,11 +321,11 @@ fn omitted_at<D: Allocator>(
 }
 
 /// Adds an address within a line of a declaration that is advised, with what comes before it and after it.
-fn push_advice<L: MessageWriter>(
+fn push_advice<'a, L: MessageWriter>(
     text: &mut L,
-    before: &[u8],
+    before: &'a [u8],
     place: Word,
-    after: &[u8],
+    after: &'a [u8],
 ) -> Result<(), AllocError> {
     push_pieces(text, &[Text(before), Advised(place), Text(after)])
 }

@@ -147,11 +147,11 @@ pub fn push_denied<L: MessageWriter>(
 }
 
 /// Adds an address, and after it that a line with it is to be added.
-fn push_advised<L: MessageWriter>(
+fn push_advised<'a, L: MessageWriter>(
     text: &mut L,
-    before: &[u8],
+    before: &'a [u8],
     at: Word,
-    line: &[u8],
+    line: &'a [u8],
 ) -> Result<(), AllocError> {
     push_pieces(
         text,

@@ -24,29 +24,45 @@ impl<D: Allocator> ViolatingStep<'_, D> {
         is_jump && !is_return
     }
 
-    /// Adds what is at an address that is in no body, or in whose body it is, and what to declare if control may be there.
-    fn push_owner<L: MessageWriter>(&self, text: &mut L, at: Word) -> Result<(), AllocError> {
-        let here = Argument::Advised(at);
-        match self.declaration.owner_of(at) {
-            Some(Owner::Main) if self.came_by_jump() => push_sentence(
+    /// Adds which line puts an address into the body of the running routine.
+    fn push_body_advice<L: MessageWriter>(&self, text: &mut L, at: Word) -> Result<(), AllocError> {
+        match &self.last {
+            None => push_sentence(
                 text,
-                ": it is in main's body; if this JMP is meant to end all calls, add `abandon {}`\n",
-                &[here],
+                "; if it belongs there, add `main {}`\n",
+                &[Argument::Advised(at)],
             ),
-            Some(Owner::Main) => push_sentence(text, ": it is in main's body\n", &[]),
+            Some(call) => push_sentence(
+                text,
+                "; if it belongs there, add it to the body of `sub {}`\n",
+                &[Argument::Advised(call.entry)],
+            ),
+        }
+    }
+
+    /// Adds that an address is in main's body, and what to declare if the JMP to it is to end all calls.
+    fn push_in_main<L: MessageWriter>(&self, text: &mut L, at: Word) -> Result<(), AllocError> {
+        if !self.came_by_jump() {
+            return push_sentence(text, ": it is in main's body\n", &[]);
+        }
+        push_sentence(
+            text,
+            ": it is in main's body; if this JMP is meant to end all calls, add `abandon {}`\n",
+            &[Argument::Advised(at)],
+        )
+    }
+
+    /// Adds in whose body an address is, or what to declare if it is code of the running routine.
+    fn push_owner<L: MessageWriter>(&self, text: &mut L, at: Word) -> Result<(), AllocError> {
+        let owner = self.declaration.owner_of(at);
+        match &owner {
+            None => self.push_body_advice(text, at),
+            Some(Owner::Main) => self.push_in_main(text, at),
             Some(Owner::Routine(entry)) => push_sentence(
                 text,
                 ": it is in the body of `sub {}`\n",
-                &[Argument::Advised(entry)],
+                &[Argument::Advised(*entry)],
             ),
-            None => match &self.last {
-                None => push_sentence(text, "; if it belongs there, add `main {}`\n", &[here]),
-                Some(call) => push_sentence(
-                    text,
-                    "; if it belongs there, add it to the body of `sub {}`\n",
-                    &[Argument::Advised(call.entry)],
-                ),
-            },
         }
     }
 

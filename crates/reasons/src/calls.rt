@@ -207,7 +207,9 @@ fn misses_with<A: Allocator, C: Claims, M: Allocator>(
     offset: usize,
     written: &WordSet,
     rooms: &mut WordWorkspace<M>,
-) -> Option<LandingFailure> {
+) -> Option<LandingFailure>
+    requires { offset < 64 }
+{
     let WordWorkspace {
         exit,
         next,

@@ -89,17 +89,18 @@ pub(crate) fn why_words<A: Allocator, C: Claims, M: Allocator>(
 
 /// A fact for which conditions are checked at an address of a body.
 fn point_of<'x, A: Allocator, C: Claims>(
-    case: &Case<'x, A, C>,
+    image: &'x Image,
+    declaration: &'x Declaration<A>,
+    claims: &'x C,
     body: &'x Body,
     at: Word,
     fact: &'x NarrowedFact,
 ) -> NarrowedPoint<'x, A, C>
     ensures { result.fact.now ≡ fact.now }
 {
-    let rules = case.claims.rules();
     Point {
-        claims: case.claims,
-        place: place_of(case.image, case.declaration, &body.routine, rules),
+        claims,
+        place: place_of(image, declaration, &body.routine, claims.rules()),
         body,
         at,
         fact,
@@ -131,7 +132,7 @@ fn why_fact<A: Allocator, C: Claims, M: Allocator>(
     if !put_asked(&rules, case.image, claimed, fact) {
         return None;
     }
-    let point = point_of(case, body, at, fact);
+    let point = point_of(case.image, case.declaration, case.claims, body, at, fact);
     first_violation(&point, sought, index, condition, word)
 }
 

@@ -1,3 +1,4 @@
+use Rattle.std.proofs.Common.{rules}
 use Rattle.declaration.specs.DeclarationInCode.{meaning}
 use Rattle.certificate_lines.specs.CertificateInCode.{meaning as text_of}
 use Rattle.diagnostics.specs.CheckText.{checked_case}
@@ -28,5 +29,9 @@ returns-clause-page g c = record {
     line_is = c.in_ok-line.ensures;
     status_is = c.verdict_status-status.ensures;
   };
-  has = c.in_ok-text.ensures;
+  has = record {
+    before = c.in_ok-text.ensures.before;
+    rest = c.in_ok-text.ensures.rest;
+    page_is = search (rules, c.in_ok-text.ensures.page_is);
+  };
 }

@@ -6,6 +6,7 @@ use command_parts::message::Message;
 use declaration::Declaration;
 use diagnostics::verdicts::reason_context::reason_context_of;
 use diagnostics::verdicts::reason_text::push_why;
+use judge::Refusal;
 use reasons::{ReasonWorkspace, why_stuck};
 use std::alloc::{AllocError, Allocator};
 use word12::Word;
@@ -27,7 +28,8 @@ pub fn draft_message<A: Allocator + Copy, D: Allocator, C: Allocator>(
     let Some((refusal, reason)) = why_stuck(image, declaration, draft, at, &mut rooms) else {
         return Ok(text);
     };
-    let (verdict, reason) = (Err(refusal), Some(reason));
+    let verdict: Result<(), Refusal> = Err(refusal);
+    let reason = Some(reason);
     let context = reason_context_of(draft, &verdict, &reason);
     push_why(
         &mut text,

@@ -506,7 +506,7 @@ def what_is_wrong(image, declaration, certificate, said):
     case = Refused(image, verdicts.declaration_of(declaration), verdicts.certificate_of(certificate), int(number), octal(at))
     try:
         return None if case.is_so(lines, certificate) else "the reason is wrong"
-    except (Unknown, IndexError, KeyError, TypeError, ValueError) as fault:
+    except (Unknown, AttributeError, LookupError, TypeError, ValueError) as fault:
         return f"not understood: {fault!r}"
 
 

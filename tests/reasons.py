@@ -47,13 +47,12 @@ class Unknown(Exception):
     """A sentence that is not known."""
 
 
-def says(kind, *sentences):
-    """That a function says whether one of these sentences is true."""
+def says(kind, sentence):
+    """That a function says whether a sentence is true."""
     def add(function):
-        for sentence in sentences:
-            split = re.split(r"\{(\w)\}", sentence)
-            pattern = "".join(PARTS[part][0] if at % 2 else re.escape(part) for at, part in enumerate(split))
-            SENTENCES[kind][sentence] = re.compile(pattern), [PARTS[part][1] for part in split[1::2]], function
+        split = re.split(r"\{(\w)\}", sentence)
+        pattern = "".join(PARTS[part][0] if at % 2 else re.escape(part) for at, part in enumerate(split))
+        SENTENCES[kind][sentence] = re.compile(pattern), [PARTS[part][1] for part in split[1::2]], function
         return function
     return add
 
@@ -506,7 +505,7 @@ def what_is_wrong(image, declaration, certificate, said):
     case = Refused(image, verdicts.declaration_of(declaration), verdicts.certificate_of(certificate), int(number), octal(at))
     try:
         return None if case.is_so(lines, certificate) else "the reason is wrong"
-    except (Unknown, IndexError, KeyError, TypeError, ValueError) as fault:
+    except (Unknown, AttributeError, LookupError, TypeError, ValueError) as fault:
         return f"not understood: {fault!r}"
 
 

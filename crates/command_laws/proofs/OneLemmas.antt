@@ -16,7 +16,7 @@ use Rattle.command_parts.specs.declared.options.RunOptions.{RunOptions}
 use Rattle.machine_commands.specs.Follows.{Follows, Ended, Stuck, Stopped, Went, end_of, goes_on, counted}
 use Rattle.command_laws.specs.Laws.{RunsAreOne, SessionsAreOne, TypedAreOne}
 use Rattle.machine_commands.specs.Running.{fresh, status_of}
-use Rattle.machine_commands.specs.Schedule.{Comes, Over, Cut, Due, Final, Then, Schedule, Whole, first_place, operating}
+use Rattle.machine_commands.specs.Schedule.{Comes, Over, Due, Final, Then, Schedule, Whole, first_place, operating}
 use Rattle.machine_commands.specs.Session.{IsHeld, printed_in, summary_where}
 use Rattle.machine_commands.specs.Teletype.{run_of}
 use Rattle.machine_commands.specs.Typing.{first_sitting, typing}
@@ -79,11 +79,7 @@ some_one : {e d : Event} → Some e ≡ Some d → e ≡ d
 some_one is = cc
 
 comes_one : {S : Type 0} (schedule : Schedule S) (p : Profile) (s : S) (w : WorldState) (es fs : List Event) → Comes schedule p Whole s w es → Comes schedule p Whole s w fs → es ≡ fs
-comes_one schedule p s w es fs (Cut _ _ may) b = absurd may
 comes_one schedule p s w es fs (Due _ _ is may) b = absurd may
-comes_one schedule p s w es fs (Over _ _ none) (Cut _ _ may) = absurd may
-comes_one schedule p s w es fs (Final _ _ e is off) (Cut _ _ may) = absurd may
-comes_one schedule p s w es fs (Then _ _ m e more is on a f) (Cut _ _ may) = absurd may
 comes_one schedule p s w es fs (Over _ _ none) (Due _ _ is' may) = absurd may
 comes_one schedule p s w es fs (Final _ _ e is off) (Due _ _ is' may) = absurd may
 comes_one schedule p s w es fs (Then _ _ m e more is on a f) (Due _ _ is' may) = absurd may
@@ -111,15 +107,15 @@ comes_one schedule p s w es fs (Then _ _ m e more is on a f) (Then _ _ m' d more
 
 -- a session by a given schedule has at most one outcome
 held_one : {S : Type 0} (schedule : Schedule S) (s : S) (options : RunOptions) (form : SummaryForm) (image : List (Option ℕ)) (text text' printed printed' punched punched' : List ℕ) (status status' : Status) →
-    IsHeld (λ p w extent es. Comes schedule p extent s w es) options form Whole image text printed punched status → IsHeld (λ p w extent es. Comes schedule p extent s w es) options form Whole image text' printed' punched' status' →
+    IsHeld (λ p w extent es. Comes schedule p extent s w es) options form image text printed punched status → IsHeld (λ p w extent es. Comes schedule p extent s w es) options form image text' printed' punched' status' →
     (text ≡ text') × (printed ≡ printed') × (punched ≡ punched') × (status ≡ status')
 held_one schedule s options form image text text' printed printed' punched punched' status status' a b =
     let come : b.events ≡ a.events = comes_one schedule options.profile s (fresh image options.start) b.events a.events b.come a.come in
     let follows : Follows options.profile true a.events (fresh image options.start) b.lines b.steps b.end b.final =
     subst (λ (es : List Event). Follows options.profile true es (fresh image options.start) b.lines b.steps b.end b.final) come b.follows in
     let one = follows_one options.profile true a.events (fresh image options.start) a.lines b.lines a.steps b.steps a.end b.end a.final b.final a.follows follows in (
-      a.text_is ∙ (ap (λ (l : List ℕ). traced options.trace l ++ summary_where (words options.show) form Whole a.end a.final a.steps) one.same_lines ∙ (ap (λ (e : End). traced options.trace b.lines ++ summary_where (words options.show) form Whole e a.final a.steps) one.same_end
-          ∙ (ap (λ (x : WorldState). traced options.trace b.lines ++ summary_where (words options.show) form Whole b.end x a.steps) one.same_final ∙ (ap (λ (n : ℕ). traced options.trace b.lines ++ summary_where (words options.show) form Whole b.end b.final n) one.same_steps ∙ sym b.text_is)))),
+      a.text_is ∙ (ap (λ (l : List ℕ). traced options.trace l ++ summary_where (words options.show) form a.end a.final a.steps) one.same_lines ∙ (ap (λ (e : End). traced options.trace b.lines ++ summary_where (words options.show) form e a.final a.steps) one.same_end
+          ∙ (ap (λ (x : WorldState). traced options.trace b.lines ++ summary_where (words options.show) form b.end x a.steps) one.same_final ∙ (ap (λ (n : ℕ). traced options.trace b.lines ++ summary_where (words options.show) form b.end b.final n) one.same_steps ∙ sym b.text_is)))),
       a.printed_is ∙ (ap (λ (x : WorldState). printed_in x) one.same_final ∙ sym b.printed_is),
       a.punched_is ∙ (ap (λ (x : WorldState). x.devices.punch.output) one.same_final ∙ sym b.punched_is),
       a.status_is ∙ (ap status_of one.same_end ∙ sym b.status_is),

@@ -189,7 +189,7 @@ sessions_end options form plan image all =
     let idles : Tells w.devices = record { key = omega arith; frame = omega arith; switches = omega arith } in
     let run : Run options.profile plan None w = runs (left plan None + 1) options.profile plan None w (due plan w None) refl (omega arith) all idles in
     let r = run.ends in (
-      traced options.trace r.0 ++ summary_where (words options.show) form Whole r.2 r.3 r.1,
+      traced options.trace r.0 ++ summary_where (words options.show) form r.2 r.3 r.1,
       printed_in r.3,
       r.3.devices.punch.output,
       status_of r.2,

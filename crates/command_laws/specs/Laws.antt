@@ -28,7 +28,6 @@ use Rattle.command_parts.specs.Inputs.{HasImage}
 use Rattle.machine_commands.specs.Running.{IsRunOf}
 use Rattle.peripherals.specs.Operator.{Plan}
 use Rattle.machine_commands.specs.Follows.{Follows}
-use Rattle.machine_commands.specs.Schedule.{Whole}
 use Rattle.machine_commands.specs.Session.{IsHeld, IsSessionOf}
 use Rattle.machine_commands.specs.Teletype.{run_of, types_by}
 use Rattle.machine_commands.specs.declared.follow.End.{End}
@@ -73,15 +72,15 @@ abbrev pub SessionsEnd : Type 0
 SessionsEnd =
     (options : RunOptions) (form : SummaryForm) (plan : Plan) (image : List (Option ℕ)) → CarriesAll plan →
     (text : List ℕ) × (printed : List ℕ) × (punched : List ℕ) × (status : Status) ×
-    IsSessionOf options form Whole plan image text printed punched status
+    IsSessionOf options form plan image text printed punched status
 
 -- A run with an operator has only one such end.
 abbrev pub SessionsAreOne : Type 0
 SessionsAreOne =
     (options : RunOptions) (form : SummaryForm) (plan : Plan) (image : List (Option ℕ))
     (text text' printed printed' punched punched' : List ℕ) (status status' : Status) →
-    IsSessionOf options form Whole plan image text printed punched status →
-    IsSessionOf options form Whole plan image text' printed' punched' status' →
+    IsSessionOf options form plan image text printed punched status →
+    IsSessionOf options form plan image text' printed' punched' status' →
     (text ≡ text') × (printed ≡ printed') × (punched ≡ punched') × (status ≡ status')
 
 -- A session at the teletype with these frames and these bytes of keys has at most one end.
@@ -89,8 +88,8 @@ abbrev pub TypedAreOne : Type 0
 TypedAreOne =
     (options : TeletypeOptions) (form : SummaryForm) (frames bytes : List ℕ) (image : List (Option ℕ))
     (text text' printed printed' punched punched' : List ℕ) (status status' : Status) →
-    IsHeld (types_by options frames bytes) (run_of options) form Whole image text printed punched status →
-    IsHeld (types_by options frames bytes) (run_of options) form Whole image text' printed' punched' status' →
+    IsHeld (types_by options frames bytes) (run_of options) form image text printed punched status →
+    IsHeld (types_by options frames bytes) (run_of options) form image text' printed' punched' status' →
     (text ≡ text') × (printed ≡ printed') × (punched ≡ punched') × (status ≡ status')
 
 -- A state that events lead to in some number of instructions is also reached by that many steps of the instruction

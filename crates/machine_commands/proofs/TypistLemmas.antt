@@ -15,7 +15,6 @@ use Rattle.peripherals.specs.Operator.{Plan, first_due, left_after, round_due}
 use Rattle.peripherals.specs.EventOutcomes.{puts_out, seen_of}
 use Rattle.command_parts.specs.declared.options.TeletypeOptions.{TeletypeOptions}
 use Rattle.machine_commands.specs.Follows.{goes_on}
-use Rattle.machine_commands.specs.Cuts.{some_left}
 use Rattle.machine_commands.specs.Schedule.{Comes, Over, Final, Then, Extent, ToStep, Due}
 use Rattle.machine_commands.specs.SessionParts.{rank}
 use Rattle.machine_commands.specs.Teletype.{AreAll}

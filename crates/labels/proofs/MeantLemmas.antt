@@ -1,5 +1,5 @@
 -- What is read of a tape and of a declaration in numbers is what their source means.
-use Rattle.std.proofs.Common.{ℕ, ◌≡◌, ◌≤◌, ◌∙◌, sym, ap, subst, arith, List, Option, take, length}
+use Rattle.std.proofs.Common.{ℕ, ◌≡◌, ◌∙◌, sym, ap, subst, arith, List, Option, take}
 use Rattle.std.proofs.lemmas.List.{take_all}
 use Rattle.bin_tape.specs.Laws.{TapeImageIsOne, TapeIsNoFault}
 use Rattle.bin_tape.specs.Tape.{IsTape}

@@ -1,5 +1,5 @@
 -- The declaration that stands within parts, part by part.
-use Rattle.std.proofs.Common.{ℕ, ◌≡◌, ◌<◌, ◌≤◌, ◌+◌, ◌∙◌, sym, ap, subst, true≢false, ⊎_elim, is_ok, append_assoc, List, [], ◌∷◌, ◌++◌, length, get_or, drop, Bool, true, false, Option, Result, Ok, Err, inl, inr}
+use Rattle.std.proofs.Common.{ℕ, ◌≡◌, ◌<◌, ◌≤◌, ◌+◌, ◌∙◌, sym, ap, subst, true≢false, ⊎_elim, is_ok, append_assoc, List, [], ◌∷◌, ◌++◌, length, get_or, drop, Bool, true, false, Result, Ok, Err, inl, inr}
 use Rattle.std.specs.Prelude.{IfOk, ◌↔◌, slice_range}
 use Rattle.std.specs.Borrow.{Bor}
 use Rattle.std.specs.declared.alloc.AllocError.{AllocError}
@@ -13,7 +13,6 @@ use Rattle.pal_text.specs.declared.fault.TextFault.TheVariants.{Illegal, TooLong
 use Rattle.pal_text.specs.declared.lines.Line.{Line}
 use Rattle.pal_text.specs.Parts.{IsPart, IsIllegal}
 use Rattle.pal_acts.specs.declared.act.PlacedWord.{PlacedWord}
-use Rattle.pal_acts.specs.declared.act.SourcePlace.{SourcePlace}
 use Rattle.pal_acts.specs.Acts.{place}
 use Rattle.pal_asm.specs.Sources.{texts}
 use Rattle.labels.specs.Within.{declared_line, declared_part, reads_on, reads_on_after, PartDeclares, unread, read, Declared, no_part, last_part, next_part, Adds}

@@ -2,7 +2,7 @@
 
 ghost use Rattle.std.specs.Prelude.{◌≡◌};
 ghost use Rattle.pal_acts.specs.Values.{has, term_value, known};
-ghost use Rattle.pal_acts.specs.Words.{is_one_of, is_mark, references, marked, marks, addressed, reference, word_value};
+ghost use Rattle.pal_acts.specs.Words.{is_one_of, is_mark, references, marks, addressed, reference, word_value};
 ghost use Rattle.pal_acts.specs.Steps.{marks_in};
 
 use crate::act::{ExpressionTerm, Name, Sign, SignedTerm};

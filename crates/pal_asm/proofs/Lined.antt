@@ -7,7 +7,7 @@ use Rattle.std.proofs.lemmas.List.{reverse-append, append-nil, take-append-drop,
 use Rattle.pal_text.specs.declared.characters.Meaning.{Meaning}
 use Rattle.pal_text.specs.declared.characters.Meaning.TheVariants.{Ignored, LineEnd, Character}
 use Rattle.pal_text.specs.declared.tokens.TokenKind.{TokenKind}
-use Rattle.pal_text.specs.declared.tokens.TokenKind.TheVariants.{Symbol, Number, Mixed, Space, End, Dollar}
+use Rattle.pal_text.specs.declared.tokens.TokenKind.TheVariants.{Symbol, Space, End}
 use Rattle.pal_text.specs.declared.tokens.Token.{Token}
 use Rattle.pal_text.specs.declared.lines.Line.{Line}
 use Rattle.pal_text.specs.Characters.{line, in_comment, meaning_after}
@@ -17,7 +17,7 @@ use Rattle.pal_text.specs.Adding.{with_kind, without_space, joined, one_or_both,
 use Rattle.pal_text.specs.Names.{with_name, named, part_tokens}
 use Rattle.pal_text.specs.Scan.{front, trimmed}
 use Rattle.pal_text.specs.Tokens.{is_end}
-use Rattle.pal_text.proofs.Apart.{added_end}
+use Rattle.pal_text.proofs.Apart.{longer_end, longer_to_end, added_end}
 use Rattle.pal_text.proofs.CountedLemmas.{part_are}
 use Rattle.pal_text.proofs.Fronts.{next_front}
 use Rattle.pal_text.proofs.ByMeaning.{begun_by, line_by, lines_by}
@@ -93,9 +93,10 @@ abbrev pub is_stop : TokenKind → Bool
 is_stop End = true
 is_stop _ = false
 
--- a token within a statement is on the line of the next one, and the line is there
+-- a token is on no later line than the next one, within a statement on the same line, and the line is there
 pub record Fits (L : ℕ → ℕ) (n : ℕ) (t : Token) : Type 0 where
   pub positive : 1 ≤ t.line
+  pub risen : t.line ≤ n
   pub counts : is_stop t.kind ≡ false → t.line ≤ L t.end
   pub linked : is_end t.kind ≡ false → t.line ≡ n
 
@@ -103,18 +104,9 @@ abbrev Fine : (ℕ → ℕ) → ℕ → List Token → Type 0
 Fine L n [] = Unit {0}
 Fine L n (t ∷ ts) = Fits L n t × Fine L t.line ts
 
-longer_end : (a b : TokenKind) → is_end a ≡ true → longer a b ≡ None
-longer_end End b h = refl
-longer_end Dollar b h = refl
-longer_end _ b h = cc
-
-longer_stop : (a b : TokenKind) → is_stop b ≡ true → longer a b ≡ None
-longer_stop Symbol End h = refl
-longer_stop Number End h = refl
-longer_stop Mixed End h = refl
-longer_stop Space End h = refl
-longer_stop _ End h = refl
-longer_stop a _ h = cc
+stop_ends : (k : TokenKind) → is_stop k ≡ true → is_end k ≡ true
+stop_ends End h = refl
+stop_ends _ h = cc
 
 none_some : (o : Option TokenKind) (k : TokenKind) → o ≡ None → o ≡ Some k → ⊥
 none_some o k e f = let both : None ≡ Some k = sym e ∙ f in cc
@@ -123,7 +115,7 @@ not_end : (a b k : TokenKind) → longer a b ≡ Some k → is_end a ≡ false
 not_end a b k e = elim (cases_Bool (is_end a)) [ inl h ↦ absurd (none_some (longer a b) k (longer_end a b h) e) | inr h ↦ h ]
 
 not_stop : (a b k : TokenKind) → longer a b ≡ Some k → is_stop b ≡ false
-not_stop a b k e = elim (cases_Bool (is_stop b)) [ inl h ↦ absurd (none_some (longer a b) k (longer_stop a b h) e) | inr h ↦ h ]
+not_stop a b k e = elim (cases_Bool (is_stop b)) [ inl h ↦ absurd (none_some (longer a b) k (longer_to_end a b (stop_ends b h)) e) | inr h ↦ h ]
 
 space_no_end : (k : TokenKind) (b : Bool) → (is_space k && b) ≡ true → is_end k ≡ false
 space_no_end Space b h = refl
@@ -149,30 +141,30 @@ module _ (L : ℕ → ℕ) where
   with_kind_joins next t ts None e h f = without_space_joins next t ts h f
   with_kind_joins next t ts (Some k) e h f =
       let link : t.line ≡ next.line = f.0.linked (not_end t.kind next.kind k e) in
-      (record { positive = f.0.positive; counts = λ _. omega (arith, link, h.counts (not_stop t.kind next.kind k e)); linked = λ _. link }, f.1)
+      (record { positive = f.0.positive; risen = f.0.risen; counts = λ _. omega (arith, link, h.counts (not_stop t.kind next.kind k e)); linked = λ _. link }, f.1)
 
   added_fine : (next : Token) (ts : List Token) → Fits L next.line next → Fine L next.line ts → Fine L next.line (added next ts)
   added_fine next [] h f = cond_both (is_space next.kind) [] (next ∷ []) (λ l. Fine L next.line l) (λ is. tt) (λ is. (h, tt))
   added_fine next (t ∷ ts) h f = one_or_both_fine next.line next t ts (joined t next) (with_kind_joins next t ts (longer t.kind next.kind) refl h f) (h, f)
 
   -- what ends a statement may stand before any line
-  turned_end : (n m : ℕ) (next : Token) (ts : List Token) → is_end next.kind ≡ true → Fine L n (added next ts) → Fine L m (added next ts)
-  turned_end n m next ts e f =
+  turned_end : (n m : ℕ) (next : Token) (ts : List Token) → n ≤ m → is_end next.kind ≡ true → Fine L n (added next ts) → Fine L m (added next ts)
+  turned_end n m next ts le e f =
       let same : added next ts ≡ next ∷ trimmed ts = added_end next ts e in
       let P : List Token → Type 0 = λ l. Fine L n l in
       let Q : List Token → Type 0 = λ l. Fine L m l in
       let g : Fine L n (next ∷ trimmed ts) = subst P same f in
-      subst Q (sym same) (record { positive = g.0.positive; counts = g.0.counts; linked = λ no. absurd (let both : true ≡ false = sym e ∙ no in cc) }, g.1)
+      subst Q (sym same) (record { positive = g.0.positive; risen = omega (arith, g.0.risen, le); counts = g.0.counts; linked = λ no. absurd (let both : true ≡ false = sym e ∙ no in cc) }, g.1)
 
   end_fits : (n start stop : ℕ) → 1 ≤ n → Fits L n (record { kind = End; line = n; start = start; end = stop })
-  end_fits n start stop h = record { positive = h; counts = λ no. absurd (cc); linked = λ _. refl }
+  end_fits n start stop h = record { positive = h; risen = omega arith; counts = λ no. absurd (cc); linked = λ _. refl }
 
   grown_fine : (at n : ℕ) (comment : Bool) (m : Meaning) (ts : List Token) → 1 ≤ n → Reaches m n (L (at + 1)) → Fine L n ts → Fine L (line_by n m) (grown at n comment m ts)
   grown_fine at n comment Ignored ts h r f = f
-  grown_fine at n comment LineEnd ts h r f = turned_end n (n + 1) (token End n at) ts refl (added_fine (token End n at) ts (end_fits n at (at + 1) h) f)
+  grown_fine at n comment LineEnd ts h r f = turned_end n (n + 1) (token End n at) ts (omega arith) refl (added_fine (token End n at) ts (end_fits n at (at + 1) h) f)
   grown_fine at n comment (Character c) ts h r f =
       cond_both (comment || nat_eq c 47) ts (added (token (kind_of c) n at) ts) (λ l. Fine L n l) (λ is. f)
-      (λ is. added_fine (token (kind_of c) n at) ts (record { positive = h; counts = λ _. r; linked = λ _. refl }) f)
+      (λ is. added_fine (token (kind_of c) n at) ts (record { positive = h; risen = omega arith; counts = λ _. r; linked = λ _. refl }) f)
 
 tokens_fine : (source : List ℕ) (at : ℕ) → at ≤ length source → Fine (lined source) (line (front source at)) (tokens (front source at))
 tokens_fine source zero h = tt
@@ -192,7 +184,7 @@ tokens_fine source (suc at) h =
 
 abbrev pub Links : Token → List Token → Type 0
 Links t [] = Unit {0}
-Links t (u ∷ us) = is_end t.kind ≡ false → t.line ≡ u.line
+Links t (u ∷ us) = (t.line ≤ u.line) × (is_end t.kind ≡ false → t.line ≡ u.line)
 
 abbrev pub Chain : (ℕ → ℕ) → List Token → Type 0
 Chain L [] = Unit {0}
@@ -204,7 +196,7 @@ Heads n (u ∷ us) = u.line ≡ n
 
 links_by : (L : ℕ → ℕ) (n : ℕ) (t : Token) (tail : List Token) → Fits L n t → Heads n tail → Links t tail
 links_by L n t [] f h = tt
-links_by L n t (u ∷ us) f h = λ no. f.linked no ∙ sym h
+links_by L n t (u ∷ us) f h = (omega (arith, f.risen, h), λ no. f.linked no ∙ sym h)
 
 turned : (L : ℕ → ℕ) (n : ℕ) (ts tail : List Token) → Fine L n ts → Heads n tail → Chain L tail → Chain L (reverse ts ++ tail)
 turned L n [] tail f h c = c
@@ -223,7 +215,7 @@ named_stop source t _ h = h
 
 named_links : (source : List ℕ) (t : Token) (ts : List Token) → Links t ts → Links (named source t) (map (named source) ts)
 named_links source t [] h = tt
-named_links source t (u ∷ us) h = λ no. h (named_end source t t.kind no)
+named_links source t (u ∷ us) h = (h.0, λ no. h.1 (named_end source t t.kind no))
 
 named_chain : (L : ℕ → ℕ) (source : List ℕ) (ts : List Token) → Chain L ts → Chain L (map (named source) ts)
 named_chain L source [] c = tt

@@ -1,6 +1,6 @@
 -- The tags of a statement and what stands after them, by how many tags there are.
 use Rattle.std.proofs.Common.{◌≡◌, ◌∙◌, sym, ap, refl, ℕ, ◌-◌, ◌≤◌, List, [], ◌∷◌, ◌++◌, append_assoc, Bool, true, false, if◌then◌else◌, arith, length, take, drop, get_or, Result, Ok, Err}
-use Rattle.std.specs.Prelude.{nat_eq, map, OnOk}
+use Rattle.std.specs.Prelude.{nat_eq, map}
 use Rattle.std.specs.List.{AllByRecursion}
 use Rattle.std.proofs.lemmas.Bool.{ne_eqb}
 use Rattle.std.proofs.lemmas.List.{take_all}
@@ -97,10 +97,6 @@ module _ (ts : List Token) (s : Statement) (says : Says ts s) where
       → Err c ≡ expression b source tokens → new ≡ old ++ placed p [] (act.Wrong c) ∷ [] → new ≡ old ++ statement_acts p b last source says.names says.said
   kept_none b last source p c body tokens old new after is reads kept =
       kept ∙ ap (λ r. old ++ acts_with p last source says.names says.said r) (sym (expression_is b source (Err c) body tokens after is reads))
-
-pub on_ok_also : {X E : Type 0} (r : Result X E) (P Q : Type 0) → OnOk r P → (P → Q) → OnOk r Q
-on_ok_also (Ok x) P Q h f = f h
-on_ok_also (Err e) P Q h f = tt
 
 -- a tag taken off the front
 pub tag_off : (xs : List Token) (n : ℕ) → 2 ≤ length xs → (n ≡ 0 → ⊥) → after_tags n xs ≡ after_tags (n - 1) (take (length xs - 2) (drop 2 xs))

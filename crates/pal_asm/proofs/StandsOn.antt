@@ -2,7 +2,7 @@
 use Rattle.std.proofs.Common.{◌≡◌, ◌≢◌, ◌∙◌, sym, ap, refl, subst, ℕ, ◌+◌, ◌-◌, ◌≤◌, List, [], ◌∷◌, ◌++◌, append_assoc, arith, Bool, true, false, if◌then◌else◌, Option, Some, None, inl, inr, ◌⊎◌, length, length-append, take, drop}
 use Rattle.std.specs.Prelude.{slice_range, reverse, nat_eq}
 use Rattle.std.specs.List.{AllByRecursion}
-use Rattle.std.proofs.lemmas.Bool.{cases_Bool}
+use Rattle.std.proofs.lemmas.Bool.{cond_both}
 use Rattle.std.proofs.lemmas.List.{length-reverse}
 use Rattle.std.proofs.Math.Seq.{take-append_seam, drop-append_seam, take-length}
 use Rattle.pal_text.specs.declared.tokens.TokenKind.{TokenKind}
@@ -60,7 +60,7 @@ no_stop _ h = refl
 lasts_by : (L : ℕ → ℕ) (xs : List Token) (t : Token) (ts : List Token) → Inner xs → Chain L (xs ++ t ∷ ts) → Lasts L t.line xs
 lasts_by L [] t ts i c = tt
 lasts_by L (q ∷ []) t ts i c =
-    let link : q.line ≡ t.line = c.2 i.0 in
+    let link : q.line ≡ t.line = c.2.1 i.0 in
     (link, omega (arith, link, c.1 (no_stop q.kind i.0)))
 lasts_by L (q ∷ r ∷ xs) t ts i c = lasts_by L (r ∷ xs) t ts i.1 c.3
 
@@ -91,22 +91,21 @@ own_is tokens b xs rest first at e f a =
 pieces_fair : (L : ℕ → ℕ) (tokens b xs ts : List Token) (first at : ℕ) → tokens ≡ b ++ (xs ++ ts) → first ≡ length b → at ≡ length b + length xs → Inner xs → Chain L (xs ++ ts)
     → AllByRecursion (Fair L tokens) (pieces first at ts)
 pieces_fair L tokens b xs [] first at e f a i c = tt
-pieces_fair L tokens b xs (t ∷ ts) first at e f a i c = elim (cases_Bool (is_end t.kind)) [
-  | inl stop ↦ (let P : Bool → Type 0 = λ k. AllByRecursion (Fair L tokens) (if k then piece first at t ∷ pieces (at + 1) (at + 1) ts else pieces first (at + 1) ts) in
-      let mine : slice_range tokens first at ≡ xs = own_is tokens b xs (t ∷ ts) first at e f a in
-      let Q : List Token → Type 0 = λ l. Lasts L t.line l in
-      let after : Chain L (t ∷ ts) = chain_after L xs (t ∷ ts) c in
-      let next : tokens ≡ (b ++ (xs ++ t ∷ [])) ++ ts = e ∙ ap (λ l. b ++ l) (sym (append_assoc xs (t ∷ []) ts)) ∙ sym (append_assoc b (xs ++ t ∷ []) ts) in
-      let size : at + 1 ≡ length (b ++ (xs ++ t ∷ [])) = omega (arith, a, length-append b (xs ++ t ∷ []), length-append xs (t ∷ [])) in
-      subst P (sym stop) (
-        record { lasts = subst Q (sym mine) (lasts_by L xs t ts i c); positive = after.0; dollar = λ d. after.1 (dollar_no_stop t.kind d) },
-        pieces_fair L tokens (b ++ (xs ++ t ∷ [])) [] ts (at + 1) (at + 1) next size (omega (arith, size)) tt after.3,
-      ))
-  | inr other ↦ (let P : Bool → Type 0 = λ k. AllByRecursion (Fair L tokens) (if k then piece first at t ∷ pieces (at + 1) (at + 1) ts else pieces first (at + 1) ts) in
-      let same : xs ++ t ∷ ts ≡ (xs ++ t ∷ []) ++ ts = sym (append_assoc xs (t ∷ []) ts) in
-      let C : List Token → Type 0 = λ l. Chain L l in
-      subst P (sym other) (pieces_fair L tokens b (xs ++ t ∷ []) ts first (at + 1) (e ∙ ap (λ l. b ++ l) same) f (omega (arith, a, length-append xs (t ∷ []))) (inner_more xs t i other) (subst C same c)))
-]
+pieces_fair L tokens b xs (t ∷ ts) first at e f a i c =
+    cond_both (is_end t.kind) (piece first at t ∷ pieces (at + 1) (at + 1) ts) (pieces first (at + 1) ts) (λ ps. AllByRecursion (Fair L tokens) ps)
+    (λ stop.
+    (let Q : List Token → Type 0 = λ l. Lasts L t.line l in
+    let mine : slice_range tokens first at ≡ xs = own_is tokens b xs (t ∷ ts) first at e f a in
+    let after : Chain L (t ∷ ts) = chain_after L xs (t ∷ ts) c in
+    let next : tokens ≡ (b ++ (xs ++ t ∷ [])) ++ ts = e ∙ ap (λ l. b ++ l) (sym (append_assoc xs (t ∷ []) ts)) ∙ sym (append_assoc b (xs ++ t ∷ []) ts) in
+    let size : at + 1 ≡ length (b ++ (xs ++ t ∷ [])) = omega (arith, a, length-append b (xs ++ t ∷ []), length-append xs (t ∷ [])) in (
+      record { lasts = subst Q (sym mine) (lasts_by L xs t ts i c); positive = after.0; dollar = λ d. after.1 (dollar_no_stop t.kind d) },
+      pieces_fair L tokens (b ++ (xs ++ t ∷ [])) [] ts (at + 1) (at + 1) next size (omega (arith, size)) tt after.3,
+    )))
+    (λ other.
+    (let same : xs ++ t ∷ ts ≡ (xs ++ t ∷ []) ++ ts = sym (append_assoc xs (t ∷ []) ts) in
+    let C : List Token → Type 0 = λ l. Chain L l in
+    pieces_fair L tokens b (xs ++ t ∷ []) ts first (at + 1) (e ∙ ap (λ l. b ++ l) same) f (omega (arith, a, length-append xs (t ∷ []))) (inner_more xs t i other) (subst C same c)))
 
 -- ---- statements
 

@@ -1,7 +1,7 @@
 -- Each part has a reading, or a first line with a statement that has no form.
 use Rattle.std.proofs.Common.{◌≡◌, ◌∙◌, sym, ap, refl, subst, ℕ, ◌+◌, List, [], ◌∷◌, ◌++◌, Bool, true, false, if◌then◌else◌, Option, Some, None, inl, inr, ◌⊎◌, length, take}
 use Rattle.std.specs.Prelude.{reverse, map, nat_eq}
-use Rattle.std.proofs.lemmas.Bool.{cases_Bool, eq-eqb}
+use Rattle.std.proofs.lemmas.Bool.{eq-eqb, cond_both}
 use Rattle.std.proofs.lemmas.List.{reverse-append, length-reverse, map-append}
 use Rattle.pal_text.specs.declared.tokens.Token.{Token}
 use Rattle.pal_text.specs.declared.grammar.Form.{Form}
@@ -35,12 +35,10 @@ closed_more size p (q ∷ ps) h = h
 -- tokens whose last one ends a statement there make such pieces
 pieces_closed : (size first at : ℕ) (ts : List Token) (m : Token) → is_end m.kind ≡ true → m.start ≡ size → IsClosed size (pieces first at (ts ++ m ∷ []))
 pieces_closed size first at [] m e s = let P : Bool → Type 0 = λ b. IsClosed size (if b then piece first at m ∷ [] else []) in subst P (sym e) s
-pieces_closed size first at (t ∷ ts) m e s = elim (cases_Bool (is_end t.kind)) [
-  | inl stop ↦ (let P : Bool → Type 0 = λ b. IsClosed size (if b then piece first at t ∷ pieces (at + 1) (at + 1) (ts ++ m ∷ []) else pieces first (at + 1) (ts ++ m ∷ [])) in
-      subst P (sym stop) (closed_more size (piece first at t) (pieces (at + 1) (at + 1) (ts ++ m ∷ [])) (pieces_closed size (at + 1) (at + 1) ts m e s)))
-  | inr other ↦ (let P : Bool → Type 0 = λ b. IsClosed size (if b then piece first at t ∷ pieces (at + 1) (at + 1) (ts ++ m ∷ []) else pieces first (at + 1) (ts ++ m ∷ [])) in
-      subst P (sym other) (pieces_closed size first (at + 1) ts m e s))
-]
+pieces_closed size first at (t ∷ ts) m e s =
+    cond_both (is_end t.kind) (piece first at t ∷ pieces (at + 1) (at + 1) (ts ++ m ∷ [])) (pieces first (at + 1) (ts ++ m ∷ [])) (λ ps. IsClosed size ps)
+    (λ is. closed_more size (piece first at t) (pieces (at + 1) (at + 1) (ts ++ m ∷ [])) (pieces_closed size (at + 1) (at + 1) ts m e s))
+    (λ is. pieces_closed size first (at + 1) ts m e s)
 
 -- and so do those of a part
 pub part_closed : (source : List ℕ) → IsClosed (length source) (pieces 0 0 (part_tokens source))

@@ -12,7 +12,7 @@ use Rattle.pal_text.specs.Tokens.{is_space, absorbs, longer, token, kind_of, end
 use Rattle.pal_text.specs.Adding.{with_kind, joined, one_or_both, added, grown, tokens, ended}
 use Rattle.pal_text.specs.Scan.{IsCut, trimmed}
 
-longer_end : (k n : TokenKind) → is_end k ≡ true → longer k n ≡ None
+pub longer_end : (k n : TokenKind) → is_end k ≡ true → longer k n ≡ None
 longer_end End n h = refl
 longer_end Dollar n h = refl
 longer_end _ n h = cc

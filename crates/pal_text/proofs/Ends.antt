@@ -1,8 +1,8 @@
 -- A part ends within its bytes.
-use Rattle.std.proofs.Common.{◌≡◌, sym, subst, ℕ, ◌+◌, ◌-◌, ◌≤◌, List, [], ◌∷◌, Bool, true, false, if◌then◌else◌, Option, Some, None, inl, inr, arith, drop}
+use Rattle.std.proofs.Common.{◌≡◌, subst, ℕ, ◌+◌, ◌-◌, ◌≤◌, List, [], ◌∷◌, Bool, true, false, if◌then◌else◌, Option, Some, None, arith, drop}
 use Rattle.std.specs.Prelude.{nat_eq}
 use Rattle.std.specs.List.{AllByRecursion}
-use Rattle.std.proofs.lemmas.Bool.{cases_Bool}
+use Rattle.std.proofs.lemmas.Bool.{cond_both}
 use Rattle.pal_text.specs.declared.tokens.Token.{Token}
 use Rattle.pal_text.specs.declared.grammar.Form.{Form}
 use Rattle.pal_text.specs.declared.grammar.Form.TheVariants as form
@@ -43,12 +43,9 @@ Marks size ps = AllByRecursion (λ p. IsWithin size p.mark) ps
 
 pub marks_within : (size first at : ℕ) (ts : List Token) → AllByRecursion (IsWithin size) ts → Marks size (pieces first at ts)
 marks_within size first at [] all = tt
-marks_within size first at (t ∷ ts) all = elim (cases_Bool (is_end t.kind)) [
-  | inl stop ↦ (let P : Bool → Type 0 = λ b. Marks size (if b then piece first at t ∷ pieces (at + 1) (at + 1) ts else pieces first (at + 1) ts) in
-      subst P (sym stop) (all.0, marks_within size (at + 1) (at + 1) ts all.1))
-  | inr other ↦ (let P : Bool → Type 0 = λ b. Marks size (if b then piece first at t ∷ pieces (at + 1) (at + 1) ts else pieces first (at + 1) ts) in
-      subst P (sym other) (marks_within size first (at + 1) ts all.1))
-]
+marks_within size first at (t ∷ ts) all =
+    cond_both (is_end t.kind) (piece first at t ∷ pieces (at + 1) (at + 1) ts) (pieces first (at + 1) ts) (λ ps. Marks size ps)
+    (λ is. (all.0, marks_within size (at + 1) (at + 1) ts all.1)) (λ is. marks_within size first (at + 1) ts all.1)
 
 pub own_within : (tokens : List Token) (size : ℕ) (p : Piece) → AllByRecursion (IsWithin size) tokens → AllByRecursion (IsWithin size) (own tokens p)
 own_within tokens size p all = all_take (IsWithin size) (p.last - p.first) (drop p.first tokens) (all_drop (IsWithin size) p.first tokens all)

@@ -1,10 +1,10 @@
 -- One more byte of a part, by what its code brings.
-use Rattle.std.proofs.Common.{◌≡◌, ◌∙◌, sym, ap, refl, subst, ℕ, ◌+◌, ◌-◌, ◌<◌, ◌≤◌, List, [], ◌∷◌, ◌++◌, Bool, true, false, ◌&&◌, if◌then◌else◌, Option, Some, None, inl, inr, arith, length, take, get_or, set}
+use Rattle.std.proofs.Common.{◌≡◌, ◌∙◌, sym, ap, refl, subst, ℕ, ◌+◌, ◌-◌, ◌<◌, ◌≤◌, List, [], ◌∷◌, ◌++◌, Bool, true, false, ◌&&◌, if◌then◌else◌, Option, Some, None, arith, length, take, get_or, set}
 use Rattle.std.specs.Prelude.{reverse}
 use Rattle.std.specs.List.{AllByRecursion}
 use Rattle.std.proofs.lemmas.List.{take_more, reverse-append, reverse-reverse, length-reverse, length-take-le}
 use Rattle.std.proofs.Math.Seq.{set-append_seam}
-use Rattle.std.proofs.lemmas.Bool.{cases_Bool}
+use Rattle.std.proofs.lemmas.Bool.{cond_both}
 use Rattle.pal_text.specs.declared.tokens.TokenKind.{TokenKind}
 use Rattle.pal_text.specs.declared.tokens.TokenKind.TheVariants as kind
 use Rattle.pal_text.specs.declared.tokens.Token.{Token}
@@ -220,14 +220,9 @@ longer_open kind.Space kind.Space k' h = cc
 longer_open _ _ k' h = cc
 
 open_space : (t next : Token) → IsOpen t → IsOpen next → OpenOne (without_space t next)
-open_space t next o n = elim (cases_Bool (is_space next.kind && absorbs t.kind)) [
-  | inl first ↦ (let P : Bool → Type 0 = λ b. OpenOne (if b then Some t else (if is_space t.kind && absorbs next.kind then Some next else None)) in subst P (sym first) o)
-  | inr other ↦ (let P : Bool → Type 0 = λ b. OpenOne (if b then Some t else (if is_space t.kind && absorbs next.kind then Some next else None)) in
-      subst P (sym other) (elim (cases_Bool (is_space t.kind && absorbs next.kind)) [
-        | inl second ↦ (let Q : Bool → Type 0 = λ b. OpenOne (if b then Some next else None) in subst Q (sym second) n)
-        | inr neither ↦ (let Q : Bool → Type 0 = λ b. OpenOne (if b then Some next else None) in subst Q (sym neither) tt)
-      ]))
-]
+open_space t next o n =
+    cond_both (is_space next.kind && absorbs t.kind) (Some t) (if is_space t.kind && absorbs next.kind then Some next else None) (λ x. OpenOne x) (λ is. o)
+    (λ is. cond_both (is_space t.kind && absorbs next.kind) (Some next) None (λ x. OpenOne x) (λ too. n) (λ too. tt))
 
 open_kind : (t next : Token) (o : Option TokenKind) → longer t.kind next.kind ≡ o → IsOpen t → IsOpen next → OpenOne (with_kind t next o)
 open_kind t next None e a b = open_space t next a b
@@ -238,10 +233,7 @@ open_both next t ts None o n h = (n, h)
 open_both next t ts (Some one) o n h = (o, h.1)
 
 added_open : (next : Token) (ts : List Token) → IsOpen next → AllByRecursion IsOpen ts → AllByRecursion IsOpen (added next ts)
-added_open next [] n h = elim (cases_Bool (is_space next.kind)) [
-  | inl space ↦ (let P : Bool → Type 0 = λ b. AllByRecursion IsOpen (if b then [] else next ∷ []) in subst P (sym space) tt)
-  | inr other ↦ (let P : Bool → Type 0 = λ b. AllByRecursion IsOpen (if b then [] else next ∷ []) in subst P (sym other) (n, tt))
-]
+added_open next [] n h = cond_both (is_space next.kind) [] (next ∷ []) (λ l. AllByRecursion IsOpen l) (λ is. tt) (λ is. (n, tt))
 added_open next (t ∷ ts) n h = open_both next t ts (joined t next) (open_kind t next (longer t.kind next.kind) refl h.0 n) n h
 
 pub reading_added : (source : List ℕ) (place : Place) (at : ℕ) (was : Bool) (own more : List Token) (k : TokenKind) → IsPlaceIn source place → at < length source → brings (code (get_or source at 0)) ≡ One k

@@ -3,7 +3,7 @@ use Rattle.std.proofs.Common.{◌≡◌, ◌≢◌, ◌∙◌, sym, ap, refl, su
 use Rattle.std.specs.Prelude.{reverse, map, slice_range, nat_eq, codes}
 use Rattle.std.specs.List.{AllByRecursion}
 use Rattle.std.specs.Cmp.Lexicographic.{pointwise}
-use Rattle.std.proofs.lemmas.Bool.{cases_Bool, eqb-true}
+use Rattle.std.proofs.lemmas.Bool.{cases_Bool, eqb-true, cond_both}
 use Rattle.std.proofs.lemmas.Bool.Decides.{nat_tests}
 use Rattle.std.proofs.lemmas.List.{reverse-append, reverse-reverse, length-reverse, length-map, map-append, take_all, take-append-drop, length-take-le}
 use Rattle.std.proofs.Math.Seq.{drop-append_seam, take-append_seam}
@@ -44,19 +44,14 @@ both_length next t ts None = omega arith
 both_length next t ts (Some one) = omega arith
 
 added_length : (next : Token) (ts : List Token) → length (added next ts) ≤ length ts + 1
-added_length next [] = elim (cases_Bool (is_space next.kind)) [
-  | inl space ↦ (let P : Bool → Type 0 = λ b. length (if b then [] else next ∷ []) ≤ 1 in subst P (sym space) (omega arith))
-  | inr other ↦ (let P : Bool → Type 0 = λ b. length (if b then [] else next ∷ []) ≤ 1 in subst P (sym other) (omega arith))
-]
+added_length next [] = cond_both (is_space next.kind) [] (next ∷ []) (λ l. length l ≤ 1) (λ is. omega arith) (λ is. omega arith)
 added_length next (t ∷ ts) = omega (arith, both_length next t ts (joined t next))
 
 grown_length : (at n : ℕ) (comment : Bool) (m : Meaning) (ts : List Token) → length (grown at n comment m ts) ≤ length ts + 1
 grown_length at n comment Ignored ts = omega arith
 grown_length at n comment LineEnd ts = added_length (token kind.End n at) ts
-grown_length at n comment (Character c) ts = elim (cases_Bool (comment || nat_eq c 47)) [
-  | inl inside ↦ (let P : Bool → Type 0 = λ b. length (if b then ts else added (token (kind_of c) n at) ts) ≤ length ts + 1 in subst P (sym inside) (omega arith))
-  | inr outside ↦ (let P : Bool → Type 0 = λ b. length (if b then ts else added (token (kind_of c) n at) ts) ≤ length ts + 1 in subst P (sym outside) (added_length (token (kind_of c) n at) ts))
-]
+grown_length at n comment (Character c) ts =
+    cond_both (comment || nat_eq c 47) ts (added (token (kind_of c) n at) ts) (λ l. length l ≤ length ts + 1) (λ is. omega arith) (λ is. added_length (token (kind_of c) n at) ts)
 
 tokens_length : (f : List ℕ) → length (tokens f) ≤ length f
 tokens_length [] = omega arith
@@ -140,12 +135,10 @@ inside_of a b e h = grind (arith, nat_tests)
 pub made_at : (source : List ℕ) (place : Place) (stop : ℕ) (before raw : List Token) → IsPlaceIn source place → IsOwn source place stop before → IsStop source stop → reverse raw ≡ trimmed (reverse before)
     → Made source place raw (mark source place.line stop)
 unfolding end_mark
-made_at source place stop before raw p o s cut = elim (cases_Bool (nat_eq stop (length source))) [
-  | inl last ↦ (let P : Bool → Type 0 = λ b. Made source place raw (if b then end_mark source place.line stop else token (mark_kind (code (get_or source stop 0))) place.line stop) in
-      subst P (sym last) (record { more = []; is = ended_all source place stop before raw p o cut (eqb-true stop (length source) last); is_mark = refl }))
-  | inr other ↦ (let P : Bool → Type 0 = λ b. Made source place raw (if b then end_mark source place.line stop else token (mark_kind (code (get_or source stop 0))) place.line stop) in
-      subst P (sym other) (made_middle source place stop before raw p o s cut (inside_of stop (length source) other s.inside)))
-]
+made_at source place stop before raw p o s cut =
+    cond_both (nat_eq stop (length source)) (end_mark source place.line stop) (token (mark_kind (code (get_or source stop 0))) place.line stop) (λ m. Made source place raw m)
+    (λ last. record { more = []; is = ended_all source place stop before raw p o cut (eqb-true stop (length source) last); is_mark = refl })
+    (λ other. made_middle source place stop before raw p o s cut (inside_of stop (length source) other s.inside))
 
 counted : (source : List ℕ) (place : Place) (count : ℕ) (raw : List Token) (m : Token) (ts : List Token) → count ≡ length (tokens (front source place.at)) → ts ≡ m ∷ reverse raw ++ tokens (front source place.at) → count + length raw + 1 ≡ length ts
 counted source place count raw m ts n e = omega (arith, ap length e, length-append (reverse raw) (tokens (front source place.at)), length-reverse raw)
@@ -169,10 +162,8 @@ standing_after source place stop count before raw p o s cut n h =
 -- a part that goes on has a byte where the statement ends
 mark_start : (source : List ℕ) (n at : ℕ) → (mark source n at).start ≡ at
 unfolding end_mark
-mark_start source n at = elim (cases_Bool (nat_eq at (length source))) [
-  | inl last ↦ ap (λ b. (if b then end_mark source n at else token (mark_kind (code (get_or source at 0))) n at).start) last
-  | inr other ↦ ap (λ b. (if b then end_mark source n at else token (mark_kind (code (get_or source at 0))) n at).start) other
-]
+mark_start source n at =
+    cond_both (nat_eq at (length source)) (end_mark source n at) (token (mark_kind (code (get_or source at 0))) n at) (λ m. m.start ≡ at) (λ is. refl) (λ is. refl)
 
 some_none : (b : Bool) (c : PartEnd) → (if b then Some c else None) ≡ None → b ≡ false
 some_none true c e = cc
@@ -244,10 +235,7 @@ named_open source (t ∷ ts) h = (with_name_open source t t.kind h.0, named_open
 
 trimmed_open : (ts : List Token) → AllByRecursion IsOpen ts → AllByRecursion IsOpen (trimmed ts)
 trimmed_open [] h = tt
-trimmed_open (t ∷ ts) h = elim (cases_Bool (is_space t.kind)) [
-  | inl space ↦ (let P : Bool → Type 0 = λ b. AllByRecursion IsOpen (if b then ts else t ∷ ts) in subst P (sym space) h.1)
-  | inr other ↦ (let P : Bool → Type 0 = λ b. AllByRecursion IsOpen (if b then ts else t ∷ ts) in subst P (sym other) h)
-]
+trimmed_open (t ∷ ts) h = cond_both (is_space t.kind) ts (t ∷ ts) (λ l. AllByRecursion IsOpen l) (λ is. h.1) (λ is. h)
 
 raw_open : (before raw : List Token) → reverse raw ≡ trimmed (reverse before) → AllByRecursion IsOpen before → AllByRecursion IsOpen raw
 raw_open before raw e h =

@@ -1,8 +1,8 @@
 -- Pieces stand among the tokens, and lines within the bytes.
-use Rattle.std.proofs.Common.{◌≡◌, sym, subst, ℕ, ◌+◌, ◌≤◌, List, [], ◌∷◌, Bool, if◌then◌else◌, inl, inr, arith, length, take}
+use Rattle.std.proofs.Common.{◌≡◌, sym, subst, ℕ, ◌+◌, ◌≤◌, List, [], ◌∷◌, arith, length, take}
 use Rattle.std.specs.Prelude.{reverse}
 use Rattle.std.specs.List.{AllByRecursion}
-use Rattle.std.proofs.lemmas.Bool.{cases_Bool}
+use Rattle.std.proofs.lemmas.Bool.{cond_both}
 use Rattle.std.proofs.lemmas.List.{length-reverse, length-take}
 use Rattle.pal_text.specs.declared.characters.Meaning.{Meaning}
 use Rattle.pal_text.specs.declared.characters.Meaning.TheVariants.{Ignored, LineEnd, Character}
@@ -37,12 +37,9 @@ ended_within (b ∷ before) = lines_by_within (length (b ∷ before)) (ended_lin
     (wider (length before) (length (b ∷ before)) (ended_lines before) (omega arith) (ended_within before))
 
 lines_within : (before : List ℕ) → AllByRecursion (IsLineWithin (length before)) (lines before)
-lines_within before = elim (cases_Bool (is_begun before)) [
-  | inl begun ↦ (let P : Bool → Type 0 = λ b. AllByRecursion (IsLineWithin (length before)) (if b then line_of (line_start before) (length before) ∷ ended_lines before else ended_lines before) in
-      subst P (sym begun) (record { forward = start_within before; inside = omega arith }, ended_within before))
-  | inr ended ↦ (let P : Bool → Type 0 = λ b. AllByRecursion (IsLineWithin (length before)) (if b then line_of (line_start before) (length before) ∷ ended_lines before else ended_lines before) in
-      subst P (sym ended) (ended_within before))
-]
+lines_within before =
+    cond_both (is_begun before) (line_of (line_start before) (length before) ∷ ended_lines before) (ended_lines before) (λ ls. AllByRecursion (IsLineWithin (length before)) ls)
+    (λ is. (record { forward = start_within before; inside = omega arith }, ended_within before)) (λ is. ended_within before)
 
 -- the lines of a front of the bytes
 pub lines_within_by : (source : List ℕ) (stop : ℕ) (ls : List Line) → ls ≡ all_lines (take stop source) → AllByRecursion (IsLineWithin (length source)) ls

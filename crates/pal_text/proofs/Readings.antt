@@ -1,7 +1,7 @@
 -- What is read from the tokens of a statement is what the grammar spells, and all that it spells.
-use Rattle.std.proofs.Common.{◌≡◌, ◌∙◌, sym, ap, refl, ℕ, ◌+◌, List, [], ◌∷◌, Bool, true, false, ◌&&◌, if◌then◌else◌, Option, Some, None, inl, inr, arith, ◌≤◌, ◌-◌, length, take, drop, get_or, subst}
+use Rattle.std.proofs.Common.{◌≡◌, ◌∙◌, sym, ap, refl, ℕ, ◌+◌, List, [], ◌∷◌, Bool, true, false, ◌&&◌, if◌then◌else◌, Option, Some, None, arith, ◌≤◌, ◌-◌, length, take, drop, get_or, subst}
 use Rattle.std.proofs.lemmas.List.{take_all}
-use Rattle.std.proofs.lemmas.Bool.{cases_Bool}
+use Rattle.std.proofs.lemmas.Bool.{cond_both}
 use Rattle.pal_text.specs.declared.tokens.TokenKind.{TokenKind}
 use Rattle.pal_text.specs.declared.tokens.TokenKind.TheVariants as kind
 use Rattle.pal_text.specs.declared.tokens.Token.{Token}
@@ -98,10 +98,8 @@ means : (ts : List Token) (s q : Said) → Some q ≡ Some s → IsStatement ts 
 means ts s q e h = let same : q ≡ s = cc in subst (λ x. IsStatement ts [] x) same h
 
 means_expression : (ts e : List Token) (s q : Said) → (is_expression e ≡ true → IsStatement ts [] q) → if_said e q ≡ Some s → IsStatement ts [] s
-means_expression ts e s q holds h = elim (cases_Bool (is_expression e)) [
-  | inl ok ↦ means ts s q (sym (ap (λ t. if t then Some q else None) ok) ∙ h) (holds ok)
-  | inr bad ↦ cc (sym h ∙ ap (λ t. if t then Some q else None) bad)
-]
+means_expression ts e s q holds =
+    cond_both (is_expression e) (Some q) None (λ o. o ≡ Some s → IsStatement ts [] s) (λ ok h. means ts s q h (holds ok)) (λ bad h. cc)
 
 means_direction : (t : Token) (k : TokenKind) (s : Said) → t.kind ≡ k → direction_said k ≡ Some s → IsStatement (t ∷ []) [] s
 means_direction t kind.Decimal s is h = means (t ∷ []) s Decimal h (decimal t is)
@@ -119,10 +117,9 @@ term_expression : (t : Token) → is_term t.kind ≡ true → is_expression (t �
 term_expression t h = ap (λ b. if b then is_terms [] else is_terms (t ∷ [])) (term_no_sign t.kind h) ∙ h
 
 means_single : (t : Token) (s : Said) → single_by t.kind t ≡ Some s → IsStatement (t ∷ []) [] s
-means_single t s h = elim (cases_Bool (is_term t.kind)) [
-  | inl ok ↦ means (t ∷ []) s (Word (t ∷ [])) (sym (ap (λ b. if b then Some (Word (t ∷ [])) else direction_said t.kind) ok) ∙ h) (word (t ∷ []) (term_expression t ok))
-  | inr bad ↦ means_direction t t.kind s refl (sym (ap (λ b. if b then Some (Word (t ∷ [])) else direction_said t.kind) bad) ∙ h)
-]
+means_single t s =
+    cond_both (is_term t.kind) (Some (Word (t ∷ []))) (direction_said t.kind) (λ o. o ≡ Some s → IsStatement (t ∷ []) [] s)
+    (λ ok h. means (t ∷ []) s (Word (t ∷ [])) h (word (t ∷ []) (term_expression t ok))) (λ bad h. means_direction t t.kind s refl h)
 
 means_assigned : (t u : Token) (ts : List Token) (k : TokenKind) → t.kind ≡ k → is_name k ≡ true → u.kind ≡ kind.Equals → is_expression ts ≡ true → IsStatement (t ∷ u ∷ ts) [] (assigned_by k t ts)
 means_assigned t u ts kind.Symbol is h e x = assign t u ts is e x
@@ -131,19 +128,15 @@ means_assigned t u ts _ is h e x = assign_direction t u ts (ap is_direction is �
 body_means : (ts : List Token) (s : Said) → body_said ts ≡ Some s → IsStatement ts [] s
 body_means [] s h = means [] s Nothing h nothing
 body_means (t ∷ []) s h = means_single t s h
-body_means (t ∷ u ∷ ts) s h = elim (cases_Bool (is_star t.kind)) [
-  | inl star ↦ means_expression (t ∷ u ∷ ts) (u ∷ ts) s (Origin (u ∷ ts)) (λ e. origin t (u ∷ ts) (is_star-Star t.kind star) e)
-      (sym (ap (λ b. if b then if_said (u ∷ ts) (Origin (u ∷ ts)) else (if is_name t.kind && is_equals u.kind then if_said ts (assigned_by t.kind t ts) else if_said (t ∷ u ∷ ts) (Word (t ∷ u ∷ ts)))) star) ∙ h)
-  | inr no_star ↦ (let h' : (if is_name t.kind && is_equals u.kind then if_said ts (assigned_by t.kind t ts) else if_said (t ∷ u ∷ ts) (Word (t ∷ u ∷ ts))) ≡ Some s =
-      sym (ap (λ b. if b then if_said (u ∷ ts) (Origin (u ∷ ts)) else (if is_name t.kind && is_equals u.kind then if_said ts (assigned_by t.kind t ts) else if_said (t ∷ u ∷ ts) (Word (t ∷ u ∷ ts)))) no_star) ∙ h in
-      elim (cases_Bool (is_name t.kind && is_equals u.kind)) [
-        | inl assigned ↦ means_expression (t ∷ u ∷ ts) ts s (assigned_by t.kind t ts)
-            (λ e. let tests = both (is_name t.kind) (is_equals u.kind) assigned in means_assigned t u ts t.kind refl tests.0 (is_equals-Equals u.kind tests.1) e)
-            (sym (ap (λ b. if b then if_said ts (assigned_by t.kind t ts) else if_said (t ∷ u ∷ ts) (Word (t ∷ u ∷ ts))) assigned) ∙ h')
-        | inr plain ↦ means_expression (t ∷ u ∷ ts) (t ∷ u ∷ ts) s (Word (t ∷ u ∷ ts)) (λ e. word (t ∷ u ∷ ts) e)
-            (sym (ap (λ b. if b then if_said ts (assigned_by t.kind t ts) else if_said (t ∷ u ∷ ts) (Word (t ∷ u ∷ ts))) plain) ∙ h')
-      ])
-]
+body_means (t ∷ u ∷ ts) s h =
+    let others : Option Said = if is_name t.kind && is_equals u.kind then if_said ts (assigned_by t.kind t ts) else if_said (t ∷ u ∷ ts) (Word (t ∷ u ∷ ts)) in
+    let Says : Option Said → Type 0 = λ o. o ≡ Some s → IsStatement (t ∷ u ∷ ts) [] s in
+    cond_both (is_star t.kind) (if_said (u ∷ ts) (Origin (u ∷ ts))) others Says
+    (λ star. means_expression (t ∷ u ∷ ts) (u ∷ ts) s (Origin (u ∷ ts)) (λ e. origin t (u ∷ ts) (is_star-Star t.kind star) e))
+    (λ none. cond_both (is_name t.kind && is_equals u.kind) (if_said ts (assigned_by t.kind t ts)) (if_said (t ∷ u ∷ ts) (Word (t ∷ u ∷ ts))) Says
+    (λ is. means_expression (t ∷ u ∷ ts) ts s (assigned_by t.kind t ts)
+    (λ e. let tests = both (is_name t.kind) (is_equals u.kind) is in means_assigned t u ts t.kind refl tests.0 (is_equals-Equals u.kind tests.1) e))
+    (λ plain. means_expression (t ∷ u ∷ ts) (t ∷ u ∷ ts) s (Word (t ∷ u ∷ ts)) (λ e. word (t ∷ u ∷ ts) e))) h
 
 at_body : (ts : List Token) (o : Option Said) (r : Saying) → body_said ts ≡ o → untagged o ≡ Some r → IsStatement ts r.tags r.said
 at_body ts None r e h = cc
@@ -162,10 +155,9 @@ tag_then t u ts (Some q) r is e h k =
 sound : (ts : List Token) (r : Saying) → reading ts ≡ Some r → IsStatement ts r.tags r.said
 sound [] r h = at_body [] (body_said []) r refl h
 sound (t ∷ []) r h = at_body (t ∷ []) (body_said (t ∷ [])) r refl h
-sound (t ∷ u ∷ ts) r h = elim (cases_Bool (is_tag t.kind u.kind)) [
-  | inl is ↦ tag_then t u ts (reading ts) r is refl (sym (ap (λ b. if b then with_tag t (reading ts) else untagged (body_said (t ∷ u ∷ ts))) is) ∙ h) (λ q e. sound ts q e)
-  | inr plain ↦ at_body (t ∷ u ∷ ts) (body_said (t ∷ u ∷ ts)) r refl (sym (ap (λ b. if b then with_tag t (reading ts) else untagged (body_said (t ∷ u ∷ ts))) plain) ∙ h)
-]
+sound (t ∷ u ∷ ts) r h =
+    cond_both (is_tag t.kind u.kind) (with_tag t (reading ts)) (untagged (body_said (t ∷ u ∷ ts))) (λ o. o ≡ Some r → IsStatement (t ∷ u ∷ ts) r.tags r.said)
+    (λ is e. tag_then t u ts (reading ts) r is refl e (λ q k. sound ts q k)) (λ plain e. at_body (t ∷ u ∷ ts) (body_said (t ∷ u ∷ ts)) r refl e) h
 
 -- ---- each statement is read
 
@@ -225,16 +217,14 @@ begins_by_term t u ts h =
     }
 
 begins : (t u : Token) (ts : List Token) → is_expression (t ∷ u ∷ ts) ≡ true → Begins t.kind u.kind
-begins t u ts h = elim (cases_Bool (is_sign t.kind)) [
-  | inl s ↦ begins_by_sign t.kind u.kind s
-  | inr s ↦ begins_by_term t u ts (sym (ap (λ b. if b then is_terms (u ∷ ts) else is_terms (t ∷ u ∷ ts)) s) ∙ h)
-]
+begins t u ts =
+    cond_both (is_sign t.kind) (is_terms (u ∷ ts)) (is_terms (t ∷ u ∷ ts)) (λ b. b ≡ true → Begins t.kind u.kind)
+    (λ s h. begins_by_sign t.kind u.kind s) (λ s h. begins_by_term t u ts h)
 
 single_word : (t : Token) → is_expression (t ∷ []) ≡ true → single_by t.kind t ≡ Some (Word (t ∷ []))
-single_word t h = elim (cases_Bool (is_sign t.kind)) [
-  | inl s ↦ cc (sym (ap (λ b. if b then is_terms [] else is_terms (t ∷ [])) s) ∙ h)
-  | inr s ↦ ap (λ b. if b then Some (Word (t ∷ [])) else direction_said t.kind) (sym (ap (λ b. if b then is_terms [] else is_terms (t ∷ [])) s) ∙ h)
-]
+single_word t =
+    cond_both (is_sign t.kind) (is_terms []) (is_terms (t ∷ [])) (λ b. b ≡ true → single_by t.kind t ≡ Some (Word (t ∷ []))) (λ s h. cc)
+    (λ s h. ap (λ b. if b then Some (Word (t ∷ [])) else direction_said t.kind) h)
 
 word_read : (e : List Token) → is_expression e ≡ true → reading e ≡ Some (saying [] (Word e))
 word_read [] h = cc
@@ -283,12 +273,12 @@ abbrev shape_by : ℕ → Option Saying → Option Shape
 shape_by n None = None
 shape_by n (Some r) = Some (record { tags = n + length r.tags; form = r.said.form })
 
-chosen : (b : Bool) (x y : Option Form) (p q : Option Said) → x ≡ form_in p → y ≡ form_in q → (if b then x else y) ≡ form_in (if b then p else q)
-chosen true x y p q h k = h
-chosen false x y p q h k = k
+chosen : {X Y : Type 0} (f : X → Y) (b : Bool) (x y : Y) (p q : X) → x ≡ f p → y ≡ f q → (if b then x else y) ≡ f (if b then p else q)
+chosen f true x y p q h k = h
+chosen f false x y p q h k = k
 
 if_form : (e : List Token) (f : Form) (s : Said) → f ≡ s.form → if_expression e f ≡ form_in (if_said e s)
-if_form e f s h = chosen (is_expression e) (Some f) None (Some s) None (ap Some h) refl
+if_form e f s h = chosen form_in (is_expression e) (Some f) None (Some s) None (ap Some h) refl
 
 assigned_form : (k : TokenKind) (t : Token) (e : List Token) → form.Assign ≡ (assigned_by k t e).form
 assigned_form kind.Symbol t e = refl
@@ -302,10 +292,10 @@ body_form : (ts : List Token) → body ts ≡ form_in (body_said ts)
 body_form [] = refl
 body_form (t ∷ []) = single_form t.kind t
 body_form (t ∷ u ∷ ts) =
-    chosen (is_star t.kind) (if_expression (u ∷ ts) form.Origin) (if is_name t.kind && is_equals u.kind then if_expression ts form.Assign else if_expression (t ∷ u ∷ ts) form.Word)
+    chosen form_in (is_star t.kind) (if_expression (u ∷ ts) form.Origin) (if is_name t.kind && is_equals u.kind then if_expression ts form.Assign else if_expression (t ∷ u ∷ ts) form.Word)
     (if_said (u ∷ ts) (Origin (u ∷ ts))) (if is_name t.kind && is_equals u.kind then if_said ts (assigned_by t.kind t ts) else if_said (t ∷ u ∷ ts) (Word (t ∷ u ∷ ts)))
     (if_form (u ∷ ts) form.Origin (Origin (u ∷ ts)) refl)
-    (chosen (is_name t.kind && is_equals u.kind) (if_expression ts form.Assign) (if_expression (t ∷ u ∷ ts) form.Word) (if_said ts (assigned_by t.kind t ts)) (if_said (t ∷ u ∷ ts) (Word (t ∷ u ∷ ts)))
+    (chosen form_in (is_name t.kind && is_equals u.kind) (if_expression ts form.Assign) (if_expression (t ∷ u ∷ ts) form.Word) (if_said ts (assigned_by t.kind t ts)) (if_said (t ∷ u ∷ ts) (Word (t ∷ u ∷ ts)))
     (if_form ts form.Assign (assigned_by t.kind t ts) (assigned_form t.kind t ts)) (if_form (t ∷ u ∷ ts) form.Word (Word (t ∷ u ∷ ts)) refl))
 
 abbrev made : ℕ → Form → Shape
@@ -319,15 +309,11 @@ tag_shape : (n : ℕ) (t : Token) (o : Option Saying) → shape_by (n + 1) o ≡
 tag_shape n t None = refl
 tag_shape n t (Some r) = let place : (n + 1) + length r.tags ≡ n + length (t ∷ r.tags) = omega arith in ap (λ k. Some (made k r.said.form)) place
 
-shape_chosen : (b : Bool) (n : ℕ) (x y : Option Shape) (p q : Option Saying) → x ≡ shape_by n p → y ≡ shape_by n q → (if b then x else y) ≡ shape_by n (if b then p else q)
-shape_chosen true n x y p q h k = h
-shape_chosen false n x y p q h k = k
-
 shape_is : (ts : List Token) (n : ℕ) → shape n ts ≡ shape_by n (reading ts)
 shape_is [] n = untagged_shape n (body_said [])
 shape_is (t ∷ []) n = ap (shaped n) (body_form (t ∷ [])) ∙ untagged_shape n (body_said (t ∷ []))
 shape_is (t ∷ u ∷ ts) n =
-    shape_chosen (is_tag t.kind u.kind) n (shape (n + 1) ts) (shaped n (body (t ∷ u ∷ ts))) (with_tag t (reading ts)) (untagged (body_said (t ∷ u ∷ ts)))
+    chosen (shape_by n) (is_tag t.kind u.kind) (shape (n + 1) ts) (shaped n (body (t ∷ u ∷ ts))) (with_tag t (reading ts)) (untagged (body_said (t ∷ u ∷ ts)))
     (shape_is ts (n + 1) ∙ tag_shape n t (reading ts)) (ap (shaped n) (body_form (t ∷ u ∷ ts)) ∙ untagged_shape n (body_said (t ∷ u ∷ ts)))
 
 -- what the code reads

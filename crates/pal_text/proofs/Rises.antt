@@ -1,8 +1,8 @@
 -- Tokens stand in order and within the part.
-use Rattle.std.proofs.Common.{◌≡◌, ◌∙◌, sym, ap, refl, subst, ℕ, ◌+◌, ◌≤◌, List, [], ◌∷◌, ◌++◌, Bool, ◌||◌, ◌&&◌, if◌then◌else◌, Option, Some, None, inl, inr, arith, length, take, drop, zero, suc}
+use Rattle.std.proofs.Common.{◌≡◌, ◌∙◌, sym, ap, refl, subst, ℕ, ◌+◌, ◌≤◌, List, [], ◌∷◌, ◌++◌, Bool, ◌||◌, ◌&&◌, if◌then◌else◌, Option, Some, None, arith, length, take, drop, zero, suc}
 use Rattle.std.specs.Prelude.{nat_eq, reverse, map}
 use Rattle.std.specs.List.{AllByRecursion}
-use Rattle.std.proofs.lemmas.Bool.{cases_Bool}
+use Rattle.std.proofs.lemmas.Bool.{cond_both}
 use Rattle.std.proofs.lemmas.List.{length-reverse, reverse-reverse, map-append, take_at}
 use Rattle.pal_text.specs.declared.characters.Meaning.{Meaning}
 use Rattle.pal_text.specs.declared.characters.Meaning.TheVariants.{Ignored, LineEnd, Character}
@@ -33,15 +33,11 @@ one_or_both_ordered n next t ts (Some one) j r = j
 
 without_space_joins : (n : ℕ) (next t : Token) (ts : List Token) → IsOrdered n (next ∷ t ∷ ts) → Joins n ts (without_space t next)
 unfolding Joins
-without_space_joins n next t ts r = elim (cases_Bool (is_space next.kind && absorbs t.kind)) [
-  | inl first ↦ (let P : Bool → Type 0 = λ b. Joins n ts (if b then Some t else (if is_space t.kind && absorbs next.kind then Some next else None)) in
-      subst P (sym first) (r.2.0, omega (arith, r.0, r.1, r.2.1), r.2.2))
-  | inr other ↦ (let P : Bool → Type 0 = λ b. Joins n ts (if b then Some t else (if is_space t.kind && absorbs next.kind then Some next else None)) in
-      subst P (sym other) (elim (cases_Bool (is_space t.kind && absorbs next.kind)) [
-        | inl second ↦ (let Q : Bool → Type 0 = λ b. Joins n ts (if b then Some next else None) in subst Q (sym second) (r.0, r.1, later ts t.start next.start (omega (arith, r.2.0, r.2.1)) r.2.2))
-        | inr neither ↦ (let Q : Bool → Type 0 = λ b. Joins n ts (if b then Some next else None) in subst Q (sym neither) tt)
-      ]))
-]
+without_space_joins n next t ts r =
+    cond_both (is_space next.kind && absorbs t.kind) (Some t) (if is_space t.kind && absorbs next.kind then Some next else None) (λ o. Joins n ts o)
+    (λ is. (r.2.0, omega (arith, r.0, r.1, r.2.1), r.2.2))
+    (λ is. cond_both (is_space t.kind && absorbs next.kind) (Some next) None (λ o. Joins n ts o)
+    (λ too. (r.0, r.1, later ts t.start next.start (omega (arith, r.2.0, r.2.1)) r.2.2)) (λ too. tt))
 
 with_kind_joins : (n : ℕ) (next t : Token) (ts : List Token) (o : Option TokenKind) → IsOrdered n (next ∷ t ∷ ts) → Joins n ts (with_kind t next o)
 unfolding Joins
@@ -49,19 +45,15 @@ with_kind_joins n next t ts None r = without_space_joins n next t ts r
 with_kind_joins n next t ts (Some k) r = (omega (arith, r.0, r.2.0, r.2.1), r.1, r.2.2)
 
 added_ordered : (n : ℕ) (next : Token) (ts : List Token) → IsOrdered n (next ∷ ts) → IsOrdered n (added next ts)
-added_ordered n next [] r = elim (cases_Bool (is_space next.kind)) [
-  | inl space ↦ (let P : Bool → Type 0 = λ b. IsOrdered n (if b then [] else next ∷ []) in subst P (sym space) tt)
-  | inr other ↦ (let P : Bool → Type 0 = λ b. IsOrdered n (if b then [] else next ∷ []) in subst P (sym other) r)
-]
+added_ordered n next [] r = cond_both (is_space next.kind) [] (next ∷ []) (λ l. IsOrdered n l) (λ is. tt) (λ is. r)
 added_ordered n next (t ∷ ts) r = one_or_both_ordered n next t ts (joined t next) (with_kind_joins n next t ts (longer t.kind next.kind) r) r
 
 grown_ordered : (at n : ℕ) (comment : Bool) (m : Meaning) (ts : List Token) → IsOrdered at ts → IsOrdered (at + 1) (grown at n comment m ts)
 grown_ordered at n comment Ignored ts r = later ts at (at + 1) (omega arith) r
 grown_ordered at n comment LineEnd ts r = added_ordered (at + 1) (token End n at) ts (omega arith, omega arith, r)
-grown_ordered at n comment (Character c) ts r = elim (cases_Bool (comment || nat_eq c 47)) [
-  | inl inside ↦ (let P : Bool → Type 0 = λ b. IsOrdered (at + 1) (if b then ts else added (token (kind_of c) n at) ts) in subst P (sym inside) (later ts at (at + 1) (omega arith) r))
-  | inr outside ↦ (let P : Bool → Type 0 = λ b. IsOrdered (at + 1) (if b then ts else added (token (kind_of c) n at) ts) in subst P (sym outside) (added_ordered (at + 1) (token (kind_of c) n at) ts (omega arith, omega arith, r)))
-]
+grown_ordered at n comment (Character c) ts r =
+    cond_both (comment || nat_eq c 47) ts (added (token (kind_of c) n at) ts) (λ l. IsOrdered (at + 1) l) (λ is. later ts at (at + 1) (omega arith) r)
+    (λ is. added_ordered (at + 1) (token (kind_of c) n at) ts (omega arith, omega arith, r))
 
 pub tokens_ordered : (bytes : List ℕ) → IsOrdered (length bytes) (tokens bytes)
 tokens_ordered [] = tt

@@ -6,7 +6,8 @@ use Rattle.pal_acts.specs.Acts.{place}
 use Rattle.pal_asm.specs.Numbers.{base}
 use Rattle.pal_asm.specs.Expressions.{expression}
 use Rattle.pal_asm.specs.SourceInCode.{read_of}
-use Rattle.pal_asm.proofs.Spoken.{kept_all, kept_none, on_ok_also}
+use Rattle.pal_text.proofs.Grows.{on_ok_also}
+use Rattle.pal_asm.proofs.Spoken.{kept_all, kept_none}
 use Rattle.pal_asm.proofs.Within.{body_within, operand_within}
 use Rattle.pal_asm.proofs.statement.keep_statement.Goals as goal
 

@@ -10,5 +10,5 @@ returns-clause-told g c = record {
   breaks = c.requires.broken;
   last = c.requires.last;
   line_is = search rules;
-  unexplained = rw c.deref-2.ensures.value at c.in_ok-why.ensures;
+  unexplained = c.in_ok-why.ensures;
 }

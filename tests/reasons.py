@@ -540,6 +540,8 @@ def main():
             wrong.append(f"pdp8 check --why {case.tape} {case.declaration} {case.certificate}: {fault}\n{told}")
         if not fault or asked.wrong:
             case.forget()
+    if not any(folder.iterdir()):
+        folder.rmdir()
     print("\n".join(wrong[:20]), end="\n" * bool(wrong))
     print(", ".join(f"{kind} {times}" for kind, times in sorted(kinds.items())))
     unreached = [f"{kind}: {sentence}" for kind, known in SENTENCES.items() for sentence in known if (kind, sentence) not in REACHED]

@@ -2,12 +2,12 @@
 
 usage: tests/reasons.py PDP8 [--count N] [--seed N] [--guess] [--wrong]
 
-Changes.changed of verdicts.py forges the certificates, from those of examples/ and tests/version3/ and, with --guess, also from those that
-`guess` finds for the programs in the style of 1970. The verdict must be that of the reference. If it is no, each sentence below it must be
-known here and true: the word that is shown is possible at the address by the fact that is shown, and it violates the condition; the cell,
-word, sum, offset, site or rank that is named is as it is said to be. Cases for which this is not so are kept, with the commands that repeat
-them. The sentences that no case reached are listed. With --wrong, one number in each reason is increased by 1 first, so that most reasons must
-be found to be wrong; those in which the next number is right, too, are not.
+The certificates are forged as in verdicts.py, but with lines of every kind, from those of examples/ and tests/version3/ and, with --guess,
+also from those that `guess` finds for the programs in the style of 1970. The verdict must be that of the reference. If it is no, each
+sentence below it must be known here and true: the word that is shown is possible at the address by the fact that is shown, and violates the
+condition; the cell, word, sum, offset, site or rank that is named is as it is said to be. Cases for which this is not so are kept, with the
+commands that repeat them. From 1000 cases on, the sentences that none of them reached are listed. With --wrong, one number in each reason
+is increased by 1 first, so that most reasons must be found to be wrong; those for which the next number is right, too, are not.
 """
 import argparse
 import collections
@@ -540,10 +540,12 @@ def main():
             wrong.append(f"pdp8 check --why {case.tape} {case.declaration} {case.certificate}: {fault}\n{told}")
         if not fault or asked.wrong:
             case.forget()
-    print("\n".join(wrong[:20]))
+    if not any(folder.iterdir()):
+        folder.rmdir()
+    print("\n".join(wrong[:20]), end="\n" * bool(wrong))
     print(", ".join(f"{kind} {times}" for kind, times in sorted(kinds.items())))
     unreached = [f"{kind}: {sentence}" for kind, known in SENTENCES.items() for sentence in known if (kind, sentence) not in REACHED]
-    print(f"sentences that no case reached: {len(unreached)}", *unreached, sep="\n  ")
+    print(f"sentences that no case reached: {len(unreached)}", *(unreached if asked.count >= 1000 else []), sep="\n  ")
     print(f"{asked.count} forged certificates of {len(known)} programs, {len(wrong)} with a wrong reason or verdict")
     return int(bool(wrong))
 

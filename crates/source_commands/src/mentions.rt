@@ -163,7 +163,7 @@ impl<S: Allocator + Copy> PartSymbols<'_, S> {
     /// Adds what a token does, if it is one of the source's own symbols, and returns whether it is one.
     fn push_use<A: Allocator>(
         &self,
-        site: Site,
+        site: &Site,
         role: Role,
         token: Token,
         mentions: &mut Vec<Mention, A>,
@@ -171,7 +171,11 @@ impl<S: Allocator + Copy> PartSymbols<'_, S> {
         let name = name_of(self.source, token);
         let is_own = matches!(token.kind, TokenKind::Symbol) && self.own.get(&name).is_some();
         if is_own {
-            mentions.push(Mention { name, role, site })?;
+            mentions.push(Mention {
+                name,
+                role,
+                site: *site,
+            })?;
         }
         Ok(is_own)
     }
@@ -180,7 +184,7 @@ impl<S: Allocator + Copy> PartSymbols<'_, S> {
     /// another for each later one.
     fn push_uses<A: Allocator>(
         &self,
-        site: Site,
+        site: &Site,
         first: Role,
         later: Role,
         tokens: &[Token],
@@ -188,9 +192,8 @@ impl<S: Allocator + Copy> PartSymbols<'_, S> {
     ) -> Result<(), AllocError> {
         let mut role = first;
         for token in tokens {
-            if self.push_use(site, role, *token, mentions)? {
-                role = later;
-            }
+            let is_own = self.push_use(site, role, *token, mentions)?;
+            role = if is_own { later } else { role };
         }
         Ok(())
     }
@@ -205,7 +208,7 @@ impl<S: Allocator + Copy> PartSymbols<'_, S> {
         tokens: &[Token],
         mentions: &mut Vec<Mention, A>,
     ) -> Result<(), AllocError> {
-        let (line, defines, computes) = (sites.line, Role::Defines, Role::Computes);
+        let (line, defines, computes) = (&sites.line, Role::Defines, Role::Computes);
         let tagged = tokens.get(..tags).unwrap_or(tokens);
         let body = tokens.get(tags..).unwrap_or(&[]);
         self.push_uses(line, defines, defines, tagged, mentions)?;
@@ -217,7 +220,7 @@ impl<S: Allocator + Copy> PartSymbols<'_, S> {
             (Form::Origin, _) => self.push_uses(line, computes, computes, body, mentions),
             (Form::Word, _) => {
                 let role = word_role(self.source, body);
-                self.push_uses(sites.word, role, Role::Holds, body, mentions)
+                self.push_uses(&sites.word, role, Role::Holds, body, mentions)
             }
             _ => Ok(()),
         }

@@ -4,6 +4,9 @@
 
 ghost use Rattle.std.specs.Prelude.{◌≡◌, false, [], None, IfOk, IfErr};
 ghost use Rattle.declaration.specs.DeclarationInCode.{meaning};
+ghost use Rattle.analyser.specs.Attempts.{IsAcceptedIfFound, claimed_by};
+ghost use Rattle.certificate.specs.Exact.{AreLines};
+ghost use Rattle.certificate_lines.specs.CertificateInCode.{meaning as lines_of};
 ghost use Rattle.command_parts.specs.Answers.{IsMemoryFault};
 ghost use Rattle.command_parts.specs.Faults.{fails_to_write};
 ghost use Rattle.command_parts.specs.Messages.{plain};
@@ -65,6 +68,60 @@ pub struct ProposalMessage<A: Allocator> {
     pub why: Message<A>,
 }
 
+/// Searches for a run that violates a declaration for which no certificate was found, and keeps what the search for a
+/// certificate had found, if that is known.
+fn answer_on<A: Allocator + Copy, D: Allocator>(
+    alloc: A,
+    image: &Image,
+    declaration: &Declaration<D>,
+    options: &RefuteOptions,
+    lack: InconclusiveReason,
+    draft: Option<Certificate<A>>,
+) -> Result<AnswerWithDraft<A>, Fault>
+    ensures answer { IfOk result (λ found.
+        IsAnswer image.now (meaning declaration.now) found.answer) }
+    ensures faults { IfErr result IsMemoryFault }
+{
+    let mut turns = Turns::new(options.steps);
+    let seed = u64::from(options.seed);
+    match refute_within(alloc, image, declaration, seed, &mut turns)? {
+        Some(found) => Ok(AnswerWithDraft {
+            answer: Answer::No(found),
+            draft: None,
+        }),
+        None => Ok(AnswerWithDraft {
+            answer: Answer::NotKnown(lack),
+            draft,
+        }),
+    }
+}
+
+/// The answer after a search for a certificate that came to this result.
+fn answer_by_attempt<A: Allocator + Copy, D: Allocator>(
+    alloc: A,
+    image: &Image,
+    declaration: &Declaration<D>,
+    options: &RefuteOptions,
+    attempt: Attempt<A>,
+) -> Result<AnswerWithDraft<A>, Fault>
+    requires accepted { IsAcceptedIfFound image.now declaration.now attempt }
+    requires lines { AreLines (lines_of (claimed_by attempt)) }
+    ensures answer { IfOk result (λ found.
+        IsAnswer image.now (meaning declaration.now) found.answer) }
+    ensures faults { IfErr result IsMemoryFault }
+{
+    match attempt {
+        Attempt::Found(certificate) => Ok(AnswerWithDraft {
+            answer: Answer::Yes(certificate),
+            draft: None,
+        }),
+        Attempt::Stuck(at, draft) => {
+            let lack = InconclusiveReason::Stuck(at);
+            answer_on(alloc, image, declaration, options, lack, Some(draft))
+        }
+    }
+}
+
 /// The answer about a given declaration, with the draft of a search that is stuck. Only one search for a certificate is
 /// made; if it finds none, a run that violates the declaration is searched for.
 fn answer_of<A: Allocator + Copy, D: Allocator>(
@@ -77,27 +134,12 @@ fn answer_of<A: Allocator + Copy, D: Allocator>(
         IsAnswer image.now (meaning declaration.now) found.answer) }
     ensures faults { IfErr result IsMemoryFault }
 {
-    let (lack, draft) = match guess_or_draft(alloc, image, declaration) {
-        Ok(Attempt::Found(certificate)) => {
-            return Ok(AnswerWithDraft {
-                answer: Answer::Yes(certificate),
-                draft: None,
-            });
+    match guess_or_draft(alloc, image, declaration) {
+        Ok(attempt) => answer_by_attempt(alloc, image, declaration, options, attempt),
+        Err(fault) => {
+            let lack = inconclusive_reason_of(fault)?;
+            answer_on(alloc, image, declaration, options, lack, None)
         }
-        Ok(Attempt::Stuck(at, draft)) => (InconclusiveReason::Stuck(at), Some(draft)),
-        Err(fault) => (inconclusive_reason_of(fault)?, None),
-    };
-    let mut turns = Turns::new(options.steps);
-    let seed = u64::from(options.seed);
-    match refute_within(alloc, image, declaration, seed, &mut turns)? {
-        Some(found) => Ok(AnswerWithDraft {
-            answer: Answer::No(found),
-            draft: None,
-        }),
-        None => Ok(AnswerWithDraft {
-            answer: Answer::NotKnown(lack),
-            draft,
-        }),
     }
 }
 

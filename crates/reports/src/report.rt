@@ -128,17 +128,28 @@ impl<'a, A: Allocator + Copy, D: Allocator, C: Allocator> Report<'a, A, D, C> {
 }
 
 impl<A: Allocator, D: Allocator, C: Allocator> Report<'_, A, D, C> {
+    /// What stands at an address outside all bodies, which is not an entry.
+    fn kind_outside(&self, at: Word) -> CellKind {
+        if self.declaration.is_variable(at) {
+            CellKind::Variable
+        } else if self.image.get(at).is_some() {
+            CellKind::Other
+        } else {
+            CellKind::Unset
+        }
+    }
+
     /// What stands at an address.
     pub(crate) fn kind_of(&self, at: Word) -> CellKind {
         if self.declaration.is_entry(at) {
             return CellKind::Entry;
         }
-        match self.declaration.owner_of(at) {
-            Some(Owner::Main) => CellKind::Main,
-            Some(Owner::Routine(entry)) => CellKind::Routine(entry),
-            None if self.declaration.is_variable(at) => CellKind::Variable,
-            None if self.image.get(at).is_some() => CellKind::Other,
-            None => CellKind::Unset,
+        let Some(owner) = self.declaration.owner_of(at) else {
+            return self.kind_outside(at);
+        };
+        match owner {
+            Owner::Main => CellKind::Main,
+            Owner::Routine(entry) => CellKind::Routine(entry),
         }
     }
 

@@ -1,0 +1,20 @@
+//! Runs of the machine: one loop, and what is chosen for it.
+#![tactic(auto)]
+
+mod both;
+mod driving;
+mod lists;
+mod observers;
+mod places;
+mod sources;
+mod stops;
+mod tracing;
+
+pub use both::Both;
+pub use driving::{Ended, drive};
+pub use lists::{Ending, Listed, Rounds};
+pub use observers::{Observer, ObserverFault};
+pub use places::{StepLimit, UntilAddress, UntilRead, UntilWrite};
+pub use sources::{Next, Source};
+pub use stops::{Answer, Stops};
+pub use tracing::{Executed, Fetched, Last, Steps, Trace, put_line};

@@ -1,1 +1,4 @@
 mod MomentLemmas
+mod FollowLemmas
+mod ObserverLemmas
+mod SourceLemmas

@@ -1,19 +1,25 @@
 -- Runs that are longer by one event.
-use Rattle.std.proofs.Common.{ℕ, ◌≡◌, Bool, true, List, [], ◌∷◌, ◌++◌, refl, sym, subst}
+use Rattle.std.proofs.Common.{ℕ, ◌≡◌, Bool, true, List, [], ◌∷◌, ◌++◌, refl, sym, ap, ◌∙◌, subst}
 use Rattle.instruct.specs.declared.Profile.{Profile}
+use Rattle.processor.specs.Fetch.{fetched}
+use Rattle.processor.specs.Machine.{State}
+use Rattle.processor.specs.declared.fetch.DecodedInstruction.{DecodedInstruction}
 use Rattle.peripherals.specs.declared.Event.{Event}
 use Rattle.peripherals.specs.declared.Seen.{Seen}
-use Rattle.peripherals.specs.Devices.{WorldState}
+use Rattle.peripherals.specs.Devices.{WorldState, word_at_pc}
 use Rattle.runs.specs.declared.sources.Next.{Next}
 use Rattle.runs.specs.declared.sources.Next.TheVariants as next
 use Rattle.runs.specs.declared.stops.Answer.{Answer}
 use Rattle.runs.specs.Moments.{Folds, Happened, Moment, moment}
-use Rattle.runs.specs.Drives.{Came, Comes, Observed, Passes}
+use Rattle.runs.specs.declared.driving.Ended.{Ended}
+use Rattle.runs.specs.declared.driving.Ended.TheVariants.{Over, Interrupted, ReadFailed, Stopped, After, NoMemory, ObserverFailed}
+use Rattle.runs.specs.declared.observers.ObserverFault.{ObserverFault}
+use Rattle.runs.specs.Drives.{Came, Comes, Driven, Ends, Observed, Passes, StaysReady, Unobserved}
 
 -- one moment more
 pub folds_more : {T : Type 0} (step : T → Moment → T → Type 0) (t : T) (ms : List Moment) (u : T) (m : Moment) (v : T) → Folds step t ms u → step u m v → Folds step t (ms ++ m ∷ []) v
-folds_more step t [] u m v is then = (v, subst (λ a. step a m v) (sym is) then, refl)
-folds_more step t (n ∷ ms) u m v folds then = (folds.0, folds.1, folds_more step folds.0 ms u m v folds.2 then)
+folds_more step t [] u m v is after = (v, subst (λ a. step a m v) (sym is) after, refl)
+folds_more step t (n ∷ ms) u m v folds after = (folds.0, folds.1, folds_more step folds.0 ms u m v folds.2 after)
 
 -- nothing came yet
 pub came_none : {S C O : Type 0} (says : S → WorldState → Next → S → Type 0) (goes_on : Seen → Bool) (answers : C → Profile → WorldState → Answer → C → Type 0) (resumes : ℕ → Bool) (sees : O → Profile → Moment → O → Type 0) (p : Profile) (s : S) (c : C) (o : O) (w : WorldState) →
@@ -34,3 +40,37 @@ came_more says goes_on answers resumes sees p s c o w t d q x e what t' d' q' x'
       stops = folds_more (λ b n a. Passes answers p b n.before n.event a) c came.moments d m d' came.stops observed.attempted.passes;
       observer = folds_more (λ b n a. sees b p n a) o came.moments q m q' came.observer observed.seen;
     }
+
+-- how a run ended where it came to
+pub driven_so : {S C O : Type 0} (says : S → WorldState → Next → S → Type 0) (goes_on : Seen → Bool) (answers : C → Profile → WorldState → Answer → C → Type 0) (resumes : ℕ → Bool) (sees : O → Profile → Moment → O → Type 0) (breaks : O → Profile → Moment → ObserverFault → O → Type 0) (p : Profile) (s : S) (c : C) (o : O) (w : WorldState) (ended : Ended) (t : S) (d : C) (q : O) (x : WorldState) (t' : S) (d' : C) (q' : O) (x' : WorldState) →
+    Came says goes_on answers resumes sees p s c o w t d q x → Ends says goes_on answers resumes sees breaks p t d q x ended t' d' q' x' → Driven says goes_on answers resumes sees breaks p s c o w ended t' d' q' x'
+driven_so says goes_on answers resumes sees breaks p s c o w ended t d q x t' d' q' x' came ends = record { source = t; stops = d; observer = q; world = x; came = came; ends = ends }
+
+-- with an event that was not observed
+pub ends_unobserved : {S C O : Type 0} (says : S → WorldState → Next → S → Type 0) (goes_on : Seen → Bool) (answers : C → Profile → WorldState → Answer → C → Type 0) (resumes : ℕ → Bool) (sees : O → Profile → Moment → O → Type 0) (breaks : O → Profile → Moment → ObserverFault → O → Type 0) (p : Profile) (t : S) (d : C) (q : O) (x : WorldState) (e : Event) (ended : Ended) (t' : S) (d' : C) (q' : O) (x' : WorldState) →
+    says t x (next.Comes e) t' → Unobserved answers resumes breaks p d q x e ended d' q' x' → Ends says goes_on answers resumes sees breaks p t d q x ended t' d' q' x'
+ends_unobserved says goes_on answers resumes sees breaks p t d q x e Over t' d' q' x' comes not = absurd not.0.refused
+ends_unobserved says goes_on answers resumes sees breaks p t d q x e Interrupted t' d' q' x' comes not = absurd not.0.refused
+ends_unobserved says goes_on answers resumes sees breaks p t d q x e ReadFailed t' d' q' x' comes not = absurd not.0.refused
+ends_unobserved says goes_on answers resumes sees breaks p t d q x e Stopped t' d' q' x' comes not = (e, comes, not)
+ends_unobserved says goes_on answers resumes sees breaks p t d q x e (After what) t' d' q' x' comes not = absurd not.0.refused
+ends_unobserved says goes_on answers resumes sees breaks p t d q x e NoMemory t' d' q' x' comes not = (e, comes, not)
+ends_unobserved says goes_on answers resumes sees breaks p t d q x e (ObserverFailed fault) t' d' q' x' comes not = (e, comes, not)
+
+-- an instruction that was fetched by a processor that is lent
+pub fetched_here : (i : DecodedInstruction) (p q : Profile) (s t : State) → p ≡ q → s ≡ t → i ≡ fetched p s → i ≡ fetched q t
+fetched_here i p q s t profile state is = rw (← profile, ← state) is
+
+-- the word at the program counter of a processor that is lent
+pub word_here : (w : WorldState) (s : State) (word : ℕ) → s ≡ w.state → word ≡ s.memory s.pc → word ≡ word_at_pc w
+word_here w s word state is = is ∙ ap (λ (t : State). t.memory t.pc) state
+
+-- an observer that may be told of more
+pub stays_ready : (ended : Ended) (ready : Type 0) → ready → StaysReady ended ready
+stays_ready Over ready is = is
+stays_ready Interrupted ready is = is
+stays_ready ReadFailed ready is = is
+stays_ready Stopped ready is = is
+stays_ready (After what) ready is = is
+stays_ready NoMemory ready is = is
+stays_ready (ObserverFailed fault) ready is = tt

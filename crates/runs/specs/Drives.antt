@@ -104,3 +104,8 @@ pub record Driven {S C O : Type 0} (says : S → WorldState → Next → S → T
   pub world : WorldState
   pub came : Came says goes_on answers resumes sees p s c o w source stops observer world
   pub ends : Ends says goes_on answers resumes sees breaks p source stops observer world ended t d q x
+
+-- An observer may be told of more unless it could not take down an event.
+abbrev pub StaysReady : Ended → Type 0 → Type 0
+StaysReady (ObserverFailed fault) ready = Unit {0}
+StaysReady ended ready = ready

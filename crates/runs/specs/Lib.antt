@@ -4,3 +4,4 @@ pub mod Stopping
 pub mod Tracing
 pub mod Observing
 pub mod Drives
+pub mod Follows

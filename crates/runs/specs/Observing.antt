@@ -1,5 +1,5 @@
 -- What each observer sees of a moment of a run.
-use Rattle.std.specs.Prelude.{ℕ, ◌≡◌, ◌+◌, ◌<◌, Bool, true, false, Option, List, ◌++◌}
+use Rattle.std.specs.Prelude.{ℕ, ◌≡◌, ◌+◌, ◌<◌, Bool, true, false, Option, List, [], ◌∷◌, ◌++◌}
 use Rattle.std.specs.Io.KnownBytes.{Appends}
 use Rattle.streams.specs.Bytes.{AppendsFront}
 use Rattle.circular_buffer.specs.Buffer.{Buffer, keep_last}
@@ -10,7 +10,7 @@ use Rattle.runs.specs.declared.observers.ObserverFault.TheVariants as fault
 use Rattle.runs.specs.declared.tracing.Executed.{Executed}
 use Rattle.runs.specs.declared.tracing.Fetched.{Fetched}
 use Rattle.runs.specs.Moments.{Moment}
-use Rattle.runs.specs.Tracing.{counted, executed_at, trace_of}
+use Rattle.runs.specs.Tracing.{counted, executed, is_executed, trace_of}
 
 -- The word at the program counter was taken down, and where that is.
 pub record Fetches (note : Fetched) (w : WorldState) : Type 0 where
@@ -27,9 +27,10 @@ pub record WritesPart (p : Profile) (m : Moment) (old new : Option (List ℕ)) (
   pub marked : failed ≡ true
   pub is_write : why ≡ fault.Write
 
--- Of the instructions that were kept and the one that was carried out the last ones are kept, as many as there is room for.
+-- Of the instructions that were kept and one that was carried out the last ones are kept, as many as there is room for.
 pub record Keeps (m : Moment) (old new : Buffer Executed) : Type 0 where
-  pub items : new.items ≡ keep_last old.capacity (old.items ++ executed_at m)
+  pub kept : is_executed m.seen ≡ true → new.items ≡ keep_last old.capacity (old.items ++ executed m.before.state.pc (word_at_pc m.before) m.after.state ∷ [])
+  pub same : is_executed m.seen ≡ false → new.items ≡ old.items
   pub capacity : new.capacity ≡ old.capacity
 
 -- Instructions that are carried out are counted, as long as there is a larger number.

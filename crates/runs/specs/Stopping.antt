@@ -55,9 +55,9 @@ AtAddress place times w NoMemory at left = ⊥
 
 -- Where so many more steps may happen, one of them does, or none is left.
 abbrev pub Within : ℕ → Answer → ℕ → Type 0
-Within left Passes then = left ≡ then + 1
-Within left Stops then = (left ≡ 0) × (then ≡ 0)
-Within left NoMemory then = ⊥
+Within left Passes more = left ≡ more + 1
+Within left Stops more = (left ≡ 0) × (more ≡ 0)
+Within left NoMemory more = ⊥
 
 -- The first one answers for both, or lets the step pass and the second one answers.
 abbrev pub BothAnswer : {F G : Type 0} → (F → Profile → WorldState → Answer → F → Type 0) → (G → Profile → WorldState → Answer → G → Type 0) → Profile → WorldState → Answer → F → G → F → G → Type 0

@@ -1,7 +1,5 @@
 -- What observers see of a run: the instructions that were carried out, as records and as lines of a trace, and their number.
-use Rattle.std.specs.Prelude.{ℕ, ◌≡◌, ◌+◌, ◌<◌, Bool, true, false, if◌then◌else◌, Option, List, [], ◌∷◌, ◌++◌, codes, concat, map, sum}
-use Rattle.std.specs.Io.KnownBytes.{Appends}
-use Rattle.streams.specs.Bytes.{AppendsFront}
+use Rattle.std.specs.Prelude.{ℕ, ◌+◌, Bool, true, false, if◌then◌else◌, List, [], ◌∷◌, ◌++◌, codes}
 use Rattle.word12.specs.Words.{octal_text}
 use Rattle.instruct.specs.declared.Profile.{Profile}
 use Rattle.instruct.specs.declared.Profile.TheVariants.{Pdp8I, Pdp8E}
@@ -9,7 +7,7 @@ use Rattle.instruct.specs.Names.{name_of}
 use Rattle.processor.specs.Machine.{State}
 use Rattle.peripherals.specs.declared.Seen.{Seen}
 use Rattle.peripherals.specs.declared.Seen.TheVariants.{Ran, Halted}
-use Rattle.peripherals.specs.Devices.{WorldState, word_at_pc}
+use Rattle.peripherals.specs.Devices.{word_at_pc}
 use Rattle.runs.specs.declared.tracing.Executed.{Executed}
 use Rattle.runs.specs.Moments.{Moment}
 

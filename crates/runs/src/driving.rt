@@ -2,7 +2,7 @@
 
 ghost use Rattle.std.specs.Prelude.{◌≡◌, IfOk, IfErr, OnOk};
 ghost use Rattle.peripherals.specs.World.{view, profile_of};
-ghost use Rattle.runs.specs.Drives.{Attempted, Driven, Observed, Refused, Unobserved};
+ghost use Rattle.runs.specs.Drives.{Attempted, Driven, Observed, Refused, StaysReady, Unobserved};
 ghost use Rattle.runs.specs.Moments.{refuses};
 
 use crate::observers::{Observer, ObserverFault};
@@ -104,6 +104,7 @@ fn observe<A: Allocator, C: Stops, O: Observer>(
     ensures resumes { C.resumes stops.new ≡ C.resumes stops.old }
     ensures suits { C.suits stops.new (profile_of world.old) }
     ensures ready { OnOk result (O.ready observer.new) }
+    ensures still_ready { IfErr result (λ ended. StaysReady ended (O.ready observer.new)) }
 {
     let note = observer.before(world, event);
     let seen = attempt(world, stops, event)?;
@@ -127,6 +128,7 @@ pub fn drive<A: Allocator, S: Source, C: Stops, O: Observer>(
     ensures driven { Driven S.says (S.goes_on source.old) C.answers (C.resumes stops.old) O.sees O.breaks
         (profile_of world.old) source.old stops.old observer.old (view world.old) result
         source.new stops.new observer.new (view world.new) }
+    ensures observes { StaysReady result (O.ready observer.new) }
     ensures profile { profile_of world.new ≡ profile_of world.old }
 {
     loop {

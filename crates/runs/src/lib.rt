@@ -3,6 +3,7 @@
 
 mod both;
 mod driving;
+mod following;
 mod lists;
 mod observers;
 mod places;
@@ -12,6 +13,7 @@ mod tracing;
 
 pub use both::Both;
 pub use driving::{Ended, drive};
+pub use following::{End, RunFault, RunOutcome, end_of, follow_events, follow_rounds, told};
 pub use lists::{Ending, Listed, Rounds};
 pub use observers::{Observer, ObserverFault};
 pub use places::{StepLimit, UntilAddress, UntilRead, UntilWrite};

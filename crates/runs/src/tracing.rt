@@ -1,13 +1,13 @@
 //! Observers of the instructions that are carried out: a trace, the last ones, and their number.
 
-ghost use Rattle.std.specs.Prelude.{◌≡◌, ◌+◌, ◌≤◌, ◌++◌, false, codes, if◌then◌else◌, is_err, length, IfOk, OnErr, OnOk};
+ghost use Rattle.std.specs.Prelude.{◌≡◌, ◌+◌, ◌≤◌, ◌++◌, [], false, codes, is_err, length, IfErr, IfOk, OnErr, OnOk};
 ghost use Rattle.std.specs.Io.KnownBytes.{Appends};
 ghost use Rattle.streams.specs.Bytes.{AppendsFront};
 ghost use Rattle.word12.specs.Words.{octal_text};
 ghost use Rattle.processor.specs.Steps.{state_of};
 ghost use Rattle.peripherals.specs.Devices.{word_at_pc};
 ghost use Rattle.peripherals.specs.World.{view};
-ghost use Rattle.runs.specs.Tracing.{effect_text, executed, executed_at, is_executed, line_of, link_text, mq_text, place_text, trace_of};
+ghost use Rattle.runs.specs.Tracing.{effect_text, executed, is_executed, line_of, link_text, mq_text, place_text, trace_of};
 
 use crate::observers::{Observer, ObserverFault};
 use arrayvec::ArrayString;
@@ -162,6 +162,7 @@ pub fn put_line<W: ByteSink>(
     ensures front { OnErr result (AppendsFront (W.taken out.old) (W.taken out.new)
         (line_of profile executed.now)) }
     ensures marks { W.mark out.new ≡ is_err result }
+    ensures faults { IfErr result (λ fault. fault ≡ ObserverFault.Write) }
 {
     let mut line = ArrayString::new();
     push_line(&mut line, profile, executed);

@@ -2,3 +2,5 @@ mod MomentLemmas
 mod FollowLemmas
 mod ObserverLemmas
 mod SourceLemmas
+mod FollowedLemmas
+mod WatchLemmas

@@ -5,3 +5,4 @@ pub mod Tracing
 pub mod Observing
 pub mod Drives
 pub mod Follows
+pub mod Watches

@@ -10,6 +10,7 @@ mod places;
 mod sources;
 mod stops;
 mod tracing;
+mod watching;
 
 pub use both::Both;
 pub use driving::{Ended, drive};
@@ -20,3 +21,4 @@ pub use places::{StepLimit, UntilAddress, UntilRead, UntilWrite};
 pub use sources::{Next, Source};
 pub use stops::{Answer, Stops};
 pub use tracing::{Executed, Fetched, Last, Steps, Trace, put_line};
+pub use watching::{Watcher, watch};

@@ -43,7 +43,7 @@ events_length [] = refl
 events_length (m ∷ ms) = ap suc (events_length ms)
 
 -- steps that are counted one after the other
-counts_all : {O : Type 0} (count : O → ℕ) (sees : O → Moment → O → Type 0) → ((o : O) (m : Moment) (q : O) → sees o m q → Counts m (count o) (count q)) →
+pub counts_all : {O : Type 0} (count : O → ℕ) (sees : O → Moment → O → Type 0) → ((o : O) (m : Moment) (q : O) → sees o m q → Counts m (count o) (count q)) →
     (o : O) (ms : List Moment) (q : O) → Folds sees o ms q → count o + length ms < 18446744073709551616 → count q ≡ count o + steps_in ms
 counts_all count sees counts o [] q is few = ap count (sym is) ∙ sym (add-zero (count o))
 counts_all count sees counts o (m ∷ ms) q folds few =
@@ -53,7 +53,7 @@ counts_all count sees counts o (m ∷ ms) q folds few =
     rest ∙ ap (λ (n : ℕ). n + steps_in ms) here ∙ add_assoc (count o) (counted m.seen) (steps_in ms)
 
 -- lines that are written one after the other
-writes_all : {O : Type 0} (p : Profile) (taken : O → Option (List ℕ)) (sees : O → Moment → O → Type 0) → ((o : O) (m : Moment) (q : O) → sees o m q → Appends (taken o) (taken q) (trace_of p m)) →
+pub writes_all : {O : Type 0} (p : Profile) (taken : O → Option (List ℕ)) (sees : O → Moment → O → Type 0) → ((o : O) (m : Moment) (q : O) → sees o m q → Appends (taken o) (taken q) (trace_of p m)) →
     (o : O) (ms : List Moment) (q : O) → Folds sees o ms q → Appends (taken o) (taken q) (trace_in p ms)
 writes_all p taken sees writes o [] q is = subst (λ r. Appends (taken o) (taken r) []) is (Appends-nil (taken o))
 writes_all p taken sees writes o (m ∷ ms) q folds = Appends-trans (taken o) (taken folds.0) (taken q) (trace_of p m) (trace_in p ms) (writes o m folds.0 folds.1) (writes_all p taken sees writes folds.0 ms q folds.2)

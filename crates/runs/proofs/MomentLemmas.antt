@@ -14,7 +14,7 @@ use Rattle.runs.specs.Moments.{Folds, Happened, Moment, moment}
 use Rattle.runs.specs.declared.driving.Ended.{Ended}
 use Rattle.runs.specs.declared.driving.Ended.TheVariants.{Over, Interrupted, ReadFailed, Stopped, After, NoMemory, ObserverFailed}
 use Rattle.runs.specs.declared.observers.ObserverFault.{ObserverFault}
-use Rattle.runs.specs.Drives.{Came, Comes, Driven, Ends, Observed, Passes, StaysReady, Unobserved}
+use Rattle.runs.specs.Drives.{Came, Comes, Driven, Ends, Observed, Passes, UnlessFailed, Unobserved, Whole}
 
 -- one moment more
 pub folds_more : {T : Type 0} (step : T → Moment → T → Type 0) (t : T) (ms : List Moment) (u : T) (m : Moment) (v : T) → Folds step t ms u → step u m v → Folds step t (ms ++ m ∷ []) v
@@ -66,11 +66,38 @@ pub word_here : (w : WorldState) (s : State) (word : ℕ) → s ≡ w.state → 
 word_here w s word state is = is ∙ ap (λ (t : State). t.memory t.pc) state
 
 -- an observer that may be told of more
-pub stays_ready : (ended : Ended) (ready : Type 0) → ready → StaysReady ended ready
-stays_ready Over ready is = is
-stays_ready Interrupted ready is = is
-stays_ready ReadFailed ready is = is
-stays_ready Stopped ready is = is
-stays_ready (After what) ready is = is
-stays_ready NoMemory ready is = is
-stays_ready (ObserverFailed fault) ready is = tt
+pub unless_failed : (ended : Ended) (ready : Type 0) → ready → UnlessFailed ended ready
+unless_failed Over ready is = is
+unless_failed Interrupted ready is = is
+unless_failed ReadFailed ready is = is
+unless_failed Stopped ready is = is
+unless_failed (After what) ready is = is
+unless_failed NoMemory ready is = is
+unless_failed (ObserverFailed fault) ready is = tt
+
+-- the whole run, as an observer sees it
+still_whole : {O : Type 0} (resumes : ℕ → Bool) (sees : O → Profile → Moment → O → Type 0) (p : Profile) (o : O) (w : WorldState) (b q : O) (v x : WorldState) (ms : List Moment) → Folds (Happened resumes p) w ms v → Folds (λ b m a. sees b p m a) o ms b → q ≡ b → x ≡ v →
+    Whole resumes sees p o w q x
+still_whole resumes sees p o w b q v x ms world observer same still = record {
+  moments = ms;
+  world = subst (λ (u : WorldState). Folds (Happened resumes p) w ms u) (sym still) world;
+  observer = subst (λ a. Folds (λ b m a. sees b p m a) o ms a) (sym same) observer;
+}
+
+pub whole_of : {S C O : Type 0} (says : S → WorldState → Next → S → Type 0) (goes_on : Seen → Bool) (answers : C → Profile → WorldState → Answer → C → Type 0) (resumes : ℕ → Bool) (sees : O → Profile → Moment → O → Type 0) (breaks : O → Profile → Moment → ObserverFault → O → Type 0) (p : Profile) (s : S) (c : C) (o : O) (w : WorldState) (why : Ended) (t : S) (d : C) (q : O) (x : WorldState) →
+    Driven says goes_on answers resumes sees breaks p s c o w why t d q x → UnlessFailed why (Whole resumes sees p o w q x)
+whole_of says goes_on answers resumes sees breaks p s c o w Over t d q x run = still_whole resumes sees p o w run.observer q run.world x run.came.moments run.came.world run.came.observer run.ends.1.observer run.ends.1.world
+whole_of says goes_on answers resumes sees breaks p s c o w Interrupted t d q x run = still_whole resumes sees p o w run.observer q run.world x run.came.moments run.came.world run.came.observer run.ends.1.observer run.ends.1.world
+whole_of says goes_on answers resumes sees breaks p s c o w ReadFailed t d q x run = still_whole resumes sees p o w run.observer q run.world x run.came.moments run.came.world run.came.observer run.ends.1.observer run.ends.1.world
+whole_of says goes_on answers resumes sees breaks p s c o w Stopped t d q x run = still_whole resumes sees p o w run.observer q run.world x run.came.moments run.came.world run.came.observer run.ends.2.1 run.ends.2.0.still
+whole_of says goes_on answers resumes sees breaks p s c o w NoMemory t d q x run = still_whole resumes sees p o w run.observer q run.world x run.came.moments run.came.world run.came.observer run.ends.2.1 run.ends.2.0.still
+whole_of says goes_on answers resumes sees breaks p s c o w (After what) t d q x run =
+    let observed = run.ends.2.1 in
+    let m = moment run.world run.ends.0 what x in
+    let happened : Happened resumes p run.world m x = record { before = refl; after = refl; happens = observed.attempted.happens; seen = observed.attempted.sees } in
+    record {
+      moments = run.came.moments ++ m ∷ [];
+      world = folds_more (Happened resumes p) w run.came.moments run.world m x run.came.world happened;
+      observer = folds_more (λ b n a. sees b p n a) o run.came.moments run.observer m q run.came.observer observed.seen;
+    }
+whole_of says goes_on answers resumes sees breaks p s c o w (ObserverFailed fault) t d q x run = tt

@@ -105,7 +105,13 @@ pub record Driven {S C O : Type 0} (says : S → WorldState → Next → S → T
   pub came : Came says goes_on answers resumes sees p s c o w source stops observer world
   pub ends : Ends says goes_on answers resumes sees breaks p source stops observer world ended t d q x
 
--- An observer may be told of more unless it could not take down an event.
-abbrev pub StaysReady : Ended → Type 0 → Type 0
-StaysReady (ObserverFailed fault) ready = Unit {0}
-StaysReady ended ready = ready
+-- This is so unless an observer could not take down the last event.
+abbrev pub UnlessFailed : Ended → Type 0 → Type 0
+UnlessFailed (ObserverFailed fault) is = Unit {0}
+UnlessFailed ended is = is
+
+-- A whole run from w to x, as one observer sees it: the world is that of the run by these events, and the observer saw what each of them did.
+pub record Whole {O : Type 0} (resumes : ℕ → Bool) (sees : O → Profile → Moment → O → Type 0) (p : Profile) (o : O) (w : WorldState) (q : O) (x : WorldState) : Type 0 where
+  pub moments : List Moment
+  pub world : Folds (Happened resumes p) w moments x
+  pub observer : Folds (λ b m a. sees b p m a) o moments q

@@ -9,8 +9,8 @@ use Rattle.runs.specs.declared.observers.ObserverFault.{ObserverFault}
 use Rattle.runs.specs.declared.observers.ObserverFault.TheVariants as fault
 use Rattle.runs.specs.declared.tracing.Executed.{Executed}
 use Rattle.runs.specs.declared.tracing.Fetched.{Fetched}
-use Rattle.runs.specs.Moments.{Moment}
-use Rattle.runs.specs.Tracing.{counted, executed, is_executed, trace_of}
+use Rattle.runs.specs.Moments.{Folds, Happened, Moment}
+use Rattle.runs.specs.Tracing.{counted, executed, executed_in, is_executed, trace_in, trace_of}
 
 -- The word at the program counter was taken down, and where that is.
 pub record Fetches (note : Fetched) (w : WorldState) : Type 0 where
@@ -36,3 +36,11 @@ pub record Keeps (m : Moment) (old new : Buffer Executed) : Type 0 where
 -- Instructions that are carried out are counted, as long as there is a larger number.
 abbrev pub Counts : Moment → ℕ → ℕ → Type 0
 Counts m old new = old + counted m.seen < 18446744073709551616 → new ≡ old + counted m.seen
+
+-- Of a whole run the trace was written, and the last instructions are kept, as many as there is room for: both of the same events, by which the
+-- run came from w to x.
+pub record TracedWithLast (resumes : ℕ → Bool) (p : Profile) (w x : WorldState) (old new : Option (List ℕ)) (kept : Buffer Executed) : Type 0 where
+  pub moments : List Moment
+  pub world : Folds (Happened resumes p) w moments x
+  pub wrote : Appends old new (trace_in p moments)
+  pub last : kept.items ≡ keep_last kept.capacity (executed_in moments)

@@ -7,6 +7,7 @@ mod following;
 mod lists;
 mod observers;
 mod places;
+mod showing;
 mod sources;
 mod stops;
 mod tracing;
@@ -18,6 +19,7 @@ pub use following::{End, RunFault, RunOutcome, end_of, follow_events, follow_rou
 pub use lists::{Ending, Listed, Rounds};
 pub use observers::{Observer, ObserverFault};
 pub use places::{StepLimit, UntilAddress, UntilRead, UntilWrite};
+pub use showing::drive_with_trace_and_last;
 pub use sources::{Next, Source};
 pub use stops::{Answer, Stops};
 pub use tracing::{Executed, Fetched, Last, Steps, Trace, put_line};

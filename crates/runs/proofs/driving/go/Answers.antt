@@ -5,7 +5,7 @@ use Rattle.peripherals.specs.World.{view, profile_of}
 use Rattle.runs.specs.declared.sources.Next.TheVariants as next
 use Rattle.runs.specs.Drives.{Observed, Unobserved}
 use Rattle.runs.proofs.MomentLemmas.{came_more, came_none, driven_so, ends_unobserved}
-use Rattle.runs.proofs.driving.drive.Goals as goal
+use Rattle.runs.proofs.driving.go.Goals as goal
 
 pub loop-event-init : goal.loop-event-init
 loop-event-init g c = record {

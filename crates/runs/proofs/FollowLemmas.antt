@@ -1,6 +1,6 @@
 -- Runs of events that are known before them, from what is true of every run.
 use Rattle.std.proofs.Common.{ℕ, zero, suc, ◌≡◌, ◌<◌, ◌+◌, Bool, true, false, List, [], ◌∷◌, ◌++◌, length, take, get_or, refl, sym, ◌∙◌, ap, subst, append_assoc, append-nil, add_assoc, add-zero, zero-add, arith}
-use Rattle.std.specs.Prelude.{Option, if◌then◌else◌, map, All}
+use Rattle.std.specs.Prelude.{Option, Some, None, if◌then◌else◌}
 use Rattle.std.specs.Io.KnownBytes.{Appends}
 use Rattle.std.proofs.KnownBytes.{Appends-nil, Appends-trans}
 use Rattle.instruct.specs.declared.Profile.{Profile}
@@ -39,8 +39,8 @@ Leads p ending es w lines n x =
 
 -- where every CONTINUE has its effect none is refused
 pub none_refused : (halted : Option ℕ) (e : Event) → refuses (λ at. true) halted e ≡ false
-none_refused (Option.Some at) Continue = refl
-none_refused Option.None Continue = refl
+none_refused (Some at) Continue = refl
+none_refused None Continue = refl
 none_refused halted Step = refl
 none_refused halted (Key byte) = refl
 none_refused halted PrinterDone = refl
@@ -80,9 +80,3 @@ came_first events says goes tells s (m ∷ ms) t folds =
 pub came_on : {S : Type 0} (says : S → WorldState → Next → S → Type 0) (ending : Ending) (s : S) (ms : List Moment) (t : S) → Folds (Comes says (goes_on ending)) s ms t → AllGoOn ending ms
 came_on says ending s [] t is = tt
 came_on says ending s (m ∷ ms) t folds = (folds.1.on, came_on says ending folds.0 ms t folds.2)
-
--- lines that are written one after the other
-pub wrote_all : {O : Type 0} (taken : O → Option (List ℕ)) (p : Profile) (sees : O → Moment → O → Type 0) → ((o : O) (m : Moment) (q : O) → sees o m q → Appends (taken o) (taken q) (trace_of p m)) →
-    (o : O) (ms : List Moment) (q : O) → Folds sees o ms q → Appends (taken o) (taken q) (trace_in p ms)
-wrote_all taken p sees writes o [] q is = subst (λ r. Appends (taken o) (taken r) []) is (Appends-nil (taken o))
-wrote_all taken p sees writes o (m ∷ ms) q folds = Appends-trans (taken o) (taken folds.0) (taken q) (trace_of p m) (trace_in p ms) (writes o m folds.0 folds.1) (wrote_all taken p sees writes folds.0 ms q folds.2)

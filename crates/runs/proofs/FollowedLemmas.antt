@@ -1,6 +1,6 @@
 -- The plain run of known events, from the contract of the driver.
-use Rattle.std.proofs.Common.{ℕ, zero, suc, ◌≡◌, ◌<◌, ◌≤◌, ◌+◌, Bool, true, false, inl, inr, List, [], ◌∷◌, ◌++◌, length, take, get_or, refl, sym, ◌∙◌, ap, subst, append_assoc, append-nil, add_assoc, add-zero, zero-add, length-append, arith}
-use Rattle.std.specs.Prelude.{Option, if◌then◌else◌}
+use Rattle.std.proofs.Common.{ℕ, zero, suc, ◌≡◌, ◌<◌, ◌≤◌, ◌+◌, Bool, true, false, true≢false, inl, inr, List, [], ◌∷◌, ◌++◌, length, take, get_or, refl, sym, ◌∙◌, ap, subst, append_assoc, append-nil, add_assoc, add-zero, zero-add, length-append, arith}
+use Rattle.std.specs.Prelude.{◌⊎◌, Option, if◌then◌else◌}
 use Rattle.std.proofs.lemmas.List.{take_at}
 use Rattle.std.specs.Io.KnownBytes.{Appends}
 use Rattle.std.proofs.KnownBytes.{Appends-nil, Appends-trans}
@@ -15,6 +15,7 @@ use Rattle.peripherals.specs.Events.{Happens}
 use Rattle.peripherals.specs.EventOutcomes.{puts_out, seen_of}
 use Rattle.runs.specs.declared.driving.Ended.{Ended}
 use Rattle.runs.specs.declared.driving.Ended.TheVariants as ended
+use Rattle.runs.specs.declared.following.End.{End}
 use Rattle.runs.specs.declared.following.RunOutcome.{RunOutcome}
 use Rattle.runs.specs.declared.lists.Ending.{Ending}
 use Rattle.runs.specs.declared.lists.Ending.TheVariants.{Never, AtUnsupported, AtHalt}
@@ -24,11 +25,11 @@ use Rattle.runs.specs.declared.sources.Next.TheVariants as next
 use Rattle.runs.specs.declared.stops.Answer.{Answer}
 use Rattle.runs.specs.declared.stops.Answer.TheVariants as answer
 use Rattle.runs.specs.Moments.{Folds, Happened, Moment, moment}
-use Rattle.runs.specs.Drives.{Attempted, Comes, Driven, LacksMemory, Observed}
+use Rattle.runs.specs.Drives.{Comes, Driven, UnlessFailed}
 use Rattle.runs.specs.Observing.{Counts}
 use Rattle.runs.specs.Sources.{Tells, goes_on}
 use Rattle.runs.specs.Tracing.{counted, steps_in, trace_in, trace_of}
-use Rattle.runs.specs.Follows.{Follows, Over, Ran, RanIntoLine, RanToOutput, Stopped, Stuck, end_of, fails_so, told}
+use Rattle.runs.specs.Follows.{Follows, Over, Ran, RanIntoLine, RanToOutput, Stopped, Stuck, Went, end_of, fails_so, told}
 use Rattle.runs.proofs.FollowLemmas.{AllGoOn, Leads, came_first, came_on, events_of, happens_plain, leads_all, seen_plain}
 
 few_counted : (what : Seen) → counted what ≤ 1
@@ -158,3 +159,103 @@ module _ {S C O : Type 0} (events : S → List Event) (count : O → ℕ) (taken
   ran_so s c o w (ended.After what) t d q x outcome run none few fine steps end_is = after s c o w what t d q x outcome run none few steps end_is
   ran_so s c o w ended.NoMemory t d q x outcome run none few fine steps end_is = cc
   ran_so s c o w (ended.ObserverFailed fault) t d q x outcome run none few fine steps end_is = cc
+
+  -- what led to an event that did not go on
+  front_of : (s : S) (c : C) (o : O) (w : WorldState) (why : Ended) (t : S) (d : C) (q : O) (x : WorldState) → (run : Driven says (goes_on ending) answers (λ at. true) sees breaks p s c o w why t d q x) →
+      Follows p ending (events_of run.came.moments) w (trace_in p run.came.moments) (steps_in run.came.moments) (end_of run.world) run.world
+  front_of s c o w why t d q x run =
+      let ms = run.came.moments in
+      let led : Follows p ending (events_of ms ++ []) w (trace_in p ms ++ []) (steps_in ms + 0) (end_of run.world) run.world = so_far s c o w why t d q x run [] [] 0 (end_of run.world) run.world (Over run.world) in
+      rw (append-nil (events_of ms), append-nil (trace_in p ms), add-zero (steps_in ms)) at led
+
+  -- memory was refused
+  refused_at : (s : S) (c : C) (o : O) (w : WorldState) (t : S) (d : C) (q : O) (x : WorldState) → Driven says (goes_on ending) answers (λ at. true) sees breaks p s c o w ended.NoMemory t d q x → RanToOutput p ending (events s) w x (taken o) (taken q)
+  refused_at s c o w t d q x run =
+      let ms = run.came.moments in
+      let e = run.ends.0 in
+      let comes : events run.source ≡ e ∷ events t = tells run.source run.world (next.Comes e) t run.ends.1 in
+      let all : events s ≡ events_of ms ++ e ∷ events t = first_come s c o w ended.NoMemory t d q x run ∙ ap (λ (l : List Event). events_of ms ++ l) comes in
+      let long : length (events s) ≡ length (events_of ms) + suc (length (events t)) = ap length all ∙ length-append (events_of ms) (e ∷ events t) in
+      let taken_is : take (length (events_of ms)) (events s) ≡ events_of ms = rw all (take_at (events_of ms) (e ∷ events t) (length (events_of ms)) refl) in
+      let there : get_or (events s) (length (events_of ms)) Step ≡ e = rw all (event_there (events_of ms) e (events t)) in
+      let still : x ≡ run.world = run.ends.2.0.still in
+      let puts : puts_out run.world e ≡ true = elim run.ends.2.0.refused [
+        | inl refused ↦ absurd (let never : answer.NoMemory ≡ answer.Passes = passes run.stops p run.world answer.NoMemory d refused.answer in cc)
+        | inr lacks ↦ lacks.puts
+      ] in
+      record {
+        count = length (events_of ms);
+        within = omega (arith, long);
+        lines = trace_in p ms;
+        steps = steps_in ms;
+        end = end_of run.world;
+        follows = rw (taken_is, still) (front_of s c o w ended.NoMemory t d q x run);
+        puts = rw (still, there) puts;
+        wrote = rw run.ends.2.1 (written s c o w ended.NoMemory t d q x run);
+      }
+
+  -- a line was not written whole
+  broke_at : (mark : O → Bool) → ((o : O) (m : Moment) (why : ObserverFault) (q : O) → breaks o p m why q → (mark q ≡ true) × AppendsFront (taken o) (taken q) (trace_of p m)) →
+      (s : S) (c : C) (o : O) (w : WorldState) (fault : ObserverFault) (t : S) (d : C) (q : O) (x : WorldState) → Driven says (goes_on ending) answers (λ at. true) sees breaks p s c o w (ended.ObserverFailed fault) t d q x → RanIntoLine p ending (events s) w x (taken o) (taken q)
+  broke_at mark parts s c o w fault t d q x run =
+      let ms = run.came.moments in
+      let e = run.ends.0 in
+      let comes : events run.source ≡ e ∷ events t = tells run.source run.world (next.Comes e) t run.ends.1 in
+      let all : events s ≡ events_of ms ++ e ∷ events t = first_come s c o w (ended.ObserverFailed fault) t d q x run ∙ ap (λ (l : List Event). events_of ms ++ l) comes in
+      let long : length (events s) ≡ length (events_of ms) + suc (length (events t)) = ap length all ∙ length-append (events_of ms) (e ∷ events t) in
+      let taken_is : take (length (events_of ms)) (events s) ≡ events_of ms = rw all (take_at (events_of ms) (e ∷ events t) (length (events_of ms)) refl) in
+      let there : get_or (events s) (length (events_of ms)) Step ≡ e = rw all (event_there (events_of ms) e (events t)) in
+      let split : events s ≡ (events_of ms ++ e ∷ []) ++ events t = all ∙ sym (append_assoc (events_of ms) (e ∷ []) (events t)) in
+      let more_is : take (length (events_of ms) + 1) (events s) ≡ events_of ms ++ e ∷ [] = rw split (take_at (events_of ms ++ e ∷ []) (events t) (length (events_of ms) + 1) (length-append (events_of ms) (e ∷ []))) in
+      let broke = run.ends.2 in
+      let what = broke.what in
+      let line = trace_of p (moment run.world e what x) in
+      let sees_so : seen_of p run.world e ≡ what = sym (broke.attempted.sees ∙ seen_plain p run.world e) in
+      let happens : Happens p run.world e x = happens_plain p run.world e x broke.attempted.happens in
+      let last = one_follows e run.world x what sees_so happens (goes_on ending what) refl in
+      let part = (parts run.observer (moment run.world e what x) fault q broke.broke).1 in
+      record {
+        count = length (events_of ms);
+        within = omega (arith, long);
+        before = run.world;
+        lines = trace_in p ms;
+        steps_before = steps_in ms;
+        end_before = end_of run.world;
+        led = rw taken_is (front_of s c o w (ended.ObserverFailed fault) t d q x run);
+        line = line;
+        line_is = rw (there, sees_so) refl;
+        steps = steps_in ms + last.0;
+        end = last.1;
+        follows = rw more_is (so_far s c o w (ended.ObserverFailed fault) t d q x run (e ∷ []) line last.0 last.1 x last.2);
+        written = part.count;
+        part = part.within;
+        wrote = Appends-trans (taken o) (taken run.observer) (taken q) (trace_in p ms) (take part.count line) (written s c o w (ended.ObserverFailed fault) t d q x run) part.out;
+      }
+    where
+      one_follows : (e : Event) (v x : WorldState) (what : Seen) → seen_of p v e ≡ what → Happens p v e x → (on : Bool) → goes_on ending what ≡ on → (n : ℕ) × (end : End) × Follows p ending (e ∷ []) v (trace_of p (moment v e what x)) n end x
+      one_follows e v x what sees_so happens true is =
+          let went : Follows p ending (e ∷ []) v (trace_of p (moment v e what x) ++ []) (counted what + 0) (end_of x) x = Went e [] v x x what [] 0 (end_of x) sees_so is happens (Over x) in
+          (counted what + 0, end_of x, rw (append-nil (trace_of p (moment v e what x))) at went)
+      one_follows e v x what sees_so happens false is = (counted what, told x (ended.After what), ends_with p ending e [] v x what is sees_so happens)
+
+  -- a run that has no outcome, though nothing is marked
+  pub refused_so : (mark : O → Bool) → ((o : O) (m : Moment) (why : ObserverFault) (q : O) → breaks o p m why q → (mark q ≡ true) × AppendsFront (taken o) (taken q) (trace_of p m)) →
+      (s : S) (c : C) (o : O) (w : WorldState) (why : Ended) (t : S) (d : C) (q : O) (x : WorldState) → Driven says (goes_on ending) answers (λ at. true) sees breaks p s c o w why t d q x → fails_so why ≡ true → mark q ≡ false → RanToOutput p ending (events s) w x (taken o) (taken q)
+  refused_so mark parts s c o w ended.Over t d q x run fails unmarked = cc
+  refused_so mark parts s c o w ended.Interrupted t d q x run fails unmarked = cc
+  refused_so mark parts s c o w ended.ReadFailed t d q x run fails unmarked = absurd (tells run.source run.world next.ReadFailed t run.ends.0)
+  refused_so mark parts s c o w ended.Stopped t d q x run fails unmarked = cc
+  refused_so mark parts s c o w (ended.After what) t d q x run fails unmarked = cc
+  refused_so mark parts s c o w ended.NoMemory t d q x run fails unmarked = refused_at s c o w t d q x run
+  refused_so mark parts s c o w (ended.ObserverFailed fault) t d q x run fails unmarked = absurd (true≢false (sym (parts run.observer (moment run.world run.ends.0 run.ends.2.what x) fault q run.ends.2.broke).0 ∙ unmarked))
+
+  -- a run in which a write failed
+  pub broke_so : (mark : O → Bool) → ((o : O) (m : Moment) (why : ObserverFault) (q : O) → breaks o p m why q → (mark q ≡ true) × AppendsFront (taken o) (taken q) (trace_of p m)) →
+      (s : S) (c : C) (o : O) (w : WorldState) (why : Ended) (t : S) (d : C) (q : O) (x : WorldState) → Driven says (goes_on ending) answers (λ at. true) sees breaks p s c o w why t d q x → UnlessFailed why (mark q ≡ false) → mark q ≡ true → RanIntoLine p ending (events s) w x (taken o) (taken q)
+  broke_so mark parts s c o w ended.Over t d q x run ready marked = absurd (true≢false (sym marked ∙ ready))
+  broke_so mark parts s c o w ended.Interrupted t d q x run ready marked = absurd (true≢false (sym marked ∙ ready))
+  broke_so mark parts s c o w ended.ReadFailed t d q x run ready marked = absurd (true≢false (sym marked ∙ ready))
+  broke_so mark parts s c o w ended.Stopped t d q x run ready marked = absurd (true≢false (sym marked ∙ ready))
+  broke_so mark parts s c o w (ended.After what) t d q x run ready marked = absurd (true≢false (sym marked ∙ ready))
+  broke_so mark parts s c o w ended.NoMemory t d q x run ready marked = absurd (true≢false (sym marked ∙ ready))
+  broke_so mark parts s c o w (ended.ObserverFailed fault) t d q x run ready marked = broke_at mark parts s c o w fault t d q x run

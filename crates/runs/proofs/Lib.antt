@@ -1,6 +1,5 @@
-mod MomentLemmas
-mod FollowLemmas
-mod ObserverLemmas
-mod SourceLemmas
-mod FollowedLemmas
-mod WatchLemmas
+pub mod MomentLemmas
+pub mod FollowLemmas
+pub mod ObserverLemmas
+pub mod SourceLemmas
+pub mod FollowedLemmas

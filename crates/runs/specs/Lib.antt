@@ -5,4 +5,3 @@ pub mod Tracing
 pub mod Observing
 pub mod Drives
 pub mod Follows
-pub mod Watches

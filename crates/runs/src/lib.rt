@@ -11,7 +11,6 @@ mod showing;
 mod sources;
 mod stops;
 mod tracing;
-mod watching;
 
 pub use both::Both;
 pub use driving::{Ended, drive};
@@ -23,4 +22,3 @@ pub use showing::drive_with_trace_and_last;
 pub use sources::{Next, Source};
 pub use stops::{Answer, Stops};
 pub use tracing::{Executed, Fetched, Last, Steps, Trace, put_line};
-pub use watching::{Watcher, watch};

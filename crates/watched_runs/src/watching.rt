@@ -1,6 +1,6 @@
 //! The watcher of the rules, and declared runs.
 
-ghost use Rattle.std.specs.Prelude.{ℕ, ◌≡◌, [], None, IfOk, OnErr};
+ghost use Rattle.std.specs.Prelude.{ℕ, ◌≡◌, ◌-◌, [], None, Some, IfOk, OnErr};
 ghost use Rattle.peripherals.specs.Loading.{image_of};
 ghost use Rattle.peripherals.specs.World.{view, profile_of};
 ghost use Rattle.declaration.specs.DeclarationInCode.{meaning};
@@ -11,16 +11,14 @@ ghost use Rattle.policy.specs.Rules.{KeepsCode};
 ghost use Rattle.policy.specs.Watching.{BreaksAt, IsClean, Tells, begun};
 ghost use Rattle.processor.specs.Runs.{Image as Words};
 ghost use Rattle.policy.specs.WatchedSteps.{LegalStepTakesMemory};
-ghost use Rattle.runs.specs.Watches.{Judges};
+ghost use Rattle.watched_runs.specs.Watches.{Judges};
 
-use crate::driving::{Ended, drive};
-use crate::lists::{Ending, Listed};
-use crate::stops::{Answer, Stops};
 use bin_tape::Image;
 use declaration::Declaration;
 use peripherals::{Event, NoMemory, Start, World};
 use policy::{Call, Rule, Watched, follow_calls, legal_instruction};
 use processor::DecodedInstruction;
+use runs::{Answer, Ended, Ending, Listed, Stops, drive};
 use std::alloc::Allocator;
 use word12::Word;
 
@@ -161,15 +159,27 @@ fn watch_from<A: Allocator, D: Allocator>(
     let mut source = Listed::new(events, Ending::Never);
     let mut watcher = Watcher::new(alloc, declaration);
     let ended = drive(world, &mut source, &mut watcher, &mut ());
-    match (ended, watcher.broken()) {
-        (Ended::NoMemory, _) => Err(NoMemory),
-        (Ended::Stopped, Some(rule)) => Ok(Watched::Broken {
-            event: events
-                .len()
-                .saturating_sub(source.to_come().len())
-                .saturating_sub(1),
+    match ended {
+        Ended::NoMemory => Err(NoMemory),
+        Ended::Stopped => Ok(broken_at(watcher.broken(), events.len(), source.to_come().len())),
+        Ended::Over
+        | Ended::Interrupted
+        | Ended::ReadFailed
+        | Ended::After(_)
+        | Ended::ObserverFailed(_) => Ok(Watched::Clean),
+    }
+}
+
+/// What is told of a run that was stopped: the rule, and the place of the step in the list, of which so many
+/// events had not come behind it.
+fn broken_at(rule: Option<Rule>, events: usize, behind: usize) -> Watched
+    ensures { (r : Rule) → rule ≡ Some r → result ≡ Watched.Broken (events - behind - 1) r }
+{
+    match rule {
+        Some(rule) => Watched::Broken {
+            event: events.saturating_sub(behind).saturating_sub(1),
             rule,
-        }),
-        _ => Ok(Watched::Clean),
+        },
+        None => Watched::Clean,
     }
 }

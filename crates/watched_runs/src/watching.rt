@@ -1,6 +1,7 @@
 //! The watcher of the rules, and declared runs.
 
 ghost use Rattle.std.specs.Prelude.{ℕ, ◌≡◌, ◌-◌, [], None, Some, IfOk, OnErr};
+ghost use Rattle.peripherals.specs.Events.{IsLoaded};
 ghost use Rattle.peripherals.specs.Loading.{image_of};
 ghost use Rattle.peripherals.specs.World.{view, profile_of};
 ghost use Rattle.declaration.specs.DeclarationInCode.{meaning};
@@ -71,13 +72,14 @@ impl<K: Allocator, D: Allocator> Stops for Watcher<'_, K, D> {
 
     #[inline(always)]
     fn ask<A: Allocator>(&mut self, world: &World<A>, _: &DecodedInstruction) -> Answer {
-        match legal_instruction(self.declaration, world.cpu(), &self.calls) {
+        let cpu = world.cpu();
+        match legal_instruction(self.declaration, cpu, &self.calls) {
             Err(rule) => {
                 self.broken = Some(rule);
                 Answer::Stops
             }
             Ok(instruction) => {
-                let after = world.cpu().pc.increment();
+                let after = cpu.pc.increment();
                 match follow_calls(&mut self.calls, self.declaration, &instruction, after) {
                     Ok(()) => Answer::Passes,
                     Err(NoMemory) => Answer::NoMemory,
@@ -90,6 +92,27 @@ impl<K: Allocator, D: Allocator> Stops for Watcher<'_, K, D> {
     fn resumes(&self, at: Word) -> bool {
         self.declaration.is_pause(at)
     }
+}
+
+/// The world in which a declared run begins: the tape's words lie over the given start, and the machine, which
+/// is the declared one, stands at the declared start.
+fn begin<A: Allocator + Copy, D: Allocator>(
+    alloc: A,
+    image: &Image,
+    declaration: &Declaration<D>,
+    start: &Start,
+) -> World<A>
+    ensures machine { view result ≡ begun (image_of image.now) (meaning declaration.now) start.now }
+    ensures loaded { IsLoaded (image_of image.now) (meaning declaration.now).start (view result) }
+    ensures profile { profile_of result ≡ (meaning declaration.now).profile }
+{
+    World::load(
+        alloc,
+        image,
+        declaration.start(),
+        start,
+        declaration.profile(),
+    )
 }
 
 /// Watches the declared run of a tape's program by a list of events: whether each step that is enabled keeps
@@ -130,13 +153,7 @@ pub fn watch<A: Allocator + Copy, D: Allocator>(
     ensures only_growth { let words = image_of image.now in let d = meaning declaration.now in
         OnErr result (LegalStepTakesMemory words d events.now (begun words d start.now)) }
 {
-    let mut world = World::load(
-        alloc,
-        image,
-        declaration.start(),
-        start,
-        declaration.profile(),
-    );
+    let mut world = begin(alloc, image, declaration, start);
     watch_from(alloc, &mut world, declaration, events)
 }
 

@@ -23,6 +23,9 @@ use Rattle.runs.specs.declared.sources.Next.{Next}
 use Rattle.runs.specs.declared.sources.Next.TheVariants as next
 use Rattle.runs.specs.declared.stops.Answer.{Answer}
 use Rattle.runs.specs.declared.stops.Answer.TheVariants as answer
+use Rattle.declaration.specs.DeclarationInCode.{meaning}
+use Rattle.policy.specs.OpenCalls.{open_calls}
+use Rattle.watched_runs.specs.declared.watching.Watcher.{Watcher}
 use Rattle.runs.specs.Moments.{Folds, Moment, is_attempt}
 use Rattle.runs.specs.Drives.{Driven, Passes}
 use Rattle.runs.specs.Sources.{Tells, goes_on}
@@ -118,3 +121,19 @@ module _ {S C O : Type 0} (events : S → List Event) (calls : C → Calls) (rul
             rw step.0 (legal_growth d run.world (calls run.stops) step.1 (inl puts) told.0)
       ] in
       grown image d (events s) w (length ms) e run.world (calls run.stops) there so.0 grows code
+
+-- the calls that a watcher has
+abbrev pub calls_in : {A D : Type 0} → Watcher A D → Calls
+calls_in c = open_calls c.calls.items
+
+-- the rule that it tells
+abbrev pub rule_in : {A D : Type 0} → Watcher A D → Option Rule
+rule_in c = c.broken
+
+-- it watches by this declaration
+abbrev pub WatchesBy : {A D : Type 0} → Declaration → Watcher A D → Type 0
+WatchesBy d c = meaning c.declaration.now ≡ d
+
+pub judged : {A D : Type 0} (d : Declaration) (c : Watcher A D) (w : WorldState) (a : Answer) (b : Watcher A D) → WatchesBy d c → Judges (meaning c.declaration.now) w (calls_in c) a (calls_in b) (rule_in b) × (b.declaration ≡ c.declaration) →
+    Judges d w (calls_in c) a (calls_in b) (rule_in b) × WatchesBy d b
+judged d c w a b kept is = (rw kept at is.0, rw is.1 kept)

@@ -1,8 +1,6 @@
 -- Runs of events that are known before them, from what is true of every run.
-use Rattle.std.proofs.Common.{ℕ, zero, suc, ◌≡◌, ◌<◌, ◌+◌, Bool, true, false, List, [], ◌∷◌, ◌++◌, length, take, get_or, refl, sym, ◌∙◌, ap, subst, append_assoc, append-nil, add_assoc, add-zero, zero-add, arith}
-use Rattle.std.specs.Prelude.{Option, Some, None, if◌then◌else◌}
-use Rattle.std.specs.Io.KnownBytes.{Appends}
-use Rattle.std.proofs.KnownBytes.{Appends-nil, Appends-trans}
+use Rattle.std.proofs.Common.{ℕ, zero, ◌≡◌, ◌+◌, Bool, true, false, List, [], ◌∷◌, ◌++◌, refl, sym, ◌∙◌, ap, subst, append_assoc, add_assoc, zero-add}
+use Rattle.std.specs.Prelude.{Option, Some, None}
 use Rattle.instruct.specs.declared.Profile.{Profile}
 use Rattle.peripherals.specs.declared.Event.{Event}
 use Rattle.peripherals.specs.declared.Event.TheVariants.{Step, Key, PrinterDone, ReaderDone, PunchDone, Switches, Continue}
@@ -10,16 +8,16 @@ use Rattle.peripherals.specs.declared.Seen.{Seen}
 use Rattle.peripherals.specs.declared.Seen.TheVariants as seen
 use Rattle.peripherals.specs.Devices.{WorldState}
 use Rattle.peripherals.specs.Events.{Happens}
-use Rattle.peripherals.specs.EventOutcomes.{puts_out, seen_of}
+use Rattle.peripherals.specs.EventOutcomes.{seen_of}
 use Rattle.runs.specs.declared.following.End.{End}
 use Rattle.runs.specs.declared.lists.Ending.{Ending}
 use Rattle.runs.specs.declared.sources.Next.{Next}
 use Rattle.runs.specs.declared.sources.Next.TheVariants as next
-use Rattle.runs.specs.Moments.{Folds, Happened, HappensBy, Moment, moment, refuses, seen_by}
+use Rattle.runs.specs.Moments.{Folds, Happened, HappensBy, Moment, refuses, seen_by}
 use Rattle.runs.specs.Drives.{Comes}
 use Rattle.runs.specs.Sources.{Tells, goes_on}
 use Rattle.runs.specs.Tracing.{counted, steps_in, trace_in, trace_of}
-use Rattle.runs.specs.Follows.{Follows, Over, Stuck, Stopped, Went}
+use Rattle.runs.specs.Follows.{Follows, Went}
 
 -- the events of moments
 abbrev pub events_of : List Moment → List Event

@@ -1,6 +1,6 @@
 -- The plain run of known events, from the contract of the driver.
 use Rattle.std.proofs.Common.{ℕ, zero, suc, ◌≡◌, ◌<◌, ◌≤◌, ◌+◌, Bool, true, false, true≢false, inl, inr, List, [], ◌∷◌, ◌++◌, length, take, get_or, refl, sym, ◌∙◌, ap, subst, append_assoc, append-nil, add_assoc, add-zero, zero-add, length-append, arith}
-use Rattle.std.specs.Prelude.{◌⊎◌, Option, if◌then◌else◌}
+use Rattle.std.specs.Prelude.{Option}
 use Rattle.std.proofs.lemmas.List.{take_at}
 use Rattle.std.specs.Io.KnownBytes.{Appends}
 use Rattle.std.proofs.KnownBytes.{Appends-nil, Appends-trans}
@@ -24,13 +24,13 @@ use Rattle.runs.specs.declared.sources.Next.{Next}
 use Rattle.runs.specs.declared.sources.Next.TheVariants as next
 use Rattle.runs.specs.declared.stops.Answer.{Answer}
 use Rattle.runs.specs.declared.stops.Answer.TheVariants as answer
-use Rattle.runs.specs.Moments.{Folds, Happened, Moment, moment}
+use Rattle.runs.specs.Moments.{Folds, Moment, moment}
 use Rattle.runs.specs.Drives.{Comes, Driven, UnlessFailed}
 use Rattle.runs.specs.Observing.{Counts}
 use Rattle.runs.specs.Sources.{Tells, goes_on}
 use Rattle.runs.specs.Tracing.{counted, steps_in, trace_in, trace_of}
 use Rattle.runs.specs.Follows.{Follows, Over, Ran, RanIntoLine, RanToOutput, Stopped, Stuck, Went, end_of, fails_so, told}
-use Rattle.runs.proofs.FollowLemmas.{AllGoOn, Leads, came_first, came_on, events_of, happens_plain, leads_all, seen_plain}
+use Rattle.runs.proofs.FollowLemmas.{Leads, came_first, came_on, events_of, happens_plain, leads_all, seen_plain}
 
 few_counted : (what : Seen) → counted what ≤ 1
 few_counted seen.NotEnabled = omega arith

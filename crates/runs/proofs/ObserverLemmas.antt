@@ -1,6 +1,6 @@
 -- What observers have seen of a whole run.
-use Rattle.std.proofs.Common.{ℕ, ◌≡◌, ◌+◌, ◌<◌, ◌≤◌, Bool, true, false, inl, inr, Option, Result, Ok, Err, List, [], ◌∷◌, ◌++◌, refl, sym, ap, ◌∙◌, subst, append_assoc, append-nil, length-append, arith}
-use Rattle.std.specs.Prelude.{◌-◌, IfErr, OnErr, drop, is_err, if◌then◌else◌, length}
+use Rattle.std.proofs.Common.{ℕ, ◌≡◌, ◌+◌, ◌≤◌, Bool, true, false, inl, inr, Option, Result, Ok, Err, List, [], ◌∷◌, ◌++◌, refl, sym, ap, ◌∙◌, subst, append_assoc, append-nil, length-append, arith}
+use Rattle.std.specs.Prelude.{◌-◌, ◌⊎◌, IfErr, OnErr, drop, is_err, length}
 use Rattle.std.proofs.lemmas.List.{drop-append-le, drop-drop, length-drop}
 use Rattle.circular_buffer.specs.Buffer.{Buffer, keep_last}
 use Rattle.streams.specs.Bytes.{AppendsFront}
@@ -8,10 +8,13 @@ use Rattle.instruct.specs.declared.Profile.{Profile}
 use Rattle.peripherals.specs.declared.Event.{Event}
 use Rattle.peripherals.specs.declared.Seen.{Seen}
 use Rattle.peripherals.specs.Devices.{WorldState, word_at_pc}
+use Rattle.runs.specs.declared.both.Both.{Both}
 use Rattle.runs.specs.declared.observers.ObserverFault.{ObserverFault}
 use Rattle.runs.specs.declared.observers.ObserverFault.TheVariants as fault
 use Rattle.runs.specs.declared.tracing.Executed.{Executed}
 use Rattle.runs.specs.declared.tracing.Fetched.{Fetched}
+use Rattle.runs.specs.declared.tracing.Steps.{Steps}
+use Rattle.runs.specs.declared.tracing.Trace.{Trace}
 use Rattle.runs.specs.declared.driving.Ended.{Ended}
 use Rattle.runs.specs.declared.driving.Ended.TheVariants as ended
 use Rattle.runs.specs.Moments.{Folds, Moment, moment}
@@ -60,11 +63,21 @@ keeps_all kept sees keeps n xs o (m ∷ ms) q folds room has =
     keeps_one kept n xs o m q keeps room has true is = rw is (keeps.kept is ∙ rw (room, has) (keep_more n xs (executed m.before.state.pc (word_at_pc m.before) m.after.state)))
     keeps_one kept n xs o m q keeps room has false is = rw is (keeps.same is ∙ has ∙ ap (keep_last n) (sym (append-nil xs)))
 
+-- what follows from what is so unless an observer failed
+pub unless_map : (why : Ended) (A B : Type 0) → (A → B) → UnlessFailed why A → UnlessFailed why B
+unless_map ended.Over A B f a = f a
+unless_map ended.Interrupted A B f a = f a
+unless_map ended.ReadFailed A B f a = f a
+unless_map ended.Stopped A B f a = f a
+unless_map (ended.After what) A B f a = f a
+unless_map ended.NoMemory A B f a = f a
+unless_map (ended.ObserverFailed fault) A B f a = tt
+
 -- a trace and the last instructions of a whole run
 pub traced_with_last : {O : Type 0} (taken : O → Option (List ℕ)) (kept : O → Buffer Executed) (resumes : ℕ → Bool) (sees : O → Profile → Moment → O → Type 0) (p : Profile) →
     ((o : O) (m : Moment) (q : O) → sees o p m q → Writes p m (taken o) (taken q) × Keeps m (kept o) (kept q)) →
     (why : Ended) (o : O) (w : WorldState) (q : O) (x : WorldState) → (kept o).items ≡ [] → UnlessFailed why (Whole resumes sees p o w q x) → UnlessFailed why (TracedWithLast resumes p w x (taken o) (taken q) (kept q))
-traced_with_last taken kept resumes sees p both why o w q x none whole = unless_both why (Whole resumes sees p o w q x) (TracedWithLast resumes p w x (taken o) (taken q) (kept q)) (λ (run : Whole resumes sees p o w q x).
+traced_with_last taken kept resumes sees p both why o w q x none whole = unless_map why (Whole resumes sees p o w q x) (TracedWithLast resumes p w x (taken o) (taken q) (kept q)) (λ (run : Whole resumes sees p o w q x).
     let has = keeps_all kept (λ b m a. sees b p m a) (λ b m a s. (both b m a s).1) (kept o).capacity [] o run.moments q run.observer refl none in
     let made : TracedWithLast resumes p w x (taken o) (taken q) (kept q) = record {
       moments = run.moments;
@@ -72,12 +85,16 @@ traced_with_last taken kept resumes sees p both why o w q x none whole = unless_
       wrote = writes_all p taken (λ b m a. sees b p m a) (λ b m a s. (both b m a s).0) o run.moments q run.observer;
       last = rw has.1 has.0;
     } in made) whole
-  where
-    unless_both : (why : Ended) (A B : Type 0) → (A → B) → UnlessFailed why A → UnlessFailed why B
-    unless_both ended.Over A B f a = f a
-    unless_both ended.Interrupted A B f a = f a
-    unless_both ended.ReadFailed A B f a = f a
-    unless_both ended.Stopped A B f a = f a
-    unless_both (ended.After what) A B f a = f a
-    unless_both ended.NoMemory A B f a = f a
-    unless_both (ended.ObserverFailed why) A B f a = tt
+
+-- of two observers the second one could not write a line
+pub part_of : {A B : Type 0} (p : Profile) (m : Moment) (old new : Option (List ℕ)) (mark : Bool) (why : ObserverFault) → (⊥ × B) ⊎ (A × WritesPart p m old new mark why) → (mark ≡ true) × AppendsFront old new (trace_of p m)
+part_of p m old new mark why (inl no) = absurd no.0
+part_of p m old new mark why (inr both) = (both.1.marked, both.1.part)
+
+-- what the first one of two observers has counted
+abbrev pub steps_of : {X : Type 0} → Both Steps X → ℕ
+steps_of b = b.first.count
+
+-- what is so of where the second one writes to
+abbrev pub lines_of : {A X Y : Type 0} → (X → Y) → Both A (Trace X) → Y
+lines_of f b = f b.second.out

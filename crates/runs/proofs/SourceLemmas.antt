@@ -1,6 +1,5 @@
 -- Sources of events.
-use Rattle.std.proofs.Common.{ℕ, zero, suc, ◌≡◌, ◌<◌, ◌-◌, List, [], ◌∷◌, ◌++◌, length, refl, arith}
-use Rattle.peripherals.specs.declared.Event.{Event}
+use Rattle.std.proofs.Common.{ℕ, zero, suc, ◌≡◌, ◌<◌, ◌-◌, ◌*◌, [], ◌∷◌, length, refl, arith}
 use Rattle.peripherals.specs.declared.Event.TheVariants.{Step, PrinterDone, PunchDone}
 use Rattle.runs.specs.declared.lists.RoundPart.TheVariants as part
 use Rattle.runs.specs.declared.lists.Rounds.{Rounds}
@@ -22,3 +21,12 @@ rounds_begin s is some = rw is (one_round s.left some)
 
 pub fewer_rounds : (s : Rounds) → s.part ≡ part.Step → (s.left ≡ 0 → ⊥) → suc (suc (length (rounds (s.left - 1)))) < length (rounds_to_come s)
 fewer_rounds s is some = rw (rounds_begin s is some) (omega arith)
+
+-- rounds are few
+rounds_length : (n : ℕ) → length (rounds n) ≡ n * 3
+unfolding rounds
+rounds_length zero = refl
+rounds_length (suc n) = let rest = rounds_length n in omega (arith, rest)
+
+pub few_rounds : (s : Rounds) (n : ℕ) → rounds_to_come s ≡ rounds n → n < 4294967296 → length (rounds_to_come s) < 18446744073709551616
+few_rounds s n is bound = let long = rounds_length n in rw is (omega (arith, long, bound))

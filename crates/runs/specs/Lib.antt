@@ -5,3 +5,7 @@ pub mod Tracing
 pub mod Observing
 pub mod Drives
 pub mod Follows
+pub mod Operating
+pub mod Typing
+pub mod TypingParts
+pub mod Interrupted

@@ -1,6 +1,6 @@
 //! Sources whose events are known before the run: rounds, and a list.
 
-ghost use Rattle.std.specs.Prelude.{◌≡◌};
+ghost use Rattle.std.specs.Prelude.{◌≡◌, ◌<◌, length};
 ghost use Rattle.runs.specs.Sources.{Tells, goes_on, rounds, rounds_to_come};
 
 use crate::sources::{Next, Source};
@@ -64,7 +64,6 @@ impl Rounds {
 }
 
 impl Source for Rounds {
-    ghost use Rattle.std.specs.Prelude.{length};
     ghost use Rattle.runs.specs.declared.lists.Ending.TheVariants.{AtHalt};
 
     ghost says = { λ s w next t. Tells (rounds_to_come s) next (rounds_to_come t) };
@@ -115,6 +114,7 @@ impl<'e> Listed<'e> {
     pub fn new(events: &'e [Event], ending: Ending) -> Listed<'e>
         ensures events { result.events.now ≡ events.now }
         ensures ending { result.ending ≡ ending }
+        ensures few { length result.events.now < 18446744073709551616 }
     {
         Listed { events, ending }
     }
@@ -128,8 +128,6 @@ impl<'e> Listed<'e> {
 }
 
 impl Source for Listed<'_> {
-    ghost use Rattle.std.specs.Prelude.{length};
-
     ghost says = { λ s w next t. Tells s.events.now next t.events.now };
 
     ghost goes_on = { λ s. goes_on s.ending };

@@ -1,6 +1,6 @@
 //! Stops at an address, at a write, at a read, and after so many steps.
 
-ghost use Rattle.std.specs.Prelude.{◌≡◌, ◌||◌, true};
+ghost use Rattle.std.specs.Prelude.{◌≡◌, true};
 ghost use Rattle.processor.specs.declared.fetch.DecodedInstruction.TheVariants.{Refers};
 ghost use Rattle.wordset.specs.Lanes.{words};
 ghost use Rattle.runs.specs.Stopping.{AtAddress, Within, Touches, reads_one, writes_one};

@@ -4,10 +4,9 @@ ghost use Rattle.std.specs.Prelude.{◌≡◌, ◌+◌, ◌≤◌, ◌++◌, [],
 ghost use Rattle.std.specs.Io.KnownBytes.{Appends};
 ghost use Rattle.streams.specs.Bytes.{AppendsFront};
 ghost use Rattle.word12.specs.Words.{octal_text};
-ghost use Rattle.processor.specs.Steps.{state_of};
 ghost use Rattle.peripherals.specs.Devices.{word_at_pc};
 ghost use Rattle.peripherals.specs.World.{view};
-ghost use Rattle.runs.specs.Tracing.{effect_text, executed, is_executed, line_of, link_text, mq_text, place_text, trace_of};
+ghost use Rattle.runs.specs.Tracing.{effect_text, executed, is_executed, line_of, link_text, mq_text, place_text};
 
 use crate::observers::{Observer, ObserverFault};
 use arrayvec::ArrayString;

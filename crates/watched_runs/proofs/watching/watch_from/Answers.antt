@@ -1,10 +1,10 @@
-use Rattle.std.proofs.Common.{◌≡◌, Some, [], refl}
-use Rattle.peripherals.specs.World.{view, profile_of}
+use Rattle.std.proofs.Common.{refl}
+use Rattle.peripherals.specs.World.{view}
 use Rattle.declaration.specs.DeclarationInCode.{meaning}
-use Rattle.policy.specs.Watching.{BreaksAt, IsClean}
+use Rattle.policy.specs.Watching.{IsClean}
 use Rattle.policy.specs.WatchedSteps.{LegalStepTakesMemory}
 use Rattle.runs.specs.declared.lists.Listed.{Listed}
-use Rattle.watched_runs.proofs.WatchedLemmas.{WatchesBy, calls_in, is_broken, is_clean, is_grown, judged, rule_in}
+use Rattle.watched_runs.proofs.WatchedLemmas.{WatchesBy, calls_in, is_clean, is_grown, judged, rule_in}
 use Rattle.watched_runs.proofs.watching.watch_from.Goals as goal
 
 pub returns-in-NoMemory-clause-only_growth : goal.returns-in-NoMemory-clause-only_growth

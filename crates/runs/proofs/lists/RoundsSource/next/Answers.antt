@@ -1,4 +1,3 @@
-use Rattle.std.proofs.Common.{arith}
 use Rattle.runs.proofs.SourceLemmas.{fewer_rounds, rounds_begin, rounds_over}
 use Rattle.runs.proofs.lists.RoundsSource.next.Goals as goal
 

@@ -1,4 +1,4 @@
-use Rattle.std.proofs.Common.{◌≡◌, refl}
+use Rattle.std.proofs.Common.{refl}
 use Rattle.processor.specs.Steps.{state_of}
 use Rattle.peripherals.specs.World.{view}
 use Rattle.declaration.specs.DeclarationInCode.{meaning}

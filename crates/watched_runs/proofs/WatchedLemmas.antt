@@ -12,7 +12,9 @@ use Rattle.declaration.specs.Declaration.{Declaration, IsDeclared}
 use Rattle.policy.specs.declared.rules.Rule.{Rule}
 use Rattle.policy.specs.Calls.{Calls}
 use Rattle.policy.specs.Rules.{KeepsCode}
-use Rattle.policy.specs.Watching.{BreaksAt, IsClean}
+use Rattle.policy.specs.Watching.{BreaksAt, IsClean, Tells as TellsWatched}
+use Rattle.policy.specs.declared.watcher.Watched.{Watched}
+use Rattle.policy.specs.declared.watcher.Watched.TheVariants.{Broken}
 use Rattle.policy.specs.WatchedSteps.{Grows, LegalStepTakesMemory, Stops}
 use Rattle.policy.proofs.WatchLemmas.{Taken, all_taken, grown, legal_growth, none_taken, stopped}
 use Rattle.runs.specs.declared.driving.Ended.{Ended}
@@ -99,6 +101,14 @@ module _ {S C O : Type 0} (events : S → List Event) (calls : C → Calls) (rul
     where
       some_rule : (a z : Rule) → Some a ≡ Some z → a ≡ z
       some_rule a z is = cc
+
+  -- so what is told of it is true
+  pub tells_broken : (s : S) (c : C) (o : O) (w : WorldState) (t : S) (b : C) (q : O) (x : WorldState) (told : Watched) → Driven says (goes_on Never) answers d.pause sees breaks d.profile s c o w ended.Stopped t b q x → keeps c → calls c ≡ [] →
+      ((r : Rule) → rule b ≡ Some r → told ≡ Broken (length (events s) - length (events t) - 1) r) → (image : Image) → KeepsCode image d w.state.memory → TellsWatched image d (events s) w told
+  tells_broken s c o w t b q x told run kept none tells_so image code =
+      let so = so_far s c o w ended.Stopped t b q x run kept none in
+      let judged_so = (judges run.stops run.world answer.Stops b so.1 run.ends.2.0.refused.answer).0 in
+      rw (tells_so judged_so.rule judged_so.is_told) (is_broken s c o w t b q x judged_so.rule (length (events s) - length (events t) - 1) run kept none judged_so.is_told refl image code)
 
   -- memory was refused for a step
   pub is_grown : (s : S) (c : C) (o : O) (w : WorldState) (t : S) (b : C) (q : O) (x : WorldState) → Driven says (goes_on Never) answers d.pause sees breaks d.profile s c o w ended.NoMemory t b q x → keeps c → calls c ≡ [] →

@@ -13,6 +13,7 @@ use Rattle.runs.specs.declared.observers.ObserverFault.{ObserverFault}
 use Rattle.runs.specs.declared.observers.ObserverFault.TheVariants as fault
 use Rattle.runs.specs.declared.tracing.Executed.{Executed}
 use Rattle.runs.specs.declared.tracing.Fetched.{Fetched}
+use Rattle.runs.specs.declared.tracing.Last.{Last}
 use Rattle.runs.specs.declared.tracing.Steps.{Steps}
 use Rattle.runs.specs.declared.tracing.Trace.{Trace}
 use Rattle.runs.specs.declared.driving.Ended.{Ended}
@@ -98,3 +99,11 @@ steps_of b = b.first.count
 -- what is so of where the second one writes to
 abbrev pub lines_of : {A X Y : Type 0} → (X → Y) → Both A (Trace X) → Y
 lines_of f b = f b.second.out
+
+-- what is so of where the first one of two observers writes to
+abbrev pub first_lines : {A X Y : Type 0} → (X → Y) → Both (Trace X) A → Y
+first_lines f b = f b.first.out
+
+-- what the second one of two observers keeps
+abbrev pub last_kept : {A K : Type 0} → Both A (Last K) → Buffer Executed
+last_kept b = b.second.kept

@@ -70,7 +70,9 @@ pub fn told<A: Allocator>(world: &World<A>, ended: Ended) -> Result<End, RunFaul
     match ended {
         Ended::Over => Ok(end_of(world)),
         Ended::After(Seen::Unsupported(_)) => Ok(End::Unsupported(world.cpu().pc)),
-        Ended::After(_) => Ok(end_of(world)),
+        Ended::After(Seen::NotEnabled | Seen::Changed | Seen::Ran | Seen::Halted) => {
+            Ok(end_of(world))
+        }
         Ended::Stopped => Ok(End::Stopped(world.cpu().pc)),
         Ended::Interrupted => Ok(End::Interrupted(world.cpu().pc)),
         Ended::ReadFailed => Err(RunFault::Read),

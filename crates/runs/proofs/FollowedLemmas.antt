@@ -123,9 +123,9 @@ module _ {S C O : Type 0} (events : S → List Event) (count : O → ℕ) (taken
       count o ≡ 0 → length (events s) < 18446744073709551616 → outcome.steps ≡ count q → outcome.end ≡ told x (ended.After what) → Ran p ending (events s) w outcome x (taken o) (taken q)
   after s c o w what t d q x outcome run none few steps end_is =
       let ms = run.came.moments in
-      let e = run.ends.0 in
-      let observed = run.ends.2.1 in
-      let comes : events run.source ≡ e ∷ events t = tells run.source run.world (next.Comes e) t run.ends.1 in
+      let e = run.ends.event in
+      let observed = run.ends.so.1 in
+      let comes : events run.source ≡ e ∷ events t = tells run.source run.world (next.Comes e) t run.ends.comes in
       let all : events s ≡ events_of ms ++ e ∷ events t = first_come s c o w (ended.After what) t d q x run ∙ ap (λ (l : List Event). events_of ms ++ l) comes in
       let long : length (events s) ≡ length (events_of ms) + suc (length (events t)) = ap length all ∙ length-append (events_of ms) (e ∷ events t) in
       let same_long = events_length ms in
@@ -138,7 +138,7 @@ module _ {S C O : Type 0} (events : S → List Event) (count : O → ℕ) (taken
       let sees_so : seen_of p run.world e ≡ what = sym (observed.attempted.sees ∙ seen_plain p run.world e) in
       let happens : Happens p run.world e x = happens_plain p run.world e x observed.attempted.happens in
       let led : Follows p ending (events_of ms ++ e ∷ events t) w (trace_in p ms ++ trace_of p m) (steps_in ms + counted what) (told x (ended.After what)) x =
-      so_far s c o w (ended.After what) t d q x run (e ∷ events t) (trace_of p m) (counted what) (told x (ended.After what)) x (ends_with p ending e (events t) run.world x what run.ends.2.0 sees_so happens) in
+      so_far s c o w (ended.After what) t d q x run (e ∷ events t) (trace_of p m) (counted what) (told x (ended.After what)) x (ends_with p ending e (events t) run.world x what run.ends.so.0 sees_so happens) in
       record {
         lines = trace_in p ms ++ trace_of p m;
         follows = rw (all, same_steps, end_is) led;
@@ -155,7 +155,7 @@ module _ {S C O : Type 0} (events : S → List Event) (count : O → ℕ) (taken
   ran_so s c o w ended.Over t d q x outcome run none few fine steps end_is = over s c o w t d q x outcome run none few steps end_is
   ran_so s c o w ended.Interrupted t d q x outcome run none few fine steps end_is = absurd (tells run.source run.world next.Interrupted t run.ends.0)
   ran_so s c o w ended.ReadFailed t d q x outcome run none few fine steps end_is = cc
-  ran_so s c o w ended.Stopped t d q x outcome run none few fine steps end_is = let never : answer.Stops ≡ answer.Passes = passes run.stops p run.world answer.Stops d run.ends.2.0.refused.answer in cc
+  ran_so s c o w ended.Stopped t d q x outcome run none few fine steps end_is = let never : answer.Stops ≡ answer.Passes = passes run.stops p run.world answer.Stops d run.ends.so.0.refused.answer in cc
   ran_so s c o w (ended.After what) t d q x outcome run none few fine steps end_is = after s c o w what t d q x outcome run none few steps end_is
   ran_so s c o w ended.NoMemory t d q x outcome run none few fine steps end_is = cc
   ran_so s c o w (ended.ObserverFailed fault) t d q x outcome run none few fine steps end_is = cc
@@ -172,14 +172,14 @@ module _ {S C O : Type 0} (events : S → List Event) (count : O → ℕ) (taken
   refused_at : (s : S) (c : C) (o : O) (w : WorldState) (t : S) (d : C) (q : O) (x : WorldState) → Driven says (goes_on ending) answers (λ at. true) sees breaks p s c o w ended.NoMemory t d q x → RanToOutput p ending (events s) w x (taken o) (taken q)
   refused_at s c o w t d q x run =
       let ms = run.came.moments in
-      let e = run.ends.0 in
-      let comes : events run.source ≡ e ∷ events t = tells run.source run.world (next.Comes e) t run.ends.1 in
+      let e = run.ends.event in
+      let comes : events run.source ≡ e ∷ events t = tells run.source run.world (next.Comes e) t run.ends.comes in
       let all : events s ≡ events_of ms ++ e ∷ events t = first_come s c o w ended.NoMemory t d q x run ∙ ap (λ (l : List Event). events_of ms ++ l) comes in
       let long : length (events s) ≡ length (events_of ms) + suc (length (events t)) = ap length all ∙ length-append (events_of ms) (e ∷ events t) in
       let taken_is : take (length (events_of ms)) (events s) ≡ events_of ms = rw all (take_at (events_of ms) (e ∷ events t) (length (events_of ms)) refl) in
       let there : get_or (events s) (length (events_of ms)) Step ≡ e = rw all (event_there (events_of ms) e (events t)) in
-      let still : x ≡ run.world = run.ends.2.0.still in
-      let puts : puts_out run.world e ≡ true = elim run.ends.2.0.refused [
+      let still : x ≡ run.world = run.ends.so.0.still in
+      let puts : puts_out run.world e ≡ true = elim run.ends.so.0.refused [
         | inl refused ↦ absurd (let never : answer.NoMemory ≡ answer.Passes = passes run.stops p run.world answer.NoMemory d refused.answer in cc)
         | inr lacks ↦ lacks.puts
       ] in
@@ -191,7 +191,7 @@ module _ {S C O : Type 0} (events : S → List Event) (count : O → ℕ) (taken
         end = end_of run.world;
         follows = rw (taken_is, still) (front_of s c o w ended.NoMemory t d q x run);
         puts = rw (still, there) puts;
-        wrote = rw run.ends.2.1 (written s c o w ended.NoMemory t d q x run);
+        wrote = rw run.ends.so.1 (written s c o w ended.NoMemory t d q x run);
       }
 
   -- a line was not written whole
@@ -199,15 +199,15 @@ module _ {S C O : Type 0} (events : S → List Event) (count : O → ℕ) (taken
       (s : S) (c : C) (o : O) (w : WorldState) (fault : ObserverFault) (t : S) (d : C) (q : O) (x : WorldState) → Driven says (goes_on ending) answers (λ at. true) sees breaks p s c o w (ended.ObserverFailed fault) t d q x → RanIntoLine p ending (events s) w x (taken o) (taken q)
   broke_at mark parts s c o w fault t d q x run =
       let ms = run.came.moments in
-      let e = run.ends.0 in
-      let comes : events run.source ≡ e ∷ events t = tells run.source run.world (next.Comes e) t run.ends.1 in
+      let e = run.ends.event in
+      let comes : events run.source ≡ e ∷ events t = tells run.source run.world (next.Comes e) t run.ends.comes in
       let all : events s ≡ events_of ms ++ e ∷ events t = first_come s c o w (ended.ObserverFailed fault) t d q x run ∙ ap (λ (l : List Event). events_of ms ++ l) comes in
       let long : length (events s) ≡ length (events_of ms) + suc (length (events t)) = ap length all ∙ length-append (events_of ms) (e ∷ events t) in
       let taken_is : take (length (events_of ms)) (events s) ≡ events_of ms = rw all (take_at (events_of ms) (e ∷ events t) (length (events_of ms)) refl) in
       let there : get_or (events s) (length (events_of ms)) Step ≡ e = rw all (event_there (events_of ms) e (events t)) in
       let split : events s ≡ (events_of ms ++ e ∷ []) ++ events t = all ∙ sym (append_assoc (events_of ms) (e ∷ []) (events t)) in
       let more_is : take (length (events_of ms) + 1) (events s) ≡ events_of ms ++ e ∷ [] = rw split (take_at (events_of ms ++ e ∷ []) (events t) (length (events_of ms) + 1) (length-append (events_of ms) (e ∷ []))) in
-      let broke = run.ends.2 in
+      let broke = run.ends.so in
       let what = broke.what in
       let line = trace_of p (moment run.world e what x) in
       let sees_so : seen_of p run.world e ≡ what = sym (broke.attempted.sees ∙ seen_plain p run.world e) in
@@ -247,7 +247,7 @@ module _ {S C O : Type 0} (events : S → List Event) (count : O → ℕ) (taken
   refused_so mark parts s c o w ended.Stopped t d q x run fails unmarked = cc
   refused_so mark parts s c o w (ended.After what) t d q x run fails unmarked = cc
   refused_so mark parts s c o w ended.NoMemory t d q x run fails unmarked = refused_at s c o w t d q x run
-  refused_so mark parts s c o w (ended.ObserverFailed fault) t d q x run fails unmarked = absurd (true≢false (sym (parts run.observer (moment run.world run.ends.0 run.ends.2.what x) fault q run.ends.2.broke).0 ∙ unmarked))
+  refused_so mark parts s c o w (ended.ObserverFailed fault) t d q x run fails unmarked = absurd (true≢false (sym (parts run.observer (moment run.world run.ends.event run.ends.so.what x) fault q run.ends.so.broke).0 ∙ unmarked))
 
   -- a run in which a write failed
   pub broke_so : (mark : O → Bool) → ((o : O) (m : Moment) (why : ObserverFault) (q : O) → breaks o p m why q → (mark q ≡ true) × AppendsFront (taken o) (taken q) (trace_of p m)) →

@@ -52,10 +52,10 @@ pub ends_unobserved : {S C O : Type 0} (says : S → WorldState → Next → S �
 ends_unobserved says goes_on answers resumes sees breaks p t d q x e Over t' d' q' x' comes not = absurd not.0.refused
 ends_unobserved says goes_on answers resumes sees breaks p t d q x e Interrupted t' d' q' x' comes not = absurd not.0.refused
 ends_unobserved says goes_on answers resumes sees breaks p t d q x e ReadFailed t' d' q' x' comes not = absurd not.0.refused
-ends_unobserved says goes_on answers resumes sees breaks p t d q x e Stopped t' d' q' x' comes not = (e, comes, not)
+ends_unobserved says goes_on answers resumes sees breaks p t d q x e Stopped t' d' q' x' comes not = record { event = e; comes = comes; so = not }
 ends_unobserved says goes_on answers resumes sees breaks p t d q x e (After what) t' d' q' x' comes not = absurd not.0.refused
-ends_unobserved says goes_on answers resumes sees breaks p t d q x e NoMemory t' d' q' x' comes not = (e, comes, not)
-ends_unobserved says goes_on answers resumes sees breaks p t d q x e (ObserverFailed fault) t' d' q' x' comes not = (e, comes, not)
+ends_unobserved says goes_on answers resumes sees breaks p t d q x e NoMemory t' d' q' x' comes not = record { event = e; comes = comes; so = not }
+ends_unobserved says goes_on answers resumes sees breaks p t d q x e (ObserverFailed fault) t' d' q' x' comes not = record { event = e; comes = comes; so = not }
 
 -- an instruction that was fetched by a processor that is lent
 pub fetched_here : (i : DecodedInstruction) (p q : Profile) (s t : State) → p ≡ q → s ≡ t → i ≡ fetched p s → i ≡ fetched q t
@@ -89,11 +89,11 @@ pub whole_of : {S C O : Type 0} (says : S → WorldState → Next → S → Type
 whole_of says goes_on answers resumes sees breaks p s c o w Over t d q x run = still_whole resumes sees p o w run.observer q run.world x run.came.moments run.came.world run.came.observer run.ends.1.observer run.ends.1.world
 whole_of says goes_on answers resumes sees breaks p s c o w Interrupted t d q x run = still_whole resumes sees p o w run.observer q run.world x run.came.moments run.came.world run.came.observer run.ends.1.observer run.ends.1.world
 whole_of says goes_on answers resumes sees breaks p s c o w ReadFailed t d q x run = still_whole resumes sees p o w run.observer q run.world x run.came.moments run.came.world run.came.observer run.ends.1.observer run.ends.1.world
-whole_of says goes_on answers resumes sees breaks p s c o w Stopped t d q x run = still_whole resumes sees p o w run.observer q run.world x run.came.moments run.came.world run.came.observer run.ends.2.1 run.ends.2.0.still
-whole_of says goes_on answers resumes sees breaks p s c o w NoMemory t d q x run = still_whole resumes sees p o w run.observer q run.world x run.came.moments run.came.world run.came.observer run.ends.2.1 run.ends.2.0.still
+whole_of says goes_on answers resumes sees breaks p s c o w Stopped t d q x run = still_whole resumes sees p o w run.observer q run.world x run.came.moments run.came.world run.came.observer run.ends.so.1 run.ends.so.0.still
+whole_of says goes_on answers resumes sees breaks p s c o w NoMemory t d q x run = still_whole resumes sees p o w run.observer q run.world x run.came.moments run.came.world run.came.observer run.ends.so.1 run.ends.so.0.still
 whole_of says goes_on answers resumes sees breaks p s c o w (After what) t d q x run =
-    let observed = run.ends.2.1 in
-    let m = moment run.world run.ends.0 what x in
+    let observed = run.ends.so.1 in
+    let m = moment run.world run.ends.event what x in
     let happened : Happened resumes p run.world m x = record { before = refl; after = refl; happens = observed.attempted.happens; seen = observed.attempted.sees } in
     record {
       moments = run.came.moments ++ m ∷ [];

@@ -80,12 +80,18 @@ pub record IsStill {C O : Type 0} (c : C) (o : O) (w : WorldState) (d : C) (q : 
   pub observer : q ≡ o
   pub world : x ≡ w
 
+-- An event comes from the source, and the run ends with it.
+pub record EndsWith {S C O : Type 0} (says : S → WorldState → Next → S → Type 0) (goes_on : Seen → Bool) (answers : C → Profile → WorldState → Answer → C → Type 0) (resumes : ℕ → Bool) (sees : O → Profile → Moment → O → Type 0) (breaks : O → Profile → Moment → ObserverFault → O → Type 0) (p : Profile) (s : S) (c : C) (o : O) (w : WorldState) (ended : Ended) (t : S) (d : C) (q : O) (x : WorldState) : Type 0 where
+  pub event : Event
+  pub comes : says s w (next.Comes event) t
+  pub so : EndsAt goes_on answers resumes sees breaks p c o w event ended d q x
+
 -- From here the run ends so: no event comes, as the source says, or one comes with which it ends.
 abbrev pub Ends : {S C O : Type 0} → (S → WorldState → Next → S → Type 0) → (Seen → Bool) → (C → Profile → WorldState → Answer → C → Type 0) → (ℕ → Bool) → (O → Profile → Moment → O → Type 0) → (O → Profile → Moment → ObserverFault → O → Type 0) → Profile → S → C → O → WorldState → Ended → S → C → O → WorldState → Type 0
 Ends says goes_on answers resumes sees breaks p s c o w Over t d q x = says s w next.Over t × IsStill c o w d q x
 Ends says goes_on answers resumes sees breaks p s c o w Interrupted t d q x = says s w next.Interrupted t × IsStill c o w d q x
 Ends says goes_on answers resumes sees breaks p s c o w ReadFailed t d q x = says s w next.ReadFailed t × IsStill c o w d q x
-Ends says goes_on answers resumes sees breaks p s c o w ended t d q x = (e : Event) × says s w (next.Comes e) t × EndsAt goes_on answers resumes sees breaks p c o w e ended d q x
+Ends says goes_on answers resumes sees breaks p s c o w ended t d q x = EndsWith says goes_on answers resumes sees breaks p s c o w ended t d q x
 
 -- From s, c, o and w the run came to t, d, q and x: these events came, after each of which it went on. The world is that of the run by these
 -- events, the stops let each of them pass, and the observer saw each of them.

@@ -86,10 +86,10 @@ module _ {S C O : Type 0} (events : S → List Event) (calls : C → Calls) (rul
       n ≡ length (events s) - length (events t) - 1 → (image : Image) → KeepsCode image d w.state.memory → BreaksAt image d (events s) w n r
   is_broken s c o w t b q x r n run kept none is_rule at image code =
       let ms = events_of run.came.moments in
-      let e = run.ends.0 in
-      let refused = run.ends.2.0.refused in
+      let e = run.ends.event in
+      let refused = run.ends.so.0.refused in
       let so = so_far s c o w ended.Stopped t b q x run kept none in
-      let comes : events run.source ≡ e ∷ events t = tells run.source run.world (next.Comes e) t run.ends.1 in
+      let comes : events run.source ≡ e ∷ events t = tells run.source run.world (next.Comes e) t run.ends.comes in
       let first = first_come s c o w ended.Stopped t b q x run in
       let there : slice_get (events s) (length ms) ≡ Some e = last_at s ms e (events t) (events run.source) first comes in
       let told = (judges run.stops run.world answer.Stops b so.1 refused.answer).0 in
@@ -107,7 +107,7 @@ module _ {S C O : Type 0} (events : S → List Event) (calls : C → Calls) (rul
       ((r : Rule) → rule b ≡ Some r → told ≡ Broken (length (events s) - length (events t) - 1) r) → (image : Image) → KeepsCode image d w.state.memory → TellsWatched image d (events s) w told
   tells_broken s c o w t b q x told run kept none tells_so image code =
       let so = so_far s c o w ended.Stopped t b q x run kept none in
-      let judged_so = (judges run.stops run.world answer.Stops b so.1 run.ends.2.0.refused.answer).0 in
+      let judged_so = (judges run.stops run.world answer.Stops b so.1 run.ends.so.0.refused.answer).0 in
       rw (tells_so judged_so.rule judged_so.is_told) (is_broken s c o w t b q x judged_so.rule (length (events s) - length (events t) - 1) run kept none judged_so.is_told refl image code)
 
   -- memory was refused for a step
@@ -115,11 +115,11 @@ module _ {S C O : Type 0} (events : S → List Event) (calls : C → Calls) (rul
       (image : Image) → KeepsCode image d w.state.memory → LegalStepTakesMemory image d (events s) w
   is_grown s c o w t b q x run kept none image code =
       let ms = events_of run.came.moments in
-      let e = run.ends.0 in
+      let e = run.ends.event in
       let so = so_far s c o w ended.NoMemory t b q x run kept none in
-      let comes : events run.source ≡ e ∷ events t = tells run.source run.world (next.Comes e) t run.ends.1 in
+      let comes : events run.source ≡ e ∷ events t = tells run.source run.world (next.Comes e) t run.ends.comes in
       let there : slice_get (events s) (length ms) ≡ Some e = last_at s ms e (events t) (events run.source) (first_come s c o w ended.NoMemory t b q x run) comes in
-      let grows : Grows d run.world (calls run.stops) e = elim run.ends.2.0.refused [
+      let grows : Grows d run.world (calls run.stops) e = elim run.ends.so.0.refused [
         | inl refused ↦
             let told = (judges run.stops run.world answer.NoMemory b so.1 refused.answer).0 in
             rw refused.step (legal_growth d run.world (calls run.stops) (tried_runs run.world e refused.step refused.attempt) told.1 told.0)

@@ -52,7 +52,7 @@ returns-then-not-goes_on-clause-driven g c =
     let observed : Observed g.C.Stops.answers (g.C.Stops.resumes c.args.stops.now) g.O.Observer.sees p c.loop-event.stops c.loop-event.observer (view c.loop-event.world) c.in-Comes.event c.in-Ok.seen c.observe.new.stops c.observe.new.observer (view c.observe.new.world) = rw (inv.profile, inv.resumes) at c.in-Ok.ensures.happened in
     let ends : g.S.Source.goes_on c.args.source.now c.in-Ok.seen ≡ false = rw (c.next.ensures.goes_on, inv.goes_on) at (sym c.goes_on.ensures ∙ c.if-not-goes_on.true) in
     driven_so g.S.Source.says (g.S.Source.goes_on c.args.source.now) g.C.Stops.answers (g.C.Stops.resumes c.args.stops.now) g.O.Observer.sees g.O.Observer.breaks p c.args.source.now c.args.stops.now c.args.observer.now (view c.args.world.now) (After c.in-Ok.seen) c.loop-event.source c.loop-event.stops c.loop-event.observer (view c.loop-event.world) _ _ _ _
-    inv.came (c.in-Comes.event, comes, (ends, observed))
+    inv.came (record { event = c.in-Comes.event; comes = comes; so = (ends, observed) })
 
 pub loop-event-preserved : goal.loop-event-preserved
 loop-event-preserved g c =

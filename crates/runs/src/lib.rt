@@ -35,17 +35,36 @@
 //!
 //! Two stops or two observers are joined by [`Both`].
 //!
-//! # What is proved
+//! # Which run is which choice
 //!
-//! `drive` is proved once, against `Driven` and `Whole` of `specs/Drives.antt`. A run is a list of moments: the
+//! | Run | Source | Stops | Observers |
+//! |---|---|---|---|
+//! | rounds, or a list | [`Rounds`], [`Listed`] | `()` | [`Steps`], and [`Trace`] where one is requested |
+//! | up to an address, a write or a read | any | [`UntilAddress`], [`UntilWrite`], [`UntilRead`] | any |
+//! | with the last instructions | any | any | [`Last`], also beside a trace |
+//! | with an operator | `Operator` | any | what is typed and punched |
+//! | at the teletype | [`Typist`] | any | what is typed and punched |
+//! | declared, or watched | any; a list with [`Ending::Never`] | `Watcher` | any |
+//!
+//! # What the contracts say
+//!
+//! The contract of `drive` is `Driven` and `Whole` of `specs/Drives.antt`. A run is a list of moments: the
 //! world before an event, the event, what was seen of it, and the world after it. One relation, `Folds`, says what
 //! it means that something goes from one state to another by such a list, and it is used four times: the world
 //! goes by what the events do, the source by what it gives, the stops by what they let pass, and the observer by
-//! what it sees. Each source, stop and observer is proved alone, by a relation for one event.
+//! what it sees. Each source, stop and observer has a relation for one event, and its `impl` is proved alone.
 //!
-//! [`follow_rounds`] and [`follow_events`] carry the relation of a plain run (`specs/Follows.antt`), with the exact
+//! [`follow_rounds`] and [`follow_events`] have the contract of a plain run (`specs/Follows.antt`), with the exact
 //! trace even after a write that failed. `watched_runs::watch` tells exactly whether a run keeps the rules, and
 //! which rule is violated first. [`drive_with_trace_and_last`] shows two observers of one run.
+//!
+//! # What is not proved yet
+//!
+//! The prover has accepted [`Both`], [`Listed`], [`UntilAddress`], [`UntilWrite`], [`UntilRead`], `()` and the lines
+//! of a trace. The proofs of [`drive`] and of all that stands on it, of [`Rounds`], [`StepLimit`], [`Last`] and
+//! [`Trace`] as an observer, of the operator, of [`Typist`] and of the crate `watched_runs` are drafts that it has
+//! not seen. No observer of what is typed and punched, of what was held in the cells before an instruction, or of
+//! the progress is written yet.
 #![tactic(auto)]
 
 mod both;

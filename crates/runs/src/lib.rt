@@ -60,8 +60,8 @@
 //!
 //! # What is not proved yet
 //!
-//! The prover has accepted [`Both`], [`Listed`], [`UntilAddress`], [`UntilWrite`], [`UntilRead`], `()` and the lines
-//! of a trace. The proofs of [`drive`] and of all that stands on it, of [`Rounds`], [`StepLimit`], [`Last`] and
+//! The prover has accepted [`Both`], [`Listed`] without the bound on its length, [`UntilAddress`], [`UntilWrite`],
+//! [`UntilRead`], `()` and the text of a line. The proofs of [`drive`] and of what stands on it, of [`Rounds`], [`StepLimit`], [`Last`] and
 //! [`Trace`] as an observer, of the operator, of [`Typist`] and of the crate `watched_runs` are drafts that it has
 //! not seen. No observer of what is typed and punched, of what was held in the cells before an instruction, or of
 //! the progress is written yet.

@@ -60,11 +60,11 @@
 //!
 //! # What is not proved yet
 //!
-//! The prover has accepted [`Both`], [`Listed`] without the bound on its length, [`UntilAddress`], [`UntilWrite`],
-//! [`UntilRead`], `()` and the text of a line. The proofs of [`drive`] and of what stands on it, of [`Rounds`], [`StepLimit`], [`Last`] and
-//! [`Trace`] as an observer, of the operator, of [`Typist`] and of the crate `watched_runs` are drafts that it has
-//! not seen. No observer of what is typed and punched, of what was held in the cells before an instruction, or of
-//! the progress is written yet.
+//! The prover has accepted [`Both`], [`Listed`] without the bound on its length, [`UntilAddress`],
+//! [`UntilWrite`], [`UntilRead`], `()` and the text of a line. The proofs of [`drive`] and of what stands on
+//! it, of [`Rounds`], [`StepLimit`], [`Last`] and [`Trace`] as observers, of the operator, of [`Typist`] and of
+//! the crate `watched_runs` are drafts that it has not seen. No observer of what is typed and punched, of what
+//! was held in the cells before an instruction, or of the progress is written yet.
 #![tactic(auto)]
 
 mod both;

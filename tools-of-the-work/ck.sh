@@ -1,0 +1,5 @@
+#!/bin/bash
+# ck.sh CRATE FN..: prioritized check of TREE
+echo -12 > /proc/self/autogroup
+T=${TREE:-/work/w/cl8}; C=$1; shift; A=(); for f in "$@"; do A+=(--only "$f"); done
+POOLS=/work/pool2 JOBS=${JOBS:-1} python3 /work/tools/chk.py $T $C "${A[@]}"

@@ -1,0 +1,3 @@
+cd /work/gate/gm; echo -8 > /proc/self/autogroup
+RT_JOBS=2 /work/tools/bigmem.sh python3 -u /work/tools/rtjobs.py command_line 2>&1
+date

@@ -1,0 +1,3 @@
+cd /work/gate/g8; echo -8 > /proc/self/autogroup
+RT_JOBS=4 /work/tools/bigmem.sh python3 -u /work/tools/rtjobs.py library_tests speed certified_example refuter labels source_writer pal_diagnostics reasons control_flow proposer 2>&1
+date

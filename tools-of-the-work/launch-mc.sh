@@ -1,0 +1,2 @@
+cd /work/gate/gm; echo -8 > /proc/self/autogroup
+RT_JOBS=2 /work/tools/bigmem.sh python3 -u /work/tools/rtjobs.py machine_commands command_line first_look 2>&1

@@ -1,0 +1,1 @@
+for f in "$@"; do echo "== $f"; tail -n ${N:-3} /work/log/$f; done

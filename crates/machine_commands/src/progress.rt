@@ -1,9 +1,9 @@
 //! The lines that say how far a watched run came. They are tested and not proved.
 
 use crate::declared_run::{is_continue, waits};
-use crate::sentence::{Argument, push_sentence};
 use bin_tape::Image;
 use command_parts::message::{Message, MessageWriter};
+use command_parts::sentence::{Argument, push_sentence};
 use declaration::Declaration;
 use instruct::{DeviceOperation, Format, Operation, Profile, refers_indirectly, target};
 use peripherals::{Event, NoMemory, Panel, Seen, Start, World};

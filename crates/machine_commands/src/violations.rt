@@ -9,10 +9,10 @@ mod control;
 mod references;
 mod returns;
 
-use crate::sentence::{Argument, push_sentence};
 use crate::shown_cells::first;
 use bin_tape::Image;
 use command_parts::message::{Message, MessageWriter};
+use command_parts::sentence::{Argument, push_sentence};
 use declaration::Declaration;
 use peripherals::{Event, NoMemory, Start};
 use policy::{Call, Rule, Watcher};

@@ -3,11 +3,8 @@
 mod asked;
 mod landing;
 mod marks;
-mod sums;
 mod violation;
 
-use crate::pieces::Piece::{Decimal, Offset, Text};
-use crate::pieces::{push_around, push_pieces};
 use crate::verdicts::reason_context::ReasonContext;
 use crate::verdicts::reason_text::asked::asked_of;
 use crate::verdicts::reason_text::landing::push_start;
@@ -16,26 +13,13 @@ use crate::verdicts::reason_text::violation::{push_denied, push_exit_line, push_
 use crate::verdicts::verdict::condition_name;
 use bin_tape::Image;
 use command_parts::message::MessageWriter;
+use command_parts::sentence::Argument::{Address, Number, Offset, Text};
+use command_parts::sentence::push_sentence;
 use domain::Rules;
 use instruct::Profile;
 use judge::Refusal;
 use reasons::Reason;
 use std::alloc::AllocError;
-use word12::Word;
-
-/// Adds what a fact in the body of a routine lacks.
-fn push_in_body<L: MessageWriter>(
-    text: &mut L,
-    entry: Word,
-    lack: &[u8],
-) -> Result<(), AllocError> {
-    push_around(
-        text,
-        b"the fact is in the body of the routine ",
-        entry,
-        lack,
-    )
-}
 
 /// Adds why a condition fails.
 fn push_reason<L: MessageWriter>(
@@ -45,37 +29,42 @@ fn push_reason<L: MessageWriter>(
 ) -> Result<(), AllocError> {
     match reason {
         Reason::AtStart(landing) => push_start(text, landing),
-        Reason::LineAtNoEntry => text.push_text(
-            b"a routine or exit line names this address, which is not an entry",
-        ),
+        Reason::LineAtNoEntry => {
+            text.push_text(b"a routine or exit line names this address, which is not an entry")
+        }
         Reason::InNoBody => {
             text.push_text(b"there is a fact at this address, which is not in any body")
         }
-        Reason::OffsetInMain(_, offset) => push_pieces(
+        Reason::OffsetInMain(_, offset) => push_sentence(
             text,
-            &[
-                Text(b"the fact is in main's body but has the offset "),
-                Offset(*offset),
-            ],
+            "the fact is in main's body but has the offset {}",
+            &[Offset(*offset)],
         ),
         Reason::SitesInMain(_) => text.push_text(b"the fact is in main's body but has sites"),
-        Reason::NoOffset(_, entry) => push_in_body(text, *entry, b" but has no offset"),
-        Reason::NoSites(_, entry) => push_in_body(text, *entry, b" but has no sites"),
-        Reason::RoutineNotListed(entry) => push_in_body(
+        Reason::NoOffset(_, entry) => push_sentence(
             text,
-            *entry,
-            b", which has no routine line",
+            "the fact is in the body of the routine {} but has no offset",
+            &[Address(*entry)],
         ),
-        Reason::TooManyWords(_, count) => push_pieces(
+        Reason::NoSites(_, entry) => push_sentence(
             text,
-            &[Decimal(*count), Text(b" words are possible")],
+            "the fact is in the body of the routine {} but has no sites",
+            &[Address(*entry)],
         ),
+        Reason::RoutineNotListed(entry) => push_sentence(
+            text,
+            "the fact is in the body of the routine {}, which has no routine line",
+            &[Address(*entry)],
+        ),
+        Reason::TooManyWords(_, count) => {
+            push_sentence(text, "{} words are possible", &[Number(*count)])
+        }
         Reason::ByWord(_, _, breach) => push_violation(text, rules, breach),
         Reason::ExitDeniesAssertion(offset, index, subject, word) => {
             text.push_text(b"when it returns with offset ")?;
-            push_exit_line(text, rules, *offset, b" by exit line ", *index)?;
+            push_exit_line(text, rules, *offset, " by exit line ", *index)?;
             text.push_text(b", ")?;
-            push_denied(text, subject, *word, b"returns")
+            push_denied(text, subject, *word, "returns")
         }
     }
 }
@@ -98,10 +87,9 @@ pub fn push_why<L: MessageWriter>(
         _ => image.get(refusal.address),
     };
     text.push_instruction(refusal.address, shown, profile)?;
-    text.push_text(condition_name(refusal.condition).as_bytes())?;
-    text.push_text(b" requires: ")?;
-    text.push_text(asked_of(&telling.rules, refusal.condition))?;
-    text.push_text(b"\n")?;
+    let name = condition_name(refusal.condition);
+    let asked = asked_of(&telling.rules, refusal.condition);
+    push_sentence(text, "{} requires: {}\n", &[Text(name), Text(asked)])?;
     let Some(reason) = reason else {
         return Ok(());
     };

@@ -1,16 +1,16 @@
 //! Lines of an assertion that is false.
 
-use crate::sentence::{Argument, push_sentence};
 use crate::violations::ViolatingStep;
 use crate::violations::returns::distance;
 use command_parts::message::MessageWriter;
+use command_parts::sentence::{Argument, push_sentence};
 use declaration::{Assertion, Subject};
 use policy::Call;
 use std::alloc::{AllocError, Allocator};
 use word12::Word;
 
 /// Of what an assertion speaks.
-fn name_of(subject: &Subject) -> Argument {
+fn name_of(subject: &Subject) -> Argument<'static> {
     match subject {
         Subject::Accumulator => Argument::Text("AC"),
         Subject::Link => Argument::Text("the link"),
@@ -47,7 +47,7 @@ impl<D: Allocator> ViolatingStep<'_, D> {
         push_sentence(
             text,
             "{} holds {}, which is not one of the words that the declaration allows\n",
-            &[name_of(subject), Argument::Word(self.word_of(subject))],
+            &[name_of(subject), Argument::Octal(self.word_of(subject))],
         )
     }
 
@@ -61,7 +61,7 @@ impl<D: Allocator> ViolatingStep<'_, D> {
         for returning in self.declaration.returns() {
             let applies = returning.entry() == call.entry && returning.offsets().contains(offset);
             if applies && self.is_denied(returning.assertion()) {
-                let by = [Argument::Word(offset)];
+                let by = [Argument::Octal(offset)];
                 push_sentence(text, "at a return with offset {}, ", &by)?;
                 return self.push_denied(text, returning.assertion());
             }

@@ -1,9 +1,9 @@
 //! Lines of a step that is not where control may be: outside a body, at no instruction, at no entry, or at no declared halt.
 
-use crate::sentence::{Argument, push_sentence};
 use crate::violations::ViolatingStep;
 use crate::violations::returns::distance;
 use command_parts::message::MessageWriter;
+use command_parts::sentence::{Argument, push_sentence};
 use declaration::Owner;
 use instruct::{Format, Operation, refers_indirectly, target};
 use processor::is_auto_index;
@@ -95,7 +95,7 @@ impl<D: Allocator> ViolatingStep<'_, D> {
             return push_sentence(
                 text,
                 "the word {} is not an instruction of the declared machine\n",
-                &[Argument::Word(self.cpu.memory.get(at))],
+                &[Argument::Octal(self.cpu.memory.get(at))],
             );
         }
         self.push_outside(text, at)

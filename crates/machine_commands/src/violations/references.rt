@@ -1,8 +1,8 @@
 //! Lines of cells that a memory reference writes or reads, though it may not.
 
-use crate::sentence::{Argument, push_sentence};
 use crate::violations::ViolatingStep;
 use command_parts::message::MessageWriter;
+use command_parts::sentence::{Argument, push_sentence};
 use instruct::Operation;
 use processor::Reference;
 use std::alloc::{AllocError, Allocator};
@@ -58,8 +58,8 @@ impl<D: Allocator> ViolatingStep<'_, D> {
             "{} holds {}, and would hold {} after the write\n",
             &[
                 Argument::Address(cell),
-                Argument::Word(self.cpu.memory.get(cell)),
-                Argument::Word(then),
+                Argument::Octal(self.cpu.memory.get(cell)),
+                Argument::Octal(then),
             ],
         )
     }
@@ -125,7 +125,7 @@ impl<D: Allocator> ViolatingStep<'_, D> {
                 Argument::Address(cell),
                 Argument::Advised(cell),
                 Argument::Address(cell),
-                Argument::Word(self.cpu.memory.get(cell)),
+                Argument::Octal(self.cpu.memory.get(cell)),
             ],
         )
     }

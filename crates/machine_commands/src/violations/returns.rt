@@ -1,8 +1,8 @@
 //! Lines of a return that does not go where its call may return.
 
-use crate::sentence::{Argument, push_sentence};
 use crate::violations::ViolatingStep;
 use command_parts::message::MessageWriter;
+use command_parts::sentence::{Argument, push_sentence};
 use policy::Call;
 use std::alloc::{AllocError, Allocator};
 use word12::Word;
@@ -31,7 +31,7 @@ fn push_offset_advice<L: MessageWriter>(
         let arguments = [number, Argument::Advised(entry)];
         return push_sentence(text, "the offset {} to the line `sub {}`\n", &arguments);
     }
-    let arguments = [Argument::Advised(entry), Argument::Word(offset)];
+    let arguments = [Argument::Advised(entry), Argument::Octal(offset)];
     push_sentence(text, "`skips {} {}`\n", &arguments)
 }
 

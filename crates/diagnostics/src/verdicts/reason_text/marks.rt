@@ -1,26 +1,23 @@
 //! Which fact it is, where several stand at an address, and what tells it from the others.
 
-use crate::pieces::Piece::{Address, Decimal, Octal, Text};
-use crate::pieces::push_pieces;
 use crate::verdicts::reason_context::{Distinction, ReasonContext};
-use command_parts::message::{MessageWriter, push_text_and_address, push_text_and_word};
+use command_parts::message::MessageWriter;
+use command_parts::sentence::Argument::{Address, Number, Octal};
+use command_parts::sentence::push_sentence;
 use std::alloc::AllocError;
 
 /// Adds what tells a fact from another at its address.
 fn push_mark<L: MessageWriter>(text: &mut L, mark: &Distinction) -> Result<(), AllocError> {
     match mark {
-        Distinction::CalledFrom(site) => push_text_and_address(
-            text,
-            b", for the call from ",
-            *site,
-        ),
+        Distinction::CalledFrom(site) => {
+            push_sentence(text, ", for the call from {}", &[Address(*site)])
+        }
         Distinction::LinkClear => text.push_text(b", link 0"),
         Distinction::LinkSet => text.push_text(b", link 1"),
-        Distinction::Accumulator(word) => push_text_and_word(text, b", AC = ", *word),
-        Distinction::Cell(cell, word) => push_pieces(
-            text,
-            &[Text(b", ["), Address(*cell), Text(b"] = "), Octal(*word)],
-        ),
+        Distinction::Accumulator(word) => push_sentence(text, ", AC = {}", &[Octal(*word)]),
+        Distinction::Cell(cell, word) => {
+            push_sentence(text, ", [{}] = {}", &[Address(*cell), Octal(*word)])
+        }
     }
 }
 
@@ -35,16 +32,8 @@ pub fn push_which<L: MessageWriter>(
     if telling.count < 2 {
         return Ok(());
     }
-    push_pieces(
-        text,
-        &[
-            Text(b"fact "),
-            Decimal(index.saturating_add(1)),
-            Text(b" of "),
-            Decimal(telling.count),
-            Text(b" at this address"),
-        ],
-    )?;
+    let place = [Number(index.saturating_add(1)), Number(telling.count)];
+    push_sentence(text, "fact {} of {} at this address", &place)?;
     for mark in &[
         telling.site,
         telling.link,

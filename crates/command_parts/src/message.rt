@@ -16,6 +16,9 @@ pub trait MessageWriter {
     /// Adds an address of the program.
     fn push_address(&mut self, at: Word) -> Result<(), AllocError>;
 
+    /// Adds the address of a cell of which something is said: the same, but for a link to it.
+    fn push_cell(&mut self, at: Word) -> Result<(), AllocError>;
+
     /// Adds an address within a line of a declaration that is advised, where a symbol may stand in its place.
     fn push_advised_address(&mut self, at: Word) -> Result<(), AllocError>;
 
@@ -35,6 +38,10 @@ impl<A: Allocator> MessageWriter for Vec<u8, A> {
     }
 
     fn push_address(&mut self, at: Word) -> Result<(), AllocError> {
+        push_word(self, at)
+    }
+
+    fn push_cell(&mut self, at: Word) -> Result<(), AllocError> {
         push_word(self, at)
     }
 
@@ -167,6 +174,11 @@ impl<A: Allocator> MessageWriter for Message<A> {
     }
 
     fn push_address(&mut self, at: Word) -> Result<(), AllocError> {
+        push_word(&mut self.bytes, at)?;
+        self.mark(AddressMark::Address(at))
+    }
+
+    fn push_cell(&mut self, at: Word) -> Result<(), AllocError> {
         push_word(&mut self.bytes, at)?;
         self.mark(AddressMark::Address(at))
     }

@@ -15,6 +15,8 @@ const MOST_RANGES: usize = 16;
 pub enum Argument<'a> {
     /// An address of the program.
     Address(Word),
+    /// The address of a cell of which something is said: the same, but for a link to it.
+    Cell(Word),
     /// An address within a line of a declaration that is advised.
     Advised(Word),
     /// A word that is not an address.
@@ -33,6 +35,8 @@ pub enum Argument<'a> {
     Words(&'a WordSet),
     /// Addresses of the program, by the first ranges of their set and how many more there are.
     Addresses(&'a WordSet),
+    /// Offsets from a return address, each of them.
+    Offsets(&'a WordSet),
 }
 
 /// Adds a number in decimal digits.
@@ -48,16 +52,26 @@ fn push_offset<L: MessageWriter>(text: &mut L, offset: usize) -> Result<(), Allo
     push_number(text, offset % 8)
 }
 
-/// Adds a word of a set, which is an address or not.
-fn push_member<L: MessageWriter>(
+/// Adds a range of addresses or of other words.
+fn push_range<L: MessageWriter>(
     text: &mut L,
-    word: Word,
-    is_address: bool,
+    first: Word,
+    last: Word,
+    are_addresses: bool,
 ) -> Result<(), AllocError> {
-    if is_address {
-        text.push_address(word)
+    if are_addresses {
+        text.push_address(first)?;
     } else {
-        text.push_text(&word.to_octal())
+        text.push_text(&first.to_octal())?;
+    }
+    if first == last {
+        return Ok(());
+    }
+    text.push_text(b"-")?;
+    if are_addresses {
+        text.push_cell(last)
+    } else {
+        text.push_text(&last.to_octal())
     }
 }
 
@@ -79,21 +93,38 @@ fn push_set<L: MessageWriter>(
         if shown > 0 {
             text.push_text(b",")?;
         }
-        push_member(text, first, are_addresses)?;
-        if last != first {
-            text.push_text(b"-")?;
-            push_member(text, last, are_addresses)?;
-        }
+        push_range(text, first, last, are_addresses)?;
         rest = rest.minus(&WordSet::range(first, last));
         shown = shown.saturating_add(1);
     }
     text.push_text(if shown == 0 { b"-" } else { b"" })
 }
 
+/// Adds each of some offsets; if there are none, a dash is shown.
+fn push_offsets<L: MessageWriter>(text: &mut L, offsets: &WordSet) -> Result<(), AllocError> {
+    let mut is_first = true;
+    for offset in offsets.iter() {
+        if !is_first {
+            text.push_text(b",")?;
+        }
+        push_offset(text, offset.index())?;
+        is_first = false;
+    }
+    text.push_text(if is_first { b"-" } else { b"" })
+}
+
 /// Adds what stands in a sentence.
-fn push_argument<L: MessageWriter>(text: &mut L, argument: &Argument<'_>) -> Result<(), AllocError> {
+///
+/// # Errors
+///
+/// Memory was refused.
+pub fn push_argument<L: MessageWriter>(
+    text: &mut L,
+    argument: &Argument<'_>,
+) -> Result<(), AllocError> {
     match argument {
         Argument::Address(at) => text.push_address(*at),
+        Argument::Cell(at) => text.push_cell(*at),
         Argument::Advised(at) => text.push_advised_address(*at),
         Argument::Octal(word) => text.push_text(&word.to_octal()),
         Argument::Digit(link) => push_number(text, usize::from(link.is_set())),
@@ -103,6 +134,7 @@ fn push_argument<L: MessageWriter>(text: &mut L, argument: &Argument<'_>) -> Res
         Argument::Text(words) => text.push_text(words.as_bytes()),
         Argument::Words(set) => push_set(text, set, false),
         Argument::Addresses(set) => push_set(text, set, true),
+        Argument::Offsets(offsets) => push_offsets(text, offsets),
     }
 }
 

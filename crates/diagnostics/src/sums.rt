@@ -1,7 +1,7 @@
 //! Sums, relations and chains in words, for messages and for reports.
 
 use command_parts::message::MessageWriter;
-use command_parts::sentence::Argument::{Address, Name, Octal, Text, Words};
+use command_parts::sentence::Argument::{Cell, Name, Octal, Text, Words};
 use command_parts::sentence::push_sentence;
 use domain::{Chain, Location, Relation, Step, Sum, Term, is_sign, negated};
 use instruct::Profile;
@@ -32,7 +32,7 @@ enum Distance {
 pub fn push_name<L: MessageWriter>(text: &mut L, name: &Location) -> Result<(), AllocError> {
     match name {
         Location::Accumulator => text.push_text(b"AC"),
-        Location::Cell(cell) => push_sentence(text, "[{}]", &[Address(*cell)]),
+        Location::Cell(cell) => push_sentence(text, "[{}]", &[Cell(*cell)]),
     }
 }
 
@@ -58,7 +58,7 @@ fn push_cell_behind<L: MessageWriter>(
     cell: Word,
     more: Word,
 ) -> Result<(), AllocError> {
-    push_sentence(text, "[{}]", &[Address(cell)])?;
+    push_sentence(text, "[{}]", &[Cell(cell)])?;
     push_added(text, "+{}", "-{}", more)
 }
 

@@ -1,7 +1,7 @@
 //! What is known at an address, item by item, and what of it is the same as on the line above.
 
 use crate::cases::{FactDifferences, are_same_offsets, is_uncounted};
-use crate::items::{Equation, Item, link_text, write_item, write_subject, write_up_by};
+use crate::items::{Item, link_text, push_subject, push_up_by, write_item};
 use crate::known_fact::{KnownFact, Subject};
 use crate::writer::ReportWriter;
 use bin_tape::Image;
@@ -42,19 +42,6 @@ fn is_same_chain(chain: &Chain, other: &Chain) -> bool {
         && chain.more() == other.more()
         && chain.links() == other.links()
         && chain.steps() == other.steps()
-}
-
-/// The equation that a relation is, if one word is how much the first name is more than the second.
-fn equation_of(relation: &Relation) -> Option<Equation> {
-    let [left, right, ..] = relation.sum.summands() else {
-        return None;
-    };
-    let more = relation.set.only()?;
-    Some(Equation {
-        left: left.term.name(),
-        right: right.term.name(),
-        more,
-    })
 }
 
 impl ShownFact<'_, '_, '_> {
@@ -116,14 +103,15 @@ impl ShownFact<'_, '_, '_> {
 
     /// Writes the item of an equation, with the words that all that is known leaves to the name on its left.
     fn write_equation<A: Allocator>(&self, writer: &mut ReportWriter<'_, A>, relation: &Relation) {
-        let Some(equation) = equation_of(relation) else {
+        let [first, ..] = relation.sum.summands() else {
             return;
         };
-        let set = self.known.narrowed(&self.setting, &equation.left);
+        let left = first.term.name();
+        let set = self.known.narrowed(&self.setting, &left);
         let same = self.above.is_some_and(|above| {
-            has_relation(above, relation) && above.narrowed(&self.setting, &equation.left) == set
+            has_relation(above, relation) && above.narrowed(&self.setting, &left) == set
         });
-        write_item(writer, &Item::Equation(&equation, &set), same);
+        write_item(writer, &Item::Equation(relation, &set), same);
     }
 
     /// Writes the items of the relations that the fact claims.
@@ -226,37 +214,31 @@ impl ShownFact<'_, '_, '_> {
     }
 }
 
-/// Begins a part of what distinguishes a fact from others.
-fn begin_part<A: Allocator>(writer: &mut ReportWriter<'_, A>, is_first: &mut bool) {
-    if !*is_first {
-        writer.put(b", ");
-    }
-    *is_first = false;
-}
-
-/// Writes what distinguishes a fact from others.
+/// Writes what distinguishes a fact from others: the items on it, with commas between them.
 pub(crate) fn write_apart<A: Allocator>(
     writer: &mut ReportWriter<'_, A>,
     known: &KnownFact,
     apart: &FactDifferences,
 ) {
-    let mut is_first = true;
+    let mut between = "";
     if apart.sites {
-        begin_part(writer, &mut is_first);
-        write_subject(writer, &Subject::Sites, &known.sites());
+        let _ = push_subject(writer, &Subject::Sites, &known.sites());
+        between = ", ";
     }
     if apart.offsets {
-        begin_part(writer, &mut is_first);
-        write_up_by(writer, known.fact.offsets());
+        writer.fill(between, &[]);
+        let _ = push_up_by(writer, known.fact.offsets());
+        between = ", ";
     }
     if let Some(name) = &apart.name {
-        begin_part(writer, &mut is_first);
+        writer.fill(between, &[]);
         let subject = subject_of(name);
-        write_subject(writer, &subject, &known.words_of(&subject));
+        let _ = push_subject(writer, &subject, &known.words_of(&subject));
+        between = ", ";
     }
     if apart.link {
-        begin_part(writer, &mut is_first);
-        writer.put(link_text(known.fact.link()));
+        writer.fill(between, &[]);
+        writer.fill(link_text(known.fact.link()), &[]);
     }
 }
 

@@ -15,7 +15,6 @@ mod map;
 mod names;
 mod page;
 mod promises;
-mod relations;
 mod report;
 mod routines;
 mod source_notes;

@@ -124,37 +124,12 @@ fn push_lost_offsets<L: MessageWriter, A: Allocator, B: Allocator>(
         let offsets = offsets_of(given, entry).minus(&offsets_of(less, entry));
         push_routine_offsets(
             told,
-            b"--tight leaves out offsets by which the routine ",
+            "--tight leaves out offsets by which the routine",
             entry,
             &offsets,
         )?;
     }
     Ok(())
-}
-
-/// Adds the halts and the permissions that one declaration has and another one lacks.
-fn push_lost_leave<L: MessageWriter, A: Allocator, B: Allocator>(
-    told: &mut L,
-    given: &Declaration<A>,
-    less: &Declaration<B>,
-) -> Result<(), AllocError> {
-    let halts = given.stops().union(given.pauses());
-    let kept_halts = less.stops().union(less.pauses());
-    push_cells(
-        told,
-        b"--tight leaves out stops and pauses at which no run halts",
-        &halts.minus(&kept_halts),
-    )?;
-    push_cells(
-        told,
-        b"--tight leaves out addresses in `abandon` lines at which no call is abandoned",
-        &given.abandons().minus(less.abandons()),
-    )?;
-    push_cells(
-        told,
-        b"--tight leaves out routines in `moves` lines that do not store their return word",
-        &given.moves().minus(less.moves()),
-    )
 }
 
 /// Adds what one declaration has and another one lacks.
@@ -163,28 +138,47 @@ fn push_lost<L: MessageWriter, A: Allocator, B: Allocator>(
     given: &Declaration<A>,
     less: &Declaration<B>,
 ) -> Result<(), AllocError> {
+    let halts = given.stops().union(given.pauses());
+    let kept_halts = less.stops().union(less.pauses());
     push_cells(
         told,
-        b"--tight leaves out body cells that no run reaches",
-        &given.bodies().minus(&less.bodies()),
-    )?;
-    push_cells(
-        told,
-        b"--tight leaves out routines that are never called",
-        &given.entries().minus(&less.entries()),
+        &[
+            (
+                "--tight leaves out body cells that no run reaches",
+                given.bodies().minus(&less.bodies()),
+            ),
+            (
+                "--tight leaves out routines that are never called",
+                given.entries().minus(&less.entries()),
+            ),
+        ],
     )?;
     push_lost_offsets(told, given, less)?;
     push_cells(
         told,
-        b"--tight leaves out variables that no instruction writes",
-        &given.variables().minus(less.variables()),
-    )?;
-    push_cells(
-        told,
-        b"--tight leaves out listed reads that are not needed",
-        &reads_of(given).minus(&reads_of(less)),
-    )?;
-    push_lost_leave(told, given, less)
+        &[
+            (
+                "--tight leaves out variables that no instruction writes",
+                given.variables().minus(less.variables()),
+            ),
+            (
+                "--tight leaves out listed reads that are not needed",
+                reads_of(given).minus(&reads_of(less)),
+            ),
+            (
+                "--tight leaves out stops and pauses at which no run halts",
+                halts.minus(&kept_halts),
+            ),
+            (
+                "--tight leaves out addresses in `abandon` lines at which no call is abandoned",
+                given.abandons().minus(less.abandons()),
+            ),
+            (
+                "--tight leaves out routines in `moves` lines that do not store their return word",
+                given.moves().minus(less.moves()),
+            ),
+        ],
+    )
 }
 
 /// The message about a declaration from which something, or nothing, was left out.

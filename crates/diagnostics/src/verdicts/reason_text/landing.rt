@@ -15,13 +15,11 @@ fn push_gap<L: MessageWriter>(text: &mut L, gap: &Counterexample) -> Result<(), 
         Counterexample::Accumulator(word) => push_sentence(text, "AC may be {}", &[Octal(*word)]),
         Counterexample::Mq(word) => push_sentence(text, "MQ may be {}", &[Octal(*word)]),
         Counterexample::Link(link) => push_sentence(text, "the link may be {}", &[Digit(*link)]),
-        Counterexample::Site(site) => {
-            push_sentence(
-                text,
-                "the routine may have been called from {}",
-                &[Address(*site)],
-            )
-        }
+        Counterexample::Site(site) => push_sentence(
+            text,
+            "the routine may have been called from {}",
+            &[Address(*site)],
+        ),
         Counterexample::Offset(offset) => push_sentence(
             text,
             "the return word may be the return address plus {}",
@@ -62,13 +60,11 @@ fn push_may_hold<L: MessageWriter>(
 ) -> Result<(), AllocError> {
     match name {
         Location::Accumulator => push_sentence(text, "AC may be {}", &[Octal(word)]),
-        Location::Cell(cell) => {
-            push_sentence(
-                text,
-                "the cell {} may hold {}",
-                &[Address(*cell), Octal(word)],
-            )
-        }
+        Location::Cell(cell) => push_sentence(
+            text,
+            "the cell {} may hold {}",
+            &[Address(*cell), Octal(word)],
+        ),
     }
 }
 

@@ -8,53 +8,46 @@ use instruct::Profile;
 use std::alloc::{AllocError, Allocator};
 use word12::Word;
 
-/// Takes a text for people, piece by piece. A call fails where memory is refused.
+/// Whether something was written: it fails only where memory is refused.
+pub type Written = Result<(), AllocError>;
+
+/// Takes a text for people, piece by piece.
 pub trait MessageWriter {
     /// Adds a piece in which nothing is an address of the program.
-    fn push_text(&mut self, piece: &[u8]) -> Result<(), AllocError>;
+    fn push_text(&mut self, piece: &[u8]) -> Written;
 
     /// Adds an address of the program.
-    fn push_address(&mut self, at: Word) -> Result<(), AllocError>;
+    fn push_address(&mut self, at: Word) -> Written;
 
     /// Adds the address of a cell of which something is said: the same, but for a link to it.
-    fn push_cell(&mut self, at: Word) -> Result<(), AllocError>;
+    fn push_cell(&mut self, at: Word) -> Written;
 
     /// Adds an address within a line of a declaration that is advised, where a symbol may stand in its place.
-    fn push_advised_address(&mut self, at: Word) -> Result<(), AllocError>;
+    fn push_advised_address(&mut self, at: Word) -> Written;
 
     /// Adds the line of an instruction, as `dump` writes it, if its address has a word.
-    fn push_instruction(
-        &mut self,
-        at: Word,
-        word: Option<Word>,
-        profile: Profile,
-    ) -> Result<(), AllocError>;
+    fn push_instruction(&mut self, at: Word, word: Option<Word>, profile: Profile) -> Written;
 }
 
 /// Bytes take a text as it reads without a source.
 impl<A: Allocator> MessageWriter for Vec<u8, A> {
-    fn push_text(&mut self, piece: &[u8]) -> Result<(), AllocError> {
+    fn push_text(&mut self, piece: &[u8]) -> Written {
         self.extend_from_slice(piece)
     }
 
-    fn push_address(&mut self, at: Word) -> Result<(), AllocError> {
+    fn push_address(&mut self, at: Word) -> Written {
         push_word(self, at)
     }
 
-    fn push_cell(&mut self, at: Word) -> Result<(), AllocError> {
+    fn push_cell(&mut self, at: Word) -> Written {
         push_word(self, at)
     }
 
-    fn push_advised_address(&mut self, at: Word) -> Result<(), AllocError> {
+    fn push_advised_address(&mut self, at: Word) -> Written {
         push_word(self, at)
     }
 
-    fn push_instruction(
-        &mut self,
-        at: Word,
-        word: Option<Word>,
-        profile: Profile,
-    ) -> Result<(), AllocError> {
+    fn push_instruction(&mut self, at: Word, word: Option<Word>, profile: Profile) -> Written {
         push_dump_line(self, at, word, profile)
     }
 }
@@ -92,7 +85,7 @@ fn push_marks<A: Allocator>(
     marks: &mut Vec<PlacedMark, A>,
     others: &[PlacedMark],
     before: usize,
-) -> Result<(), AllocError> {
+) -> Written {
     for other in others {
         marks.push(PlacedMark {
             place: before.saturating_add(other.place),
@@ -137,7 +130,7 @@ impl<A: Allocator> Message<A> {
     }
 
     /// Marks what the text ends with.
-    fn mark(&mut self, mark: AddressMark) -> Result<(), AllocError> {
+    fn mark(&mut self, mark: AddressMark) -> Written {
         let place = self.bytes.len();
         self.marks.push(PlacedMark { place, mark })?;
         Ok(())
@@ -148,7 +141,7 @@ impl<A: Allocator> Message<A> {
     /// # Errors
     ///
     /// Memory was refused.
-    pub fn push_lines(&mut self, lines: &[u8]) -> Result<(), AllocError>
+    pub fn push_lines(&mut self, lines: &[u8]) -> Written
         ensures { OnOk result (plain self.new ≡ plain self.old ++ lines.now) }
     {
         self.bytes.extend_from_slice(lines)
@@ -159,7 +152,7 @@ impl<A: Allocator> Message<A> {
     /// # Errors
     ///
     /// Memory was refused.
-    pub fn push_message(&mut self, other: &Message<A>) -> Result<(), AllocError>
+    pub fn push_message(&mut self, other: &Message<A>) -> Written
         ensures { OnOk result (plain self.new ≡ plain self.old ++ plain other.now) }
     {
         let before = self.bytes.len();
@@ -169,31 +162,26 @@ impl<A: Allocator> Message<A> {
 }
 
 impl<A: Allocator> MessageWriter for Message<A> {
-    fn push_text(&mut self, piece: &[u8]) -> Result<(), AllocError> {
+    fn push_text(&mut self, piece: &[u8]) -> Written {
         self.bytes.extend_from_slice(piece)
     }
 
-    fn push_address(&mut self, at: Word) -> Result<(), AllocError> {
+    fn push_address(&mut self, at: Word) -> Written {
         push_word(&mut self.bytes, at)?;
         self.mark(AddressMark::Address(at))
     }
 
-    fn push_cell(&mut self, at: Word) -> Result<(), AllocError> {
+    fn push_cell(&mut self, at: Word) -> Written {
         push_word(&mut self.bytes, at)?;
         self.mark(AddressMark::Address(at))
     }
 
-    fn push_advised_address(&mut self, at: Word) -> Result<(), AllocError> {
+    fn push_advised_address(&mut self, at: Word) -> Written {
         push_word(&mut self.bytes, at)?;
         self.mark(AddressMark::AdvisedAddress(at))
     }
 
-    fn push_instruction(
-        &mut self,
-        at: Word,
-        word: Option<Word>,
-        profile: Profile,
-    ) -> Result<(), AllocError> {
+    fn push_instruction(&mut self, at: Word, word: Option<Word>, profile: Profile) -> Written {
         push_dump_line(&mut self.bytes, at, word, profile)?;
         if word.is_none() {
             return Ok(());

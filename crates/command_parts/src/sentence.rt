@@ -1,9 +1,8 @@
 //! Sentences for people, each a template and what stands in it. They are tested and not proved.
 
-use crate::message::MessageWriter;
+use crate::message::{MessageWriter, Written};
 use instruct::{Profile, name};
 use itoa::Buffer;
-use std::alloc::AllocError;
 use word12::{Link, Word};
 use wordset::WordSet;
 
@@ -40,12 +39,12 @@ pub enum Argument<'a> {
 }
 
 /// Adds a number in decimal digits.
-fn push_number<L: MessageWriter>(text: &mut L, number: usize) -> Result<(), AllocError> {
+fn push_number<L: MessageWriter>(text: &mut L, number: usize) -> Written {
     text.push_text(Buffer::new().format(number).as_bytes())
 }
 
 /// Adds a number in octal digits.
-fn push_offset<L: MessageWriter>(text: &mut L, offset: usize) -> Result<(), AllocError> {
+fn push_offset<L: MessageWriter>(text: &mut L, offset: usize) -> Written {
     if offset >= 8 {
         push_number(text, offset / 8)?;
     }
@@ -58,7 +57,7 @@ fn push_range<L: MessageWriter>(
     first: Word,
     last: Word,
     are_addresses: bool,
-) -> Result<(), AllocError> {
+) -> Written {
     if are_addresses {
         text.push_address(first)?;
     } else {
@@ -77,11 +76,7 @@ fn push_range<L: MessageWriter>(
 
 /// Adds the first ranges of a set of addresses or of other words, and how many more of them there are. Of an empty set a
 /// dash is shown.
-fn push_set<L: MessageWriter>(
-    text: &mut L,
-    set: &WordSet,
-    are_addresses: bool,
-) -> Result<(), AllocError> {
+fn push_set<L: MessageWriter>(text: &mut L, set: &WordSet, are_addresses: bool) -> Written {
     let mut rest = *set;
     let mut shown = 0usize;
     for (first, last) in set.ranges() {
@@ -101,7 +96,7 @@ fn push_set<L: MessageWriter>(
 }
 
 /// Adds each of some offsets; if there are none, a dash is shown.
-fn push_offsets<L: MessageWriter>(text: &mut L, offsets: &WordSet) -> Result<(), AllocError> {
+fn push_offsets<L: MessageWriter>(text: &mut L, offsets: &WordSet) -> Written {
     let mut is_first = true;
     for offset in offsets.iter() {
         if !is_first {
@@ -118,10 +113,7 @@ fn push_offsets<L: MessageWriter>(text: &mut L, offsets: &WordSet) -> Result<(),
 /// # Errors
 ///
 /// Memory was refused.
-pub fn push_argument<L: MessageWriter>(
-    text: &mut L,
-    argument: &Argument<'_>,
-) -> Result<(), AllocError> {
+pub fn push_argument<L: MessageWriter>(text: &mut L, argument: &Argument<'_>) -> Written {
     match argument {
         Argument::Address(at) => text.push_address(*at),
         Argument::Cell(at) => text.push_cell(*at),
@@ -147,7 +139,7 @@ pub fn push_sentence<L: MessageWriter>(
     text: &mut L,
     template: &str,
     arguments: &[Argument<'_>],
-) -> Result<(), AllocError> {
+) -> Written {
     let mut rest = template;
     for argument in arguments {
         let Some((before, behind)) = rest.split_once("{}") else {

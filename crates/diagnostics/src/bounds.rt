@@ -12,7 +12,7 @@ use crate::bounds::relations::{Relation, lost_relation};
 use crate::bounds::sufficient::{sufficient_words, test_of_pointer};
 use bin_tape::Image;
 use certificate::Certificate;
-use command_parts::message::MessageWriter;
+use command_parts::message::{MessageWriter, Written};
 use command_parts::sentence::Argument::{Address, Name, Octal, Text, Words};
 use command_parts::sentence::{Argument, push_sentence};
 use declaration::Declaration;
@@ -116,7 +116,7 @@ pub fn push_bound<A: Allocator + Copy, L: MessageWriter, D: Allocator, C: Alloca
     declaration: &Declaration<D>,
     draft: &Certificate<C>,
     at: Word,
-) -> Result<(), AllocError> {
+) -> Written {
     let Some(pointer) = pointer_at(image, declaration, at) else {
         return Ok(());
     };
@@ -147,7 +147,7 @@ fn push_sufficient<L: MessageWriter, D: Allocator, C: Allocator>(
     at: Word,
     pointer: Word,
     held: &WordSet,
-) -> Result<(), AllocError> {
+) -> Written {
     if !case.declaration.may_read(pointer) {
         return Ok(());
     }
@@ -172,7 +172,7 @@ fn push_test<L: MessageWriter, D: Allocator, C: Allocator>(
     case: &Case<'_, D, Certificate<C>>,
     at: Word,
     pointer: Word,
-) -> Result<(), AllocError> {
+) -> Written {
     match test_of_pointer(case.image, case.declaration, at, pointer) {
         Some(test) => push_sentence(
             text,
@@ -194,7 +194,7 @@ fn push_lost<A: Allocator + Copy, L: MessageWriter, D: Allocator, C: Allocator>(
     known: &mut DraftFacts<'_, C>,
     pointer: Word,
     at: Word,
-) -> Result<(), AllocError> {
+) -> Written {
     let Some(lost) = lost_before(alloc, case, known, pointer, at)? else {
         return Ok(());
     };
@@ -225,7 +225,7 @@ fn push_relation<L: MessageWriter, D: Allocator, C: Allocator>(
     case: &Case<'_, D, Certificate<C>>,
     relation: &Relation,
     at: Word,
-) -> Result<(), AllocError> {
+) -> Written {
     push_sentence(
         text,
         "the word in {} is the word in {} plus {}; this is known up to {} {}, and lost there\n",
@@ -245,7 +245,7 @@ fn push_loss<L: MessageWriter, D: Allocator, C: Allocator>(
     case: &Case<'_, D, Certificate<C>>,
     pointer: Word,
     lost: &LostBound,
-) -> Result<(), AllocError> {
+) -> Written {
     push_sentence(
         text,
         "the bound of {} was lost at {} {}: {}\n",

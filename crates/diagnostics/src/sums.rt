@@ -1,11 +1,10 @@
 //! Sums, relations and chains in words, for messages and for reports.
 
-use command_parts::message::MessageWriter;
+use command_parts::message::{MessageWriter, Written};
 use command_parts::sentence::Argument::{Cell, Name, Octal, Text, Words};
 use command_parts::sentence::push_sentence;
 use domain::{Chain, Location, Relation, Step, Sum, Term, is_sign, negated};
 use instruct::Profile;
-use std::alloc::AllocError;
 use word12::{Link, Word};
 use wordset::WordSet;
 
@@ -29,7 +28,7 @@ enum Distance {
 }
 
 /// Adds AC, or the address of a cell in brackets, for the word in it.
-pub fn push_name<L: MessageWriter>(text: &mut L, name: &Location) -> Result<(), AllocError> {
+pub fn push_name<L: MessageWriter>(text: &mut L, name: &Location) -> Written {
     match name {
         Location::Accumulator => text.push_text(b"AC"),
         Location::Cell(cell) => push_sentence(text, "[{}]", &[Cell(*cell)]),
@@ -37,12 +36,7 @@ pub fn push_name<L: MessageWriter>(text: &mut L, name: &Location) -> Result<(), 
 }
 
 /// Adds a number that is added to a word, or taken away from it, with a template for each of the two, and nothing for 0.
-fn push_added<L: MessageWriter>(
-    text: &mut L,
-    plus: &str,
-    minus: &str,
-    more: Word,
-) -> Result<(), AllocError> {
+fn push_added<L: MessageWriter>(text: &mut L, plus: &str, minus: &str, more: Word) -> Written {
     if more.index() >= HALF {
         push_sentence(text, minus, &[Octal(negated(more))])
     } else if more.index() > 0 {
@@ -53,17 +47,13 @@ fn push_added<L: MessageWriter>(
 }
 
 /// Adds the cell from whose address another one is so far.
-fn push_cell_behind<L: MessageWriter>(
-    text: &mut L,
-    cell: Word,
-    more: Word,
-) -> Result<(), AllocError> {
+fn push_cell_behind<L: MessageWriter>(text: &mut L, cell: Word, more: Word) -> Written {
     push_sentence(text, "[{}]", &[Cell(cell)])?;
     push_added(text, "+{}", "-{}", more)
 }
 
 /// Adds a term: a name, or the word that stood at the start at an address.
-fn push_term<L: MessageWriter>(text: &mut L, term: &Term) -> Result<(), AllocError> {
+fn push_term<L: MessageWriter>(text: &mut L, term: &Term) -> Written {
     match term {
         Term::Holding(name) => push_name(text, name),
         Term::Behind { cell, more } => {
@@ -84,7 +74,7 @@ fn sign_of(coefficient: Word, is_first: bool) -> &'static [u8] {
 }
 
 /// Adds a sum: its terms with their signs, and with their coefficients where the sign does not say all.
-fn push_sum<L: MessageWriter>(text: &mut L, sum: &Sum) -> Result<(), AllocError> {
+fn push_sum<L: MessageWriter>(text: &mut L, sum: &Sum) -> Written {
     for (place, summand) in sum.summands().iter().enumerate() {
         text.push_text(sign_of(summand.coefficient, place == 0))?;
         if !is_sign(summand.coefficient) {
@@ -105,7 +95,7 @@ fn difference_of(sum: &Sum) -> Option<(Term, Term)> {
 }
 
 /// Adds that one word may be more or less than another, or equal it.
-fn push_more<L: MessageWriter>(text: &mut L, word: Word) -> Result<(), AllocError> {
+fn push_more<L: MessageWriter>(text: &mut L, word: Word) -> Written {
     if word == Word::ZERO {
         text.push_text(b" may equal ")
     } else {
@@ -114,11 +104,7 @@ fn push_more<L: MessageWriter>(text: &mut L, word: Word) -> Result<(), AllocErro
 }
 
 /// Adds that a sum may be a word. Of a difference it is said by how much the one term may be more than the other.
-pub fn push_sum_may_be<L: MessageWriter>(
-    text: &mut L,
-    sum: &Sum,
-    word: Word,
-) -> Result<(), AllocError> {
+pub fn push_sum_may_be<L: MessageWriter>(text: &mut L, sum: &Sum, word: Word) -> Written {
     let Some((first, second)) = difference_of(sum) else {
         push_sum(text, sum)?;
         return push_sentence(text, " may be {}", &[Octal(word)]);
@@ -134,7 +120,7 @@ fn push_equation<L: MessageWriter>(
     first: &Term,
     second: &Term,
     more: Word,
-) -> Result<(), AllocError> {
+) -> Written {
     push_term(text, first)?;
     text.push_text(b" = ")?;
     push_term(text, second)?;
@@ -142,11 +128,7 @@ fn push_equation<L: MessageWriter>(
 }
 
 /// Adds what is said of a sum: the sum itself, or which word it is, if that is told. Of a difference it is said what its first term is.
-pub fn push_told<L: MessageWriter>(
-    text: &mut L,
-    sum: &Sum,
-    word: &Option<Word>,
-) -> Result<(), AllocError> {
+pub fn push_told<L: MessageWriter>(text: &mut L, sum: &Sum, word: &Option<Word>) -> Written {
     let Some(word) = word else {
         return push_sum(text, sum);
     };
@@ -181,11 +163,7 @@ fn distance_of(set: &WordSet) -> Option<Distance> {
 }
 
 /// Adds by which of some words a term is more or less than another.
-fn push_amount<L: MessageWriter>(
-    text: &mut L,
-    set: &WordSet,
-    than: &str,
-) -> Result<(), AllocError> {
+fn push_amount<L: MessageWriter>(text: &mut L, set: &WordSet, than: &str) -> Written {
     if let (Some(first), Some(last)) = (set.least(), set.greatest()) {
         if first != last && *set == WordSet::range(first, last) {
             return push_sentence(
@@ -199,7 +177,7 @@ fn push_amount<L: MessageWriter>(
 }
 
 /// Adds what stands between two terms that are so far apart.
-fn push_distance<L: MessageWriter>(text: &mut L, distance: &Distance) -> Result<(), AllocError> {
+fn push_distance<L: MessageWriter>(text: &mut L, distance: &Distance) -> Written {
     match distance {
         Distance::Nothing => text.push_text(b" = "),
         Distance::More(set) => push_amount(text, set, " more than "),
@@ -213,7 +191,7 @@ fn push_distance<L: MessageWriter>(text: &mut L, distance: &Distance) -> Result<
 }
 
 /// Adds the words that something may be, after its name.
-pub fn push_in<L: MessageWriter>(text: &mut L, set: &WordSet) -> Result<(), AllocError> {
+pub fn push_in<L: MessageWriter>(text: &mut L, set: &WordSet) -> Written {
     let is_one = set.only().is_some();
     push_sentence(
         text,
@@ -223,10 +201,7 @@ pub fn push_in<L: MessageWriter>(text: &mut L, set: &WordSet) -> Result<(), Allo
 }
 
 /// Adds a relation: of a difference by how much the one term is more or less than the other, where there are words for that.
-pub fn push_relation<L: MessageWriter>(
-    text: &mut L,
-    relation: &Relation,
-) -> Result<(), AllocError> {
+pub fn push_relation<L: MessageWriter>(text: &mut L, relation: &Relation) -> Written {
     let mut set = WordSet::empty();
     relation.set.put(&mut set);
     match (difference_of(&relation.sum), distance_of(&set)) {
@@ -243,7 +218,7 @@ pub fn push_relation<L: MessageWriter>(
 }
 
 /// Adds that nothing is known about a sum any more; of a difference that its terms are unrelated.
-pub fn push_lost<L: MessageWriter>(text: &mut L, sum: &Sum) -> Result<(), AllocError> {
+pub fn push_lost<L: MessageWriter>(text: &mut L, sum: &Sum) -> Written {
     let Some((first, second)) = difference_of(sum) else {
         push_sum(text, sum)?;
         return text.push_text(b" any");
@@ -255,11 +230,7 @@ pub fn push_lost<L: MessageWriter>(text: &mut L, sum: &Sum) -> Result<(), AllocE
 }
 
 /// Adds the steps of a chain.
-fn push_steps<L: MessageWriter>(
-    text: &mut L,
-    profile: Profile,
-    steps: &[Step],
-) -> Result<(), AllocError> {
+fn push_steps<L: MessageWriter>(text: &mut L, profile: Profile, steps: &[Step]) -> Written {
     for (place, step) in steps.iter().enumerate() {
         text.push_text(if place == 0 { b" by " } else { b", " })?;
         match step {
@@ -273,11 +244,7 @@ fn push_steps<L: MessageWriter>(
 
 /// Adds a chain: from which word the accumulator comes, by which steps. The link matters if there are other steps than AND,
 /// or if not every link stands at the beginning.
-pub fn push_chain<L: MessageWriter>(
-    text: &mut L,
-    profile: Profile,
-    chain: &Chain,
-) -> Result<(), AllocError> {
+pub fn push_chain<L: MessageWriter>(text: &mut L, profile: Profile, chain: &Chain) -> Written {
     let links = chain.links();
     let begun_with = match (links.contains(Link::CLEAR), links.contains(Link::SET)) {
         (true, true) => " and any L",

@@ -2,13 +2,13 @@
 
 use crate::known_fact::Subject;
 use crate::writer::ReportWriter;
-use command_parts::message::MessageWriter;
+use command_parts::message::{MessageWriter, Written};
 use command_parts::sentence::Argument::{Addresses, Cell, Offsets, Words};
 use command_parts::sentence::push_sentence;
 use diagnostics::sums::{push_chain, push_in, push_lost, push_relation, push_told};
 use domain::{Chain, Relation, ReturnOffsets, Sum};
 use instruct::Profile;
-use std::alloc::{AllocError, Allocator};
+use std::alloc::Allocator;
 use word12::{Link, Word};
 use wordset::{Links, WordSet};
 
@@ -38,7 +38,7 @@ pub(crate) fn push_subject<L: MessageWriter>(
     text: &mut L,
     subject: &Subject,
     set: &WordSet,
-) -> Result<(), AllocError> {
+) -> Written {
     match subject {
         Subject::Accumulator => text.push_text(b"AC")?,
         Subject::Mq => text.push_text(b"MQ")?,
@@ -63,10 +63,7 @@ pub(crate) fn link_text(links: Links) -> &'static str {
 }
 
 /// Adds by how much the return word may have been incremented.
-pub(crate) fn push_up_by<L: MessageWriter>(
-    text: &mut L,
-    offsets: ReturnOffsets,
-) -> Result<(), AllocError> {
+pub(crate) fn push_up_by<L: MessageWriter>(text: &mut L, offsets: ReturnOffsets) -> Written {
     let mut counted = WordSet::empty();
     for offset in 0..64usize {
         if offsets.contains(offset) {
@@ -77,11 +74,7 @@ pub(crate) fn push_up_by<L: MessageWriter>(
 }
 
 /// Adds an equation, and the words that are left to the name on its left, where they are not all words.
-fn push_equation<L: MessageWriter>(
-    text: &mut L,
-    equation: &Relation,
-    left: &WordSet,
-) -> Result<(), AllocError> {
+fn push_equation<L: MessageWriter>(text: &mut L, equation: &Relation, left: &WordSet) -> Written {
     push_told(text, &equation.sum, &equation.set.only())?;
     if left.is_all() {
         return Ok(());
@@ -90,7 +83,7 @@ fn push_equation<L: MessageWriter>(
 }
 
 /// Adds the text of an item.
-fn push_item<L: MessageWriter>(text: &mut L, item: &Item<'_>) -> Result<(), AllocError> {
+fn push_item<L: MessageWriter>(text: &mut L, item: &Item<'_>) -> Written {
     match item {
         Item::Words(subject, set) => push_subject(text, subject, set),
         Item::Link(links) => text.push_text(link_text(*links).as_bytes()),

@@ -2,7 +2,7 @@
 
 use crate::escaping::push_escaped;
 use crate::source_notes::{SourceNotes, label_in};
-use command_parts::message::MessageWriter;
+use command_parts::message::{MessageWriter, Written};
 use command_parts::sentence::Argument::Number;
 use command_parts::sentence::{Argument, push_argument};
 use instruct::{Profile, name};
@@ -194,12 +194,12 @@ impl<'a, A: Allocator> ReportWriter<'a, A> {
 /// A report takes a sentence as text that is not markup, and each address with a link to its line, if it has one, and with
 /// its label. A call never fails: where memory is refused, nothing more is written.
 impl<A: Allocator> MessageWriter for ReportWriter<'_, A> {
-    fn push_text(&mut self, piece: &[u8]) -> Result<(), AllocError> {
+    fn push_text(&mut self, piece: &[u8]) -> Written {
         self.say(piece);
         Ok(())
     }
 
-    fn push_address(&mut self, at: Word) -> Result<(), AllocError> {
+    fn push_address(&mut self, at: Word) -> Written {
         if self.has_line(at) {
             self.link(at);
             self.put(&at.to_octal());
@@ -211,22 +211,17 @@ impl<A: Allocator> MessageWriter for ReportWriter<'_, A> {
         }
     }
 
-    fn push_cell(&mut self, at: Word) -> Result<(), AllocError> {
+    fn push_cell(&mut self, at: Word) -> Written {
         self.put(&at.to_octal());
         self.label(b" (", at, b")");
         Ok(())
     }
 
-    fn push_advised_address(&mut self, at: Word) -> Result<(), AllocError> {
+    fn push_advised_address(&mut self, at: Word) -> Written {
         self.push_address(at)
     }
 
-    fn push_instruction(
-        &mut self,
-        at: Word,
-        word: Option<Word>,
-        profile: Profile,
-    ) -> Result<(), AllocError> {
+    fn push_instruction(&mut self, at: Word, word: Option<Word>, profile: Profile) -> Written {
         if let Some(word) = word {
             self.push_address(at)?;
             self.put(b" ");

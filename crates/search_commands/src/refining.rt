@@ -19,7 +19,7 @@ use crate::narrowing::narrowed;
 use crate::returning::push_all_returns;
 use crate::verifying::certificate_for;
 use bin_tape::Image;
-use command_parts::message::{Message, MessageWriter};
+use command_parts::message::{Message, MessageWriter, Written};
 use command_parts::status::Fault;
 use declaration::{Declaration, DeclarationFault};
 use diagnostics::verdicts::surplus_text::{Shown, push_cells, push_routine_offsets};
@@ -118,7 +118,7 @@ fn push_lost_offsets<L: MessageWriter, A: Allocator, B: Allocator>(
     told: &mut L,
     given: &Declaration<A>,
     less: &Declaration<B>,
-) -> Result<(), AllocError> {
+) -> Written {
     for routine in less.routines() {
         let entry = routine.entry();
         let offsets = offsets_of(given, entry).minus(&offsets_of(less, entry));
@@ -137,7 +137,7 @@ fn push_lost<L: MessageWriter, A: Allocator, B: Allocator>(
     told: &mut L,
     given: &Declaration<A>,
     less: &Declaration<B>,
-) -> Result<(), AllocError> {
+) -> Written {
     let halts = given.stops().union(given.pauses());
     let kept_halts = less.stops().union(less.pauses());
     push_cells(

@@ -11,7 +11,7 @@ ghost use Rattle.declaration.specs.DeclarationInCode.{meaning, routine_of};
 ghost use Rattle.diagnostics.specs.Omissions.{IsHalt, IsOmitted, IsOnTape, IsViolation, Means, Stores};
 
 use bin_tape::Image;
-use command_parts::message::MessageWriter;
+use command_parts::message::{MessageWriter, Written};
 use command_parts::sentence::Argument::{Address, Advised};
 use command_parts::sentence::push_sentence;
 use declaration::{Declaration, Owner};
@@ -385,11 +385,7 @@ fn remedy_of(omission: &Omission) -> &'static str {
 }
 
 /// Adds the line of what to do about what is omitted at an address.
-fn push_remedy_line<L: MessageWriter>(
-    text: &mut L,
-    at: Word,
-    omission: &Omission,
-) -> Result<(), AllocError> {
+fn push_remedy_line<L: MessageWriter>(text: &mut L, at: Word, omission: &Omission) -> Written {
     let place = match omission {
         Omission::GoesOn(_) | Omission::GoesAcross(_) => at,
         _ => place_of(at, omission),
@@ -399,11 +395,7 @@ fn push_remedy_line<L: MessageWriter>(
 }
 
 /// Adds the line of what the instruction at an address would violate, and what to do about it.
-fn push_omission<L: MessageWriter>(
-    text: &mut L,
-    at: Word,
-    omission: &Omission,
-) -> Result<(), AllocError> {
+fn push_omission<L: MessageWriter>(text: &mut L, at: Word, omission: &Omission) -> Written {
     push_sentence(text, act_of(omission), &[Address(place_of(at, omission))])?;
     text.push_text(b": ")?;
     push_remedy_line(text, at, omission)
@@ -411,11 +403,7 @@ fn push_omission<L: MessageWriter>(
 
 /// Adds what is said of the instruction at which a search is stuck, where this is omitted. Where the reason already names a line
 /// that would allow the instruction, nothing is added.
-fn push_stuck<L: MessageWriter>(
-    text: &mut L,
-    at: Word,
-    omission: &Omission,
-) -> Result<(), AllocError> {
+fn push_stuck<L: MessageWriter>(text: &mut L, at: Word, omission: &Omission) -> Written {
     match omission {
         Omission::NoWord | Omission::OfThe8e => push_omission(text, at, omission),
         Omission::StoresInOwn(_) | Omission::JumpsToMain(_) => Ok(()),
@@ -449,7 +437,7 @@ pub fn push_stuck_remedy<L: MessageWriter, D: Allocator>(
     image: &Image,
     declaration: &Declaration<D>,
     at: Word,
-) -> Result<(), AllocError> {
+) -> Written {
     match omitted_at(image, declaration, at) {
         Some(omission) => push_stuck(text, at, &omission),
         None => Ok(()),
@@ -468,7 +456,7 @@ pub fn push_omissions<L: MessageWriter, D: Allocator>(
     image: &Image,
     declaration: &Declaration<D>,
     left_out: Option<Word>,
-) -> Result<(), AllocError> {
+) -> Written {
     let mut found = 0usize;
     for index in 0..4096usize {
         let at = Word::from_index(index);

@@ -4,7 +4,7 @@ use crate::verdicts::reason_context::{place_of, reason_context_of};
 use crate::verdicts::reason_text::push_why;
 use bin_tape::Image;
 use certificate::Certificate;
-use command_parts::message::{Message, MessageWriter};
+use command_parts::message::{Message, MessageWriter, Written};
 use command_parts::text_sink::TextSink;
 use declaration::Declaration;
 use judge::{Claims, Refusal};
@@ -19,7 +19,7 @@ fn push_fact<A: Allocator + Copy, C: Allocator>(
     certificate: &Certificate<C>,
     at: Word,
     reason: &Option<Reason>,
-) -> Result<(), AllocError> {
+) -> Written {
     let index = match place_of(reason) {
         Some(index) => index,
         None if certificate.count_facts(at, 0) == 1 => 0,

@@ -12,21 +12,16 @@ use crate::verdicts::reason_text::marks::push_which;
 use crate::verdicts::reason_text::violation::{push_denied, push_exit_line, push_violation};
 use crate::verdicts::verdict::condition_name;
 use bin_tape::Image;
-use command_parts::message::MessageWriter;
+use command_parts::message::{MessageWriter, Written};
 use command_parts::sentence::Argument::{Address, Number, Offset, Text};
 use command_parts::sentence::push_sentence;
 use domain::Rules;
 use instruct::Profile;
 use judge::Refusal;
 use reasons::Reason;
-use std::alloc::AllocError;
 
 /// Adds why a condition fails.
-fn push_reason<L: MessageWriter>(
-    text: &mut L,
-    rules: &Rules,
-    reason: &Reason,
-) -> Result<(), AllocError> {
+fn push_reason<L: MessageWriter>(text: &mut L, rules: &Rules, reason: &Reason) -> Written {
     match reason {
         Reason::AtStart(landing) => push_start(text, landing),
         Reason::LineAtNoEntry => {
@@ -78,7 +73,7 @@ pub fn push_why<L: MessageWriter>(
     verdict: &Result<(), Refusal>,
     reason: &Option<Reason>,
     telling: &ReasonContext,
-) -> Result<(), AllocError> {
+) -> Written {
     let Err(refusal) = verdict else {
         return Ok(());
     };

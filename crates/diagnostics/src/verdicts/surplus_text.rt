@@ -4,7 +4,7 @@ ghost use Rattle.std.specs.Prelude.{◌<◌};
 
 use bin_tape::Image;
 use certificate::Certificate;
-use command_parts::message::{Message, MessageWriter};
+use command_parts::message::{Message, MessageWriter, Written};
 use command_parts::sentence::Argument::{Address, Offset, Text, Words};
 use command_parts::sentence::push_sentence;
 use declaration::Declaration;
@@ -101,11 +101,7 @@ impl<D: Allocator, C: Allocator> Shown<'_, D, C> {
 }
 
 /// Adds the ranges of some offsets or addresses, as a declaration has them.
-fn push_ranges<L: MessageWriter>(
-    text: &mut L,
-    set: &WordSet,
-    are_offsets: bool,
-) -> Result<(), AllocError> {
+fn push_ranges<L: MessageWriter>(text: &mut L, set: &WordSet, are_offsets: bool) -> Written {
     for (first, last) in set.ranges() {
         let template = if first == last { " {}" } else { " {}-{}" };
         let ends = if are_offsets {
@@ -119,10 +115,7 @@ fn push_ranges<L: MessageWriter>(
 }
 
 /// Adds a line for each of some sets of cells that has any, with what these are.
-pub fn push_cells<L: MessageWriter>(
-    text: &mut L,
-    sets: &[(&str, WordSet)],
-) -> Result<(), AllocError> {
+pub fn push_cells<L: MessageWriter>(text: &mut L, sets: &[(&str, WordSet)]) -> Written {
     for (name, cells) in sets {
         if !cells.is_empty() {
             push_sentence(text, "{}:", &[Text(name)])?;
@@ -138,7 +131,7 @@ pub fn push_routine_offsets<L: MessageWriter>(
     name: &str,
     entry: Word,
     offsets: &WordSet,
-) -> Result<(), AllocError> {
+) -> Written {
     if offsets.is_empty() {
         return Ok(());
     }
@@ -163,7 +156,7 @@ fn push_unused<L: MessageWriter, D: Allocator, C: Allocator>(
     text: &mut L,
     shown: &Shown<'_, D, C>,
     surplus: &Surplus,
-) -> Result<(), AllocError> {
+) -> Written {
     let on_tape = cells_of(shown.image);
     let rows: [(&str, WordSet); 9] = [
         (
@@ -200,7 +193,7 @@ fn push_idle_offsets<L: MessageWriter, D: Allocator, C: Allocator>(
     text: &mut L,
     shown: &Shown<'_, D, C>,
     surplus: &Surplus,
-) -> Result<(), AllocError> {
+) -> Written {
     for routine in shown.declaration.routines() {
         let entry = routine.entry();
         if surplus.uncalled.contains(entry) {
@@ -253,7 +246,7 @@ fn push_returns<L: MessageWriter, D: Allocator, C: Allocator>(
     text: &mut L,
     shown: &Shown<'_, D, C>,
     entry: Word,
-) -> Result<(), AllocError> {
+) -> Written {
     for offset in 0..OFFSETS {
         let accumulator = shown.returned(Register::Accumulator, entry, offset);
         if accumulator.is_empty() {
@@ -276,7 +269,7 @@ fn push_returns<L: MessageWriter, D: Allocator, C: Allocator>(
 fn push_unneeded<A: Allocator + Copy, D: Allocator, C: Allocator>(
     text: &mut Message<A>,
     shown: &Shown<'_, D, C>,
-) -> Result<(), AllocError> {
+) -> Written {
     let surplus = surplus_of(shown.image, shown.declaration, shown.certificate);
     push_unused(text, shown, &surplus)?;
     push_idle_offsets(text, shown, &surplus)?;

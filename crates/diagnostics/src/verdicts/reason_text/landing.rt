@@ -1,16 +1,15 @@
 //! Why a run does not land, and what is possible where it does not.
 
 use crate::sums::{push_sum_may_be, push_told};
-use command_parts::message::MessageWriter;
+use command_parts::message::{MessageWriter, Written};
 use command_parts::sentence::Argument::{Address, Digit, Octal, Offset, Text};
 use command_parts::sentence::push_sentence;
 use domain::Location;
 use reasons::{Counterexample, LandingFailure};
-use std::alloc::AllocError;
 use word12::{Link, Word};
 
 /// Adds what is possible, or of an equation, what it says.
-fn push_gap<L: MessageWriter>(text: &mut L, gap: &Counterexample) -> Result<(), AllocError> {
+fn push_gap<L: MessageWriter>(text: &mut L, gap: &Counterexample) -> Written {
     match gap {
         Counterexample::Accumulator(word) => push_sentence(text, "AC may be {}", &[Octal(*word)]),
         Counterexample::Mq(word) => push_sentence(text, "MQ may be {}", &[Octal(*word)]),
@@ -38,11 +37,7 @@ fn push_gap<L: MessageWriter>(text: &mut L, gap: &Counterexample) -> Result<(), 
 
 /// Adds what is possible, and that the fact or the exit line of this name excludes it; or that an equation which it requires may be
 /// false.
-fn push_excluded<L: MessageWriter>(
-    text: &mut L,
-    gap: &Counterexample,
-    one: &str,
-) -> Result<(), AllocError> {
+fn push_excluded<L: MessageWriter>(text: &mut L, gap: &Counterexample, one: &str) -> Written {
     if matches!(gap, Counterexample::Equation(..)) {
         push_sentence(text, "{} requires ", &[Text(one)])?;
         push_gap(text, gap)?;
@@ -53,11 +48,7 @@ fn push_excluded<L: MessageWriter>(
 }
 
 /// Adds a word that a name may hold.
-fn push_may_hold<L: MessageWriter>(
-    text: &mut L,
-    name: &Location,
-    word: Word,
-) -> Result<(), AllocError> {
+fn push_may_hold<L: MessageWriter>(text: &mut L, name: &Location, word: Word) -> Written {
     match name {
         Location::Accumulator => push_sentence(text, "AC may be {}", &[Octal(word)]),
         Location::Cell(cell) => push_sentence(
@@ -69,7 +60,7 @@ fn push_may_hold<L: MessageWriter>(
 }
 
 /// Adds for which link something is said.
-fn push_under<L: MessageWriter>(text: &mut L, link: Link) -> Result<(), AllocError> {
+fn push_under<L: MessageWriter>(text: &mut L, link: Link) -> Written {
     push_sentence(text, "if the link is {}, ", &[Digit(link)])
 }
 
@@ -79,7 +70,7 @@ fn push_possible<L: MessageWriter>(
     landing: &LandingFailure,
     one: &str,
     all: &str,
-) -> Result<(), AllocError> {
+) -> Written {
     match landing {
         LandingFailure::NoFact | LandingFailure::OtherBody => Ok(()),
         LandingFailure::Excluded(gap) => push_excluded(text, gap, one),
@@ -99,10 +90,7 @@ fn push_possible<L: MessageWriter>(
 }
 
 /// Adds why a run does not land.
-pub fn push_landing<L: MessageWriter>(
-    text: &mut L,
-    landing: &LandingFailure,
-) -> Result<(), AllocError> {
+pub fn push_landing<L: MessageWriter>(text: &mut L, landing: &LandingFailure) -> Written {
     match landing {
         LandingFailure::NoFact => text.push_text(b"there is no fact at the address reached"),
         LandingFailure::OtherBody => text.push_text(b"the address reached is not in the body"),
@@ -111,10 +99,7 @@ pub fn push_landing<L: MessageWriter>(
 }
 
 /// Adds why what is possible at a return is not among what the exit lines allow.
-pub fn push_exit<L: MessageWriter>(
-    text: &mut L,
-    landing: &LandingFailure,
-) -> Result<(), AllocError> {
+pub fn push_exit<L: MessageWriter>(text: &mut L, landing: &LandingFailure) -> Written {
     match landing {
         LandingFailure::NoFact => text.push_text(b", which has no exit line"),
         LandingFailure::OtherBody => text.push_text(b", which is not in the body"),
@@ -126,10 +111,7 @@ pub fn push_exit<L: MessageWriter>(
 }
 
 /// Adds why the facts at the start do not allow every start.
-pub fn push_start<L: MessageWriter>(
-    text: &mut L,
-    landing: &LandingFailure,
-) -> Result<(), AllocError> {
+pub fn push_start<L: MessageWriter>(text: &mut L, landing: &LandingFailure) -> Written {
     if matches!(landing, LandingFailure::NoFact) {
         return text.push_text(b"there is no fact at this address");
     }

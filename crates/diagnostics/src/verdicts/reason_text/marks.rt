@@ -1,13 +1,12 @@
 //! Which fact it is, where several stand at an address, and what tells it from the others.
 
 use crate::verdicts::reason_context::{Distinction, ReasonContext};
-use command_parts::message::MessageWriter;
+use command_parts::message::{MessageWriter, Written};
 use command_parts::sentence::Argument::{Address, Number, Octal};
 use command_parts::sentence::push_sentence;
-use std::alloc::AllocError;
 
 /// Adds what tells a fact from another at its address.
-fn push_mark<L: MessageWriter>(text: &mut L, mark: &Distinction) -> Result<(), AllocError> {
+fn push_mark<L: MessageWriter>(text: &mut L, mark: &Distinction) -> Written {
     match mark {
         Distinction::CalledFrom(site) => {
             push_sentence(text, ", for the call from {}", &[Address(*site)])
@@ -22,10 +21,7 @@ fn push_mark<L: MessageWriter>(text: &mut L, mark: &Distinction) -> Result<(), A
 }
 
 /// Adds which fact it is, where several stand at the address: its place among them, counted from 1, and all that tells it from others.
-pub fn push_which<L: MessageWriter>(
-    text: &mut L,
-    telling: &ReasonContext,
-) -> Result<(), AllocError> {
+pub fn push_which<L: MessageWriter>(text: &mut L, telling: &ReasonContext) -> Written {
     let Some(index) = telling.place else {
         return Ok(());
     };

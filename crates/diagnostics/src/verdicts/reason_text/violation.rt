@@ -1,13 +1,12 @@
 //! What a word violates: a write, a call, a return, or where it goes on.
 
 use crate::verdicts::reason_text::landing::{push_exit, push_landing};
-use command_parts::message::MessageWriter;
+use command_parts::message::{MessageWriter, Written};
 use command_parts::sentence::Argument::{Address, Advised, Digit, Number, Octal, Offset, Text};
 use command_parts::sentence::push_sentence;
 use declaration::Subject;
 use domain::Rules;
 use reasons::{CallViolation, ReturnViolation, Violation};
-use std::alloc::AllocError;
 use word12::{Link, Word};
 
 /// Adds an offset, and by the rules of sums the number of its exit line, counted from 1, behind a few words.
@@ -17,7 +16,7 @@ pub fn push_exit_line<L: MessageWriter>(
     offset: usize,
     between: &str,
     index: usize,
-) -> Result<(), AllocError> {
+) -> Written {
     let template = match rules {
         Rules::OfEquations => "{}",
         Rules::OfSums => "{}{}{}",
@@ -51,11 +50,7 @@ fn said_of_call(rules: &Rules, breach: &CallViolation) -> &'static str {
 }
 
 /// Adds what a call violates.
-fn push_call<L: MessageWriter>(
-    text: &mut L,
-    rules: &Rules,
-    breach: &CallViolation,
-) -> Result<(), AllocError> {
+fn push_call<L: MessageWriter>(text: &mut L, rules: &Rules, breach: &CallViolation) -> Written {
     let said = said_of_call(rules, breach);
     match breach {
         CallViolation::NotLower(rank, own) => {
@@ -77,11 +72,7 @@ fn push_call<L: MessageWriter>(
 }
 
 /// Adds what a return through an entry violates. An offset above 7 is declared by a `skips` line alone.
-fn push_return<L: MessageWriter>(
-    text: &mut L,
-    entry: Word,
-    breach: &ReturnViolation,
-) -> Result<(), AllocError> {
+fn push_return<L: MessageWriter>(text: &mut L, entry: Word, breach: &ReturnViolation) -> Written {
     match breach {
         ReturnViolation::OtherRoutine => {
             text.push_text(b", which is not the entry of its own routine")
@@ -111,7 +102,7 @@ pub fn push_denied<L: MessageWriter>(
     subject: &Subject,
     word: Word,
     line: &str,
-) -> Result<(), AllocError> {
+) -> Written {
     let link = if word == Word::ZERO {
         Link::CLEAR
     } else {
@@ -165,7 +156,7 @@ pub fn push_violation<L: MessageWriter>(
     text: &mut L,
     rules: &Rules,
     breach: &Violation,
-) -> Result<(), AllocError> {
+) -> Written {
     let said = said_of(rules, breach);
     match breach {
         Violation::NotSupported | Violation::HaltsUndeclared | Violation::CallsThroughIndex => {

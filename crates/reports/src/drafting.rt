@@ -11,7 +11,6 @@ use certificate::Certificate;
 use command_parts::text::push_place;
 use declaration::Declaration;
 use diagnostics::bounds::push_bound;
-use diagnostics::verdicts::reason_context::reason_context_of;
 use diagnostics::verdicts::reason_text::push_why;
 use diagnostics::verdicts::verdict::condition_name;
 use judge::Refusal;
@@ -31,16 +30,8 @@ fn found_lines<A: Allocator + Copy, D: Allocator, C: Allocator>(
 ) -> Result<Vec<u8, A>, AllocError> {
     let mut text = Vec::new(alloc);
     if let Some((refusal, reason)) = told {
-        let (verdict, reason) = (Err(*refusal), Some(*reason));
-        let telling = reason_context_of(draft, &verdict, &reason);
-        push_why(
-            &mut text,
-            declaration.profile(),
-            image,
-            &verdict,
-            &reason,
-            &telling,
-        )?;
+        let reason = Some(*reason);
+        push_why(&mut text, image, declaration, draft, refusal, &reason)?;
     }
     push_bound(alloc, &mut text, image, declaration, draft, at)?;
     Ok(text)

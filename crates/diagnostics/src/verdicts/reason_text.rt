@@ -5,7 +5,7 @@ mod landing;
 mod marks;
 mod violation;
 
-use crate::verdicts::reason_context::ReasonContext;
+use crate::verdicts::reason_context::reason_context_of;
 use crate::verdicts::reason_text::asked::asked_of;
 use crate::verdicts::reason_text::landing::push_start;
 use crate::verdicts::reason_text::marks::push_which;
@@ -15,10 +15,11 @@ use bin_tape::Image;
 use command_parts::message::{MessageWriter, Written};
 use command_parts::sentence::Argument::{Address, Number, Offset, Text};
 use command_parts::sentence::push_sentence;
+use declaration::Declaration;
 use domain::Rules;
-use instruct::Profile;
-use judge::Refusal;
+use judge::{Claims, Refusal};
 use reasons::Reason;
+use std::alloc::Allocator;
 
 /// Adds why a condition fails.
 fn push_reason<L: MessageWriter>(text: &mut L, rules: &Rules, reason: &Reason) -> Written {
@@ -64,31 +65,29 @@ fn push_reason<L: MessageWriter>(text: &mut L, rules: &Rules, reason: &Reason) -
     }
 }
 
-/// Adds why a verdict is no: the address with its word and its name, what the condition asks, and the reason, if one is given, told as it
-/// is said. The word is the one that violates the condition, or else that of the tape. To a yes it adds nothing.
-pub fn push_why<L: MessageWriter>(
+/// Adds why a verdict is no: the address with its word and its name, what the condition asks, and the reason, if one is given, with what
+/// tells its fact from others. The word is the one that violates the condition, or else that of the tape.
+pub fn push_why<L: MessageWriter, D: Allocator, C: Claims>(
     text: &mut L,
-    profile: Profile,
     image: &Image,
-    verdict: &Result<(), Refusal>,
+    declaration: &Declaration<D>,
+    claims: &C,
+    refusal: &Refusal,
     reason: &Option<Reason>,
-    telling: &ReasonContext,
 ) -> Written {
-    let Err(refusal) = verdict else {
-        return Ok(());
-    };
     let shown = match reason {
         Some(Reason::ByWord(_, word, _)) => Some(*word),
         _ => image.get(refusal.address),
     };
-    text.push_instruction(refusal.address, shown, profile)?;
+    text.push_instruction(refusal.address, shown, declaration.profile())?;
+    let telling = reason_context_of(claims, refusal, reason);
     let name = condition_name(refusal.condition);
     let asked = asked_of(&telling.rules, refusal.condition);
     push_sentence(text, "{} requires: {}\n", &[Text(name), Text(asked)])?;
     let Some(reason) = reason else {
         return Ok(());
     };
-    push_which(text, telling)?;
+    push_which(text, &telling)?;
     push_reason(text, &telling.rules, reason)?;
     text.push_text(b"\n")
 }

@@ -30,12 +30,7 @@ pub fn push_which<L: MessageWriter>(text: &mut L, telling: &ReasonContext) -> Wr
     }
     let place = [Number(index.saturating_add(1)), Number(telling.count)];
     push_sentence(text, "fact {} of {} at this address", &place)?;
-    for mark in &[
-        telling.site,
-        telling.link,
-        telling.accumulator,
-        telling.cell,
-    ] {
+    for mark in &telling.marks {
         if let Some(mark) = mark {
             push_mark(text, mark)?;
         }

@@ -25,46 +25,24 @@ impl<D: Allocator> ViolatingStep<'_, D> {
         is_jump && !is_return
     }
 
-    /// Adds which line puts an address into the body of the running routine.
-    fn push_body_advice<L: MessageWriter>(&self, text: &mut L, at: Word) -> Written {
-        match &self.last {
-            None => push_sentence(
-                text,
-                "; if it belongs there, add `main {}`\n",
-                &[Advised(at)],
-            ),
-            Some(call) => push_sentence(
-                text,
-                "; if it belongs there, add it to the body of `sub {}`\n",
-                &[Advised(call.entry)],
-            ),
-        }
-    }
-
-    /// Adds that an address is in main's body, and what to declare if the JMP to it is to end all calls.
-    fn push_in_main<L: MessageWriter>(&self, text: &mut L, at: Word) -> Written {
-        if !self.came_by_jump() {
-            return push_sentence(text, ": it is in main's body\n", &[]);
-        }
-        push_sentence(
-            text,
-            ": it is in main's body; if this JMP is meant to end all calls, add `abandon {}`\n",
-            &[Advised(at)],
-        )
-    }
-
-    /// Adds in whose body an address is, or what to declare if it is code of the running routine.
+    /// Adds in whose body an address is, or what to declare if it is code of the running routine or, in main's body, the JMP to it
+    /// is to end all calls.
     fn push_owner<L: MessageWriter>(&self, text: &mut L, at: Word) -> Written {
         let owner = self.declaration.owner_of(at);
-        match &owner {
-            None => self.push_body_advice(text, at),
-            Some(Owner::Main) => self.push_in_main(text, at),
-            Some(Owner::Routine(entry)) => push_sentence(
-                text,
-                ": it is in the body of `sub {}`\n",
-                &[Advised(*entry)],
+        let (template, named) = match (&owner, &self.last) {
+            (None, None) => ("; if it belongs there, add `main {}`\n", at),
+            (None, Some(call)) => (
+                "; if it belongs there, add it to the body of `sub {}`\n",
+                call.entry,
             ),
-        }
+            (Some(Owner::Main), _) if self.came_by_jump() => (
+                ": it is in main's body; if this JMP is meant to end all calls, add `abandon {}`\n",
+                at,
+            ),
+            (Some(Owner::Main), _) => (": it is in main's body\n", at),
+            (Some(Owner::Routine(entry)), _) => (": it is in the body of `sub {}`\n", *entry),
+        };
+        push_sentence(text, template, &[Advised(named)])
     }
 
     /// Adds the line of an address that is not in the running routine's body, to which an instruction led.
@@ -104,23 +82,16 @@ impl<D: Allocator> ViolatingStep<'_, D> {
 
     /// Adds the line of a JMS to an address that is not an entry, and what to declare if a routine begins there.
     pub(super) fn push_no_entry<L: MessageWriter>(&self, text: &mut L, place: Word) -> Written {
-        let to = [Address(place)];
-        push_sentence(text, "it goes to {}, which is not an entry; ", &to)?;
-        if is_auto_index(place) {
-            return push_sentence(text, "no routine can begin at 0010 to 0017\n", &[]);
-        }
         let is_taken = self.declaration.owner_of(place).is_some()
             || self.declaration.is_variable(place);
-        let removal = if is_taken {
-            ", and remove the entry from the body and the variables"
+        let template = if is_auto_index(place) {
+            "it goes to {}, which is not an entry; no routine can begin at 0010 to 0017\n"
+        } else if is_taken {
+            "it goes to {}, which is not an entry; if a routine begins there, add `sub {} body .. returns ..`, and remove the entry from the body and the variables\n"
         } else {
-            ""
+            "it goes to {}, which is not an entry; if a routine begins there, add `sub {} body .. returns ..`\n"
         };
-        push_sentence(
-            text,
-            "if a routine begins there, add `sub {} body .. returns ..`{}\n",
-            &[Advised(place), Text(removal)],
-        )
+        push_sentence(text, template, &[Address(place), Advised(place)])
     }
 
     /// Adds the line of a HLT at an address where none is declared, and what to declare if it may stand there.

@@ -10,33 +10,19 @@ use std::alloc::Allocator;
 use word12::Word;
 
 impl<D: Allocator> ViolatingStep<'_, D> {
-    /// Adds what else a cell is that is not a variable, and what to declare if the program may write it.
-    fn push_variable_advice<L: MessageWriter>(&self, text: &mut L, cell: Word) -> Written {
-        if self.declaration.is_entry(cell) {
-            return push_sentence(text, " but an entry\n", &[]);
-        }
-        let what = match self.declaration.owner_of(cell) {
-            Some(_) => " but code",
-            None => "",
+    /// Adds what else a cell is that is not a variable, and what to declare if the program may write it. `moves` tells whether a
+    /// DCA that names the cell does so.
+    fn push_advice<L: MessageWriter>(&self, text: &mut L, cell: Word, moves: bool) -> Written {
+        let template = if moves && self.is_own(cell) {
+            " but the running routine's own entry; if this is intended, add `moves {}`\n"
+        } else if self.declaration.is_entry(cell) {
+            " but an entry\n"
+        } else if self.declaration.owner_of(cell).is_some() {
+            " but code; if this is intended, add `var {}`\n"
+        } else {
+            "; if this is intended, add `var {}`\n"
         };
-        push_sentence(
-            text,
-            "{}; if this is intended, add `var {}`\n",
-            &[Text(what), Advised(cell)],
-        )
-    }
-
-    /// Adds what to declare if the program may store where a reference does.
-    fn push_store_advice<L: MessageWriter>(&self, text: &mut L, reference: &Reference) -> Written {
-        let is_direct_dca = matches!(reference.operation, Operation::Dca) && !reference.indirect;
-        if is_direct_dca && self.is_own(reference.place) {
-            return push_sentence(
-                text,
-                " but the running routine's own entry; if this is intended, add `moves {}`\n",
-                &[Advised(reference.place)],
-            );
-        }
-        self.push_variable_advice(text, reference.place)
+        push_sentence(text, template, &[Advised(cell)])
     }
 
     /// Adds the line of what a cell holds, and of the word that would take its place.
@@ -53,7 +39,8 @@ impl<D: Allocator> ViolatingStep<'_, D> {
         let place = reference.place;
         let to = [Address(place)];
         push_sentence(text, "it stores into {}, which is not a variable", &to)?;
-        self.push_store_advice(text, reference)?;
+        let moves = matches!(reference.operation, Operation::Dca) && !reference.indirect;
+        self.push_advice(text, place, moves)?;
         if reference.indirect {
             let pointer = [Address(reference.named)];
             push_sentence(text, "the address comes from the pointer {}\n", &pointer)?;
@@ -81,7 +68,7 @@ impl<D: Allocator> ViolatingStep<'_, D> {
             "it increments the pointer {}, which is not a variable",
             &[Address(pointer)],
         )?;
-        self.push_variable_advice(text, pointer)?;
+        self.push_advice(text, pointer, false)?;
         self.push_change(text, pointer, self.cpu.memory.get(pointer).increment())
     }
 

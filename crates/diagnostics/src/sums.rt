@@ -28,7 +28,7 @@ enum Distance {
 }
 
 /// Adds AC, or the address of a cell in brackets, for the word in it.
-pub fn push_name<L: MessageWriter>(text: &mut L, name: &Location) -> Written {
+fn push_name<L: MessageWriter>(text: &mut L, name: &Location) -> Written {
     match name {
         Location::Accumulator => text.push_text(b"AC"),
         Location::Cell(cell) => push_sentence(text, "[{}]", &[Cell(*cell)]),
@@ -114,31 +114,19 @@ pub fn push_sum_may_be<L: MessageWriter>(text: &mut L, sum: &Sum, word: Word) ->
     push_term(text, &second)
 }
 
-/// Adds that one term is another one plus a number.
-fn push_equation<L: MessageWriter>(
-    text: &mut L,
-    first: &Term,
-    second: &Term,
-    more: Word,
-) -> Written {
-    push_term(text, first)?;
-    text.push_text(b" = ")?;
-    push_term(text, second)?;
-    push_added(text, " + {}", " - {}", more)
-}
-
 /// Adds what is said of a sum: the sum itself, or which word it is, if that is told. Of a difference it is said what its first term is.
 pub fn push_told<L: MessageWriter>(text: &mut L, sum: &Sum, word: &Option<Word>) -> Written {
     let Some(word) = word else {
         return push_sum(text, sum);
     };
-    match difference_of(sum) {
-        Some((first, second)) => push_equation(text, &first, &second, *word),
-        None => {
-            push_sum(text, sum)?;
-            push_sentence(text, " = {}", &[Octal(*word)])
-        }
-    }
+    let Some((first, second)) = difference_of(sum) else {
+        push_sum(text, sum)?;
+        return push_sentence(text, " = {}", &[Octal(*word)]);
+    };
+    push_term(text, &first)?;
+    text.push_text(b" = ")?;
+    push_term(text, &second)?;
+    push_added(text, " + {}", " - {}", *word)
 }
 
 /// How far a term is from another one to which one of these words is added.

@@ -118,7 +118,7 @@ fn push_ranges<L: MessageWriter>(text: &mut L, set: &WordSet, are_offsets: bool)
 pub fn push_cells<L: MessageWriter>(text: &mut L, sets: &[(&str, WordSet)]) -> Written {
     for (name, cells) in sets {
         if !cells.is_empty() {
-            push_sentence(text, "{}:", &[Text(name)])?;
+            push_sentence(text, "{}:", &[Text(*name)])?;
             push_ranges(text, cells, false)?;
         }
     }

@@ -96,12 +96,9 @@ impl<D: Allocator> Spot<'_, '_, D> {
     /// Where a routine returns: after the sites of the fact, by its offsets.
     fn returned(&self) -> WordSet {
         let sites = self.known.sites();
-        let offsets = self.known.fact.offsets();
         let mut found = WordSet::empty();
-        for offset in 0..64usize {
-            if offsets.contains(offset) {
-                found = found.union(&sites.shift(Word::from_index(offset + 1)));
-            }
+        for offset in self.known.offsets().iter() {
+            found = found.union(&sites.shift(offset.increment()));
         }
         found
     }

@@ -1,13 +1,14 @@
 //! What is known at an address, item by item, and what of it is the same as on the line above.
 
-use crate::cases::{FactDifferences, are_same_offsets, is_uncounted};
-use crate::items::{Item, link_text, push_subject, push_up_by, write_item};
+use crate::cases::FactDifferences;
+use crate::items::{Item, push_subject, write_item};
 use crate::known_fact::{KnownFact, Subject};
 use crate::writer::ReportWriter;
 use bin_tape::Image;
-use domain::{Chain, Location, Relation, Rules};
+use domain::{Chain, Relation, Rules};
 use instruct::Profile;
 use std::alloc::Allocator;
+use word12::Word;
 use wordset::WordSet;
 
 /// Where facts stand: the tape, the rules by which they are read, the machine, and the sites of the routine in whose body
@@ -44,6 +45,11 @@ fn is_same_chain(chain: &Chain, other: &Chain) -> bool {
         && chain.steps() == other.steps()
 }
 
+/// Whether a return word may have been incremented by another offset than 0.
+fn is_counted(offsets: &WordSet) -> bool {
+    !offsets.is_subset(&WordSet::one(Word::ZERO))
+}
+
 impl ShownFact<'_, '_, '_> {
     /// Whether a subject has other words than the usual ones, or had them on the line above.
     fn is_unusual(&self, subject: &Subject, set: &WordSet, usual: &WordSet) -> bool {
@@ -55,12 +61,15 @@ impl ShownFact<'_, '_, '_> {
 
     /// Whether there is an item on a subject that has these words.
     fn is_told(&self, subject: &Subject, set: &WordSet) -> bool {
+        if self.apart.is_by(subject) {
+            return false;
+        }
         match subject {
-            Subject::Accumulator => !self.apart.is_by(&Location::Accumulator),
+            Subject::Accumulator | Subject::Link | Subject::Cell(_) => true,
             Subject::Mq => self.is_unusual(subject, set, &WordSet::all()),
-            Subject::Cell(cell) => !self.apart.is_by(&Location::Cell(*cell)),
-            Subject::Sites => !self.apart.sites
-                && self.is_unusual(subject, set, &self.setting.sites),
+            Subject::Offsets => is_counted(set)
+                || self.above.is_some_and(|above| is_counted(&above.offsets())),
+            Subject::Sites => self.is_unusual(subject, set, &self.setting.sites),
         }
     }
 
@@ -72,15 +81,6 @@ impl ShownFact<'_, '_, '_> {
                 .above
                 .is_some_and(|above| above.words_of(subject) == set);
             write_item(writer, &Item::Words(subject, &set), same);
-        }
-    }
-
-    /// Writes the item on the link, unless facts are distinguished by it.
-    fn write_link<A: Allocator>(&self, writer: &mut ReportWriter<'_, A>) {
-        if !self.apart.link {
-            let links = self.known.fact.link();
-            let same = self.above.is_some_and(|above| above.fact.link() == links);
-            write_item(writer, &Item::Link(links), same);
         }
     }
 
@@ -169,25 +169,11 @@ impl ShownFact<'_, '_, '_> {
         }
     }
 
-    /// Writes the item on how far the return word was incremented, where it may have been or was above.
-    fn write_offsets<A: Allocator>(&self, writer: &mut ReportWriter<'_, A>) {
-        let offsets = self.known.fact.offsets();
-        let was_counted = self
-            .above
-            .is_some_and(|above| !is_uncounted(above.fact.offsets()));
-        if !self.apart.offsets && (was_counted || !is_uncounted(offsets)) {
-            let same = self.above.is_some_and(|above| {
-                are_same_offsets(above.fact.offsets(), offsets)
-            });
-            write_item(writer, &Item::Offsets(offsets), same);
-        }
-    }
-
     /// Writes the items on what the fact claims: where one above is near, what differs from it, and in a page also what does not.
     fn write_claims<A: Allocator>(&self, writer: &mut ReportWriter<'_, A>) {
         self.write_subject(writer, &Subject::Accumulator);
         self.write_subject(writer, &Subject::Mq);
-        self.write_link(writer);
+        self.write_subject(writer, &Subject::Link);
         self.write_cells(writer);
         if let Some(above) = self.above {
             self.write_lost_cells(writer, above);
@@ -203,7 +189,7 @@ impl ShownFact<'_, '_, '_> {
     /// Writes what the fact says as items.
     pub(crate) fn write<A: Allocator>(&self, writer: &mut ReportWriter<'_, A>) {
         self.write_claims(writer);
-        self.write_offsets(writer);
+        self.write_subject(writer, &Subject::Offsets);
         self.write_subject(writer, &Subject::Sites);
     }
 
@@ -214,38 +200,19 @@ impl ShownFact<'_, '_, '_> {
     }
 }
 
-/// Writes what distinguishes a fact from others: the items on it, with commas between them.
+/// Writes what distinguishes a fact from others.
 pub(crate) fn write_apart<A: Allocator>(
     writer: &mut ReportWriter<'_, A>,
     known: &KnownFact,
     apart: &FactDifferences,
 ) {
     let mut between = "";
-    if apart.sites {
-        let _ = push_subject(writer, &Subject::Sites, &known.sites());
-        between = ", ";
-    }
-    if apart.offsets {
-        writer.fill(between, &[]);
-        let _ = push_up_by(writer, known.fact.offsets());
-        between = ", ";
-    }
-    if let Some(name) = &apart.name {
-        writer.fill(between, &[]);
-        let subject = subject_of(name);
-        let _ = push_subject(writer, &subject, &known.words_of(&subject));
-        between = ", ";
-    }
-    if apart.link {
-        writer.fill(between, &[]);
-        writer.fill(link_text(known.fact.link()), &[]);
-    }
-}
-
-/// The subject that a name is.
-fn subject_of(name: &Location) -> Subject {
-    match name {
-        Location::Accumulator => Subject::Accumulator,
-        Location::Cell(cell) => Subject::Cell(*cell),
+    let subjects = apart.subjects();
+    for subject in &subjects {
+        if let Some(subject) = subject {
+            writer.fill(between, &[]);
+            let _ = push_subject(writer, subject, &known.words_of(subject));
+            between = ", ";
+        }
     }
 }

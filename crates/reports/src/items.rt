@@ -6,21 +6,17 @@ use command_parts::message::{MessageWriter, Written};
 use command_parts::sentence::Argument::{Addresses, Cell, Offsets, Words};
 use command_parts::sentence::push_sentence;
 use diagnostics::sums::{push_chain, push_in, push_lost, push_relation, push_told};
-use domain::{Chain, Relation, ReturnOffsets, Sum};
+use domain::{Chain, Relation, Sum};
 use instruct::Profile;
 use std::alloc::Allocator;
-use word12::{Link, Word};
-use wordset::{Links, WordSet};
+use word12::Word;
+use wordset::WordSet;
 
 /// What an item of a line says.
 #[derive(Clone, Copy)]
 pub(crate) enum Item<'a> {
-    /// Which words a register or a cell may hold, or from where the routine was called.
+    /// Which words a subject may be.
     Words(&'a Subject, &'a WordSet),
-    /// What the link may be.
-    Link(Links),
-    /// By how much the return word may have been incremented.
-    Offsets(ReturnOffsets),
     /// An equation, and the words that are left to the name on its left.
     Equation(&'a Relation, &'a WordSet),
     /// By how much a term is more or less than another, or which words a sum may be.
@@ -33,7 +29,21 @@ pub(crate) enum Item<'a> {
     LostChain(Word),
 }
 
-/// Adds which words a register or a cell may hold, or from where the routine was called.
+/// What the link may be.
+fn link_text(links: &WordSet) -> &'static [u8] {
+    match (
+        links.contains(Word::ZERO),
+        links.contains(Word::from_index(1)),
+    ) {
+        (true, true) => b"L any",
+        (true, false) => b"L is 0",
+        (false, true) => b"L is 1",
+        (false, false) => b"L is neither",
+    }
+}
+
+/// Adds which words a register, the link or a cell may hold, by how much the return word may have been incremented, or from where the
+/// routine was called.
 pub(crate) fn push_subject<L: MessageWriter>(
     text: &mut L,
     subject: &Subject,
@@ -43,6 +53,8 @@ pub(crate) fn push_subject<L: MessageWriter>(
         Subject::Accumulator => text.push_text(b"AC")?,
         Subject::Mq => text.push_text(b"MQ")?,
         Subject::Cell(cell) => text.push_cell(*cell)?,
+        Subject::Link => return text.push_text(link_text(set)),
+        Subject::Offsets => return push_sentence(text, "return word up by {}", &[Offsets(set)]),
         Subject::Sites => return push_sentence(text, "called from {}", &[Addresses(set)]),
     }
     if set.is_all() {
@@ -50,27 +62,6 @@ pub(crate) fn push_subject<L: MessageWriter>(
     } else {
         push_in(text, set)
     }
-}
-
-/// What the link may be.
-pub(crate) fn link_text(links: Links) -> &'static str {
-    match (links.contains(Link::CLEAR), links.contains(Link::SET)) {
-        (true, true) => "L any",
-        (true, false) => "L is 0",
-        (false, true) => "L is 1",
-        (false, false) => "L is neither",
-    }
-}
-
-/// Adds by how much the return word may have been incremented.
-pub(crate) fn push_up_by<L: MessageWriter>(text: &mut L, offsets: ReturnOffsets) -> Written {
-    let mut counted = WordSet::empty();
-    for offset in 0..64usize {
-        if offsets.contains(offset) {
-            counted.insert(Word::from_index(offset));
-        }
-    }
-    push_sentence(text, "return word up by {}", &[Offsets(&counted)])
 }
 
 /// Adds an equation, and the words that are left to the name on its left, where they are not all words.
@@ -86,8 +77,6 @@ fn push_equation<L: MessageWriter>(text: &mut L, equation: &Relation, left: &Wor
 fn push_item<L: MessageWriter>(text: &mut L, item: &Item<'_>) -> Written {
     match item {
         Item::Words(subject, set) => push_subject(text, subject, set),
-        Item::Link(links) => text.push_text(link_text(*links).as_bytes()),
-        Item::Offsets(offsets) => push_up_by(text, *offsets),
         Item::Equation(equation, left) => push_equation(text, equation, left),
         Item::Relation(relation) => push_relation(text, relation),
         Item::LostSum(sum) => push_lost(text, sum),

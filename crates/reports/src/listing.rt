@@ -422,14 +422,11 @@ impl<A: Allocator, D: Allocator, C: Allocator> Report<'_, A, D, C> {
         let Some(last) = last else {
             return true;
         };
-        let above = self.kind_of(*last);
-        match self.kind_of(at) {
+        let (above, kind) = (self.kind_of(*last), self.kind_of(at));
+        match kind {
             CellKind::Entry => true,
-            CellKind::Routine(entry) => above != CellKind::Routine(entry) && *last != entry,
-            CellKind::Main => above != CellKind::Main,
-            CellKind::Variable => above != CellKind::Variable,
-            CellKind::Other => above != CellKind::Other,
-            CellKind::Unset => above != CellKind::Unset,
+            CellKind::Routine(entry) => above != kind && *last != entry,
+            _ => above != kind,
         }
     }
 

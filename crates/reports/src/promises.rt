@@ -6,7 +6,7 @@ use declaration::{Assertion, Declaration, PlaceAssertion, ReturnAssertion, Subje
 use std::alloc::Allocator;
 
 /// How many offsets there are by which a routine may return.
-const OFFSETS: usize = 64;
+const MOST_OFFSETS: usize = 64;
 
 /// Writes an assertion: a link has one digit.
 fn write_assertion<A: Allocator>(writer: &mut ReportWriter<'_, A>, assertion: &Assertion) {
@@ -40,7 +40,7 @@ fn write_return_assertion<A: Allocator>(
     writer: &mut ReportWriter<'_, A>,
     returning: &ReturnAssertion,
 ) {
-    let template = if returning.offsets().count() < OFFSETS {
+    let template = if returning.offsets().count() < MOST_OFFSETS {
         "<li>whenever the routine {} returns by {}, "
     } else {
         "<li>whenever the routine {} returns, "

@@ -19,7 +19,7 @@ use instruct::{
     Instruction, Operation, Profile, SkipCondition, decode, halts, refers_indirectly, target,
 };
 use processor::is_auto_index;
-use std::alloc::{AllocError, Allocator};
+use std::alloc::Allocator;
 use word12::Word;
 
 /// The most instructions that are named.
@@ -431,7 +431,7 @@ fn push_stuck<L: MessageWriter>(text: &mut L, at: Word, omission: &Omission) -> 
 ///
 /// # Errors
 ///
-/// `AllocError` if memory was refused.
+/// Memory was refused.
 pub fn push_stuck_remedy<L: MessageWriter, D: Allocator>(
     text: &mut L,
     image: &Image,
@@ -450,7 +450,7 @@ pub fn push_stuck_remedy<L: MessageWriter, D: Allocator>(
 ///
 /// # Errors
 ///
-/// `AllocError` if memory was refused.
+/// Memory was refused.
 pub fn push_omissions<L: MessageWriter, D: Allocator>(
     text: &mut L,
     image: &Image,

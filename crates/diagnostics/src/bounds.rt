@@ -8,7 +8,7 @@ mod sufficient;
 
 use crate::bounds::draft_facts::DraftFacts;
 use crate::bounds::losses::{PrecisionLoss, loss_at, may_go_on};
-use crate::bounds::relations::{Relation, lost_relation};
+use crate::bounds::relations::lost_relation;
 use crate::bounds::sufficient::{sufficient_words, test_of_pointer};
 use bin_tape::Image;
 use certificate::Certificate;
@@ -108,7 +108,7 @@ fn lost_before<A: Allocator + Copy, D: Allocator, C: Allocator>(
 ///
 /// # Errors
 ///
-/// `AllocError` if memory was refused.
+/// Memory was refused.
 pub fn push_bound<A: Allocator + Copy, L: MessageWriter, D: Allocator, C: Allocator>(
     alloc: A,
     text: &mut L,
@@ -139,8 +139,8 @@ pub fn push_bound<A: Allocator + Copy, L: MessageWriter, D: Allocator, C: Alloca
     push_lost(alloc, text, &case, &mut known, pointer, at)
 }
 
-/// Adds which of the words that a pointer may hold would be enough for the instruction at an address, if they are fewer, and which test
-/// in the same body could show it. No words are enough where the pointer itself may not be read.
+/// Adds which of the words that a pointer may hold would be enough for the instruction at an address, if they are fewer, and which skip
+/// in the same body tests a sum with it, or that there is none. No words are enough where the pointer itself may not be read.
 fn push_sufficient<L: MessageWriter, D: Allocator, C: Allocator>(
     text: &mut L,
     case: &Case<'_, D, Certificate<C>>,
@@ -163,16 +163,6 @@ fn push_sufficient<L: MessageWriter, D: Allocator, C: Allocator>(
         "for this instruction, it would be enough if the pointer held only {}\n",
         &[Words(&sufficient)],
     )?;
-    push_test(text, case, at, pointer)
-}
-
-/// Adds the skip in the same body that tests a sum with a pointer, or that there is none.
-fn push_test<L: MessageWriter, D: Allocator, C: Allocator>(
-    text: &mut L,
-    case: &Case<'_, D, Certificate<C>>,
-    at: Word,
-    pointer: Word,
-) -> Written {
     match test_of_pointer(case.image, case.declaration, at, pointer) {
         Some(test) => push_sentence(
             text,
@@ -182,6 +172,17 @@ fn push_test<L: MessageWriter, D: Allocator, C: Allocator>(
         None => text.push_text(
             b"no skip in this body tests a sum that contains the pointer; a test or a mask before this instruction could show that the pointer holds only the words that would be enough\n",
         ),
+    }
+}
+
+/// The name of the word at an address.
+fn name_at<D: Allocator, C: Allocator>(
+    case: &Case<'_, D, Certificate<C>>,
+    at: Word,
+) -> Argument<'static> {
+    match case.image.get(at) {
+        Some(word) => Name(word, case.declaration.profile()),
+        None => Text(""),
     }
 }
 
@@ -198,62 +199,31 @@ fn push_lost<A: Allocator + Copy, L: MessageWriter, D: Allocator, C: Allocator>(
     let Some(lost) = lost_before(alloc, case, known, pointer, at)? else {
         return Ok(());
     };
-    if lost.loss != PrecisionLoss::Meeting {
-        return push_loss(text, case, pointer, &lost);
-    }
-    let found = lost_relation(alloc, case, pointer, lost.from, lost.to)?;
+    let found = match lost.loss {
+        PrecisionLoss::Meeting => lost_relation(alloc, case, pointer, lost.from, lost.to)?,
+        _ => None,
+    };
     match found {
-        Some((relation, at)) => push_relation(text, case, &relation, at),
-        None => push_loss(text, case, pointer, &lost),
+        Some((relation, at)) => push_sentence(
+            text,
+            "the word in {} is the word in {} plus {}; this is known up to {} {}, and lost there\n",
+            &[
+                Address(pointer),
+                Address(relation.cell),
+                Octal(relation.more),
+                Address(at),
+                name_at(case, at),
+            ],
+        ),
+        None => push_sentence(
+            text,
+            "the bound of {} was lost at {} {}: {}\n",
+            &[
+                Address(pointer),
+                Address(lost.from),
+                name_at(case, lost.from),
+                Text(lost.loss.told()),
+            ],
+        ),
     }
-}
-
-/// The name of the word at an address.
-fn name_at<D: Allocator, C: Allocator>(
-    case: &Case<'_, D, Certificate<C>>,
-    at: Word,
-) -> Argument<'static> {
-    match case.image.get(at) {
-        Some(word) => Name(word, case.declaration.profile()),
-        None => Text(""),
-    }
-}
-
-/// Adds a relation of a pointer that a loop keeps on one way, and the instruction at which it is lost on another.
-fn push_relation<L: MessageWriter, D: Allocator, C: Allocator>(
-    text: &mut L,
-    case: &Case<'_, D, Certificate<C>>,
-    relation: &Relation,
-    at: Word,
-) -> Written {
-    push_sentence(
-        text,
-        "the word in {} is the word in {} plus {}; this is known up to {} {}, and lost there\n",
-        &[
-            Address(relation.pointer),
-            Address(relation.cell),
-            Octal(relation.more),
-            Address(at),
-            name_at(case, at),
-        ],
-    )
-}
-
-/// Adds where the bound of a pointer was lost, and why.
-fn push_loss<L: MessageWriter, D: Allocator, C: Allocator>(
-    text: &mut L,
-    case: &Case<'_, D, Certificate<C>>,
-    pointer: Word,
-    lost: &LostBound,
-) -> Written {
-    push_sentence(
-        text,
-        "the bound of {} was lost at {} {}: {}\n",
-        &[
-            Address(pointer),
-            Address(lost.from),
-            name_at(case, lost.from),
-            Text(lost.loss.told()),
-        ],
-    )
 }

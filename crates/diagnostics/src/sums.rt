@@ -94,15 +94,6 @@ fn difference_of(sum: &Sum) -> Option<(Term, Term)> {
     is_difference.then_some((first.term, second.term))
 }
 
-/// Adds that one word may be more or less than another, or equal it.
-fn push_more<L: MessageWriter>(text: &mut L, word: Word) -> Written {
-    if word == Word::ZERO {
-        text.push_text(b" may equal ")
-    } else {
-        push_added(text, " may be {} more than ", " may be {} less than ", word)
-    }
-}
-
 /// Adds that a sum may be a word. Of a difference it is said by how much the one term may be more than the other.
 pub fn push_sum_may_be<L: MessageWriter>(text: &mut L, sum: &Sum, word: Word) -> Written {
     let Some((first, second)) = difference_of(sum) else {
@@ -110,7 +101,11 @@ pub fn push_sum_may_be<L: MessageWriter>(text: &mut L, sum: &Sum, word: Word) ->
         return push_sentence(text, " may be {}", &[Octal(word)]);
     };
     push_term(text, &first)?;
-    push_more(text, word)?;
+    if word == Word::ZERO {
+        text.push_text(b" may equal ")?;
+    } else {
+        push_added(text, " may be {} more than ", " may be {} less than ", word)?;
+    }
     push_term(text, &second)
 }
 

@@ -132,53 +132,54 @@ fn push_lost_offsets<L: MessageWriter, A: Allocator, B: Allocator>(
     Ok(())
 }
 
+/// The cells, other than those of bodies and entries, that one declaration lists for a use and another one does not.
+fn lost_uses<A: Allocator, B: Allocator>(
+    given: &Declaration<A>,
+    less: &Declaration<B>,
+) -> [(&'static str, WordSet); 5] {
+    let halts = given.stops().union(given.pauses());
+    let kept_halts = less.stops().union(less.pauses());
+    [
+        (
+            "--tight leaves out variables that no instruction writes",
+            given.variables().minus(less.variables()),
+        ),
+        (
+            "--tight leaves out listed reads that are not needed",
+            reads_of(given).minus(&reads_of(less)),
+        ),
+        (
+            "--tight leaves out stops and pauses at which no run halts",
+            halts.minus(&kept_halts),
+        ),
+        (
+            "--tight leaves out addresses in `abandon` lines at which no call is abandoned",
+            given.abandons().minus(less.abandons()),
+        ),
+        (
+            "--tight leaves out routines in `moves` lines that do not store their return word",
+            given.moves().minus(less.moves()),
+        ),
+    ]
+}
+
 /// Adds what one declaration has and another one lacks.
 fn push_lost<L: MessageWriter, A: Allocator, B: Allocator>(
     told: &mut L,
     given: &Declaration<A>,
     less: &Declaration<B>,
 ) -> Written {
-    let halts = given.stops().union(given.pauses());
-    let kept_halts = less.stops().union(less.pauses());
-    push_cells(
-        told,
-        &[
-            (
-                "--tight leaves out body cells that no run reaches",
-                given.bodies().minus(&less.bodies()),
-            ),
-            (
-                "--tight leaves out routines that are never called",
-                given.entries().minus(&less.entries()),
-            ),
-        ],
-    )?;
+    let lost_bodies = (
+        "--tight leaves out body cells that no run reaches",
+        given.bodies().minus(&less.bodies()),
+    );
+    let lost_routines = (
+        "--tight leaves out routines that are never called",
+        given.entries().minus(&less.entries()),
+    );
+    push_cells(told, &[lost_bodies, lost_routines])?;
     push_lost_offsets(told, given, less)?;
-    push_cells(
-        told,
-        &[
-            (
-                "--tight leaves out variables that no instruction writes",
-                given.variables().minus(less.variables()),
-            ),
-            (
-                "--tight leaves out listed reads that are not needed",
-                reads_of(given).minus(&reads_of(less)),
-            ),
-            (
-                "--tight leaves out stops and pauses at which no run halts",
-                halts.minus(&kept_halts),
-            ),
-            (
-                "--tight leaves out addresses in `abandon` lines at which no call is abandoned",
-                given.abandons().minus(less.abandons()),
-            ),
-            (
-                "--tight leaves out routines in `moves` lines that do not store their return word",
-                given.moves().minus(less.moves()),
-            ),
-        ],
-    )
+    push_cells(told, &lost_uses(given, less))
 }
 
 /// The message about a declaration from which something, or nothing, was left out.

@@ -30,6 +30,8 @@ pub enum Argument<'a> {
     Name(Word, Profile),
     /// A text.
     Text(&'a str),
+    /// A text in bytes.
+    Bytes(&'a [u8]),
     /// Words, by the first ranges of their set and how many more there are.
     Words(&'a WordSet),
     /// Addresses of the program, by the first ranges of their set and how many more there are.
@@ -124,6 +126,7 @@ pub fn push_argument<L: MessageWriter>(text: &mut L, argument: &Argument<'_>) ->
         Argument::Offset(offset) => push_offset(text, *offset),
         Argument::Name(word, profile) => text.push_text(name(*word, *profile).as_str().as_bytes()),
         Argument::Text(words) => text.push_text(words.as_bytes()),
+        Argument::Bytes(bytes) => text.push_text(bytes),
         Argument::Words(set) => push_set(text, set, false),
         Argument::Addresses(set) => push_set(text, set, true),
         Argument::Offsets(offsets) => push_offsets(text, offsets),

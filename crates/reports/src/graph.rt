@@ -2,10 +2,10 @@
 
 use crate::map::colour_of;
 use crate::report::{Finding, Report, claimed_of};
-use crate::routines::return_offsets;
 use crate::writer::ReportWriter;
 use command_parts::sentence::Argument::{Address, Number, Offsets, Text};
 use declaration::Routine;
+use diagnostics::verdicts::surplus_text::declared_offsets;
 use std::alloc::{AllocError, Allocator};
 use word12::Word;
 
@@ -130,7 +130,7 @@ impl<A: Allocator, D: Allocator, C: Allocator> Report<'_, A, D, C> {
         let entry = routine.entry();
         writer.fill("<tr><td>{}", &[Address(entry)]);
         self.write_claimed_columns(writer, entry);
-        let offsets = return_offsets(self.declaration, entry);
+        let offsets = declared_offsets(self.declaration, entry);
         writer.fill("<td>{}\n", &[Offsets(&offsets)]);
     }
 

@@ -11,7 +11,7 @@ use crate::report::{CellKind, Finding, Report, before, claimed_in};
 use crate::source_notes::SourceNote;
 use crate::writer::ReportWriter;
 use certificate_lines::RoutineClaim;
-use command_parts::sentence::Argument::{Number, Octal, Text, Words};
+use command_parts::sentence::Argument::{Bytes, Number, Octal, Text, Words};
 use instruct::{Instruction, decode, name, refers_indirectly, target};
 use judge::Claims;
 use std::alloc::{AllocError, Allocator};
@@ -125,11 +125,12 @@ fn write_note<A: Allocator>(writer: &mut ReportWriter<'_, A>, note: Option<Sourc
     };
     writer.mark(b"<td>");
     writer.begin_note(note.label);
-    writer.fill("line {}", &[Number(note.line)]);
-    if note.is_first {
-        writer.put(b": ");
-        writer.say(note.text);
-    }
+    let template = if note.is_first {
+        "line {}: {}"
+    } else {
+        "line {}"
+    };
+    writer.fill(template, &[Number(note.line), Bytes(note.text)]);
 }
 
 impl<A: Allocator, D: Allocator, C: Allocator> Report<'_, A, D, C> {

@@ -6,7 +6,7 @@ use crate::listing::ClaimCache;
 use crate::promises::{write_assertions, write_moves, write_returns};
 use crate::report::{Finding, Report};
 use crate::writer::{ReportForm, ReportWriter};
-use command_parts::sentence::Argument::{Address, Addresses, Octal, Text};
+use command_parts::sentence::Argument::{Address, Addresses, Bytes, Octal, Text};
 use declaration::Declaration;
 use domain::Rules;
 use instruct::Profile;
@@ -173,16 +173,13 @@ fn write_reason<A: Allocator>(
 ) {
     writer.fill(fails, &[Address(at)]);
     writer.put(means);
-    writer.say(why);
-    writer.put(b"</pre>\n");
+    writer.fill("{}</pre>\n", &[Bytes(why)]);
 }
 
 /// Writes from which files the program was read, if they have names.
 fn write_files<A: Allocator>(writer: &mut ReportWriter<'_, A>, files: &[u8]) {
     if !files.is_empty() {
-        writer.put(b"<p>");
-        writer.say(files);
-        writer.put(b"</p>\n");
+        writer.fill("<p>{}</p>\n", &[Bytes(files)]);
     }
 }
 

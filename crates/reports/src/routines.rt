@@ -7,23 +7,12 @@ use crate::report::{Report, claimed_of};
 use crate::writer::ReportWriter;
 use certificate_lines::RoutineClaim;
 use command_parts::sentence::Argument::{Addresses, Number, Offset, Offsets};
-use declaration::{Declaration, Routine};
+use declaration::Routine;
+use diagnostics::verdicts::surplus_text::declared_offsets;
 use judge::Claims;
 use std::alloc::Allocator;
 use word12::Word;
 use wordset::WordSet;
-
-/// The declared offsets of a routine.
-pub(crate) fn return_offsets<D: Allocator>(declaration: &Declaration<D>, entry: Word) -> WordSet {
-    let mut offsets = WordSet::empty();
-    for index in 0..64usize {
-        let offset = Word::from_index(index);
-        if declaration.has_offset(entry, offset) {
-            offsets.insert(offset);
-        }
-    }
-    offsets
-}
 
 /// How the cells are told that a routine may write.
 fn said_of_written(cells: &WordSet) -> &'static str {
@@ -71,7 +60,7 @@ impl<A: Allocator, D: Allocator, C: Allocator> Report<'_, A, D, C> {
         writer.item("routine ", &[]);
         writer.named(entry);
         self.write_claimed_items(writer, entry);
-        let offsets = return_offsets(self.declaration, entry);
+        let offsets = declared_offsets(self.declaration, entry);
         writer.item("returns by {}", &[Offsets(&offsets)]);
     }
 

@@ -1,6 +1,5 @@
 //! What writes: templates, sentences and items, as plain text or as HTML.
 
-use crate::escaping::push_escaped;
 use crate::source_notes::{SourceNotes, label_in};
 use command_parts::message::{MessageWriter, Written};
 use command_parts::sentence::Argument::Number;
@@ -12,6 +11,28 @@ use wordset::WordSet;
 
 /// How many items of a line are shown that are the same as on the line above.
 const MOST_SAME: usize = 8;
+
+/// Adds a text that is not markup.
+///
+/// # Errors
+///
+/// Memory was refused.
+pub(crate) fn push_escaped<A: Allocator>(
+    bytes: &mut Vec<u8, A>,
+    text: &[u8],
+) -> Result<(), AllocError> {
+    for byte in text {
+        match *byte {
+            b'"' => bytes.extend_from_slice(b"&quot;")?,
+            b'&' => bytes.extend_from_slice(b"&amp;")?,
+            b'\'' => bytes.extend_from_slice(b"&#39;")?,
+            b'<' => bytes.extend_from_slice(b"&lt;")?,
+            b'>' => bytes.extend_from_slice(b"&gt;")?,
+            _ => bytes.push(*byte)?,
+        }
+    }
+    Ok(())
+}
 
 /// In which form a report is written.
 #[derive(Clone, Copy)]

@@ -16,6 +16,18 @@ use wordset::WordSet;
 /// How many offsets there are by which a routine may be declared to return.
 pub const OFFSETS: usize = 64;
 
+/// The offsets by which a routine is declared to return.
+pub fn declared_offsets<D: Allocator>(declaration: &Declaration<D>, entry: Word) -> WordSet {
+    let mut offsets = WordSet::empty();
+    for index in 0..OFFSETS {
+        let offset = Word::from_index(index);
+        if declaration.has_offset(entry, offset) {
+            offsets.insert(offset);
+        }
+    }
+    offsets
+}
+
 /// A program with its declaration, and a certificate which shows that it complies with it.
 #[derive(Drop)]
 pub struct Shown<'a, D: Allocator, C: Allocator> {
@@ -51,18 +63,6 @@ impl<D: Allocator, C: Allocator> Shown<'_, D, C> {
                 .is_empty()
             {
                 offsets.insert(Word::from_index(offset));
-            }
-        }
-        offsets
-    }
-
-    /// The offsets by which a routine is declared to return.
-    fn declared_offsets(&self, entry: Word) -> WordSet {
-        let mut offsets = WordSet::empty();
-        for index in 0..OFFSETS {
-            let offset = Word::from_index(index);
-            if self.declaration.has_offset(entry, offset) {
-                offsets.insert(offset);
             }
         }
         offsets
@@ -204,7 +204,7 @@ fn push_idle_offsets<L: MessageWriter, D: Allocator, C: Allocator>(
             text,
             "Declared offsets by which the routine",
             entry,
-            &shown.declared_offsets(entry).minus(&found),
+            &declared_offsets(shown.declaration, entry).minus(&found),
         )?;
         if !found.is_empty() {
             push_routine_offsets(

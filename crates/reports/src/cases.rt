@@ -139,12 +139,7 @@ impl FactDifferences {
 
     /// Whether facts are distinguished by a subject.
     pub(crate) fn is_by(&self, subject: &Subject) -> bool {
-        match subject {
-            Subject::Sites => self.sites,
-            Subject::Offsets => self.offsets,
-            Subject::Link => self.link,
-            Subject::Accumulator | Subject::Mq | Subject::Cell(_) => self.name == Some(*subject),
-        }
+        self.subjects().contains(&Some(*subject))
     }
 
     /// Whether facts are distinguished by something.

@@ -20,6 +20,17 @@ use domain::Rules;
 use judge::{Claims, Refusal};
 use reasons::Reason;
 use std::alloc::Allocator;
+use word12::Word;
+
+/// Adds what a fact in the body of a routine lacks.
+fn push_in_body<L: MessageWriter>(text: &mut L, entry: Word, lack: &str) -> Written {
+    let arguments = [Address(entry), Text(lack)];
+    push_sentence(
+        text,
+        "the fact is in the body of the routine {}{}",
+        &arguments,
+    )
+}
 
 /// Adds why a condition fails.
 fn push_reason<L: MessageWriter>(text: &mut L, rules: &Rules, reason: &Reason) -> Written {
@@ -37,21 +48,11 @@ fn push_reason<L: MessageWriter>(text: &mut L, rules: &Rules, reason: &Reason) -
             &[Offset(*offset)],
         ),
         Reason::SitesInMain(_) => text.push_text(b"the fact is in main's body but has sites"),
-        Reason::NoOffset(_, entry) => push_sentence(
-            text,
-            "the fact is in the body of the routine {} but has no offset",
-            &[Address(*entry)],
-        ),
-        Reason::NoSites(_, entry) => push_sentence(
-            text,
-            "the fact is in the body of the routine {} but has no sites",
-            &[Address(*entry)],
-        ),
-        Reason::RoutineNotListed(entry) => push_sentence(
-            text,
-            "the fact is in the body of the routine {}, which has no routine line",
-            &[Address(*entry)],
-        ),
+        Reason::NoOffset(_, entry) => push_in_body(text, *entry, " but has no offset"),
+        Reason::NoSites(_, entry) => push_in_body(text, *entry, " but has no sites"),
+        Reason::RoutineNotListed(entry) => {
+            push_in_body(text, *entry, ", which has no routine line")
+        }
         Reason::TooManyWords(_, count) => {
             push_sentence(text, "{} words are possible", &[Number(*count)])
         }

@@ -54,10 +54,8 @@ impl<D: Allocator> ViolatingStep<'_, D> {
         let arguments = [Address(at), Text(running)];
         push_sentence(text, "{} is not in {} body", &arguments)?;
         if self.declaration.is_entry(at) {
-            return push_sentence(
-                text,
-                ": it is an entry, which holds a return address and must not be executed\n",
-                &[],
+            return text.push_text(
+                b": it is an entry, which holds a return address and must not be executed\n",
             );
         }
         self.push_owner(text, at)

@@ -25,7 +25,7 @@ pub(crate) struct VariableSummary {
 pub(crate) type VariableSummaries<A> = BTreeMap<usize, VariableSummary, A>;
 
 /// Adds what a fact says about variables: which words they may hold.
-fn add_fact<A: Allocator, D: Allocator>(
+fn add_fact<A: Allocator + Copy, D: Allocator>(
     held: &mut VariableSummaries<A>,
     declaration: &Declaration<D>,
     known: &KnownFact,
@@ -44,7 +44,7 @@ fn add_fact<A: Allocator, D: Allocator>(
 
 /// Adds what the facts at an address say about variables, and tells whether there are any. Something is known about a cell there if each
 /// of them says it. One fact is lent.
-fn add_facts<A: Allocator, D: Allocator, C: Allocator>(
+fn add_facts<A: Allocator + Copy, D: Allocator, C: Allocator>(
     held: &mut VariableSummaries<A>,
     image: &Image,
     declaration: &Declaration<D>,

@@ -9,7 +9,7 @@ use command_parts::status::{DeviceFault, Fault, Status};
 use either::Either;
 use std::alloc::Global;
 use std::fs;
-use std::io::{self, Printer};
+use std::io::{self, Printer, Read};
 use std::rt::Files;
 use streams::standard::{StdReader, StdWriter};
 use streams::{put, read_at_most};
@@ -67,8 +67,19 @@ pub(crate) fn bytes_of<R: Files + Input>(
     Ok(read_at_most(alloc, &mut input, READ_LIMIT)?)
 }
 
+/// The bytes of the plain file with this name, of which at most `READ_LIMIT` are read: none if there is no such file,
+/// and `None` if it cannot be read.
+pub(crate) fn old_bytes<R: Files + Input>(rt: &R, alloc: Global, name: &str) -> Option<Vec<u8>> {
+    let is_plain = fs::metadata(rt, name).is_ok_and(|found| found.is_file());
+    if is_plain {
+        bytes_of(rt, alloc, name).ok()
+    } else {
+        Some(Vec::new(alloc))
+    }
+}
+
 /// Whether a plain file with this name exists, is not empty and, as far as its bytes show, was not written by this
-/// program: it does not begin with this prefix, and differs from this text.
+/// program: it does not begin with this prefix, and differs from this text. A file that cannot be read counts too.
 pub(crate) fn is_foreign<R: Files + Input>(
     rt: &R,
     alloc: Global,
@@ -76,16 +87,18 @@ pub(crate) fn is_foreign<R: Files + Input>(
     prefix: &[u8],
     text: &[u8],
 ) -> bool {
-    let has_bytes = fs::metadata(rt, name).is_ok_and(|found| found.is_file() && found.len() > 0);
-    if !has_bytes {
-        return false;
+    match old_bytes(rt, alloc, name) {
+        Some(old) => !old.is_empty() && !old.starts_with(prefix) && *old != *text,
+        None => true,
     }
-    let Ok(mut input) = open_input(rt, name) else {
-        return false;
-    };
-    match read_at_most(alloc, &mut input, READ_LIMIT) {
-        Ok(bytes) => !bytes.starts_with(prefix) && *bytes != *text,
-        Err(_) => true,
+}
+
+/// Why a file cannot be opened or read, if that is so. At most `READ_LIMIT` bytes of it are read.
+pub(crate) fn read_error<R: Files>(rt: &R, alloc: Global, name: &str) -> Option<io::Error> {
+    let mut bytes = Vec::new(alloc);
+    match fs::open(rt, name) {
+        Ok(file) => file.take(READ_LIMIT as u64).read_to_end(&mut bytes).err(),
+        Err(error) => Some(error),
     }
 }
 

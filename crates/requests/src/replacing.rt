@@ -134,7 +134,11 @@ fn replace<R: Files>(
     old: &Option<Metadata>,
     bytes: &[u8],
 ) -> io::Result<()> {
-    let mode = if old.is_some() { PRIVATE_MODE } else { NEW_MODE };
+    let mode = if old.is_some() {
+        PRIVATE_MODE
+    } else {
+        NEW_MODE
+    };
     let (mut file, mut beside) = make_beside(rt, alloc, path, mode)?;
     if let Some(old) = old {
         copy_permissions(&file, old)?;

@@ -1,7 +1,7 @@
 //! The lines that are printed below the line of a fault. The faulty file is read again for them, if it can be read
 //! twice. They are tested, not proved.
 
-use crate::files::{bytes_of, is_read_once};
+use crate::files::{bytes_of, is_read_once, read_error};
 use crate::hints::CommandFiles;
 use crate::source_faults::{NO_WORD, output_name};
 use command_line::explanations::push_advice;
@@ -11,18 +11,14 @@ use command_parts::visible::visible_text;
 use declaration::DeclarationFault;
 use diagnostics::inputs::{FaultyFile, push_fault};
 use std::alloc::Global;
-use std::fmt::Write;
+use std::fmt::{self, Write};
+use std::io;
 use std::rt::Files;
 use turns::{GuessFault, ProposeFault};
 
 /// The message about a run that ends at a word that the machine does not implement.
 pub(crate) const UNSUPPORTED: &str =
     "the machine does not implement the word there\nwhat to do: look at it with `pdp8 dump`; a word of the PDP-8/E needs --profile 8e; otherwise neither of the two machines modelled supports the word, or the program ran into data\n";
-
-/// Whether an input cannot be opened or read. An input that can be read only once is not tried.
-fn is_unread<R: Files + Input>(rt: &R, alloc: Global, name: &str) -> bool {
-    !is_read_once(rt, name) && matches!(bytes_of(rt, alloc, name), Err(Fault::Device(_)))
-}
 
 /// The lines about an input that has a fault. There are none for standard input or a pipe, which cannot be read twice.
 fn input_lines<R: Files + Input>(
@@ -53,17 +49,32 @@ fn displayed_name<'n>(name: &'n str) -> &'n str {
     if name.is_empty() { "\"\"" } else { name }
 }
 
-/// The line about an input that cannot be opened or read: the first such input, if there is one.
+/// Adds the line about an input that cannot be opened or read, and why. The number that the system gives to the reason is
+/// left out.
+fn push_unread(alloc: Global, text: &mut String, name: &str, error: &io::Error) -> fmt::Result {
+    let mut reason = String::new(alloc);
+    write!(reason, "{error}")?;
+    let reason = match reason.split_once(" (os error") {
+        Some((words, _)) => words,
+        None => reason.as_str(),
+    };
+    let shown = visible_text(alloc, displayed_name(name)).map_err(|_| fmt::Error)?;
+    writeln!(text, "{shown} cannot be opened or read: {reason}")
+}
+
+/// The line about an input that cannot be opened or read: the first such input, if there is one. An input that can be
+/// read only once is not tried.
 fn unread_line<R: Files + Input>(rt: &R, alloc: Global, files: &CommandFiles<'_, '_>) -> String {
     let mut text = String::new(alloc);
     let Ok(names) = files.inputs(alloc) else {
         return text;
     };
     for name in &names {
-        if is_unread(rt, alloc, name) {
-            if let Ok(shown) = visible_text(alloc, displayed_name(name)) {
-                let _ = writeln!(text, "{shown} cannot be opened or read");
-            }
+        if is_read_once(rt, name) {
+            continue;
+        }
+        if let Some(error) = read_error(rt, alloc, name) {
+            let _ = push_unread(alloc, &mut text, name, &error);
             return text;
         }
     }

@@ -1,7 +1,7 @@
 //! The files that `verify --save` writes, and when the answer is printed.
 
 use crate::files::{is_foreign, write_result};
-use crate::source_faults::report_file_fault;
+use crate::telling::tell;
 use command_line::{
     CERTIFICATE_ENDING, DECLARATION_ENDING, Destination, EVENTS_ENDING, SaveOptions,
 };
@@ -36,6 +36,18 @@ fn report_kept_file<R: Eprint>(rt: &R, alloc: Global, path: &str) -> Status {
     Status::Usage
 }
 
+/// Reports the fault of a file that cannot be written, and returns the status of the fault.
+fn report_unwritten<R: Eprint>(rt: &R, alloc: Global, fault: Fault, path: &str) -> Status {
+    let status = tell(rt, fault);
+    if status != Status::Device {
+        return status;
+    }
+    if let Ok(path) = visible_text(alloc, path) {
+        let _ = eprintln!(rt; "{path} cannot be created or written");
+    }
+    status
+}
+
 /// Writes these texts to their files, or none of them if one would replace a file that the command did not write.
 /// Returns the given status, or the status of the problem that was reported.
 fn save_all<R: Files + Input + Print + Eprint>(
@@ -58,7 +70,7 @@ fn save_all<R: Files + Input + Print + Eprint>(
             Destination::MadeLast(text.path.as_str()),
             &text.text,
         ) {
-            return report_file_fault(rt, alloc, fault, &text.path, "cannot be created or written");
+            return report_unwritten(rt, alloc, fault, &text.path);
         }
     }
     status

@@ -15,7 +15,7 @@ use streams::standard::{StdReader, StdWriter};
 use streams::{put, read_at_most};
 
 /// The most bytes of a file that are read at once: one more than any input may have.
-const READ_LIMIT: usize = 1_048_577;
+pub(crate) const READ_LIMIT: usize = 1_048_577;
 
 /// The input that a name on the command line stands for: standard input for `-`, otherwise a file.
 pub(crate) fn input_of<R: Files + Input>(

@@ -191,6 +191,8 @@ pub struct ResultFile<'r, R: Files> {
     file: Option<R::File>,
     /// What was written.
     bytes: Vec<u8>,
+    /// Whether the result is written in one piece, which is put in its place at once.
+    pub(crate) comes_whole: bool,
 }
 
 impl<'r, R: Files> ResultFile<'r, R> {
@@ -207,6 +209,7 @@ impl<'r, R: Files> ResultFile<'r, R> {
             path: place_of(rt, alloc, name)?,
             file: None,
             bytes: Vec::new(alloc),
+            comes_whole: false,
         })
     }
 
@@ -272,22 +275,25 @@ impl<'r, R: Files> ResultFile<'r, R> {
         }
     }
 
-    /// Puts the completely written result in its place. If nothing was written, the file is created or emptied.
+    /// Creates or empties the file if nothing was written.
     ///
     /// # Errors
     ///
-    /// As for `finish` and `make_empty`.
-    pub fn finish_or_empty(&mut self) -> io::Result<()> {
+    /// As for `make_empty`.
+    pub fn empty_if_unwritten(&mut self) -> io::Result<()> {
         if self.bytes.is_empty() && self.file.is_none() {
             return self.make_empty();
         }
-        self.finish()
+        Ok(())
     }
 }
 
 impl<R: Files> io::Write for ResultFile<'_, R> {
     fn write(&mut self, buf: &[u8]) -> io::Result<usize> {
         self.bytes.extend_from_slice(buf).map_err(no_memory)?;
+        if self.comes_whole {
+            self.finish()?;
+        }
         Ok(buf.len())
     }
 

@@ -97,7 +97,10 @@ pub(crate) fn is_foreign<R: Files + Input>(
 pub(crate) fn read_error<R: Files>(rt: &R, alloc: Global, name: &str) -> Option<io::Error> {
     let mut bytes = Vec::new(alloc);
     match fs::open(rt, name) {
-        Ok(file) => file.take(READ_LIMIT as u64).read_to_end(&mut bytes).err(),
+        Ok(file) => {
+            let mut input = file.take(READ_LIMIT as u64);
+            input.read_to_end(&mut bytes).err()
+        }
         Err(error) => Some(error),
     }
 }

@@ -76,7 +76,8 @@ fn hint(alloc: Global, wanted: Kind, name: &str, bytes: &[u8]) -> Result<String,
         _ => found != wanted,
     };
     if is_known && !bytes.is_empty() {
-        let (name, found, wanted) = (visible_text(alloc, name)?, found.text(), wanted.text());
+        let name = visible_text(alloc, name)?;
+        let (found, wanted) = (found.text(), wanted.text());
         writeln!(text, "{name} looks like {found}, not {wanted}").map_err(|_| AllocError)?;
     }
     Ok(text)

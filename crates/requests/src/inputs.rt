@@ -64,7 +64,7 @@ impl<R: Files> SeenFiles<'_, R> {
         };
         let mut is_known = false;
         for ending in save.endings() {
-            let path = [save.name, ending].concat(alloc)?;
+            let path = [save.name, *ending].concat(alloc)?;
             is_known = self.sees_again(&path)? || is_known;
         }
         Ok(is_known)
@@ -82,7 +82,8 @@ fn taken_output<R: Files>(
         rt,
         files: Vec::new(alloc),
     };
-    for name in &files.inputs(alloc)? {
+    let inputs = files.inputs(alloc)?;
+    for name in &inputs {
         let name = if *name == "-" { "/dev/stdin" } else { *name };
         let _ = seen.sees_again(name)?;
     }

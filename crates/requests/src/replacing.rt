@@ -80,7 +80,7 @@ fn make_beside<'r, R: Files>(
 fn is_replaceable(path: &str) -> bool {
     let last = path.split('/').last().unwrap_or("");
     let is_stream = path.starts_with("/dev/fd/") || path.starts_with("/proc/");
-    !is_stream && last != "" && last != "." && last != ".."
+    !is_stream && !last.is_empty() && last != "." && last != ".."
 }
 
 /// The path of the plain file with this name, or of nothing yet, after all symbolic links; `None` if no temporary file
@@ -114,6 +114,15 @@ fn old_file<R: Files>(rt: &R, name: &str) -> io::Result<Option<Metadata>> {
         Err(error) if error.kind() == ErrorKind::NotFound => Ok(None),
         Err(error) => Err(error),
     }
+}
+
+/// Why the file with this name cannot be created or written, if that is so and a temporary file may replace it.
+pub(crate) fn write_error<R: Files>(rt: &R, alloc: Global, name: &str) -> Option<io::Error> {
+    let mut file = ResultFile::new(rt, alloc, name).ok()?;
+    if name == "-" || file.path.is_none() {
+        return None;
+    }
+    file.check().err()
 }
 
 /// Gives an open temporary file the permissions of the file that it is to replace. It must already have the same owner

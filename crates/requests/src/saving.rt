@@ -1,7 +1,8 @@
 //! The files that `verify --save` writes, and when the answer is printed.
 
+use crate::faults::unwritten_file;
 use crate::files::{is_foreign, write_result};
-use crate::telling::tell;
+use crate::telling::{tell, tell_with};
 use command_line::{
     CERTIFICATE_ENDING, DECLARATION_ENDING, Destination, EVENTS_ENDING, SaveOptions,
 };
@@ -37,15 +38,11 @@ fn report_kept_file<R: Eprint>(rt: &R, alloc: Global, path: &str) -> Status {
 }
 
 /// Reports the fault of a file that cannot be written, and returns the status of the fault.
-fn report_unwritten<R: Eprint>(rt: &R, alloc: Global, fault: Fault, path: &str) -> Status {
-    let status = tell(rt, fault);
-    if status != Status::Device {
-        return status;
+fn report_unwritten<R: Files + Eprint>(rt: &R, alloc: Global, fault: Fault, path: &str) -> Status {
+    if fault.status() == Status::Device {
+        return tell_with(rt, fault, &unwritten_file(rt, alloc, path));
     }
-    if let Ok(path) = visible_text(alloc, path) {
-        let _ = eprintln!(rt; "{path} cannot be created or written");
-    }
-    status
+    tell(rt, fault)
 }
 
 /// Writes these texts to their files, or none of them if one would replace a file that the command did not write.

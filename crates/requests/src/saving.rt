@@ -45,8 +45,23 @@ fn report_unwritten<R: Files + Eprint>(rt: &R, alloc: Global, fault: Fault, path
     tell(rt, fault)
 }
 
-/// Writes these texts to their files, or none of them if one would replace a file that the command did not write.
-/// Returns the given status, or the status of the problem that was reported.
+/// The first of these texts whose file exists and was not written by the command, if there is one.
+fn first_foreign<'s, R: Files + Input>(
+    rt: &R,
+    alloc: Global,
+    saved: &'s [NamedText],
+) -> Option<&'s NamedText> {
+    for text in saved {
+        if is_foreign(rt, alloc, &text.path, CERTIFICATE_PREFIX, &text.text) {
+            return Some(text);
+        }
+    }
+    None
+}
+
+/// Writes these texts to their files, or none of them if one would replace a file that the command did not write. That is
+/// looked at again before each file, since a link may make one of them of two. Returns the given status, or the status of
+/// the problem that was reported.
 fn save_all<R: Files + Input + Print + Eprint>(
     rt: &R,
     alloc: Global,
@@ -55,18 +70,13 @@ fn save_all<R: Files + Input + Print + Eprint>(
     status: Status,
 ) -> Status {
     let forced = save.is_some_and(|options| options.forced);
-    for text in saved {
-        if !forced && is_foreign(rt, alloc, &text.path, CERTIFICATE_PREFIX, &text.text) {
-            return report_kept_file(rt, alloc, &text.path);
+    for (index, text) in saved.iter().enumerate() {
+        let rest = saved.get(index..).unwrap_or(&[]);
+        if !forced && let Some(kept) = first_foreign(rt, alloc, rest) {
+            return report_kept_file(rt, alloc, &kept.path);
         }
-    }
-    for text in saved {
-        if let Err(fault) = write_result(
-            rt,
-            alloc,
-            Destination::MadeLast(text.path.as_str()),
-            &text.text,
-        ) {
+        let out = Destination::MadeLast(text.path.as_str());
+        if let Err(fault) = write_result(rt, alloc, out, &text.text) {
             return report_unwritten(rt, alloc, fault, &text.path);
         }
     }

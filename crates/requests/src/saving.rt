@@ -72,7 +72,12 @@ fn save_all<R: Files + Input + Print + Eprint>(
     let forced = save.is_some_and(|options| options.forced);
     for (index, text) in saved.iter().enumerate() {
         let rest = saved.get(index..).unwrap_or(&[]);
-        if !forced && let Some(kept) = first_foreign(rt, alloc, rest) {
+        let kept = if forced {
+            None
+        } else {
+            first_foreign(rt, alloc, rest)
+        };
+        if let Some(kept) = kept {
             return report_kept_file(rt, alloc, &kept.path);
         }
         let out = Destination::MadeLast(text.path.as_str());

@@ -180,6 +180,17 @@ def show_closed_streams(shown):
         shown.expect(f'without streams {streams}', shown.read('out'), shown.tape)
 
 
+def show_long_tape(shown):
+    """A report takes no more memory for a tape that is padded to 400 MB."""
+    shown.write('halt.declaration', 'start 200\nmain 200\nstop 200\n')
+    shown.run('guess', 'halt.bin', 'halt.declaration', '-o', 'halt.certificate')
+    shutil.copy(shown.path('halt.bin'), shown.path('long.bin'))
+    os.truncate(shown.path('long.bin'), 400_000_000)
+    said = shown.run('report', 'long.bin', 'halt.declaration', 'halt.certificate', '-o', 'page',
+                     preexec_fn=lambda: resource.setrlimit(resource.RLIMIT_AS, (100_000_000, 100_000_000)))
+    shown.expect('long tape', said, ('', 0))
+
+
 def show_pairs(shown, pairs):
     """Of two commands that write the same file, one wins as a whole."""
     shown.write('other.pal', '*300\n' + 'HLT\n' * 2000 + '$\n')
@@ -210,6 +221,7 @@ def main():
         show_full_disk(shown)
         show_mount_point(shown)
         show_closed_streams(shown)
+        show_long_tape(shown)
         show_pairs(shown, int(sys.argv[2]) if len(sys.argv) > 2 else 30)
         show_signals(shown)
     print('\n'.join([*shown.wrong, f'files: {len(shown.wrong)} wrong']))

@@ -9,7 +9,7 @@ use command_parts::status::{DeviceFault, Fault, Status};
 use either::Either;
 use std::alloc::Global;
 use std::fs;
-use std::io::{self, Printer, Read};
+use std::io::{self, ErrorKind, Printer, Read};
 use std::rt::Files;
 use streams::standard::{StdReader, StdWriter};
 use streams::{put, read_at_most};
@@ -129,6 +129,15 @@ pub fn open_parts<R: Files + Input>(
 /// Where a result goes: standard output, or a file.
 pub type ResultSink<'r, R> = Either<Printer<'r, R>, ResultFile<'r, R>>;
 
+/// The fault of a result that cannot be written.
+pub(crate) fn write_fault(error: &io::Error) -> Fault {
+    if error.kind() == ErrorKind::OutOfMemory {
+        Fault::NoMemory
+    } else {
+        Fault::Device(DeviceFault::Write)
+    }
+}
+
 /// Opens the output for a result; `-` is standard output. The output operand of `assemble`, `guess` or `migrate` is
 /// created or emptied at once. For that of any other command, it is only checked at once that it can be written. The
 /// file of `-o` is not touched before its first byte is written. What is written to a file is in place after
@@ -152,7 +161,7 @@ pub fn open_output<'r, R: Files + Print>(
         Destination::CheckedFirst(_) => file.check(),
         Destination::MadeLast(_) => Ok(()),
     };
-    opened.map_err(|_| Fault::Device(DeviceFault::Write))?;
+    opened.map_err(|error| write_fault(&error))?;
     Ok(Either::Right(file))
 }
 
@@ -161,14 +170,13 @@ pub fn open_output<'r, R: Files + Print>(
 ///
 /// # Errors
 ///
-/// `Device` with `Write` if the result cannot be put there.
+/// `Device` with `Write` if the result cannot be put there, and `NoMemory` if memory was refused.
 pub fn finish<R: Files + Print>(
     out: &mut ResultSink<'_, R>,
     status: Status,
 ) -> Result<Status, Fault> {
     if let Either::Right(file) = out {
-        file.finish()
-            .map_err(|_| Fault::Device(DeviceFault::Write))?;
+        file.finish().map_err(|error| write_fault(&error))?;
     }
     Ok(status)
 }

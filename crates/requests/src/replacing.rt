@@ -202,6 +202,8 @@ pub struct ResultFile<'r, R: Files> {
     bytes: Vec<u8>,
     /// Whether the result is written in one piece, which is put in its place at once.
     pub(crate) comes_whole: bool,
+    /// Whether memory was refused, which is an error of `finish`, since a write has no such error.
+    lacks_memory: bool,
 }
 
 impl<'r, R: Files> ResultFile<'r, R> {
@@ -219,6 +221,7 @@ impl<'r, R: Files> ResultFile<'r, R> {
             file: None,
             bytes: Vec::new(alloc),
             comes_whole: false,
+            lacks_memory: false,
         })
     }
 
@@ -263,12 +266,26 @@ impl<'r, R: Files> ResultFile<'r, R> {
         replaced
     }
 
+    /// Notes that memory was refused, if that is the error. Any other error is returned.
+    fn note_memory(&mut self, done: io::Result<()>) -> io::Result<()> {
+        match done {
+            Err(error) if error.kind() == ErrorKind::OutOfMemory => {
+                self.lacks_memory = true;
+                Ok(())
+            }
+            done => done,
+        }
+    }
+
     /// Puts the completely written result in its place. If nothing was written, nothing is done.
     ///
     /// # Errors
     ///
-    /// Any error from writing the result.
+    /// Any error from writing the result, and `OutOfMemory` if memory was refused.
     pub fn finish(&mut self) -> io::Result<()> {
+        if self.lacks_memory {
+            return Err(no_memory(AllocError));
+        }
         if self.bytes.is_empty() {
             return Ok(());
         }
@@ -288,8 +305,11 @@ impl<'r, R: Files> ResultFile<'r, R> {
     ///
     /// # Errors
     ///
-    /// As for `make_empty`.
+    /// As for `make_empty`, and `OutOfMemory` if memory was refused for what was written.
     pub fn empty_if_unwritten(&mut self) -> io::Result<()> {
+        if self.lacks_memory {
+            return Err(no_memory(AllocError));
+        }
         if self.bytes.is_empty() && self.file.is_none() {
             return self.make_empty();
         }
@@ -299,9 +319,11 @@ impl<'r, R: Files> ResultFile<'r, R> {
 
 impl<R: Files> io::Write for ResultFile<'_, R> {
     fn write(&mut self, buf: &[u8]) -> io::Result<usize> {
-        self.bytes.extend_from_slice(buf).map_err(no_memory)?;
+        let kept = self.bytes.extend_from_slice(buf).map_err(no_memory);
+        self.note_memory(kept)?;
         if self.comes_whole {
-            self.finish()?;
+            let done = self.finish();
+            self.note_memory(done)?;
         }
         Ok(buf.len())
     }

@@ -2,13 +2,13 @@
 
 ghost use Rattle.std.specs.Prelude.{◌≡◌, false};
 
-use crate::files::open_input;
+use crate::files::{open_input, write_fault};
 use crate::of_machine::places::stops_of;
 use crate::replacing::ResultFile;
 use crate::standard_error::{NullSink, open_input_if, report_to, tell_to};
 use command_line::{Interrupt, Session, TeletypeSession};
 use command_parts::options::SummaryForm;
-use command_parts::status::{DeviceFault, Fault, Status};
+use command_parts::status::{Fault, Status};
 use command_parts::visible::visible_text;
 use either::Either;
 use machine_commands::interrupted::{InterruptibleKeys, OperatorPresence};
@@ -37,7 +37,7 @@ fn open_punch<'r, R: Files>(
     file.comes_whole = true;
     match file.check() {
         Ok(()) => Ok(Either::Left(file)),
-        Err(_) => Err(Fault::Device(DeviceFault::Write)),
+        Err(error) => Err(write_fault(&error)),
     }
 }
 
@@ -50,7 +50,7 @@ fn finish_punch<R: Files>(
     let status = answer?;
     if let Either::Left(file) = punch {
         file.empty_if_unwritten()
-            .map_err(|_| Fault::Device(DeviceFault::Write))?;
+            .map_err(|error| write_fault(&error))?;
     }
     Ok(status)
 }

@@ -268,13 +268,11 @@ impl<'r, R: Files> ResultFile<'r, R> {
 
     /// Notes that memory was refused, if that is the error. Any other error is returned.
     fn note_memory(&mut self, done: io::Result<()>) -> io::Result<()> {
-        match done {
-            Err(error) if error.kind() == ErrorKind::OutOfMemory => {
-                self.lacks_memory = true;
-                Ok(())
-            }
-            done => done,
+        if matches!(&done, Err(error) if error.kind() == ErrorKind::OutOfMemory) {
+            self.lacks_memory = true;
+            return Ok(());
         }
+        done
     }
 
     /// Puts the completely written result in its place. If nothing was written, nothing is done.

@@ -17,7 +17,7 @@ pub(crate) enum Kind {
 
 impl Kind {
     /// What such a file is called.
-    pub(crate) fn text(self) -> &'static str {
+    pub(crate) fn text(&self) -> &'static str {
         match self {
             Kind::Tape => "a tape",
             Kind::Source => "a source",

@@ -14,7 +14,7 @@ use std::rt::Files;
 static SOURCE_PREFIX: &[u8] = b"/From a tape, for the PDP-8/";
 
 /// The identity of a plain file, whatever its name: its device, and its inode number there.
-#[derive(Clone, Copy, PartialEq, Eq)]
+#[derive(Clone, Copy)]
 struct Identity {
     device: u64,
     number: u64,
@@ -30,14 +30,15 @@ struct SeenFiles<'r, R> {
 impl<R: Files> SeenFiles<'_, R> {
     /// Looks at the plain file with this name, if it exists, and returns whether it was seen before.
     fn sees_again(&mut self, name: &str) -> Result<bool, AllocError> {
-        let file = match fs::metadata(self.rt, name) {
-            Ok(found) if found.is_file() => Identity {
-                device: found.dev(),
-                number: found.ino(),
-            },
+        let (device, number) = match fs::metadata(self.rt, name) {
+            Ok(found) if found.is_file() => (found.dev(), found.ino()),
             _ => return Ok(false),
         };
-        let is_known = self.files.iter().any(|seen| *seen == file);
+        let is_known = self
+            .files
+            .iter()
+            .any(|seen| seen.device == device && seen.number == number);
+        let file = Identity { device, number };
         self.files.push(file).map_err(|_| AllocError)?;
         Ok(is_known)
     }
@@ -158,9 +159,8 @@ pub fn misused_files<R: Files + Input>(
     files: &CommandFiles<'_, '_>,
     request: &Request<'_>,
 ) -> Result<Option<Misuse>, AllocError> {
-    let taken = taken_output(rt, alloc, files, request)?;
-    if taken.is_some() {
-        return Ok(taken);
+    if let Some(misuse) = taken_output(rt, alloc, files, request)? {
+        return Ok(Some(misuse));
     }
     Ok(kept_output(rt, alloc, request))
 }

@@ -2,7 +2,7 @@
 
 use crate::faults::unwritten_file;
 use crate::files::{is_foreign, write_result};
-use crate::telling::{tell, tell_with};
+use crate::telling::{tell, tell_lines};
 use command_line::{
     CERTIFICATE_ENDING, DECLARATION_ENDING, Destination, EVENTS_ENDING, SaveOptions,
 };
@@ -39,10 +39,11 @@ fn report_kept_file<R: Eprint>(rt: &R, alloc: Global, path: &str) -> Status {
 
 /// Reports the fault of a file that cannot be written, and returns the status of the fault.
 fn report_unwritten<R: Files + Eprint>(rt: &R, alloc: Global, fault: Fault, path: &str) -> Status {
-    if fault.status() == Status::Device {
-        return tell_with(rt, fault, &unwritten_file(rt, alloc, path));
+    let status = tell(rt, fault);
+    if status == Status::Device {
+        tell_lines(rt, &unwritten_file(rt, alloc, path));
     }
-    tell(rt, fault)
+    status
 }
 
 /// The first of these texts whose file exists and was not written by the command, if there is one.

@@ -11,8 +11,8 @@ use command_parts::status::{DeviceFault, Fault};
 use command_parts::visible::visible_text;
 use declaration::DeclarationFault;
 use diagnostics::inputs::{FaultyFile, push_fault};
-use std::alloc::Global;
-use std::fmt::{self, Write};
+use std::alloc::{AllocError, Global};
+use std::fmt::Write;
 use std::io;
 use std::rt::Files;
 use turns::{GuessFault, ProposeFault};
@@ -58,8 +58,8 @@ fn push_failure(
     name: &str,
     problem: &str,
     error: &Option<io::Error>,
-) -> fmt::Result {
-    let shown = visible_text(alloc, displayed_name(name)).map_err(|_| fmt::Error)?;
+) -> Result<(), AllocError> {
+    let shown = visible_text(alloc, displayed_name(name))?;
     let Some(error) = error else {
         return writeln!(text, "{shown} {problem}");
     };

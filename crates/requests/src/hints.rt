@@ -66,8 +66,9 @@ impl<'p, 'a> CommandFiles<'p, 'a> {
     }
 }
 
-/// The line about a file that holds something other than what was expected there; empty if there is nothing to say.
-fn hint(alloc: Global, wanted: Kind, name: &str, bytes: &[u8]) -> Result<String, AllocError> {
+/// The line about a file that holds something other than what was expected there. It is empty if there is nothing to say,
+/// and for standard input.
+pub(crate) fn hint(alloc: Global, wanted: Kind, name: &str, bytes: &[u8]) -> String {
     let mut text = String::new(alloc);
     let found = kind_of(bytes);
     let is_known = match found {
@@ -75,12 +76,14 @@ fn hint(alloc: Global, wanted: Kind, name: &str, bytes: &[u8]) -> Result<String,
         Kind::OtherText => wanted == Kind::Tape,
         _ => found != wanted,
     };
-    if is_known && !bytes.is_empty() {
-        let name = visible_text(alloc, name)?;
-        let (found, wanted) = (found.text(), wanted.text());
-        writeln!(text, "{name} looks like {found}, not {wanted}").map_err(|_| AllocError)?;
+    if name == "-" || bytes.is_empty() || !is_known {
+        return text;
     }
-    Ok(text)
+    if let Ok(name) = visible_text(alloc, name) {
+        let (found, wanted) = (found.text(), wanted.text());
+        let _ = writeln!(text, "{name} looks like {found}, not {wanted}");
+    }
+    text
 }
 
 /// The line about an input that was given in place of one of another kind. It is empty if there is nothing to say, and
@@ -99,7 +102,7 @@ pub fn hint_line<R: Files + Input>(
         return String::new(alloc);
     }
     match bytes_of(rt, alloc, name) {
-        Ok(bytes) => hint(alloc, wanted, name, &bytes).unwrap_or(String::new(alloc)),
+        Ok(bytes) => hint(alloc, wanted, name, &bytes),
         Err(_) => String::new(alloc),
     }
 }

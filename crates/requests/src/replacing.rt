@@ -6,7 +6,7 @@
 use std::alloc::{AllocError, Global};
 use std::fmt::Write;
 use std::fs::{self, Metadata, OpenFile, OpenOptions, Permissions};
-use std::io::{self, ErrorKind, Read, Seek};
+use std::io::{self, ErrorKind, Read, Seek, Write as _};
 use std::os::unix::fs::{MetadataExt, OpenOptionsExt, PermissionsExt};
 use std::path::Path;
 use std::rt::Files;

@@ -5,7 +5,6 @@ pub mod RunLemmas
 pub mod DigitLemmas
 pub mod LineLemmas
 pub mod LineOfLemmas
-pub mod OffsetTextLemmas
 pub mod SumLineLemmas
 pub mod SumTextLemmas
 pub mod TextAnswerLemmas

@@ -9,9 +9,10 @@ ghost use Rattle.domain.specs.Offsets.{offsets_in};
 ghost use Rattle.domain.specs.Terms as said;
 ghost use Rattle.domain.specs.Chains.{Step as SaidStep};
 ghost use Rattle.certificate_lines.specs.RisingLists.{EndsBefore};
-ghost use Rattle.certificate_lines.specs.FieldsLeft.{left, WasFirst, NoDash, EndsField};
-ghost use Rattle.certificate_lines.specs.Fields.{offset_run_text, offset_set_text, with_run, third_text, step_rest, AreSteps};
-ghost use Rattle.certificate_lines.specs.Spelling.{offset_marks, term_text, coefficient_text, further_text, sum_text, step_text};
+ghost use Rattle.certificate_lines.specs.FieldSpelling.{marks, rank_text, offset_set_text};
+ghost use Rattle.certificate_lines.specs.FieldsLeft.{left, WasFirst, run_text, NoDash, EndsField};
+ghost use Rattle.certificate_lines.specs.Fields.{with_run, third_text, step_rest, AreSteps};
+ghost use Rattle.certificate_lines.specs.Spelling.{term_text, coefficient_text, further_text, sum_text, step_text};
 ghost use Rattle.certificate_lines.specs.LineOf.{is_term, is_relation, is_step};
 ghost use Rattle.certificate_lines.specs.Packed.{third_terms, packed_sum_of};
 
@@ -57,11 +58,11 @@ impl<'a> Fields<'a> {
     fn offset_run(&mut self, from: usize) -> (usize, usize)
         ensures small { result.1 < 64 }
         ensures rising { result.0 ≤ result.1 }
-        ensures read { WasFirst self.old self.new (offset_run_text result.0 result.1) }
+        ensures read { WasFirst self.old self.new (run_text rank_text result.0 result.1) }
         ensures order { IfSome (left self.new) (λ rest. (from ≤ result.0) × (result.0 ≤ result.1)) }
         ensures only { (low high : ℕ) (rest : List ℕ) → from ≤ low → low ≤ high → high < 64 →
             NoDash rest →
-            left self.old ≡ Some (offset_run_text low high ++ rest) →
+            left self.old ≡ Some (run_text rank_text low high ++ rest) →
             (result.0 ≡ low) × (result.1 ≡ high) × (left self.new ≡ Some rest) }
     {
         let low = self.rank();
@@ -83,9 +84,9 @@ impl<'a> Fields<'a> {
     fn offset_runs(&mut self) -> ReturnOffsets
         ensures read { IfSome (left self.new) (λ rest.
             (some_below 64 (offsets_in result) ≡ true) ×
-            (left self.old ≡ Some (offset_marks 64 (offsets_in result) ++ rest))) }
+            (left self.old ≡ Some (marks rank_text 64 (offsets_in result) ++ rest))) }
         ensures only { (s : Words) (rest : List ℕ) → some_below 64 s ≡ true → EndsBefore 64 s → EndsField rest →
-            left self.old ≡ Some (offset_marks 64 s ++ rest) →
+            left self.old ≡ Some (marks rank_text 64 s ++ rest) →
             left self.new ≡ Some rest }
     {
         let mut found = ReturnOffsets::none();

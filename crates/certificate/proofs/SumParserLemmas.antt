@@ -20,7 +20,8 @@ use Rattle.certificate_lines.specs.Found.{AreInOrder, Keeps, IsWhole, unended}
 use Rattle.certificate_lines.specs.Reading.{Text, Progress as ReadingProgress, Start, After, Failed, after_line, at_last, answer_from, reading}
 use Rattle.certificate_lines.specs.Serving.{Settles, AsksForMemory, front}
 use Rattle.certificate_lines.specs.CertificateInCode.{Kept as KeptCertificate}
-use Rattle.certificate.specs.Parser.{NoFeed, Reached, HasRead, WasRead, Parts, Seen, Refuses, IsParsed}
+use Rattle.certificate_lines.specs.LineFeeds.{NoFeed}
+use Rattle.certificate.specs.Parser.{Reached, HasRead, WasRead, Parts, Seen, Refuses, IsParsed}
 use Rattle.certificate.proofs.LengthLemmas.{no_feed_both}
 use Rattle.certificate.proofs.SumLengthLemmas.{line_short}
 use Rattle.certificate_lines.proofs.SumTextLemmas.{no_line_of, bad_line, no_version, end_on, few_read}

@@ -1,6 +1,6 @@
 -- Lines of all versions read field by field.
-use Rattle.std.proofs.Common.{◌≡◌, ℕ, ◌+◌, ◌-◌, ◌<◌, ◌&&◌, Bool, true, false, List, [], ◌∷◌, ◌++◌, length, drop, inl, inr, refl, ap, ◌∙◌, sym, subst, arith, append_assoc, append-nil}
-use Rattle.std.specs.Prelude.{codes, if◌then◌else◌, flat_map, nat_lt, nat_le, Option, Some, None, IfSome}
+use Rattle.std.proofs.Common.{◌≡◌, ℕ, ◌+◌, ◌-◌, ◌<◌, ◌&&◌, true, false, List, [], ◌∷◌, ◌++◌, length, drop, inl, inr, refl, ap, ◌∙◌, sym, subst, arith, append_assoc, append-nil}
+use Rattle.std.specs.Prelude.{codes, flat_map, nat_lt, nat_le, Option, Some, None, IfSome}
 use Rattle.std.proofs.lemmas.Bool.{true≢false, false≢true, and_parts, and_from, lt-ltb, le-ltb, ltb-true, leb-true, le-leb, eq-eqb, ne_eqb, cases_lt}
 use Rattle.std.proofs.lemmas.Bool.Decides.{eqb_tells}
 use Rattle.std.proofs.lemmas.List.{take_all}
@@ -106,10 +106,6 @@ spaced_steps [] = tt
 spaced_steps (Operates w ∷ ps) = refl
 spaced_steps (Ands w ∷ ps) = refl
 spaced_steps (Adds w ∷ ps) = refl
-
--- A text stands at the front of what is left.
-pub text_there : (reads : Bool) (s p rest : List ℕ) → reads ≡ true → s ≡ p ++ rest → (r : List ℕ) × ((if reads then Some s else None) ≡ Some (p ++ r))
-text_there reads s p rest e f = (rest, rw (e, f) refl)
 
 -- The set that is written nowhere has a word.
 pub all_some : (old now : Option (List ℕ)) (s : Words) → IfSome now (λ r. (old ≡ Some r) × (s ≡ all_words)) → IfSome now (λ r. has_some s ≡ true)

@@ -1,5 +1,5 @@
 -- The texts of the fields that version 3 adds; for private contracts.
-use Rattle.std.specs.Prelude.{◌≡◌, ℕ, ◌≤◌, true, ◌&&◌, ◌||◌, nat_le, Option, List, [], ◌++◌, length, codes, flat_map}
+use Rattle.std.specs.Prelude.{◌≡◌, ℕ, ◌≤◌, true, ◌&&◌, ◌||◌, nat_le, Option, List, ◌++◌, length, codes, flat_map}
 use Rattle.std.specs.List.{list_all}
 use Rattle.word12.specs.Words.{octal_text}
 use Rattle.wordset.specs.Words.{Words}

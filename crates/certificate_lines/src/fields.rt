@@ -70,16 +70,21 @@ impl<'a> Fields<'a> {
         }
     }
 
-    /// Whether some text is next.
-    pub fn begins_with(&self, text: &[u8]) -> bool
-        ensures there { result ≡ true → (rest : List ℕ) × (left self.now ≡ Some (text.now ++ rest)) }
-        ensures only { (rest : List ℕ) → left self.now ≡ Some (text.now ++ rest) → result ≡ true }
+    /// Takes some text, if it is next.
+    pub fn takes_text(&mut self, text: &[u8]) -> bool
+        ensures taken { result ≡ true → IsSomeAnd (left self.new) (λ rest. left self.old ≡ Some (text.now ++ rest)) }
+        ensures kept { result ≡ false → left self.new ≡ left self.old }
+        ensures only { (rest : List ℕ) → left self.old ≡ Some (text.now ++ rest) →
+            (result ≡ true) × (left self.new ≡ Some rest) }
     {
         if !self.reads {
             return false;
         }
         match self.rest.strip_prefix(text) {
-            Some(_rest) => true,
+            Some(rest) => {
+                self.rest = rest;
+                true
+            }
             None => false,
         }
     }

@@ -1,7 +1,6 @@
 //! The fields that version 3 adds, each with one spelling.
 
-ghost use Rattle.std.specs.Prelude.{ℕ, ◌≡◌, ◌<◌, ◌≤◌, ◌==◌, List, [], ◌∷◌, ◌++◌, length, map, take, flat_map, Option, codes, true, false, Some, None, IfSome};
-ghost use Rattle.std.specs.Option.{IsSomeAnd};
+ghost use Rattle.std.specs.Prelude.{ℕ, ◌≡◌, ◌<◌, ◌≤◌, ◌==◌, List, [], ◌∷◌, ◌++◌, length, map, take, flat_map, Option, codes, true, Some, None, IfSome};
 ghost use Rattle.wordset.specs.Words.{Words, some_below};
 ghost use Rattle.domain.specs.InCode.{term_of, summand_of};
 ghost use Rattle.domain.specs.ChainsInCode.{step_of};
@@ -111,20 +110,6 @@ impl<'a> Fields<'a> {
             return ReturnOffsets::none();
         }
         self.offset_runs()
-    }
-
-    /// Takes some text, if it is next.
-    fn takes_text(&mut self, text: &[u8]) -> bool
-        ensures taken { result ≡ true → IsSomeAnd (left self.new) (λ rest. left self.old ≡ Some (text.now ++ rest)) }
-        ensures kept { result ≡ false → left self.new ≡ left self.old }
-        ensures only { (rest : List ℕ) → left self.old ≡ Some (text.now ++ rest) →
-            (result ≡ true) × (left self.new ≡ Some rest) }
-    {
-        if self.begins_with(text) {
-            self.skip(text);
-            return true;
-        }
-        false
     }
 
     /// A term: `AC`, a cell, or a cell and a number in brackets.

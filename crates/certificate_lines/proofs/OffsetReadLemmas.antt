@@ -77,7 +77,7 @@ ending old now mid next s t n run h below g e end same none = rw same (record {
         IfSome o (λ r. (some_below 64 t ≡ true) × (old ≡ Some (marks rank_text 64 t ++ r)))
     reads None f = tt
     reads (Some r) f =
-        let w = whole_read rank_text 64 old more (run.last + 2) r f in
+        let w = whole_read rank_text old more (run.last + 2) r f in
         (first h.more run w.0 is, w.1 ∙ ap (λ (x : List ℕ). Some (x ++ r)) (sym (text_below rank_text 64 t more (omega arith) (λ v i j. end v i) w.0 (λ v i. is v))))
 
     all : (tail : List ℕ) → (others : List Run) → mid ≡ Some (more_text rank_text others ++ tail) → mid ≡ Some tail

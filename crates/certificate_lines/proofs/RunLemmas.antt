@@ -139,9 +139,9 @@ going_on text most old now mid (Some y) more n m run few h g is below took begin
         record { next = r; others = rs; is = here; apart = apart; below = small; left = (begins (runs_text text (r ∷ rs) ++ tail) left).1 }
 
 -- No further run follows: what was read is the text of the runs.
-pub whole_read : (text : ℕ → List ℕ) (most : ℕ) (old : Option (List ℕ)) (more : List Run) (n : ℕ) (r : List ℕ) → After text old more n r →
+pub whole_read : (text : ℕ → List ℕ) (old : Option (List ℕ)) (more : List Run) (n : ℕ) (r : List ℕ) → After text old more n r →
     StandApart 0 more × (old ≡ Some (runs_text text more ++ r))
-whole_read text most old more n r f =
+whole_read text old more n r f =
     let w : Whole text old more r = subst (λ (x : List Run). Whole text old x r) (append-nil more) (f [] r tt refl) in (w.apart, w.spelled)
 
 -- Words that were read, and their runs that were added to others.
@@ -209,7 +209,7 @@ ending old now mid next before runs new n m run h g is below e same none = rw sa
         IfSome o (λ r. (has_some (added before new) ≡ true) × (old ≡ Some (marks octal_text 4096 (added before new) ++ r)))
     reads None f = tt
     reads (Some r) f =
-        let w = whole_read octal_text 4096 old more (m + 2) r f in
+        let w = whole_read octal_text old more (m + 2) r f in
         rw alike (some h.more run w.0, w.1 ∙ ap (λ (x : List ℕ). Some (x ++ r)) (sym (text_of more w.0)))
 
     all : (s : Words) (tail : List ℕ) (r : RunsOf octal_text 4096 s) → length before ≤ 4096 → (others : List Run) → r.first ∷ r.more ≡ more ++ others →
@@ -228,11 +228,11 @@ no_room old now next before runs n h full none = rw none (record {
   front = (h.more, h.is);
   read = tt;
   only = λ s tail room some ends q. let r : RunsOf octal_text 4096 s = word_runs s some in
-      absurd (too_many s r room (h.read.only r.first r.more tail r.apart r.below ends (by_runs octal_text 4096 old s tail r q)));
+      absurd (too_many s tail r room (h.read.only r.first r.more tail r.apart r.below ends (by_runs octal_text 4096 old s tail r q)));
 })
   where
-    too_many : {tail : List ℕ} (s : Words) (r : RunsOf octal_text 4096 s) → length before ≤ 4096 → Ahead octal_text 4096 (r.first ∷ r.more) h.more n now tail → ⊥
-    too_many s r room a =
+    too_many : (s : Words) (tail : List ℕ) (r : RunsOf octal_text 4096 s) → length before ≤ 4096 → Ahead octal_text 4096 (r.first ∷ r.more) h.more n now tail → ⊥
+    too_many s tail r room a =
         let few : 2 * length (r.first ∷ r.more) + 0 ≤ 4097 = few_apart 0 (r.first ∷ r.more) (omega arith) r.apart in
         let l : length runs ≡ length before + length h.more = ap length h.is ∙ length-append before h.more in
         let k : length (r.first ∷ r.more) ≡ length h.more + length (a.next ∷ a.others) = ap length a.is ∙ length-append h.more (a.next ∷ a.others) in

@@ -7,7 +7,6 @@ pub mod LineLemmas
 pub mod LineOfLemmas
 pub mod SumLineLemmas
 pub mod SumTextLemmas
-pub mod TextAnswerLemmas
 pub mod PackedLemmas
 pub mod MakerLemmas
 pub mod PutLemmas

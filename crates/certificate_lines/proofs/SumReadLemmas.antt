@@ -1,7 +1,7 @@
 -- Lines of all versions read field by field.
 use Rattle.std.proofs.Common.{◌≡◌, ℕ, ◌+◌, ◌-◌, ◌<◌, ◌&&◌, true, false, List, [], ◌∷◌, ◌++◌, length, drop, inl, inr, refl, ap, ◌∙◌, sym, subst, arith, append_assoc, append-nil}
 use Rattle.std.specs.Prelude.{codes, flat_map, nat_lt, nat_le, Option, Some, None, IfSome}
-use Rattle.std.proofs.lemmas.Bool.{true≢false, false≢true, and_parts, and_from, lt-ltb, le-ltb, ltb-true, leb-true, le-leb, eq-eqb, ne_eqb, cases_lt}
+use Rattle.std.proofs.lemmas.Bool.{true≢false, false≢true, and_parts, and_from, lt-ltb, le-ltb, ltb-true, leb-true, eq-eqb, ne_eqb, cases_lt}
 use Rattle.std.proofs.lemmas.Bool.Decides.{eqb_tells}
 use Rattle.std.proofs.lemmas.List.{take_all}
 use Rattle.word12.specs.Words.{octal_text}
@@ -18,7 +18,7 @@ use Rattle.certificate_lines.specs.FieldSpelling.{Registers, set_text, name_text
 use Rattle.certificate_lines.specs.RisingLists.{EndsBefore, IsOfLinks, place_of_name}
 use Rattle.certificate_lines.specs.FieldsLeft.{EndsField}
 use Rattle.certificate_lines.specs.Runs.{added, set_of_runs, set_at}
-use Rattle.certificate_lines.specs.Lines.{is_of_sums, FactIs, ExitIs, CellIs, SumIs, ChainIs}
+use Rattle.certificate_lines.specs.Lines.{is_of_sums, FactIs, ExitIs, CellIs, SumIs}
 use Rattle.certificate_lines.specs.Spelling.{sites_text, mq_text, words_text, offset_text, offsets_line, sum_text, word_text, equation_line, relation_line, step_text, chain_line, line_text}
 use Rattle.certificate_lines.specs.LineOf.{has_registers, is_summand, is_relation, is_step, most_offsets}
 use Rattle.certificate_lines.specs.Fields.{AreSteps}
@@ -137,14 +137,6 @@ pub exit_spelled : (v : Version) (e o : ℕ) (s : Words) (r : Registers) (line :
     line ≡ codes "exit " ++ octal_text e ++ codes " " ++ offset_text v o ++ sites_text v s ++ words_text v r → Spells v (ExitIs e o s r) line
 exit_spelled v e o s r line small few sites form fits is =
     record { form = and_from (nat_lt e 4096) _ (lt-ltb e 4096 small) (and_from (nat_lt o (most_offsets v)) _ (lt-ltb o (most_offsets v) few) form); fits = (sites, fits); text = is }
-
-pub chain_spelled : (c : Chain) (line : List ℕ) → c.cell < 4096 → c.more < 4096 → some_below 2 c.link ≡ true → IsOfLinks c.link → AreSteps c.steps → line ≡ chain_line c → Spells Three (ChainIs c) line
-chain_spelled c line cell more link links steps e = record {
-  form = and_from (nat_lt c.cell 4096) _ (lt-ltb c.cell 4096 cell) (and_from (nat_lt c.more 4096) _ (lt-ltb c.more 4096 more) (and_from (some_below 2 c.link) _ link
-      (and_from (nat_le 1 (length c.steps)) _ (le-leb 1 (length c.steps) steps.some) (and_from (nat_le (length c.steps) 16) _ (le-leb (length c.steps) 16 steps.few) steps.form))));
-  fits = (tt, links);
-  text = e;
-}
 
 -- Where there were no runs before, those that were added are all.
 pub sited_whole : (old new : List Run) (n : ℕ) (r : PackedRegisters) (s : Words) (said : Registers) → old ≡ [] → AreSited (drop (length old) new) n r s said → AreSited new n r s said

@@ -239,9 +239,6 @@ passed kept text line new_line bytes piece progress long h n fits = record {
     longer true q = let z : 49152 < length h.tail = h.long q in omega (arith, length-append h.tail piece)
     longer false q = let z : length line ≡ length h.tail = ap length (h.same q) in omega (arith, length-append h.tail piece)
 
-pub is_full : (n most : ℕ) → true ≡ (n == most) → most ≤ n
-is_full n most e = let z : n ≡ most = eqb-true n most (sym e) in omega arith
-
 -- The bytes have no whole line.
 pub no_lines : (kept : Packed) (text line bytes : List ℕ) (o : Option Progress) (long : Bool) → o ≡ None → Parts text kept o line long bytes → length bytes ≤ most_bytes →
     reading bytes ≡ Err faults.Version

@@ -69,19 +69,16 @@ words_fields v r rest = five (codes " ac ") (set_text r.ac) (mq_text v r.mq) (co
     five : (a b c d e f : List ℕ) → (a ++ b ++ c ++ d ++ e) ++ f ≡ a ++ (b ++ (c ++ (d ++ (e ++ f))))
     five a b c d e f = simp append_assoc
 
+six : (a b c d e f : List ℕ) → a ++ b ++ c ++ d ++ e ++ f ≡ a ++ (b ++ (c ++ (d ++ (e ++ (f ++ [])))))
+six a b c d e f = simp (append_assoc, append-nil)
+
 pub fact_fields : (v : Version) (a : ℕ) (s : Words) (r : Registers) (o : Words) → line_text v (FactIs a s r o) ≡
     codes "fact " ++ (octal_text a ++ (sites_text v s ++ (words_text v r ++ (codes " offsets " ++ (offsets_line v o ++ [])))))
 fact_fields v a s r o = six (codes "fact ") (octal_text a) (sites_text v s) (words_text v r) (codes " offsets ") (offsets_line v o)
-  where
-    six : (a b c d e f : List ℕ) → a ++ b ++ c ++ d ++ e ++ f ≡ a ++ (b ++ (c ++ (d ++ (e ++ (f ++ [])))))
-    six a b c d e f = simp (append_assoc, append-nil)
 
 pub exit_fields : (v : Version) (e o : ℕ) (s : Words) (r : Registers) → line_text v (ExitIs e o s r) ≡
     codes "exit " ++ (octal_text e ++ (codes " " ++ (offset_text v o ++ (sites_text v s ++ (words_text v r ++ [])))))
 exit_fields v e o s r = six (codes "exit ") (octal_text e) (codes " ") (offset_text v o) (sites_text v s) (words_text v r)
-  where
-    six : (a b c d e f : List ℕ) → a ++ b ++ c ++ d ++ e ++ f ≡ a ++ (b ++ (c ++ (d ++ (e ++ (f ++ [])))))
-    six a b c d e f = simp (append_assoc, append-nil)
 
 pub sum_line_fields : (r : Relation) → relation_line Three r ≡ codes "sum " ++ ((sum_text r.sum ++ codes " in ") ++ (set_text r.set ++ []))
 sum_line_fields r = four (codes "sum ") (sum_text r.sum) (codes " in ") (set_text r.set)
@@ -197,9 +194,6 @@ pub equation_fields : (r : Relation) (x : Location) (b k : ℕ) → r.sum ≡ di
     equation_line r ≡ codes "equal " ++ (name_text x ++ (codes " " ++ (octal_text b ++ (codes " " ++ (octal_text k ++ [])))))
 equation_fields r x b k e f few =
     rw (e, f) (sym (equation_text x b k few) ∙ six (codes "equal ") (name_text x) (codes " ") (octal_text b) (codes " ") (octal_text k))
-  where
-    six : (a b c d e f : List ℕ) → a ++ b ++ c ++ d ++ e ++ f ≡ a ++ (b ++ (c ++ (d ++ (e ++ (f ++ [])))))
-    six a b c d e f = simp (append_assoc, append-nil)
 
 -- A word of which the set has none but it.
 pub one_small : (s : Words) (k : ℕ) → s ≡ one k → has_some s ≡ true → k < 4096

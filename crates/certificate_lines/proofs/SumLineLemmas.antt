@@ -98,38 +98,28 @@ told_above Two s end = lower (offsets_text s) (offsets_above s)
 told_above Three s end = offset_set_above s end
 
 -- Registers.
+abbrev mq_list : Version → Words → List (List ℕ) → List (List ℕ)
+mq_list One mq ws = ws
+mq_list Two mq ws = codes "mq" ∷ set_text mq ∷ ws
+mq_list Three mq ws = codes "mq" ∷ set_text mq ∷ ws
+
 abbrev register_list : Version → Registers → List (List ℕ) → List (List ℕ)
-register_list One r ws = codes "ac" ∷ set_text r.ac ∷ codes "link" ∷ digits 2 r.link ∷ ws
-register_list Two r ws = codes "ac" ∷ set_text r.ac ∷ codes "mq" ∷ set_text r.mq ∷ codes "link" ∷ digits 2 r.link ∷ ws
-register_list Three r ws = codes "ac" ∷ set_text r.ac ∷ codes "mq" ∷ set_text r.mq ∷ codes "link" ∷ digits 2 r.link ∷ ws
+register_list v r ws = codes "ac" ∷ set_text r.ac ∷ mq_list v r.mq (codes "link" ∷ digits 2 r.link ∷ ws)
 
 registers_read : (v : Version) (r : Registers) (ws : List (List ℕ)) → RegistersFit v r → registers_in v (register_list v r ws) ≡ r
 registers_read One r ws e = registers_are _ _ _ _ _ _ (set_back r.ac e.ac) (sym e.mq) (links_back r.link e.link)
 registers_read Two r ws e = registers_are _ _ _ _ _ _ (set_back r.ac e.ac) (set_back r.mq e.mq) (links_back r.link e.link)
 registers_read Three r ws e = registers_are _ _ _ _ _ _ (set_back r.ac e.ac) (set_back r.mq e.mq) (links_back r.link e.link)
 
+mq_signs : (v : Version) (mq : Words) (ws : List (List ℕ)) → Each (Above 32) ws → Each (Above 32) (mq_list v mq ws)
+mq_signs One mq ws h = h
+mq_signs Two mq ws h = (literal_signs (codes "mq") refl, (set_signs mq, h))
+mq_signs Three mq ws h = (literal_signs (codes "mq") refl, (set_signs mq, h))
+
 registers_signs : (v : Version) (r : Registers) (ws : List (List ℕ)) → Each (Above 32) ws → Each (Above 32) (register_list v r ws)
-registers_signs One r ws h =
-    (literal_signs (codes "ac") refl, (set_signs r.ac, (literal_signs (codes "link") refl, (weaker 44 32 (digits 2 r.link) (omega arith) (digits_above 2 r.link), h))))
-registers_signs Two r ws h = (
+registers_signs v r ws h = (
   literal_signs (codes "ac") refl,
-  (
-    set_signs r.ac,
-    (
-      literal_signs (codes "mq") refl,
-      (set_signs r.mq, (literal_signs (codes "link") refl, (weaker 44 32 (digits 2 r.link) (omega arith) (digits_above 2 r.link), h))),
-    ),
-  ),
-)
-registers_signs Three r ws h = (
-  literal_signs (codes "ac") refl,
-  (
-    set_signs r.ac,
-    (
-      literal_signs (codes "mq") refl,
-      (set_signs r.mq, (literal_signs (codes "link") refl, (weaker 44 32 (digits 2 r.link) (omega arith) (digits_above 2 r.link), h))),
-    ),
-  ),
+  (set_signs r.ac, mq_signs v r.mq (codes "link" ∷ digits 2 r.link ∷ ws) (literal_signs (codes "link") refl, (weaker 44 32 (digits 2 r.link) (omega arith) (digits_above 2 r.link), h))),
 )
 
 -- The words from the sites on, to which others are added.

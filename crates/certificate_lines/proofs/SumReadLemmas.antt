@@ -51,16 +51,11 @@ registers_fit v ac mq link (Some x) a b c = record { ac = a; mq = b; link = c }
 pub registers_parts : (v : Version) (r : Registers) → has_registers v r ≡ true → (has_some r.ac ≡ true) × (has_some r.mq ≡ true) × (some_below 2 r.link ≡ true)
 registers_parts v r h = let p = and_parts (has_some r.ac) _ h in let q = and_parts (has_some r.mq) _ p.1 in (p.0, q.0, q.1)
 
--- After what is said of MQ or of the sites comes a space.
+-- After what is said of MQ comes a space.
 pub mq_space : (v : Version) (s : Words) (rest : List ℕ) → EndsField (mq_text v s ++ 32 ∷ rest)
 mq_space One s rest = refl
 mq_space Two s rest = refl
 mq_space Three s rest = refl
-
-pub sites_space : (v : Version) (s : Words) (rest : List ℕ) → EndsField (sites_text v s ++ 32 ∷ rest)
-sites_space One s rest = refl
-sites_space Two s rest = refl
-sites_space Three s rest = refl
 
 pub words_fields : (v : Version) (r : Registers) (rest : List ℕ) → words_text v r ++ rest ≡
     codes " ac " ++ (set_text r.ac ++ (mq_text v r.mq ++ (codes " link " ++ (digits 2 r.link ++ rest))))

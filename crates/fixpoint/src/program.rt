@@ -1,9 +1,9 @@
 //! What is analysed: a tape's words and a declaration.
 
 ghost use Rattle.std.specs.Prelude.{◌≡◌};
-ghost use Rattle.fixpoint.specs.Asked.{MayBeAsked};
 
 use crate::fault::SearchFault;
+use crate::settings::SETTINGS;
 use crate::widening::Limits;
 use bin_tape::Image;
 use declaration::{Declaration, Owner, Subject};
@@ -14,12 +14,8 @@ use instruct::{
 };
 use processor::is_auto_index;
 use std::alloc::Allocator;
-use transfer::Outcomes;
 use word12::Word;
 use wordset::WordSet;
-
-/// The most cells that are tracked.
-const MOST_TRACKED: usize = 64;
 
 /// What is analysed, the addresses of all bodies, those whose words may look at an entry, the cells that instructions name or
 /// that stand in bodies, those that facts speak of at most, where their sets may end, and the rules by which facts are taken
@@ -65,7 +61,7 @@ fn calls_stepped(word: Word, at: Word) -> bool {
 
 /// Adds a cell to the tracked ones, if there is room.
 fn add_cell(cells: &mut WordSet, cell: Word) {
-    if cells.count() < MOST_TRACKED {
+    if cells.count() < SETTINGS.most_tracked {
         cells.insert(cell);
     }
 }
@@ -371,16 +367,6 @@ impl<D: Allocator> AnalysedProgram<'_, D> {
         self.place(&visit.body)
             .put_writes(&visit.fact, visit.at, word, &mut cells);
         cells
-    }
-
-    /// Puts what may come of a word into the lent room.
-    #[tactic(auto, using(crate::proofs::AskedLemmas::few_chains, crate::proofs::AskedLemmas::short_chains))]
-    pub(crate) fn put_outcomes(&self, visit: &AbstractState, word: Word, outcomes: &mut Outcomes)
-        requires { MayBeAsked visit.now.fact }
-    {
-        visit.fact.is_within_room();
-        self.place(&visit.body)
-            .put_outcomes(&visit.fact, visit.at, word, outcomes);
     }
 
     /// The addresses for which a routine abandons all open calls by a word: where it is not main and the word is a JMP they

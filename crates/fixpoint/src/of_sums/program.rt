@@ -7,7 +7,8 @@ ghost use Rattle.declaration.specs.DeclarationInCode.{meaning};
 
 use crate::of_sums::tested_links::tested_links;
 use crate::program::{AnalysedProgram, add_asserted};
-use crate::widening::{Limits, MANY_RUNS};
+use crate::settings::SETTINGS;
+use crate::widening::Limits;
 use bin_tape::Image;
 use declaration::{Declaration, Owner};
 use domain::Rules;
@@ -17,9 +18,6 @@ use processor::is_auto_index;
 use std::alloc::Allocator;
 use word12::Word;
 use wordset::WordSet;
-
-/// The most cells that are told of everywhere since pointers that never change lead to them.
-const MOST_REACHED: usize = 16;
 
 /// A program, the variables that it uses as pointers, those that it tests, those of which something is declared to hold, those to
 /// which pointers lead that never change, the routines that look at their return word, the addresses from which the link may be
@@ -127,7 +125,7 @@ impl Uses {
             return;
         }
         if let Some(cell) = base.place_named(word, target(word, at)) {
-            if base.declaration.is_variable(cell) && self.reached.count() < MOST_REACHED {
+            if base.declaration.is_variable(cell) && self.reached.count() < SETTINGS.most_reached {
                 self.reached.insert(cell);
             }
         }
@@ -140,7 +138,7 @@ impl<'a, D: Allocator> SumProgram<'a, D> {
         ensures image { result.base.image.now ≡ image.now }
         ensures declaration { result.base.declaration.now ≡ declaration.now }
     {
-        let base = AnalysedProgram::of(image, declaration, MANY_RUNS);
+        let base = AnalysedProgram::of(image, declaration, SETTINGS.most_runs);
         let thresholds = thresholds(&base.limits);
         let mut asserted = WordSet::empty();
         add_asserted(&mut asserted, declaration);
@@ -221,6 +219,17 @@ impl<'a, D: Allocator> SumProgram<'a, D> {
             }
         }
         last
+    }
+
+    /// The entries of the routines with several returns.
+    pub fn skipping(&self) -> WordSet {
+        let mut found = WordSet::empty();
+        for routine in self.base.declaration.routines() {
+            if self.last_offset(routine.entry()).unwrap_or(0) > 0 {
+                found.insert(routine.entry());
+            }
+        }
+        found
     }
 
     /// The entry that the word at an address calls, if it calls one.

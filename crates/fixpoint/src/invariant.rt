@@ -112,9 +112,7 @@ pub(crate) fn has_room_for_cell(fact: &Fact) -> bool
 /// Lets a fact tell of a relation, if there is room.
 pub(crate) fn relate_if_room(fact: &mut Fact, relation: &Relation) {
     if has_room_for_relation(fact) {
-        let mut set = WordSet::all();
-        relation.set.put(&mut set);
-        fact.relate(&relation.sum, &set);
+        fact.push_relations(&[*relation]);
     }
 }
 

@@ -8,7 +8,7 @@ ghost use Rattle.certificate_lines.specs.declared.Version.TheVariants.{Three};
 ghost use Rattle.turns.specs.Counts.{IsSpentUp};
 
 use crate::fault::SearchFault;
-use crate::invariant::{Case, Invariant};
+use crate::invariant::Invariant;
 use crate::needs::Needs;
 use crate::of_sums::merging::Merge;
 use crate::of_sums::program::SumProgram;

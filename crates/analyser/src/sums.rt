@@ -116,7 +116,7 @@ impl Progress {
             Try::OneFact => Some(self.split),
             Try::ByReaders => self.split.by_calls(program.readers()),
             Try::ByStuckRoutine => {
-                let entry = program.owner(self.stuck)?;
+                let entry = program.base.owner(self.stuck)?;
                 self.split.by_calls(&WordSet::one(entry))
             }
             Try::ByLink => Some(apart.by_links(&WordSet::all())),
@@ -125,7 +125,7 @@ impl Progress {
                 Some(apart.by_links(program.tested_links()).by_cell(cell))
             }
             Try::ByInnerCalls => {
-                let called = program.called_in(&program.owner(self.stuck));
+                let called = program.called_in(&program.base.owner(self.stuck));
                 let split = apart.by_calls(&called)?;
                 Some(split.by_links(&WordSet::all()))
             }

@@ -12,6 +12,7 @@ use facts::Place;
 use std::alloc::Allocator;
 use transfer::Outcomes;
 use word12::Word;
+use wordset::WordSet;
 
 /// Whether a sum has at most three terms.
 fn is_short(sum: &Sum) -> bool
@@ -65,4 +66,13 @@ pub(crate) fn put_outcomes<D: Allocator, const C: usize, const R: usize>(
     }
     place.put_outcomes(fact, at, word, outcomes);
     true
+}
+
+/// The addresses for which the running routine abandons all open calls by a word: where it is not main and the word is a JMP
+/// they are the declared ones, and else there are none.
+pub(crate) fn abandoned_by<D: Allocator>(place: &Place<'_, D>, word: Word) -> WordSet {
+    if place.routine.is_none() || !place.is_jump(word) {
+        return WordSet::empty();
+    }
+    *place.declaration.abandons()
 }

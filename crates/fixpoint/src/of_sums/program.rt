@@ -1,16 +1,13 @@
 //! A program as the search by the rules of sums sees it.
 
-ghost use Rattle.std.specs.Prelude.{ℕ, ◌≡◌, true, IfSome, Some};
-ghost use Rattle.wordset.specs.Words.{difference};
-ghost use Rattle.wordset.specs.Lanes.{words};
-ghost use Rattle.declaration.specs.DeclarationInCode.{meaning};
+ghost use Rattle.std.specs.Prelude.{◌≡◌};
 
 use crate::of_sums::tested_links::tested_links;
 use crate::program::{AnalysedProgram, add_asserted};
 use crate::settings::SETTINGS;
 use crate::widening::Limits;
 use bin_tape::Image;
-use declaration::{Declaration, Owner};
+use declaration::Declaration;
 use domain::Rules;
 use facts::{Place, SumFact};
 use instruct::{Format, Operation, refers_indirectly, refers_to_memory, target};
@@ -58,18 +55,6 @@ fn looks_at(word: Word) -> bool {
     }
 }
 
-/// The entry of the routine whose body has an address, if it is not main's.
-fn entry_at<D: Allocator>(declaration: &Declaration<D>, at: Word) -> Option<Word>
-    ensures found { IfSome result (λ entry. (meaning declaration.now).body (Some entry) at ≡ true) }
-    ensures only { (entry : ℕ) → (meaning declaration.now).body (Some entry) at ≡ true →
-        result ≡ Some entry }
-{
-    match declaration.owner_of(at)? {
-        Owner::Main => None,
-        Owner::Routine(entry) => Some(entry),
-    }
-}
-
 /// What the instructions of a program do with cells: the variables that are pointers, those that are tested, those to which
 /// pointers lead that never change, and the entries of the routines that look at their return word.
 #[derive(Clone, Copy)]
@@ -92,7 +77,7 @@ fn uses_of<D: Allocator>(base: &AnalysedProgram<'_, D>) -> Uses {
         let at = Word::from_index(index);
         if let Some(word) = base.fixed_word(at) {
             if refers_to_memory(word) {
-                uses.add(base.declaration, at, word);
+                uses.add(base, at, word);
                 uses.add_reached(base, at, word);
             }
         }
@@ -102,9 +87,9 @@ fn uses_of<D: Allocator>(base: &AnalysedProgram<'_, D>) -> Uses {
 
 impl Uses {
     /// Adds what a memory reference does.
-    fn add<D: Allocator>(&mut self, declaration: &Declaration<D>, at: Word, word: Word) {
+    fn add<D: Allocator>(&mut self, base: &AnalysedProgram<'_, D>, at: Word, word: Word) {
         let named = target(word, at);
-        if declaration.is_variable(named) {
+        if base.declaration.is_variable(named) {
             if refers_indirectly(word) {
                 self.pointers.insert(named);
             }
@@ -114,7 +99,7 @@ impl Uses {
                 }
             }
         }
-        if entry_at(declaration, at) == Some(named) && looks_at(word) {
+        if base.owner(at) == Some(named) && looks_at(word) {
             self.readers.insert(named);
         }
     }
@@ -158,25 +143,6 @@ impl<'a, D: Allocator> SumProgram<'a, D> {
             readers,
             tested_links,
             thresholds,
-        }
-    }
-
-    /// The entry of the routine whose body has an address, if it is not main's.
-    pub fn owner(&self, at: Word) -> Option<Word>
-        ensures found { IfSome result (λ entry.
-            (meaning self.now.base.declaration.now).body (Some entry) at ≡ true) }
-        ensures only { (entry : ℕ) →
-            (meaning self.now.base.declaration.now).body (Some entry) at ≡ true →
-            result ≡ Some entry }
-    {
-        entry_at(self.base.declaration, at)
-    }
-
-    /// Whether an address is in the body of a routine, or of main.
-    pub(crate) fn has(&self, routine: &Option<Word>, at: Word) -> bool {
-        match routine {
-            None => self.base.declaration.in_main(at),
-            Some(entry) => self.base.declaration.in_body(*entry, at),
         }
     }
 
@@ -246,7 +212,7 @@ impl<'a, D: Allocator> SumProgram<'a, D> {
         let mut found = WordSet::empty();
         for index in 0..4096usize {
             let at = Word::from_index(index);
-            if self.has(routine, at) {
+            if self.base.has(routine, at) {
                 if let Some(entry) = self.entry_called_at(at) {
                     found.insert(entry);
                 }
@@ -256,24 +222,18 @@ impl<'a, D: Allocator> SumProgram<'a, D> {
     }
 
     /// The routines that look at their return word.
-    pub fn readers(&self) -> &WordSet
-        ensures { result.now ≡ self.now.readers }
-    {
+    pub fn readers(&self) -> &WordSet {
         &self.readers
     }
 
     /// The addresses from which a run may come to a skip that tests the link, and the entries of the routines after whose return
     /// it may.
-    pub fn tested_links(&self) -> &WordSet
-        ensures { result.now ≡ self.now.tested_links }
-    {
+    pub fn tested_links(&self) -> &WordSet {
         &self.tested_links
     }
 
     /// The variables that are added, masked or counted by name, except for pointers.
-    pub fn tested(&self) -> WordSet
-        ensures { words result ≡ difference (words self.now.tested) (words self.now.pointers) }
-    {
+    pub fn tested(&self) -> WordSet {
         self.tested.minus(&self.pointers)
     }
 

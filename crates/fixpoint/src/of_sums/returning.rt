@@ -142,7 +142,7 @@ impl<A: Allocator + Copy> SumSearch<A> {
             return Ok(());
         };
         let to = at.increment().add(Word::from_index(offset.min(63)));
-        if !kept.sites.contains(at) || !program.has(&place.routine, to) {
+        if !kept.sites.contains(at) || !program.base.has(&place.routine, to) {
             return Ok(());
         }
         kept.put_written(&written, &mut room.calls.exit);

@@ -195,7 +195,7 @@ impl<A: Allocator + Copy> SumSearch<A> {
         let at = program.base.declaration.start();
         let tracked = self.tracked_at(at);
         let fact = Fact::any();
-        let case = self.split.case_of(at, &program.owner(at), &fact);
+        let case = self.split.case_of(at, &program.base.owner(at), &fact);
         let mut kept = Invariant::without_cells(self.alloc, at, case, &fact);
         for cell in tracked.iter() {
             if let Some(word) = program.base.image.get(cell) {

@@ -8,7 +8,7 @@ use crate::invariant::Case;
 use crate::of_sums::program::SumProgram;
 use crate::of_sums::search::{SearchPhase, SumSearch};
 use crate::of_sums::workspace::{CallWorkspace, PartWorkspace, SumWorkspace};
-use crate::outcomes::put_outcomes;
+use crate::outcomes::{abandoned_by, put_outcomes};
 use crate::settings::SETTINGS;
 use domain::{Location, ReturnOffsets};
 use facts::{Fact, FactPart, KnownFact, Place};
@@ -51,7 +51,7 @@ impl<A: Allocator + Copy> SumSearch<A> {
         if !room.calls.narrow(program.base.image) {
             return Ok(());
         }
-        let place = program.place(&program.owner(at));
+        let place = program.place(&program.base.owner(at));
         let mut possible = WordSet::empty();
         place.put_possible(&room.calls.fact, at, &mut possible);
         if possible.count() > SETTINGS.most_words {
@@ -203,7 +203,7 @@ impl<A: Allocator + Copy> SumSearch<A> {
         rooms: &mut PartWorkspace<A>,
     ) -> Result<(), SearchFault> {
         for to in addresses.iter() {
-            if program.has(routine, to) {
+            if program.base.has(routine, to) {
                 let goal = MergeTarget {
                     from: at,
                     to,
@@ -350,15 +350,6 @@ impl<A: Allocator + Copy> SumSearch<A> {
         }
         Ok(())
     }
-}
-
-/// The addresses for which the running routine abandons all open calls by a word: where it is not main and the word is a JMP
-/// they are the declared ones, and else there are none.
-fn abandoned_by<D: Allocator>(place: &Place<'_, D>, word: Word) -> WordSet {
-    if place.routine.is_none() || !place.is_jump(word) {
-        return WordSet::empty();
-    }
-    *place.declaration.abandons()
 }
 
 /// Whether a cell may hold few enough words to go through each of them again and again.

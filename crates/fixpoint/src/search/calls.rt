@@ -5,8 +5,8 @@ use crate::invariant::{Case, Invariant};
 use crate::program::{AbstractState, AnalysedProgram};
 use crate::search::{Search, known_of};
 use crate::workspace::ReturnWorkspace;
-use declaration::Owner;
 use domain::ReturnOffsets;
+use facts::Place;
 use std::alloc::Allocator;
 use transfer::FactOutcome;
 use word12::Word;
@@ -53,7 +53,7 @@ impl<A: Allocator + Copy> Search<A> {
         }
         let mut written = self.table.routines.routine(entry).writes;
         written.insert(entry);
-        self.write(&visit.body, &written)?;
+        self.write(&visit.routine, &written)?;
         let mut entering = known_of(program, &visit.fact);
         entering.offsets = ReturnOffsets::none();
         entering.offsets.insert(0);
@@ -90,7 +90,7 @@ impl<A: Allocator + Copy> Search<A> {
             if let Some(kept) = self.table.exits.find(entry, &Case::of_exit(offset)) {
                 kept.put_written(&written, &mut returns.exit);
                 let to = visit.at.increment().add(Word::from_index(offset));
-                if !program.declaration.in_body_of(visit.body, to) {
+                if !program.has(&visit.routine, to) {
                     return Err(SearchFault::Stuck(visit.at));
                 }
                 returns.join(&program.rules, &visit.fact, &written);
@@ -105,24 +105,25 @@ impl<A: Allocator + Copy> Search<A> {
     pub(crate) fn take_returns<D: Allocator>(
         &mut self,
         program: &AnalysedProgram<'_, D>,
+        place: &Place<'_, D>,
         visit: &AbstractState,
         word: Word,
     ) -> Result<(), SearchFault> {
-        let Owner::Routine(entry) = &visit.body else {
+        let Some(entry) = visit.routine else {
             return Err(SearchFault::Stuck(visit.at));
         };
-        if program.returned_entry(visit, word) != Some(*entry) {
+        if place.returned_entry(visit.at, word) != Some(entry) {
             return Err(SearchFault::Stuck(visit.at));
         }
         for offset in 0..64usize {
             if visit.fact.offsets().contains(offset) {
                 let declared = program
                     .declaration
-                    .has_offset(*entry, Word::from_index(offset));
+                    .has_offset(entry, Word::from_index(offset));
                 if !declared || offset >= 8 {
                     return Err(SearchFault::Stuck(visit.at));
                 }
-                self.reach_exit(program, visit, *entry, offset)?;
+                self.reach_exit(program, visit, entry, offset)?;
             }
         }
         Ok(())

@@ -3,15 +3,13 @@
 
 ghost use Rattle.std.specs.Prelude.{◌≡◌, ◌≢◌, ◌≤◌, IfErr, IfOk};
 ghost use Rattle.declaration.specs.DeclarationInCode.{meaning as declared};
-ghost use Rattle.certificate_lines.specs.CertificateInCode.{claims, meaning};
+ghost use Rattle.certificate_lines.specs.CertificateInCode.{meaning};
 ghost use Rattle.certificate.specs.Exact.{AreLines};
 ghost use Rattle.certificate_lines.specs.declared.Version.TheVariants.{Three};
-ghost use Rattle.judge.specs.Judged.{judged};
 ghost use Rattle.turns.specs.Counts.{IsSpentUp};
 ghost use Rattle.turns.specs.declared.GuessFault.TheVariants.{TurnsSpent};
 ghost use Rattle.analyser.specs.Accepted.{Finds, IsAccepted};
 ghost use Rattle.analyser.specs.Attempts.{HasVersion, HasVersionFor, IsAcceptedIfFound, IsDraftIfStuck, claimed_by};
-ghost use Rattle.analyser.specs.Halts.{IsRefused};
 ghost use Rattle.analyser.specs.Versions.{IsVersionFor, version_of};
 
 mod draft;
@@ -63,8 +61,6 @@ fn accepted<A: Allocator + Copy, D: Allocator>(
 ) -> Result<Certificate<A>, GuessFault>
     ensures same { IfOk result (λ c. c ≡ certificate) }
     ensures accepted { IfOk result (IsAccepted image.now declaration.now) }
-    ensures refused { IfErr result
-        (IsRefused (judged image.now declaration.now (claims certificate))) }
     ensures left { IfErr result (λ fault. fault ≢ TurnsSpent) }
 {
     let Ok(mut rooms) = JudgeWorkspace::boxed(alloc) else {

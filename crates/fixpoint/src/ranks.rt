@@ -13,7 +13,7 @@ const MOST_ROUTINES: usize = 64;
 /// The greatest rank.
 const LAST_RANK: usize = MOST_ROUTINES - 1;
 
-impl<A: Allocator> Routines<A> {
+impl<A: Allocator + Copy> Routines<A> {
     /// Ranks all routines. Each round settles those of one rank more; where calls go round in a circle,
     /// the last round leaves the last rank.
     pub(crate) fn rank_all<D: Allocator>(

@@ -193,6 +193,13 @@ impl<A: Allocator> Routines<A> {
         }
     }
 
+    /// Forgets all that is claimed of routines.
+    pub(crate) fn forget(&mut self) {
+        self.claims.clear();
+    }
+}
+
+impl<A: Allocator + Copy> Routines<A> {
     /// Claims something else of the routine of an entry.
     pub(crate) fn set_routine(
         &mut self,
@@ -220,10 +227,5 @@ impl<A: Allocator> Routines<A> {
         routine.writes = routine.writes.union(writes);
         self.set_routine(entry, routine)?;
         Ok(true)
-    }
-
-    /// Forgets all that is claimed of routines.
-    pub(crate) fn forget(&mut self) {
-        self.claims.clear();
     }
 }

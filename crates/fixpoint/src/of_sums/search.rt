@@ -1,7 +1,7 @@
 //! The search by the rules of sums: on from each fact until nothing grows, with targets left out that are not permitted; then back
 //! by sweeps that make the facts anew from what leads to them; and on again.
 
-ghost use Rattle.std.specs.Prelude.{◌≡◌, ◌<◌, ◌≤◌, true, IfErr, IfOk};
+ghost use Rattle.std.specs.Prelude.{◌≡◌, ◌≤◌, IfErr, IfOk};
 ghost use Rattle.certificate.specs.Exact.{AreLines};
 ghost use Rattle.certificate_lines.specs.CertificateInCode.{meaning};
 ghost use Rattle.certificate_lines.specs.declared.Version.TheVariants.{Three};
@@ -48,7 +48,6 @@ pub struct SumSearch<A: Allocator> {
     pub(crate) gathered: Table<A>,
     pub(crate) way: SearchPhase,
     pub(crate) split: Split,
-    pub(crate) tracked: WordSet,
     pub(crate) reached: WordSet,
     pub(crate) needs: Option<Needs<A>>,
     pub(crate) waiting: WordSet,
@@ -65,7 +64,6 @@ impl<A: Allocator + Copy> SumSearch<A> {
             gathered: Table::new(alloc),
             way: SearchPhase::Ascending,
             split: Split::none(),
-            tracked: WordSet::empty(),
             reached: WordSet::empty(),
             needs: None,
             waiting: WordSet::empty(),
@@ -124,7 +122,6 @@ impl<A: Allocator + Copy> SumSearch<A> {
         self.table.forget();
         self.way = SearchPhase::Ascending;
         self.split = *split;
-        self.tracked = program.base.named;
         self.reached = program.reached;
         let partners = program.pointers.union(&program.base.limits.counted);
         self.needs = Some(Needs::of(self.alloc, &program.base, &partners, &program.base.named)?);
@@ -149,11 +146,11 @@ impl<A: Allocator + Copy> SumSearch<A> {
 
     /// The cells that facts at an address speak of, and exits at their entry.
     fn tracked_at(&self, at: Word) -> WordSet {
-        let cells = match &self.needs {
-            None => self.tracked,
-            Some(needs) => needs.at(at).union(&self.reached),
-        };
-        cells.union(&self.split.told)
+        let cells = self.split.told.union(&self.reached);
+        match &self.needs {
+            None => cells,
+            Some(needs) => needs.at(at).union(&cells),
+        }
     }
 
     /// The cells that facts at one of some addresses speak of.
@@ -214,7 +211,8 @@ impl<A: Allocator + Copy> SumSearch<A> {
         }
     }
 
-    /// Goes on until nothing grows.
+    /// Goes on from the least waiting address, and from those after it as long as no turn is taken, until no address waits: then
+    /// nothing grows.
     fn run_to_fixpoint<D: Allocator>(
         &mut self,
         program: &SumProgram<'_, D>,
@@ -227,35 +225,18 @@ impl<A: Allocator + Copy> SumSearch<A> {
         ensures spent { IfErr result (IsSpentUp turns.new) }
     {
         turns.are_within();
-        while self.go_on(program, room, turns)? {}
-        Ok(())
-    }
-
-    /// Goes on from the least waiting address, and from those after it until a turn is taken: as long as none is, nothing
-    /// grows. Tells whether one was taken; else no address waits any more.
-    fn go_on<D: Allocator>(
-        &mut self,
-        program: &SumProgram<'_, D>,
-        room: &mut SumWorkspace<A>,
-        turns: &mut Turns,
-    ) -> Result<bool, GuessFault>
-        ensures limit { turns.new.limit ≡ turns.old.limit }
-        ensures rises { turns.old.spent ≤ turns.new.spent }
-        ensures within { turns.new.spent ≤ turns.new.limit }
-        ensures taken { IfOk result (λ taken. taken ≡ true → turns.old.spent < turns.new.spent) }
-        ensures spent { IfErr result (IsSpentUp turns.new) }
-    {
-        let before = turns.spent();
         let mut next = 0usize;
         while let Some(at) = self.waiting.first_from(next) {
             self.waiting.remove(at);
+            let before = turns.spent();
             self.visit_waiting(program, at, room, turns)?;
-            if turns.spent() > before {
-                return Ok(true);
-            }
-            next = at.index() + 1;
+            next = if turns.spent() > before {
+                0
+            } else {
+                at.index() + 1
+            };
         }
-        Ok(false)
+        Ok(())
     }
 
     /// Goes on from those facts at an address that wait.

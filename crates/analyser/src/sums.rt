@@ -108,10 +108,13 @@ impl Progress {
         self.cells = *cells;
     }
 
+    /// How facts are distinguished by calls, by offsets and by the accumulator.
+    fn apart<D: Allocator>(&self, program: &SumProgram<'_, D>) -> Split {
+        self.split.by_offsets_and_accumulator(&program.skipping())
+    }
+
     /// How the facts of a try are distinguished, if it is made.
     fn split_of<D: Allocator>(&self, program: &SumProgram<'_, D>, kind: Try) -> Option<Split> {
-        let skipping = program.skipping();
-        let apart = self.split.by_offsets_and_accumulator(&skipping);
         match kind {
             Try::OneFact => Some(self.split),
             Try::ByReaders => self.split.by_calls(program.readers()),
@@ -119,14 +122,15 @@ impl Progress {
                 let entry = program.base.owner(self.stuck)?;
                 self.split.by_calls(&WordSet::one(entry))
             }
-            Try::ByLink => Some(apart.by_links(&WordSet::all())),
+            Try::ByLink => Some(self.apart(program).by_links(&WordSet::all())),
             Try::ByCell(number) => {
                 let cell = cell_with_number(&self.cells, number)?;
-                Some(apart.by_links(program.tested_links()).by_cell(cell))
+                let apart = self.apart(program).by_links(program.tested_links());
+                Some(apart.by_cell(cell))
             }
             Try::ByInnerCalls => {
                 let called = program.called_in(&program.base.owner(self.stuck));
-                let split = apart.by_calls(&called)?;
+                let split = self.apart(program).by_calls(&called)?;
                 Some(split.by_links(&WordSet::all()))
             }
             Try::OfAllVariables => {
@@ -134,7 +138,8 @@ impl Progress {
                 if variables.count() > SETTINGS.most_variables {
                     return None;
                 }
-                Some(apart.by_links(program.tested_links()).of_cells(variables))
+                let apart = self.apart(program).by_links(program.tested_links());
+                Some(apart.of_cells(variables))
             }
         }
     }

@@ -183,10 +183,11 @@ fn next_try<A: Allocator + Copy, D: Allocator>(
         turns.new result }
 {
     turns.are_within();
-    let Some(split) = progress.split_of(program, kind) else {
-        return Err(GuessFault::Stuck(progress.stuck));
-    };
     let (before, most) = (turns.spent(), kind.most_turns(progress.left));
+    let split = match progress.split_of(program, kind) {
+        Some(split) if most > 0 => split,
+        _ => return Err(GuessFault::Stuck(progress.stuck)),
+    };
     let mut refused = None;
     let found = tried(search, program, &split, most, &mut refused, turns);
     progress.take_turns(turns.spent().saturating_sub(before));

@@ -3,7 +3,6 @@
 ghost use Rattle.std.specs.Prelude.{ℕ, ◌≡◌, ◌+◌, ◌<◌, if◌then◌else◌};
 ghost use Rattle.wordset.specs.Words.{nothing, one, between, union};
 ghost use Rattle.wordset.specs.Lanes.{words};
-ghost use Rattle.wordset.specs.Lanes.{words};
 ghost use Rattle.declaration.specs.Drafts.{Counts};
 
 use word12::Word;

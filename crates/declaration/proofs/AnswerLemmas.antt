@@ -1,14 +1,14 @@
 -- Each text has one answer: one declaration or one fault.
 use Rattle.std.proofs.Common.{◌≡◌, ◌≢◌, ℕ, ◌+◌, ◌<◌, ◌≤◌, Bool, true, false, List, [], ◌∷◌, length, Option, Some, None, Result, Ok, Err, IfOk, IfErr, refl, sym, ap, ◌∙◌, inl, inr, ◌⊎◌}
-use Rattle.std.specs.Prelude.{nat_le, if◌then◌else◌, is_some}
-use Rattle.std.specs.Option.{option_map, option_map_or, option_or}
+use Rattle.std.specs.Prelude.{nat_le, if◌then◌else◌, is_some, ok_or}
+use Rattle.std.specs.Option.{option_map, option_or}
 use Rattle.std.proofs.lemmas.Bool.{lt-leb, cases_lt}
 use Rattle.streams.specs.Text.{text_lines}
 use Rattle.wordset.specs.Words.{first_below}
 use Rattle.declaration.specs.Declaration.{Declaration}
 use Rattle.declaration.specs.Laws.{DeclarationIsOne, DeclarationFaultIsOne, DeclarationIsNoFault, EachTextIsAnswered}
 use Rattle.declaration.specs.Lines.{Line, Start, Sub, Machine, Skips, Holds, Returns, line_of}
-use Rattle.declaration.specs.Text.{Contents, nothing_said, with_line, with_lines, and_then, contents, overlaps, entry_in_index, halt_outside, misplaced, fault_at, fault_of, declaration_of, whole, reading, Declares, Fails, most_bytes}
+use Rattle.declaration.specs.Text.{Contents, nothing_said, with_line, with_lines, and_then, contents, overlaps, entry_in_index, halt_outside, misplaced, fault_at, fault_of, declaration_of, unless, whole, reading, Declares, Fails, most_bytes}
 use Rattle.declaration.specs.declared.DeclarationFault.{DeclarationFault}
 use Rattle.declaration.specs.declared.DeclarationFault.TheVariants.{BadLine, TwoStarts, TwoProfiles, NoStart, Overlap, EntryInAutoIndex, StartNotInMain, TooMany, HaltNotInBody, Misplaced, NoMemory}
 
@@ -66,16 +66,18 @@ rules_no_memory c start =
     let index = or_no_memory (fault_at EntryInAutoIndex (entry_in_index c)) _ (at_no_memory EntryInAutoIndex (first_below 4096 (entry_in_index c)) (λ a z. cc)) main in
     or_no_memory (fault_at Overlap (overlaps c)) _ (at_no_memory Overlap (first_below 4096 (overlaps c)) (λ a z. cc)) index
 
-whole_no_memory : (c : Contents) → whole c ≡ Err NoMemory → ⊥
-whole_no_memory c e = by_start c.start e
-  where
-    by_fault : (d : Declaration) (o : Option DeclarationFault) → (o ≡ Some NoMemory → ⊥) → option_map_or (λ f. Err f) o (Ok d) ≡ Err NoMemory → ⊥
-    by_fault d None no is = cc
-    by_fault d (Some fault) no is = let same : fault ≡ NoMemory = cc in no (ap Some same)
+no_start_no_memory : (o : Option ℕ) → ok_or o NoStart ≡ Err NoMemory → ⊥
+no_start_no_memory None e = cc
+no_start_no_memory (Some s) e = cc
 
-    by_start : (o : Option ℕ) → option_map_or (λ s. option_map_or (λ f. Err f) (fault_of c s) (Ok (declaration_of c s))) o (Err NoStart) ≡ Err NoMemory → ⊥
-    by_start None is = cc
-    by_start (Some s) is = by_fault (declaration_of c s) (fault_of c s) (rules_no_memory c s) is
+unless_no_memory : (o : Option DeclarationFault) (d : Declaration) → (o ≡ Some NoMemory → ⊥) → unless o d ≡ Err NoMemory → ⊥
+unless_no_memory None d no e = cc
+unless_no_memory (Some fault) d no e = let same : fault ≡ NoMemory = cc in no (ap Some same)
+
+whole_no_memory : (c : Contents) → whole c ≡ Err NoMemory → ⊥
+whole_no_memory c =
+    then_no_memory (ok_or c.start NoStart) (λ start. unless (fault_of c start) (declaration_of c start)) (no_start_no_memory c.start)
+    (λ start. unless_no_memory (fault_of c start) (declaration_of c start) (rules_no_memory c start))
 
 no_memory : (text : List ℕ) → reading text ≡ Err NoMemory → ⊥
 no_memory text = then_no_memory (contents text) whole (contents_no_memory text) whole_no_memory

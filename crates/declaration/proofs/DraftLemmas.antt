@@ -1,7 +1,7 @@
 -- What a draft says with one line more, and the declaration that it becomes.
 use Rattle.std.proofs.Common.{ℕ, ◌≡◌, ◌<◌, ◌≤◌, ◌==◌, ◌&&◌, Bool, true, false, List, [], map, refl, subst, sym, ◌∙◌, ap, Option, Some, None, Result, Ok, Err}
-use Rattle.std.specs.Prelude.{nat_le, if◌then◌else◌, unwrap_or, IsOk}
-use Rattle.std.specs.Option.{option_map, option_map_or}
+use Rattle.std.specs.Prelude.{nat_le, if◌then◌else◌, unwrap_or, ok_or, IsOk}
+use Rattle.std.specs.Option.{option_map}
 use Rattle.std.proofs.Math.Path.{fun_ext}
 use Rattle.std.proofs.lemmas.Bool.{lt-leb, le-leb}
 use Rattle.instruct.specs.declared.Profile.{Profile}
@@ -11,7 +11,7 @@ use Rattle.wordset.specs.Lanes.{words}
 use Rattle.declaration.specs.Declaration.{Declaration, Routine, PlaceAssertion, ReturnAssertion, IsDeclared}
 use Rattle.declaration.specs.DeclarationInCode.{Kept, subroutine_of, place_assertion_of, return_assertion_of, entries, body_of, meaning}
 use Rattle.declaration.specs.Lines.{Subroutine, FurtherOffsets}
-use Rattle.declaration.specs.Text.{Contents, nothing_said, if_fewer, is_entry, fault_of, declaration_of, whole}
+use Rattle.declaration.specs.Text.{Contents, nothing_said, unless_full, and_then, is_entry, fault_of, declaration_of, unless, whole}
 use Rattle.declaration.specs.Drafts.{gathered, KeepsRules}
 use Rattle.declaration.specs.declared.DeclarationFault.{DeclarationFault}
 use Rattle.declaration.specs.declared.DeclarationFault.TheVariants.{NoStart, TooMany}
@@ -45,13 +45,13 @@ said_nothing em er ev et eu ek en eb eh ew = rw (em, er, ev, et, eu, ek, en, eb,
 -- ---- one line more
 
 -- a list that may grow, and one that may not
-pub grown : (most count : ℕ) (c d : Contents) → count < most → d ≡ c → if_fewer most count c ≡ Ok d
+pub grown : (most count : ℕ) (c d : Contents) → count < most → d ≡ c → unless_full most count c ≡ Ok d
 grown most count c d few same = rw (lt-leb most count few, same) refl
 
-pub fits : (most count : ℕ) (c : Contents) → count < most → IsOk (if_fewer most count c)
+pub fits : (most count : ℕ) (c : Contents) → count < most → IsOk (unless_full most count c)
 fits most count c few = rw (lt-leb most count few) refl
 
-pub full : (most count : ℕ) (c : Contents) → most ≤ count → if_fewer most count c ≡ Err TooMany
+pub full : (most count : ℕ) (c : Contents) → most ≤ count → unless_full most count c ≡ Err TooMany
 full most count c many = rw (le-leb most count many) refl
 
 -- a start or a machine, the first and a second
@@ -131,14 +131,11 @@ is_declared d start profile is keeps entries_fit =
 
 -- ---- the whole of what is said
 
-abbrev by_fault : Declaration → Option DeclarationFault → Result Declaration DeclarationFault
-by_fault d fault = option_map_or (λ f. Err f) fault (Ok d)
-
 abbrev by_start : Contents → Option ℕ → Result Declaration DeclarationFault
-by_start c start = option_map_or (λ s. by_fault (declaration_of c s) (fault_of c s)) start (Err NoStart)
+by_start c start = and_then (ok_or start NoStart) (λ s. unless (fault_of c s) (declaration_of c s))
 
 pub whole_declares : (c : Contents) (start : ℕ) (d : Declaration) → c.start ≡ Some start → fault_of c start ≡ None → declaration_of c start ≡ d → whole c ≡ Ok d
-whole_declares c start d is none same = ap (by_start c) is ∙ (ap (by_fault (declaration_of c start)) none ∙ ap (λ x. Ok x) same)
+whole_declares c start d is none same = ap (by_start c) is ∙ (ap (λ f. unless f (declaration_of c start)) none ∙ ap (λ x. Ok x) same)
 
 pub whole_fails : (c : Contents) (start : ℕ) (fault : DeclarationFault) → c.start ≡ Some start → fault_of c start ≡ Some fault → whole c ≡ Err fault
-whole_fails c start fault is first = ap (by_start c) is ∙ ap (by_fault (declaration_of c start)) first
+whole_fails c start fault is first = ap (by_start c) is ∙ ap (λ f. unless f (declaration_of c start)) first

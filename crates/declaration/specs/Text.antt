@@ -1,5 +1,5 @@
 -- The declaration that a text has, or its first fault.
-use Rattle.std.specs.Prelude.{◌≡◌, ℕ, ◌+◌, ◌≤◌, ◌==◌, nat_le, Bool, true, false, not, ◌&&◌, ◌||◌, if◌then◌else◌, List, [], ◌∷◌, ◌++◌, length, map, Option, Some, None, is_some, unwrap_or, Result, Ok, Err, IsOk}
+use Rattle.std.specs.Prelude.{◌≡◌, ℕ, ◌+◌, ◌≤◌, ◌==◌, nat_le, Bool, true, false, not, ◌&&◌, ◌||◌, if◌then◌else◌, List, [], ◌∷◌, ◌++◌, length, map, Option, Some, None, is_some, unwrap_or, Result, Ok, Err, IsOk, ok_or}
 use Rattle.std.specs.List.{list_any, count_by}
 use Rattle.std.specs.Option.{option_map, option_map_or, option_or}
 use Rattle.instruct.specs.declared.Profile.{Profile}
@@ -56,9 +56,9 @@ nothing_said = record {
   returns = [];
 }
 
--- A list may grow if it has fewer items than this maximum; then this is said.
-abbrev pub if_fewer : ℕ → ℕ → Contents → Result Contents DeclarationFault
-if_fewer most count grown = if nat_le most count then Err TooMany else Ok grown
+-- What is said after a list has grown, unless it already had this maximum number of items.
+abbrev pub unless_full : ℕ → ℕ → Contents → Result Contents DeclarationFault
+unless_full most count grown = if nat_le most count then Err TooMany else Ok grown
 
 -- What is said with the line of this number and this meaning, after what was said before; or the fault of the line: it is
 -- bad; it is a second start or a second machine; or it is the 65th routine, the 65th line of further offsets or the 257th
@@ -68,17 +68,17 @@ with_line number c None = Err (BadLine number)
 with_line number c (Some Nothing) = Ok c
 with_line number c (Some (Start a)) = if is_some c.start then Err (TwoStarts number) else Ok (record c { start = Some a })
 with_line number c (Some (Main cells)) = Ok (record c { main = union c.main cells })
-with_line number c (Some (Sub r)) = if_fewer 64 (length c.routines) (record c { routines = c.routines ++ r ∷ [] })
+with_line number c (Some (Sub r)) = unless_full 64 (length c.routines) (record c { routines = c.routines ++ r ∷ [] })
 with_line number c (Some (Variables cells)) = Ok (record c { variable = union c.variable cells })
 with_line number c (Some (Stops cells)) = Ok (record c { stop = union c.stop cells })
 with_line number c (Some (Pauses cells)) = Ok (record c { pause = union c.pause cells })
 with_line number c (Some (Machine p)) = if is_some c.profile then Err (TwoProfiles number) else Ok (record c { profile = Some p })
 with_line number c (Some (Reads cells)) = Ok (record c { reads = Some (union (unwrap_or c.reads nothing) cells) })
-with_line number c (Some (Skips s)) = if_fewer 64 (length c.skips) (record c { skips = c.skips ++ s ∷ [] })
+with_line number c (Some (Skips s)) = unless_full 64 (length c.skips) (record c { skips = c.skips ++ s ∷ [] })
 with_line number c (Some (Moves cells)) = Ok (record c { moves = union c.moves cells })
 with_line number c (Some (Abandon cells)) = Ok (record c { abandon = union c.abandon cells })
-with_line number c (Some (Holds h)) = if_fewer 256 (length c.holds + length c.returns) (record c { holds = c.holds ++ h ∷ [] })
-with_line number c (Some (Returns r)) = if_fewer 256 (length c.holds + length c.returns) (record c { returns = c.returns ++ r ∷ [] })
+with_line number c (Some (Holds h)) = unless_full 256 (length c.holds + length c.returns) (record c { holds = c.holds ++ h ∷ [] })
+with_line number c (Some (Returns r)) = unless_full 256 (length c.holds + length c.returns) (record c { returns = c.returns ++ r ∷ [] })
 
 -- What comes next, or the fault that came before it.
 abbrev pub and_then : {S T : Type 0} → Result S DeclarationFault → (S → Result T DeclarationFault) → Result T DeclarationFault
@@ -169,11 +169,15 @@ declaration_of c start = record {
   returns = c.returns;
 }
 
+-- The declaration, unless there is a fault.
+abbrev pub unless : Option DeclarationFault → Declaration → Result Declaration DeclarationFault
+unless None d = Ok d
+unless (Some fault) d = Err fault
+
 -- The declaration that says what all lines say, or the first fault that they have together: there is no start, or one of
 -- those above.
 abbrev pub whole : Contents → Result Declaration DeclarationFault
-whole c =
-    option_map_or (λ start. option_map_or (λ fault. Err fault) (fault_of c start) (Ok (declaration_of c start))) c.start (Err NoStart)
+whole c = and_then (ok_or c.start NoStart) (λ start. unless (fault_of c start) (declaration_of c start))
 
 -- The declaration that a text has, or its first fault.
 abbrev pub reading : List ℕ → Result Declaration DeclarationFault

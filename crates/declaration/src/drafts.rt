@@ -1,6 +1,6 @@
 //! What the lines of a declaration say together, and the rules that it keeps.
 
-ghost use Rattle.std.specs.Prelude.{ℕ, Some, None, Ok, Err, ◌≡◌, ◌<◌, ◌≤◌, ◌+◌, ◌==◌, ◌↔◌, if◌then◌else◌, length, map, true, IsTrue, OnOk, IfOk, IfErr};
+ghost use Rattle.std.specs.Prelude.{ℕ, Some, Ok, Err, ◌≡◌, ◌<◌, ◌≤◌, ◌+◌, ◌==◌, ◌↔◌, if◌then◌else◌, length, map, true, IsTrue, OnOk, IfOk, IfErr};
 ghost use Rattle.std.specs.List.{list_any};
 ghost use Rattle.wordset.specs.Words.{SameWords};
 ghost use Rattle.wordset.specs.Lanes.{words};
@@ -318,7 +318,6 @@ impl<A: Allocator> Draft<A> {
 
 impl<A: Allocator> LineTaker for Draft<A> {
     ghost use Rattle.declaration.specs.Lines.{line_of};
-    ghost use Rattle.declaration.specs.Drafts.{Adds, IsRefused};
 
     type Fault = DeclarationFault;
 

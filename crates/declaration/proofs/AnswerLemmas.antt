@@ -10,7 +10,7 @@ use Rattle.declaration.specs.Laws.{DeclarationIsOne, DeclarationFaultIsOne, Decl
 use Rattle.declaration.specs.Lines.{Line, Start, Sub, Machine, Skips, Holds, Returns, line_of}
 use Rattle.declaration.specs.Text.{Contents, nothing_said, with_line, with_lines, and_then, contents, overlaps, entry_in_index, halt_outside, misplaced, fault_at, fault_of, declaration_of, unless, whole, reading, Declares, Fails, most_bytes}
 use Rattle.declaration.specs.declared.DeclarationFault.{DeclarationFault}
-use Rattle.declaration.specs.declared.DeclarationFault.TheVariants.{BadLine, TwoStarts, TwoProfiles, NoStart, Overlap, EntryInAutoIndex, StartNotInMain, TooMany, HaltNotInBody, Misplaced, NoMemory}
+use Rattle.declaration.specs.declared.DeclarationFault.TheVariants.{TwoStarts, TwoProfiles, NoStart, Overlap, EntryInAutoIndex, StartNotInMain, TooMany, HaltNotInBody, Misplaced, NoMemory}
 
 -- ---- want of memory is no fault of a text
 

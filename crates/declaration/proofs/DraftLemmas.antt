@@ -1,6 +1,6 @@
 -- What a draft says with one line more, and the declaration that it becomes.
 use Rattle.std.proofs.Common.{ℕ, ◌≡◌, ◌<◌, ◌≤◌, ◌==◌, ◌&&◌, Bool, true, false, List, [], map, refl, subst, sym, ◌∙◌, ap, Option, Some, None, Result, Ok, Err}
-use Rattle.std.specs.Prelude.{nat_le, if◌then◌else◌, unwrap_or, ok_or, IsOk}
+use Rattle.std.specs.Prelude.{if◌then◌else◌, unwrap_or, ok_or, IsOk}
 use Rattle.std.specs.Option.{option_map}
 use Rattle.std.proofs.Math.Path.{fun_ext}
 use Rattle.std.proofs.lemmas.Bool.{lt-leb, le-leb}

@@ -3,7 +3,7 @@ use Rattle.std.proofs.Common.{ℕ, ◌≡◌, ◌<◌, ◌≤◌, ◌+◌, ◌==
 use Rattle.std.specs.Prelude.{nat_le, if◌then◌else◌}
 use Rattle.std.specs.List.{list_any, count_by}
 use Rattle.std.proofs.lemmas.Bool.{cases_Bool, and_parts, eqb-true, leb-true, leb-false, eq-eqb}
-use Rattle.wordset.specs.Words.{Words, HasNoneFrom}
+use Rattle.wordset.specs.Words.{HasNoneFrom}
 use Rattle.processor.specs.Machine.{is_auto_index}
 use Rattle.declaration.specs.Declaration.{Routine, IsDeclared}
 use Rattle.declaration.specs.Lines.{Subroutine}

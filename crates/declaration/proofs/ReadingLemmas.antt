@@ -1,17 +1,16 @@
 -- What lines that are taken say together, and the fault of the first that is refused.
-use Rattle.std.proofs.Common.{ℕ, ◌≡◌, ◌<◌, ◌≤◌, ◌+◌, List, [], ◌∷◌, ◌++◌, length, map, arith, refl, sym, ◌∙◌, ap, Result, Ok, Err, IfOk, IfErr, add-zero, append-nil}
-use Rattle.std.specs.Prelude.{nat_le, if◌then◌else◌}
-use Rattle.std.proofs.lemmas.Bool.{lt-leb, le-leb}
+use Rattle.std.proofs.Common.{ℕ, ◌≡◌, ◌≤◌, ◌+◌, List, [], ◌∷◌, ◌++◌, length, map, arith, refl, sym, ◌∙◌, ap, Result, Ok, Err, IfOk, IfErr, add-zero, append-nil}
+use Rattle.std.proofs.lemmas.Bool.{le-leb}
 use Rattle.streams.specs.Taking.{StandsAt, TakesAll, RefusesFirst}
 use Rattle.streams.specs.Text.{text_lines}
 use Rattle.declaration.specs.Declaration.{Declaration}
 use Rattle.declaration.specs.DeclarationInCode.{subroutine_of}
 use Rattle.declaration.specs.Lines.{line_of}
-use Rattle.declaration.specs.Text.{Contents, nothing_said, with_line, with_lines, and_then, contents, whole, reading, Declares, ListsRoutines, Fails, most_bytes}
+use Rattle.declaration.specs.Text.{Contents, nothing_said, with_line, with_lines, and_then, contents, whole, Declares, ListsRoutines, Fails, most_bytes}
 use Rattle.declaration.specs.Drafts.{Adds, IsRefused}
 use Rattle.declaration.specs.declared.Routine.{Routine as KeptRoutine}
 use Rattle.declaration.specs.declared.DeclarationFault.{DeclarationFault}
-use Rattle.declaration.specs.declared.DeclarationFault.TheVariants.{TooMany, NoMemory}
+use Rattle.declaration.specs.declared.DeclarationFault.TheVariants.{NoMemory}
 use Rattle.declaration.proofs.AnswerLemmas.{has_fault}
 
 -- lines that are taken, and more lines

@@ -1,5 +1,5 @@
 -- The sets by which the rules are checked.
-use Rattle.std.proofs.Common.{ℕ, ◌≡◌, ◌<◌, ◌+◌, ◌==◌, Bool, true, false, not, ◌&&◌, ◌||◌, cond, List, [], ◌∷◌, length, map, take, get_or, zero-add, add-zero, add_assoc, arith, refl, sym, ◌∙◌, ap, Option, Some, None, inl, inr}
+use Rattle.std.proofs.Common.{ℕ, ◌≡◌, ◌<◌, ◌+◌, ◌==◌, Bool, true, false, not, ◌&&◌, ◌||◌, cond, List, [], ◌∷◌, length, map, take, get_or, zero-add, add-zero, add_assoc, arith, refl, sym, ◌∙◌, ap, Some, None, inl, inr}
 use Rattle.std.specs.Prelude.{nat_le, if◌then◌else◌}
 use Rattle.std.specs.List.{list_any, count_by}
 use Rattle.std.proofs.lemmas.Bool.{cases_Bool, le-leb}
@@ -16,7 +16,6 @@ use Rattle.declaration.specs.declared.ReturnAssertion.{ReturnAssertion}
 use Rattle.declaration.specs.Text.{Contents, is_entry, in_bodies, bodies_at, overlaps, entry_in_index, halt_outside, is_named_entry, misplaced, fault_of}
 use Rattle.processor.specs.Machine.{is_auto_index}
 use Rattle.declaration.specs.Drafts.{Counts, KeepsRules, entries_at, is_held, kept_bodies, kept_entries, named_entries}
-use Rattle.declaration.specs.declared.DeclarationFault.{DeclarationFault}
 use Rattle.declaration.specs.declared.DeclarationFault.TheVariants.{Overlap, EntryInAutoIndex, StartNotInMain, HaltNotInBody, Misplaced}
 use Rattle.declaration.specs.declared.coverage.Coverage.{Coverage}
 use Rattle.declaration.specs.declared.Routine.{Routine as KeptRoutine}

@@ -1,5 +1,5 @@
 -- What is gathered while a declaration is read. Private contracts alone cite this.
-use Rattle.std.specs.Prelude.{◌≡◌, ℕ, ◌+◌, nat_le, ◌==◌, ◌||◌, if◌then◌else◌, true, List, map, Option, Some, None, Ok, Err, IsOk}
+use Rattle.std.specs.Prelude.{◌≡◌, ℕ, ◌+◌, nat_le, ◌==◌, ◌||◌, if◌then◌else◌, true, List, map, Option, None, Ok, Err, IsOk}
 use Rattle.std.specs.List.{list_any, count_by, before_first}
 use Rattle.std.specs.Option.{option_map}
 use Rattle.wordset.specs.Words.{Words, HasNoneFrom}

@@ -1,6 +1,6 @@
 //! What the lines of a declaration say together, and the rules that it keeps.
 
-ghost use Rattle.std.specs.Prelude.{ℕ, Some, Ok, Err, ◌≡◌, ◌<◌, ◌≤◌, ◌+◌, ◌==◌, ◌↔◌, if◌then◌else◌, length, map, true, IsTrue, OnOk, IfOk, IfErr};
+ghost use Rattle.std.specs.Prelude.{ℕ, Some, Ok, Err, ◌≡◌, ◌<◌, ◌≤◌, ◌+◌, ◌==◌, ◌↔◌, length, map, true, IsTrue, OnOk, IfOk, IfErr};
 ghost use Rattle.std.specs.List.{list_any};
 ghost use Rattle.wordset.specs.Words.{SameWords};
 ghost use Rattle.wordset.specs.Lanes.{words};

@@ -1,7 +1,7 @@
 //! Declarations: as a text gives them, as they are kept, and their readers.
 #![tactic(auto)]
 
-ghost use Rattle.std.specs.Prelude.{ℕ, ◌≡◌, ◌≢◌, ◌⊎◌, ◌≤◌, ◌↔◌, ◌==◌, ◌||◌, length, map, IsTrue, true, false, IfSome, IfNone, IfOk, IfErr, IsErrOf, None, Some, Ok, is_some};
+ghost use Rattle.std.specs.Prelude.{◌≡◌, ◌≢◌, ◌⊎◌, ◌≤◌, ◌↔◌, ◌==◌, ◌||◌, length, map, IsTrue, true, false, IfSome, IfNone, IfOk, IfErr, IsErrOf, None, Some, Ok, is_some};
 ghost use Rattle.std.specs.List.{find};
 ghost use Rattle.std.specs.Option.{option_map};
 ghost use Rattle.declaration.specs.Declaration.{Declaration as Declared, Routine as MainOrEntry, IsDeclared, IsListed};

@@ -1,6 +1,5 @@
 use Rattle.std.proofs.Common.{ap, refl, ◌∙◌}
 use Rattle.wordset.specs.Words.{Words}
-use Rattle.wordset.specs.Lanes.{words}
 use Rattle.wordset.proofs.SetLemmas.{same_words}
 use Rattle.declaration.specs.Drafts.{gathered}
 use Rattle.declaration.proofs.RuleLemmas.{held_kept, misplaced_found, named_kept}

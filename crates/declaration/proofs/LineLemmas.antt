@@ -2,7 +2,7 @@
 use Rattle.std.proofs.Common.{ℕ, ◌≡◌, ◌<◌, suc, ◌≤◌, ◌+◌, ◌-◌, leb, ◌==◌, Bool, true, false, ◌||◌, List, [], ◌∷◌, length, drop, arith, refl, sym, ◌∙◌, ap, Option, Some, None, inl, inr}
 use Rattle.std.specs.List.{list_any, find, position_or_len, before_first, after_first}
 use Rattle.std.specs.Prelude.{IfSome}
-use Rattle.std.specs.Option.{option_and_then, option_map}
+use Rattle.std.specs.Option.{option_map, option_zip}
 use Rattle.std.proofs.Math.Path.{fun_ext}
 use Rattle.std.proofs.lemmas.Bool.{cases_Bool, cases_eq, ne_eqb, and_parts, leb-true, lt-ltb}
 use Rattle.word12.specs.Octal.{is_octal_digit, octal_value}
@@ -24,7 +24,7 @@ union_nothing set = fun_ext (λ a. or_nothing (set a))
 
 -- the cells of a word and those of others
 abbrev added : Option Words → Option Words → Option Words
-added first more = option_and_then (λ set. option_map (λ others. union set others) more) first
+added first more = option_map (λ it. union it.0 it.1) (option_zip first more)
 
 -- the cells so far, with those that are still to be read
 abbrev pub with_cells : Words → Option Words → Option Words

@@ -42,11 +42,11 @@ pub data Line : Type 0 where
   Holds : PlaceAssertion → Line
   Returns : ReturnAssertion → Line
 
--- The numbers of all these words together, each of which spells a set of numbers; none if one of them spells none.
+-- The numbers that all these words spell together, where each word spells a set of numbers; none if one of them does not.
 -- Without words it is the set without any number.
 abbrev pub all_of : (List ℕ → Option Words) → List (List ℕ) → Option Words
 all_of read [] = Some nothing
-all_of read (word ∷ words) = option_and_then (λ set. option_map (λ others. union set others) (all_of read words)) (read word)
+all_of read (word ∷ words) = option_map (λ it. union it.0 it.1) (option_zip (read word) (all_of read words))
 
 -- The same of one or more words; none if there is no word.
 abbrev pub some_of : (List ℕ → Option Words) → List (List ℕ) → Option Words

@@ -85,7 +85,8 @@ abbrev pub and_then : {S T : Type 0} → Result S DeclarationFault → (S → Re
 and_then (Ok x) next = next x
 and_then (Err fault) next = Err fault
 
--- What is said with these lines too, after so many lines that said this; or the fault of the first of them that has one.
+-- What is said once these lines are read too, where this many lines before them said this; or the fault of the first of
+-- them that has one. The first line of a text has the number 1.
 abbrev pub with_lines : ℕ → Contents → List (List ℕ) → Result Contents DeclarationFault
 with_lines count c [] = Ok c
 with_lines count c (line ∷ lines) =

@@ -1,0 +1,18 @@
+use Rattle.std.proofs.Common.{◌≡◌}
+use Rattle.peripherals.specs.World.{view, profile_of}
+use Rattle.runs.specs.Drives.{Came}
+use Rattle.runs.proofs.driving.go.Given as goal
+
+abbrev pub invariant-loop-event : goal.invariant-loop-event
+invariant-loop-event g l = record {
+  came : Came g.S.Source.says (g.S.Source.goes_on l.initial.source) g.C.Stops.answers (g.C.Stops.resumes l.initial.stops) g.O.Observer.sees (profile_of l.initial.world) l.initial.source l.initial.stops l.initial.observer (view l.initial.world) l.source l.stops l.observer (view l.world);
+  profile : profile_of l.world ≡ profile_of l.initial.world;
+  goes_on : g.S.Source.goes_on l.source ≡ g.S.Source.goes_on l.initial.source;
+  resumes : g.C.Stops.resumes l.stops ≡ g.C.Stops.resumes l.initial.stops;
+  ready : g.S.Source.ready l.source;
+  suits : g.C.Stops.suits l.stops (profile_of l.initial.world);
+  observes : g.O.Observer.ready l.observer;
+}
+
+abbrev pub decreases-loop-event : goal.decreases-loop-event
+decreases-loop-event g l = g.S.Source.to_come l.source

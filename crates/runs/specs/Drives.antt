@@ -1,0 +1,123 @@
+-- A run: which events come, what they do, what is seen of them, and how it ends.
+use Rattle.std.specs.Prelude.{ℕ, ◌≡◌, Bool, true, false, ◌⊎◌, List}
+use Rattle.instruct.specs.declared.Profile.{Profile}
+use Rattle.peripherals.specs.declared.Event.{Event}
+use Rattle.peripherals.specs.declared.Event.TheVariants.{Step}
+use Rattle.peripherals.specs.declared.Seen.{Seen}
+use Rattle.peripherals.specs.Devices.{WorldState}
+use Rattle.peripherals.specs.EventOutcomes.{puts_out}
+use Rattle.runs.specs.declared.driving.Ended.{Ended}
+use Rattle.runs.specs.declared.driving.Ended.TheVariants.{Over, Interrupted, ReadFailed, Stopped, After, NoMemory, ObserverFailed}
+use Rattle.runs.specs.declared.observers.ObserverFault.{ObserverFault}
+use Rattle.runs.specs.declared.sources.Next.{Next}
+use Rattle.runs.specs.declared.sources.Next.TheVariants as next
+use Rattle.runs.specs.declared.stops.Answer.{Answer}
+use Rattle.runs.specs.declared.stops.Answer.TheVariants as answer
+use Rattle.runs.specs.Moments.{Folds, Happened, HappensBy, Moment, is_attempt, moment, seen_by}
+
+-- An event comes from a source, and the run goes on after it.
+pub record Comes {S : Type 0} (says : S → WorldState → Next → S → Type 0) (goes_on : Seen → Bool) (s : S) (m : Moment) (t : S) : Type 0 where
+  pub says_so : says s m.before (next.Comes m.event) t
+  pub on : goes_on m.seen ≡ true
+
+-- An event in a world is not stopped: the stops let it pass if it is a step of a machine that is not halted, and are not asked otherwise.
+pub record Passes {C : Type 0} (answers : C → Profile → WorldState → Answer → C → Type 0) (p : Profile) (c : C) (w : WorldState) (e : Event) (d : C) : Type 0 where
+  pub asked : is_attempt w e ≡ true → answers c p w answer.Passes d
+  pub unasked : is_attempt w e ≡ false → d ≡ c
+
+-- An event is not stopped and happens, and this is seen of it.
+pub record Attempted {C : Type 0} (answers : C → Profile → WorldState → Answer → C → Type 0) (resumes : ℕ → Bool) (p : Profile) (c : C) (w : WorldState) (e : Event) (what : Seen) (d : C) (x : WorldState) : Type 0 where
+  pub passes : Passes answers p c w e d
+  pub happens : HappensBy resumes p w e x
+  pub sees : what ≡ seen_by resumes p w e
+
+-- The event is a step of a machine that is not halted, and this is answered.
+pub record IsAnswered {C : Type 0} (answers : C → Profile → WorldState → Answer → C → Type 0) (p : Profile) (c : C) (w : WorldState) (e : Event) (what : Answer) (d : C) : Type 0 where
+  pub step : e ≡ Step
+  pub attempt : is_attempt w e ≡ true
+  pub answer : answers c p w what d
+
+-- A step passes, but memory is refused for what it prints or punches.
+pub record LacksMemory {C : Type 0} (answers : C → Profile → WorldState → Answer → C → Type 0) (p : Profile) (c : C) (w : WorldState) (e : Event) (d : C) : Type 0 where
+  pub passes : Passes answers p c w e d
+  pub puts : puts_out w e ≡ true
+
+-- An event does not happen, and the run ends so: it is stopped, or memory is refused.
+abbrev pub IsRefused : {C : Type 0} → (C → Profile → WorldState → Answer → C → Type 0) → Profile → C → WorldState → Event → Ended → C → Type 0
+IsRefused answers p c w e Stopped d = IsAnswered answers p c w e answer.Stops d
+IsRefused answers p c w e NoMemory d = IsAnswered answers p c w e answer.NoMemory d ⊎ LacksMemory answers p c w e d
+IsRefused answers p c w e _ d = ⊥
+
+-- The same, and the world is as it was.
+pub record Refused {C : Type 0} (answers : C → Profile → WorldState → Answer → C → Type 0) (p : Profile) (c : C) (w : WorldState) (e : Event) (ended : Ended) (d : C) (x : WorldState) : Type 0 where
+  pub refused : IsRefused answers p c w e ended d
+  pub still : x ≡ w
+
+-- An event is not stopped, happens and is observed.
+pub record Observed {C O : Type 0} (answers : C → Profile → WorldState → Answer → C → Type 0) (resumes : ℕ → Bool) (sees : O → Profile → Moment → O → Type 0) (p : Profile) (c : C) (o : O) (w : WorldState) (e : Event) (what : Seen) (d : C) (q : O) (x : WorldState) : Type 0 where
+  pub attempted : Attempted answers resumes p c w e what d x
+  pub seen : sees o p (moment w e what x) q
+
+-- An event is not stopped and happens, but cannot be taken down.
+pub record NotTaken {C O : Type 0} (answers : C → Profile → WorldState → Answer → C → Type 0) (resumes : ℕ → Bool) (breaks : O → Profile → Moment → ObserverFault → O → Type 0) (p : Profile) (c : C) (o : O) (w : WorldState) (e : Event) (fault : ObserverFault) (d : C) (q : O) (x : WorldState) : Type 0 where
+  pub what : Seen
+  pub attempted : Attempted answers resumes p c w e what d x
+  pub broke : breaks o p (moment w e what x) fault q
+
+-- With an event the run ends so, for another reason than what is seen of it: it does not happen, or cannot be taken down.
+abbrev pub Unobserved : {C O : Type 0} → (C → Profile → WorldState → Answer → C → Type 0) → (ℕ → Bool) → (O → Profile → Moment → ObserverFault → O → Type 0) → Profile → C → O → WorldState → Event → Ended → C → O → WorldState → Type 0
+Unobserved answers resumes breaks p c o w e (ObserverFailed fault) d q x = NotTaken answers resumes breaks p c o w e fault d q x
+Unobserved answers resumes breaks p c o w e ended d q x = Refused answers p c w e ended d x × (q ≡ o)
+
+-- The run ended with an event: of what was seen of it, or since it did not happen or could not be taken down.
+abbrev pub EndsAt : {C O : Type 0} → (Seen → Bool) → (C → Profile → WorldState → Answer → C → Type 0) → (ℕ → Bool) → (O → Profile → Moment → O → Type 0) → (O → Profile → Moment → ObserverFault → O → Type 0) → Profile → C → O → WorldState → Event → Ended → C → O → WorldState → Type 0
+EndsAt goes_on answers resumes sees breaks p c o w e (After what) d q x = (goes_on what ≡ false) × Observed answers resumes sees p c o w e what d q x
+EndsAt goes_on answers resumes sees breaks p c o w e ended d q x = Unobserved answers resumes breaks p c o w e ended d q x
+
+-- Nothing but the source is touched any more.
+pub record IsStill {C O : Type 0} (c : C) (o : O) (w : WorldState) (d : C) (q : O) (x : WorldState) : Type 0 where
+  pub stops : d ≡ c
+  pub observer : q ≡ o
+  pub world : x ≡ w
+
+-- An event comes from the source, and the run ends with it.
+pub record EndsWith {S C O : Type 0} (says : S → WorldState → Next → S → Type 0) (goes_on : Seen → Bool) (answers : C → Profile → WorldState → Answer → C → Type 0) (resumes : ℕ → Bool) (sees : O → Profile → Moment → O → Type 0) (breaks : O → Profile → Moment → ObserverFault → O → Type 0) (p : Profile) (s : S) (c : C) (o : O) (w : WorldState) (ended : Ended) (t : S) (d : C) (q : O) (x : WorldState) : Type 0 where
+  pub event : Event
+  pub comes : says s w (next.Comes event) t
+  pub so : EndsAt goes_on answers resumes sees breaks p c o w event ended d q x
+
+-- From here the run ends so: no event comes, as the source says, or one comes with which it ends.
+abbrev pub Ends : {S C O : Type 0} → (S → WorldState → Next → S → Type 0) → (Seen → Bool) → (C → Profile → WorldState → Answer → C → Type 0) → (ℕ → Bool) → (O → Profile → Moment → O → Type 0) → (O → Profile → Moment → ObserverFault → O → Type 0) → Profile → S → C → O → WorldState → Ended → S → C → O → WorldState → Type 0
+Ends says goes_on answers resumes sees breaks p s c o w Over t d q x = says s w next.Over t × IsStill c o w d q x
+Ends says goes_on answers resumes sees breaks p s c o w Interrupted t d q x = says s w next.Interrupted t × IsStill c o w d q x
+Ends says goes_on answers resumes sees breaks p s c o w ReadFailed t d q x = says s w next.ReadFailed t × IsStill c o w d q x
+Ends says goes_on answers resumes sees breaks p s c o w ended t d q x = EndsWith says goes_on answers resumes sees breaks p s c o w ended t d q x
+
+-- From s, c, o and w the run came to t, d, q and x: these events came, after each of which it went on. The world is that of the run by these
+-- events, the stops let each of them pass, and the observer saw each of them.
+pub record Came {S C O : Type 0} (says : S → WorldState → Next → S → Type 0) (goes_on : Seen → Bool) (answers : C → Profile → WorldState → Answer → C → Type 0) (resumes : ℕ → Bool) (sees : O → Profile → Moment → O → Type 0) (p : Profile) (s : S) (c : C) (o : O) (w : WorldState) (t : S) (d : C) (q : O) (x : WorldState) : Type 0 where
+  pub moments : List Moment
+  pub world : Folds (Happened resumes p) w moments x
+  pub source : Folds (Comes says goes_on) s moments t
+  pub stops : Folds (λ b m a. Passes answers p b m.before m.event a) c moments d
+  pub observer : Folds (λ b m a. sees b p m a) o moments q
+
+-- A run from s, c, o and w, which ended so with t, d, q and x: the events came after which it went on, and then it ended.
+pub record Driven {S C O : Type 0} (says : S → WorldState → Next → S → Type 0) (goes_on : Seen → Bool) (answers : C → Profile → WorldState → Answer → C → Type 0) (resumes : ℕ → Bool) (sees : O → Profile → Moment → O → Type 0) (breaks : O → Profile → Moment → ObserverFault → O → Type 0) (p : Profile) (s : S) (c : C) (o : O) (w : WorldState) (ended : Ended) (t : S) (d : C) (q : O) (x : WorldState) : Type 0 where
+  pub source : S
+  pub stops : C
+  pub observer : O
+  pub world : WorldState
+  pub came : Came says goes_on answers resumes sees p s c o w source stops observer world
+  pub ends : Ends says goes_on answers resumes sees breaks p source stops observer world ended t d q x
+
+-- This is so unless an observer could not take down the last event.
+abbrev pub UnlessFailed : Ended → Type 0 → Type 0
+UnlessFailed (ObserverFailed fault) is = Unit {0}
+UnlessFailed ended is = is
+
+-- A whole run from w to x, as one observer sees it: the world is that of the run by these events, and the observer saw what each of them did.
+pub record Whole {O : Type 0} (resumes : ℕ → Bool) (sees : O → Profile → Moment → O → Type 0) (p : Profile) (o : O) (w : WorldState) (q : O) (x : WorldState) : Type 0 where
+  pub moments : List Moment
+  pub world : Folds (Happened resumes p) w moments x
+  pub observer : Folds (λ b m a. sees b p m a) o moments q

@@ -1,0 +1,11 @@
+pub mod Moments
+pub mod Sources
+pub mod Stopping
+pub mod Tracing
+pub mod Observing
+pub mod Drives
+pub mod Follows
+pub mod Operating
+pub mod Typing
+pub mod TypingParts
+pub mod Interrupted

@@ -1,0 +1,46 @@
+-- What each observer sees of a moment of a run.
+use Rattle.std.specs.Prelude.{ℕ, ◌≡◌, ◌+◌, ◌<◌, Bool, true, false, Option, List, [], ◌∷◌, ◌++◌}
+use Rattle.std.specs.Io.KnownBytes.{Appends}
+use Rattle.streams.specs.Bytes.{AppendsFront}
+use Rattle.circular_buffer.specs.Buffer.{Buffer, keep_last}
+use Rattle.instruct.specs.declared.Profile.{Profile}
+use Rattle.peripherals.specs.Devices.{WorldState, word_at_pc}
+use Rattle.runs.specs.declared.observers.ObserverFault.{ObserverFault}
+use Rattle.runs.specs.declared.observers.ObserverFault.TheVariants as fault
+use Rattle.runs.specs.declared.tracing.Executed.{Executed}
+use Rattle.runs.specs.declared.tracing.Fetched.{Fetched}
+use Rattle.runs.specs.Moments.{Folds, Happened, Moment}
+use Rattle.runs.specs.Tracing.{counted, executed, executed_in, is_executed, trace_in, trace_of}
+
+-- The word at the program counter was taken down, and where that is.
+pub record Fetches (note : Fetched) (w : WorldState) : Type 0 where
+  pub at : note.at ≡ w.state.pc
+  pub word : note.word ≡ word_at_pc w
+
+-- The line of an instruction that was carried out is written, and nothing else.
+abbrev pub Writes : Profile → Moment → Option (List ℕ) → Option (List ℕ) → Type 0
+Writes p m old new = Appends old new (trace_of p m)
+
+-- A write failed, and a part of that line was written.
+pub record WritesPart (p : Profile) (m : Moment) (old new : Option (List ℕ)) (failed : Bool) (why : ObserverFault) : Type 0 where
+  pub part : AppendsFront old new (trace_of p m)
+  pub marked : failed ≡ true
+  pub is_write : why ≡ fault.Write
+
+-- Of the instructions that were kept and one that was carried out the last ones are kept, as many as there is room for.
+pub record Keeps (m : Moment) (old new : Buffer Executed) : Type 0 where
+  pub kept : is_executed m.seen ≡ true → new.items ≡ keep_last old.capacity (old.items ++ executed m.before.state.pc (word_at_pc m.before) m.after.state ∷ [])
+  pub same : is_executed m.seen ≡ false → new.items ≡ old.items
+  pub capacity : new.capacity ≡ old.capacity
+
+-- Instructions that are carried out are counted, as long as there is a larger number.
+abbrev pub Counts : Moment → ℕ → ℕ → Type 0
+Counts m old new = old + counted m.seen < 18446744073709551616 → new ≡ old + counted m.seen
+
+-- Of a whole run the trace was written, and the last instructions are kept, as many as there is room for: both of the same events, by which the
+-- run came from w to x.
+pub record TracedWithLast (resumes : ℕ → Bool) (p : Profile) (w x : WorldState) (old new : Option (List ℕ)) (kept : Buffer Executed) : Type 0 where
+  pub moments : List Moment
+  pub world : Folds (Happened resumes p) w moments x
+  pub wrote : Appends old new (trace_in p moments)
+  pub last : kept.items ≡ keep_last kept.capacity (executed_in moments)

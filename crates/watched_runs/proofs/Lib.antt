@@ -1,0 +1,2 @@
+pub mod WatchLemmas
+pub mod WatchedLemmas

@@ -1,6 +1,7 @@
 pub mod MomentLemmas
 pub mod FollowLemmas
 pub mod ObserverLemmas
+pub mod OutputLemmas
 pub mod SourceLemmas
 pub mod FollowedLemmas
 pub mod OperatorLemmas

@@ -15,10 +15,46 @@ use Rattle.runs.specs.declared.stops.Answer.{Answer}
 use Rattle.runs.specs.declared.stops.Answer.TheVariants as answer
 use Rattle.runs.specs.Moments.{Folds, Happened, HappensBy, Moment, is_attempt, moment, seen_by}
 
--- An event comes from a source, and the run goes on after it.
-pub record Comes {S : Type 0} (says : S → WorldState → Next → S → Type 0) (goes_on : Seen → Bool) (s : S) (m : Moment) (t : S) : Type 0 where
-  pub says_so : says s m.before (next.Comes m.event) t
-  pub on : goes_on m.seen ≡ true
+-- What a run is made of: what its source says, after which events it goes on, what its stops answer, at which HLTs a CONTINUE has an
+-- effect, what its observer sees, what that cannot take down, and whose instructions the machine has.
+pub record Choice (S C O : Type 0) : Type 1 where
+  pub says : S → WorldState → Next → S → Type 0
+  pub goes_on : Seen → Bool
+  pub answers : C → Profile → WorldState → Answer → C → Type 0
+  pub resumes : ℕ → Bool
+  pub sees : O → Profile → Moment → O → Type 0
+  pub breaks : O → Profile → Moment → ObserverFault → O → Type 0
+  pub profile : Profile
+
+-- A choice of these.
+abbrev pub choice : {S C O : Type 0} → (S → WorldState → Next → S → Type 0) → (Seen → Bool) →
+    (C → Profile → WorldState → Answer → C → Type 0) → (ℕ → Bool) →
+    (O → Profile → Moment → O → Type 0) → (O → Profile → Moment → ObserverFault → O → Type 0) → Profile → Choice S C O
+choice says goes_on answers resumes sees breaks p = record {
+  says = says;
+  goes_on = goes_on;
+  answers = answers;
+  resumes = resumes;
+  sees = sees;
+  breaks = breaks;
+  profile = p;
+}
+
+-- Where a run is: what its source, its stops and its observer have come to, and the world.
+pub record Standing (S C O : Type 0) : Type 0 where
+  pub source : S
+  pub stops : C
+  pub observer : O
+  pub world : WorldState
+
+-- The same, made of these.
+abbrev pub standing : {S C O : Type 0} → S → C → O → WorldState → Standing S C O
+standing s c o w = record { source = s; stops = c; observer = o; world = w }
+
+-- An event comes from the source, and the run goes on after it.
+pub record Comes {S C O : Type 0} (k : Choice S C O) (s : S) (m : Moment) (t : S) : Type 0 where
+  pub says_so : k.says s m.before (next.Comes m.event) t
+  pub on : k.goes_on m.seen ≡ true
 
 -- An event in a world is not stopped: the stops let it pass if it is a step of a machine that is not halted, and are not asked otherwise.
 pub record Passes {C : Type 0} (answers : C → Profile → WorldState → Answer → C → Type 0) (p : Profile) (c : C) (w : WorldState) (e : Event) (d : C) : Type 0 where
@@ -70,46 +106,43 @@ Unobserved answers resumes breaks p c o w e (ObserverFailed fault) d q x = NotTa
 Unobserved answers resumes breaks p c o w e ended d q x = Refused answers p c w e ended d x × (q ≡ o)
 
 -- The run ended with an event: of what was seen of it, or since it did not happen or could not be taken down.
-abbrev pub EndsAt : {C O : Type 0} → (Seen → Bool) → (C → Profile → WorldState → Answer → C → Type 0) → (ℕ → Bool) → (O → Profile → Moment → O → Type 0) → (O → Profile → Moment → ObserverFault → O → Type 0) → Profile → C → O → WorldState → Event → Ended → C → O → WorldState → Type 0
-EndsAt goes_on answers resumes sees breaks p c o w e (After what) d q x = (goes_on what ≡ false) × Observed answers resumes sees p c o w e what d q x
-EndsAt goes_on answers resumes sees breaks p c o w e ended d q x = Unobserved answers resumes breaks p c o w e ended d q x
+abbrev pub EndsAt : {S C O : Type 0} → Choice S C O → C → O → WorldState → Event → Ended → C → O → WorldState → Type 0
+EndsAt k c o w e (After what) d q x = (k.goes_on what ≡ false) × Observed k.answers k.resumes k.sees k.profile c o w e what d q x
+EndsAt k c o w e ended d q x = Unobserved k.answers k.resumes k.breaks k.profile c o w e ended d q x
 
 -- Nothing but the source is touched any more.
-pub record IsStill {C O : Type 0} (c : C) (o : O) (w : WorldState) (d : C) (q : O) (x : WorldState) : Type 0 where
-  pub stops : d ≡ c
-  pub observer : q ≡ o
-  pub world : x ≡ w
+pub record IsStill {S C O : Type 0} (a b : Standing S C O) : Type 0 where
+  pub stops : b.stops ≡ a.stops
+  pub observer : b.observer ≡ a.observer
+  pub world : b.world ≡ a.world
 
 -- An event comes from the source, and the run ends with it.
-pub record EndsWith {S C O : Type 0} (says : S → WorldState → Next → S → Type 0) (goes_on : Seen → Bool) (answers : C → Profile → WorldState → Answer → C → Type 0) (resumes : ℕ → Bool) (sees : O → Profile → Moment → O → Type 0) (breaks : O → Profile → Moment → ObserverFault → O → Type 0) (p : Profile) (s : S) (c : C) (o : O) (w : WorldState) (ended : Ended) (t : S) (d : C) (q : O) (x : WorldState) : Type 0 where
+pub record EndsWith {S C O : Type 0} (k : Choice S C O) (a : Standing S C O) (ended : Ended) (b : Standing S C O) : Type 0 where
   pub event : Event
-  pub comes : says s w (next.Comes event) t
-  pub so : EndsAt goes_on answers resumes sees breaks p c o w event ended d q x
+  pub comes : k.says a.source a.world (next.Comes event) b.source
+  pub so : EndsAt k a.stops a.observer a.world event ended b.stops b.observer b.world
 
 -- From here the run ends so: no event comes, as the source says, or one comes with which it ends.
-abbrev pub Ends : {S C O : Type 0} → (S → WorldState → Next → S → Type 0) → (Seen → Bool) → (C → Profile → WorldState → Answer → C → Type 0) → (ℕ → Bool) → (O → Profile → Moment → O → Type 0) → (O → Profile → Moment → ObserverFault → O → Type 0) → Profile → S → C → O → WorldState → Ended → S → C → O → WorldState → Type 0
-Ends says goes_on answers resumes sees breaks p s c o w Over t d q x = says s w next.Over t × IsStill c o w d q x
-Ends says goes_on answers resumes sees breaks p s c o w Interrupted t d q x = says s w next.Interrupted t × IsStill c o w d q x
-Ends says goes_on answers resumes sees breaks p s c o w ReadFailed t d q x = says s w next.ReadFailed t × IsStill c o w d q x
-Ends says goes_on answers resumes sees breaks p s c o w ended t d q x = EndsWith says goes_on answers resumes sees breaks p s c o w ended t d q x
+abbrev pub Ends : {S C O : Type 0} → Choice S C O → Standing S C O → Ended → Standing S C O → Type 0
+Ends k a Over b = k.says a.source a.world next.Over b.source × IsStill a b
+Ends k a Interrupted b = k.says a.source a.world next.Interrupted b.source × IsStill a b
+Ends k a ReadFailed b = k.says a.source a.world next.ReadFailed b.source × IsStill a b
+Ends k a ended b = EndsWith k a ended b
 
--- From s, c, o and w the run came to t, d, q and x: these events came, after each of which it went on. The world is that of the run by these
--- events, the stops let each of them pass, and the observer saw each of them.
-pub record Came {S C O : Type 0} (says : S → WorldState → Next → S → Type 0) (goes_on : Seen → Bool) (answers : C → Profile → WorldState → Answer → C → Type 0) (resumes : ℕ → Bool) (sees : O → Profile → Moment → O → Type 0) (p : Profile) (s : S) (c : C) (o : O) (w : WorldState) (t : S) (d : C) (q : O) (x : WorldState) : Type 0 where
+-- These events came, after each of which the run went on. The world is that of the run by these events, the stops let each of them pass,
+-- and the observer saw each of them.
+pub record Came {S C O : Type 0} (k : Choice S C O) (a b : Standing S C O) : Type 0 where
   pub moments : List Moment
-  pub world : Folds (Happened resumes p) w moments x
-  pub source : Folds (Comes says goes_on) s moments t
-  pub stops : Folds (λ b m a. Passes answers p b m.before m.event a) c moments d
-  pub observer : Folds (λ b m a. sees b p m a) o moments q
+  pub world : Folds (Happened k.resumes k.profile) a.world moments b.world
+  pub source : Folds (Comes k) a.source moments b.source
+  pub stops : Folds (λ c m d. Passes k.answers k.profile c m.before m.event d) a.stops moments b.stops
+  pub observer : Folds (λ o m q. k.sees o k.profile m q) a.observer moments b.observer
 
--- A run from s, c, o and w, which ended so with t, d, q and x: the events came after which it went on, and then it ended.
-pub record Driven {S C O : Type 0} (says : S → WorldState → Next → S → Type 0) (goes_on : Seen → Bool) (answers : C → Profile → WorldState → Answer → C → Type 0) (resumes : ℕ → Bool) (sees : O → Profile → Moment → O → Type 0) (breaks : O → Profile → Moment → ObserverFault → O → Type 0) (p : Profile) (s : S) (c : C) (o : O) (w : WorldState) (ended : Ended) (t : S) (d : C) (q : O) (x : WorldState) : Type 0 where
-  pub source : S
-  pub stops : C
-  pub observer : O
-  pub world : WorldState
-  pub came : Came says goes_on answers resumes sees p s c o w source stops observer world
-  pub ends : Ends says goes_on answers resumes sees breaks p source stops observer world ended t d q x
+-- A run, which ended so: the events came after which it went on, and then it ended.
+pub record Driven {S C O : Type 0} (k : Choice S C O) (a : Standing S C O) (ended : Ended) (b : Standing S C O) : Type 0 where
+  pub last : Standing S C O
+  pub came : Came k a last
+  pub ends : Ends k last ended b
 
 -- This is so unless an observer could not take down the last event.
 abbrev pub UnlessFailed : Ended → Type 0 → Type 0

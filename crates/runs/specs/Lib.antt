@@ -3,6 +3,7 @@ pub mod Sources
 pub mod Stopping
 pub mod Tracing
 pub mod Observing
+pub mod Output
 pub mod Drives
 pub mod Follows
 pub mod Operating

@@ -1,16 +1,17 @@
 -- What each observer sees of a moment of a run.
-use Rattle.std.specs.Prelude.{ℕ, ◌≡◌, ◌+◌, ◌<◌, Bool, true, false, Option, List, [], ◌∷◌, ◌++◌}
+use Rattle.std.specs.Prelude.{ℕ, ◌≡◌, ◌+◌, ◌<◌, Bool, true, false, Option, Some, None, List, [], ◌∷◌, ◌++◌}
 use Rattle.std.specs.Io.KnownBytes.{Appends}
 use Rattle.streams.specs.Bytes.{AppendsFront}
 use Rattle.circular_buffer.specs.Buffer.{Buffer, keep_last}
 use Rattle.instruct.specs.declared.Profile.{Profile}
+use Rattle.peripherals.specs.declared.Event.{Event}
 use Rattle.peripherals.specs.Devices.{WorldState, word_at_pc}
 use Rattle.runs.specs.declared.observers.ObserverFault.{ObserverFault}
 use Rattle.runs.specs.declared.observers.ObserverFault.TheVariants as fault
 use Rattle.runs.specs.declared.tracing.Executed.{Executed}
 use Rattle.runs.specs.declared.tracing.Fetched.{Fetched}
-use Rattle.runs.specs.Moments.{Folds, Happened, Moment}
-use Rattle.runs.specs.Tracing.{counted, executed, executed_in, is_executed, trace_in, trace_of}
+use Rattle.runs.specs.Moments.{Moment}
+use Rattle.runs.specs.Tracing.{counted, executed, is_executed, trace_of}
 
 -- The word at the program counter was taken down, and where that is.
 pub record Fetches (note : Fetched) (w : WorldState) : Type 0 where
@@ -37,10 +38,25 @@ pub record Keeps (m : Moment) (old new : Buffer Executed) : Type 0 where
 abbrev pub Counts : Moment → ℕ → ℕ → Type 0
 Counts m old new = old + counted m.seen < 18446744073709551616 → new ≡ old + counted m.seen
 
--- Of a whole run the trace was written, and the last instructions are kept, as many as there is room for: both of the same events, by which the
--- run came from w to x.
-pub record TracedWithLast (resumes : ℕ → Bool) (p : Profile) (w x : WorldState) (old new : Option (List ℕ)) (kept : Buffer Executed) : Type 0 where
-  pub moments : List Moment
-  pub world : Folds (Happened resumes p) w moments x
-  pub wrote : Appends old new (trace_in p moments)
-  pub last : kept.items ≡ keep_last kept.capacity (executed_in moments)
+-- An observer that may be there notes something if it is.
+abbrev pub NotesIf : {O N : Type 0} → (O → WorldState → Event → N → Type 0) → Option O → WorldState → Event → Option N → Type 0
+NotesIf notes (Some o) w e (Some note) = notes o w e note
+NotesIf notes (Some o) w e None = ⊥
+NotesIf notes None w e note = Unit {0}
+
+-- It sees an event if it is there.
+abbrev pub SeesIf : {O : Type 0} → (O → Profile → Moment → O → Type 0) → Option O → Profile → Moment → Option O → Type 0
+SeesIf sees (Some o) p m (Some q) = sees o p m q
+SeesIf sees (Some o) p m None = ⊥
+SeesIf sees None p m q = q ≡ None
+
+-- Only if it is there an event cannot be taken down.
+abbrev pub BreaksIf : {O : Type 0} → (O → Profile → Moment → ObserverFault → O → Type 0) → Option O → Profile → Moment → ObserverFault → Option O → Type 0
+BreaksIf breaks (Some o) p m why (Some q) = breaks o p m why q
+BreaksIf breaks (Some o) p m why None = ⊥
+BreaksIf breaks None p m why q = ⊥
+
+-- It may be told of an event, if it is there.
+abbrev pub ReadyIf : {O : Type 0} → (O → Type 0) → Option O → Type 0
+ReadyIf ready (Some o) = ready o
+ReadyIf ready None = Unit {0}

@@ -1,15 +1,18 @@
 -- What stops a run.
-use Rattle.std.specs.Prelude.{ℕ, ◌≡◌, ◌+◌, ◌-◌, ◌==◌, Bool, true, false, ◌&&◌, ◌||◌, ◌⊎◌, if◌then◌else◌}
+use Rattle.std.specs.Prelude.{ℕ, ◌≡◌, ◌-◌, ◌==◌, Bool, true, false, ◌&&◌, ◌||◌, ◌⊎◌, if◌then◌else◌, Option, Some, None}
 use Rattle.instruct.specs.declared.Operation.{Operation}
 use Rattle.instruct.specs.declared.Operation.TheVariants.{And, Tad, Isz, Dca, Jms}
 use Rattle.instruct.specs.declared.Profile.{Profile}
+use Rattle.wordset.specs.Lanes.{words}
 use Rattle.wordset.specs.Words.{Words}
+use Rattle.processor.specs.Fetch.{fetched}
 use Rattle.processor.specs.Machine.{steps_pointer}
 use Rattle.processor.specs.declared.fetch.DecodedInstruction.{DecodedInstruction}
 use Rattle.processor.specs.declared.fetch.DecodedInstruction.TheVariants.{Refers}
 use Rattle.peripherals.specs.Devices.{WorldState}
 use Rattle.runs.specs.declared.stops.Answer.{Answer}
 use Rattle.runs.specs.declared.stops.Answer.TheVariants.{Passes, Stops, NoMemory}
+use Rattle.runs.specs.declared.until.Until.{Until}
 
 -- A step always happens.
 abbrev pub always_passes : Answer → Type 0
@@ -40,24 +43,25 @@ abbrev pub reads_one : Words → DecodedInstruction → Bool
 reads_one cells (Refers r) = (r.indirect && cells r.named) || (loads_there r.operation && cells r.place)
 reads_one cells _ = false
 
--- A step stops the run where this is so, and passes otherwise.
-abbrev pub Touches : Bool → Answer → Type 0
-Touches does Passes = does ≡ false
-Touches does Stops = does ≡ true
-Touches does NoMemory = ⊥
+-- The program counter is at the address, if there is one.
+abbrev pub is_at : Option ℕ → ℕ → Bool
+is_at None pc = false
+is_at (Some place) pc = pc == place
 
--- Where so many more steps are to come to an address, one that comes there counts, and is the last or is not.
-abbrev pub AtAddress : ℕ → ℕ → WorldState → Answer → ℕ → ℕ → Type 0
-AtAddress place times w Passes at left =
-    (((w.state.pc == place) && (times == 1)) ≡ false) × (at ≡ place) × (left ≡ (if w.state.pc == place then times - 1 else times))
-AtAddress place times w Stops at left = (((w.state.pc == place) && (times == 1)) ≡ true) × (at ≡ place) × (left ≡ times)
-AtAddress place times w NoMemory at left = ⊥
+-- An instruction at an address is one before which the run is to be stopped: it comes to the address the last time that is requested, or it
+-- writes or reads a named cell.
+abbrev pub asks : Until → ℕ → DecodedInstruction → Bool
+asks s pc i = (is_at s.place pc && (s.times == 1)) || (writes_one (words s.written) i || reads_one (words s.read) i)
 
--- Where so many more steps may happen, one of them does, or none is left.
-abbrev pub Within : ℕ → Answer → ℕ → Type 0
-Within left Passes more = left ≡ more + 1
-Within left Stops more = (left ≡ 0) × (more ≡ 0)
-Within left NoMemory more = ⊥
+-- A step from an address counts where it comes to the one that is named.
+abbrev pub passed : Until → ℕ → Until
+passed s pc = record s { times = if is_at s.place pc then s.times - 1 else s.times }
+
+-- A step that is asked for is stopped, and any other passes, and counts.
+abbrev pub Stays : Until → Profile → WorldState → Answer → Until → Type 0
+Stays s p w Passes t = (asks s w.state.pc (fetched p w.state) ≡ false) × (t ≡ passed s w.state.pc)
+Stays s p w Stops t = (asks s w.state.pc (fetched p w.state) ≡ true) × (t ≡ s)
+Stays s p w NoMemory t = ⊥
 
 -- The first one answers for both, or lets the step pass and the second one answers.
 abbrev pub BothAnswer : {F G : Type 0} → (F → Profile → WorldState → Answer → F → Type 0) → (G → Profile → WorldState → Answer → G → Type 0) → Profile → WorldState → Answer → F → G → F → G → Type 0

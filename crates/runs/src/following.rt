@@ -1,19 +1,17 @@
-//! The plain run of rounds or of a list, with its trace.
+//! A run of events that are known before it, and what is told of a run.
 
-ghost use Rattle.std.specs.Prelude.{◌≡◌, false, true, IfOk, OnErr, OnOk};
+ghost use Rattle.std.specs.Prelude.{ℕ, ◌≡◌, ◌<◌, Bool, true, length, IfOk, IfErr};
 ghost use Rattle.peripherals.specs.World.{view, profile_of};
-ghost use Rattle.runs.specs.Follows.{Ran, RanIntoLine, RanToOutput, end_of, fails_so, told};
-ghost use Rattle.runs.specs.Sources.{rounds};
-ghost use Rattle.runs.specs.declared.lists.Ending.TheVariants.{AtHalt, AtUnsupported};
+ghost use Rattle.runs.specs.Follows.{Failed, Ran, end_after, end_of, fault_of, told};
 
 use crate::both::Both;
 use crate::driving::{Ended, drive};
-use crate::lists::{Ending, Listed, Rounds};
-use crate::observers::ObserverFault;
-use crate::tracing::{Steps, Trace};
-use peripherals::{Event, Seen, World};
+use crate::lists::KnownSource;
+use crate::observers::{Observer, ObserverFault};
+use crate::stops::Stops;
+use crate::tracing::Steps;
+use peripherals::{Seen, World};
 use std::alloc::Allocator;
-use streams::ByteSink;
 use word12::Word;
 
 /// How a run ended, and where.
@@ -52,7 +50,7 @@ pub enum RunFault {
 }
 
 /// The end of a run that is not stuck.
-pub fn end_of<A: Allocator>(world: &World<A>) -> End
+fn end_of<A: Allocator>(world: &World<A>) -> End
     ensures { result ≡ end_of (view world.now) }
 {
     match world.halted_at() {
@@ -61,86 +59,80 @@ pub fn end_of<A: Allocator>(world: &World<A>) -> End
     }
 }
 
-/// What is told of a run that ended so in a world.
-pub fn told<A: Allocator>(world: &World<A>, ended: Ended) -> Result<End, RunFault>
-    ensures told { IfOk result (λ end. end ≡ told (view world.now) ended) }
-    ensures fails { OnOk result (fails_so ended ≡ false) }
-    ensures failed { OnErr result (fails_so ended ≡ true) }
+/// The end of a run that ended with an event of which this was seen.
+fn end_after<A: Allocator>(world: &World<A>, seen: &Seen) -> End
+    ensures { result ≡ end_after (view world.now) seen.now }
 {
-    match ended {
-        Ended::Over => Ok(end_of(world)),
-        Ended::After(Seen::Unsupported(_)) => Ok(End::Unsupported(world.cpu().pc)),
-        Ended::After(Seen::NotEnabled | Seen::Changed | Seen::Ran | Seen::Halted) => {
-            Ok(end_of(world))
-        }
-        Ended::Stopped => Ok(End::Stopped(world.cpu().pc)),
-        Ended::Interrupted => Ok(End::Interrupted(world.cpu().pc)),
-        Ended::ReadFailed => Err(RunFault::Read),
-        Ended::ObserverFailed(ObserverFault::Write) => Err(RunFault::Write),
-        Ended::NoMemory | Ended::ObserverFailed(ObserverFault::NoMemory) => Err(RunFault::NoMemory),
+    match seen {
+        Seen::Unsupported(_) => End::Unsupported(world.cpu().pc),
+        Seen::NotEnabled | Seen::Changed | Seen::Ran | Seen::Halted => end_of(world),
     }
 }
 
-/// Lets a world go through so many rounds, up to a halt or an unsupported word, and writes its trace.
-///
-/// # Errors
-///
-/// `Write`, after which the whole lines of the events before one went out and a part of its line; `NoMemory`
-/// at an event that prints or punches, before which the whole lines went out.
-pub fn follow_rounds<A: Allocator, W: ByteSink>(
-    world: &mut World<A>,
-    count: u32,
-    observer: &mut Both<Steps, Trace<W>>,
-) -> Result<RunOutcome, RunFault>
-    requires unmarked { W.mark observer.old.second.out ≡ false }
-    requires uncounted { observer.old.first.count ≡ 0 }
-    ensures ran { IfOk result (λ outcome. Ran (profile_of world.old) AtHalt (rounds count)
-        (view world.old) outcome (view world.new)
-        (W.taken observer.old.second.out) (W.taken observer.new.second.out)) }
-    ensures refused { OnErr result (W.mark observer.new.second.out ≡ false → RanToOutput
-        (profile_of world.old) AtHalt (rounds count) (view world.old) (view world.new)
-        (W.taken observer.old.second.out) (W.taken observer.new.second.out)) }
-    ensures broke { W.mark observer.new.second.out ≡ true → RanIntoLine
-        (profile_of world.old) AtHalt (rounds count) (view world.old) (view world.new)
-        (W.taken observer.old.second.out) (W.taken observer.new.second.out) }
+/// Why a run has no outcome whose observer failed so.
+fn fault_of(fault: ObserverFault) -> RunFault
+    ensures { result ≡ fault_of fault }
 {
-    let mut source = Rounds::new(count);
-    let ended = drive(world, &mut source, &mut (), observer);
-    let end = told(world, ended)?;
-    Ok(RunOutcome {
-        steps: observer.first.count,
-        end,
-    })
+    match fault {
+        ObserverFault::Write => RunFault::Write,
+        ObserverFault::NoMemory => RunFault::NoMemory,
+    }
 }
 
-/// Lets a world go through a list of events, up to an unsupported word, and writes its trace. A halt does not
-/// end the run.
+/// What is told of a run that ended so in a world.
 ///
 /// # Errors
 ///
-/// As for [`follow_rounds`].
-pub fn follow_events<A: Allocator, W: ByteSink>(
-    world: &mut World<A>,
-    events: &[Event],
-    observer: &mut Both<Steps, Trace<W>>,
-) -> Result<RunOutcome, RunFault>
-    requires unmarked { W.mark observer.old.second.out ≡ false }
-    requires uncounted { observer.old.first.count ≡ 0 }
-    ensures ran { IfOk result (λ outcome. Ran (profile_of world.old) AtUnsupported events.now
-        (view world.old) outcome (view world.new)
-        (W.taken observer.old.second.out) (W.taken observer.new.second.out)) }
-    ensures refused { OnErr result (W.mark observer.new.second.out ≡ false → RanToOutput
-        (profile_of world.old) AtUnsupported events.now (view world.old) (view world.new)
-        (W.taken observer.old.second.out) (W.taken observer.new.second.out)) }
-    ensures broke { W.mark observer.new.second.out ≡ true → RanIntoLine
-        (profile_of world.old) AtUnsupported events.now (view world.old) (view world.new)
-        (W.taken observer.old.second.out) (W.taken observer.new.second.out) }
+/// Where a read or a write failed, or memory was refused.
+pub fn told<A: Allocator>(world: &World<A>, ended: &Ended) -> Result<End, RunFault>
+    ensures { result ≡ told (view world.now) ended.now }
 {
-    let mut source = Listed::new(events, Ending::AtUnsupported);
-    let ended = drive(world, &mut source, &mut (), observer);
-    let end = told(world, ended)?;
-    Ok(RunOutcome {
-        steps: observer.first.count,
-        end,
-    })
+    match ended {
+        Ended::Over => Ok(end_of(world)),
+        Ended::After(seen) => Ok(end_after(world, seen)),
+        Ended::Stopped => Ok(End::Stopped(world.cpu().pc)),
+        Ended::Interrupted => Ok(End::Interrupted(world.cpu().pc)),
+        Ended::ReadFailed => Err(RunFault::Read),
+        Ended::NoMemory => Err(RunFault::NoMemory),
+        Ended::ObserverFailed(fault) => Err(fault_of(*fault)),
+    }
+}
+
+/// Lets a world go through events that are known before the run, up to where it is stopped, and tells an
+/// observer of each.
+///
+/// # Errors
+///
+/// `NoMemory` where memory was refused, and what the observer fails with.
+pub fn follow<A: Allocator, S: KnownSource, C: Stops, O: Observer>(
+    world: &mut World<A>,
+    source: &mut S,
+    stops: &mut C,
+    observer: &mut Both<Steps, O>,
+) -> Result<RunOutcome, RunFault>
+    requires ready { S.ready source.old }
+    requires few { length (S.events source.old) < 18446744073709551616 }
+    requires suits { C.suits stops.old (profile_of world.old) }
+    // A CONTINUE has its effect wherever the machine is halted.
+    requires free { (at : ℕ) → C.resumes stops.old at ≡ true }
+    requires observes { O.ready observer.old.second }
+    requires uncounted { observer.old.first.count ≡ 0 }
+    ensures ran { IfOk result (λ outcome. Ran C.answers O.sees (profile_of world.old)
+        (S.ending source.old) (S.events source.old)
+        stops.old observer.old.second (view world.old) outcome
+        stops.new observer.new.second (view world.new)) }
+    ensures failed { IfErr result (λ fault. Failed C.answers O.sees O.breaks O.ready (profile_of world.old)
+        (S.ending source.old) (S.events source.old)
+        stops.old observer.old.second (view world.old) fault
+        stops.new observer.new.second (view world.new)) }
+    ensures profile { profile_of world.new ≡ profile_of world.old }
+{
+    let ended = drive(world, source, stops, observer);
+    match told(world, &ended) {
+        Ok(end) => Ok(RunOutcome {
+            steps: observer.first.count,
+            end,
+        }),
+        Err(fault) => Err(fault),
+    }
 }

@@ -1,6 +1,11 @@
 //! Sources whose events are known before the run: rounds, and a list.
 
-ghost use Rattle.std.specs.Prelude.{◌≡◌, ◌<◌, length};
+ghost use Rattle.std.specs.Prelude.{ℕ, ◌≡◌, ◌<◌, List, length};
+ghost use Rattle.peripherals.specs.declared.Event.{Event};
+ghost use Rattle.peripherals.specs.declared.Seen.{Seen};
+ghost use Rattle.peripherals.specs.Devices.{WorldState};
+ghost use Rattle.runs.specs.declared.lists.Ending.{Ending};
+ghost use Rattle.runs.specs.declared.sources.Next.{Next};
 ghost use Rattle.runs.specs.Sources.{Tells, goes_on, rounds, rounds_to_come};
 
 use crate::sources::{Next, Source};
@@ -30,6 +35,22 @@ impl Ending {
             Seen::NotEnabled | Seen::Changed | Seen::Ran => true,
         }
     }
+}
+
+/// A source whose events are known before the run.
+pub trait KnownSource: Source {
+    /// The events that are still to come.
+    ghost events: { Self → List Event };
+
+    /// After which event a run ends early.
+    ghost ending: { Self → Ending };
+
+    /// It gives these events in order.
+    ghost tells: { (s : Self) (w : WorldState) (next : Next) (t : Self) →
+        Self.says s w next t → Tells (events s) next (events t) };
+
+    /// A run goes on unless it ends early so.
+    ghost ends: { (s : Self) (what : Seen) → Self.goes_on s what ≡ goes_on (ending s) what };
 }
 
 /// What comes next in a round.
@@ -102,6 +123,19 @@ impl Source for Rounds {
     }
 }
 
+impl KnownSource for Rounds {
+    ghost use Rattle.std.specs.Prelude.{refl};
+    ghost use Rattle.runs.specs.declared.lists.Ending.TheVariants.{AtHalt};
+
+    ghost events = { rounds_to_come };
+
+    ghost ending = { λ s. AtHalt };
+
+    ghost tells = { λ s w next t is. is };
+
+    ghost ends = { λ s what. refl };
+}
+
 /// A list of events.
 #[derive(Clone, Copy, Debug)]
 pub struct Listed<'e> {
@@ -151,4 +185,16 @@ impl Source for Listed<'_> {
     fn goes_on(&self, seen: &Seen) -> bool {
         self.ending.goes_on(seen)
     }
+}
+
+impl KnownSource for Listed<'_> {
+    ghost use Rattle.std.specs.Prelude.{refl};
+
+    ghost events = { λ s. s.events.now };
+
+    ghost ending = { λ s. s.ending };
+
+    ghost tells = { λ s w next t is. is };
+
+    ghost ends = { λ s what. refl };
 }

@@ -1,9 +1,9 @@
 pub mod MomentLemmas
 pub mod FollowLemmas
+pub mod FollowedLemmas
 pub mod ObserverLemmas
 pub mod OutputLemmas
+pub mod HeldLemmas
 pub mod SourceLemmas
-pub mod FollowedLemmas
 pub mod OperatorLemmas
 pub mod TypistLemmas
-pub mod InterruptedLemmas

@@ -1,7 +1,7 @@
 -- What observers have seen of a whole run.
-use Rattle.std.proofs.Common.{ℕ, ◌≡◌, ◌+◌, ◌≤◌, Bool, true, false, inl, inr, Option, Result, Ok, Err, List, [], ◌∷◌, ◌++◌, refl, sym, ap, ◌∙◌, subst, append_assoc, append-nil, length-append, arith}
-use Rattle.std.specs.Prelude.{◌-◌, ◌⊎◌, IfErr, OnErr, drop, is_err, length}
-use Rattle.std.proofs.lemmas.List.{drop-append-le, drop-drop, length-drop}
+use Rattle.std.proofs.Common.{ℕ, zero, suc, ◌≡◌, ◌+◌, ◌<◌, ◌≤◌, Bool, true, false, inl, inr, Option, Result, Ok, Err, List, [], ◌∷◌, ◌++◌, refl, sym, ap, ◌∙◌, subst, append_assoc, append-nil, add-one, length-append, arith}
+use Rattle.std.specs.Prelude.{◌-◌, ◌⊎◌, IfErr, OnErr, drop, is_err, length, slice_get}
+use Rattle.std.proofs.lemmas.List.{drop-append-le, drop-drop, drop_all, length-drop}
 use Rattle.std.specs.Io.KnownBytes.{Appends}
 use Rattle.std.proofs.KnownBytes.{Appends-nil, Appends-trans}
 use Rattle.circular_buffer.specs.Buffer.{Buffer, keep_last}
@@ -15,8 +15,8 @@ use Rattle.runs.specs.declared.observers.ObserverFault.TheVariants as fault
 use Rattle.runs.specs.declared.tracing.Executed.{Executed}
 use Rattle.runs.specs.declared.tracing.Fetched.{Fetched}
 use Rattle.runs.specs.Moments.{Folds, Moment, moment}
-use Rattle.runs.specs.Observing.{Fetches, Keeps, Writes, WritesPart}
-use Rattle.runs.specs.Tracing.{executed, executed_at, executed_in, is_executed, line_of, trace_in, trace_of}
+use Rattle.runs.specs.Observing.{Appended, Fetches, Keeps, Writes, WritesPart}
+use Rattle.runs.specs.Tracing.{executed, executed_at, executed_in, is_executed, line_if, line_of, lines_of, trace_in, trace_of}
 
 -- the line of an instruction that was carried out
 line_there : (p q : Profile) (note : Fetched) (w : WorldState) (e : Event) (what : Seen) (x : WorldState) (i : Executed) → q ≡ p → is_executed what ≡ true → i ≡ executed note.at note.word x.state → Fetches note w →
@@ -60,3 +60,39 @@ keeps_all n xs b (m ∷ ms) d folds room has =
 pub writes_all : (p : Profile) (old : Option (List ℕ)) (ms : List Moment) (new : Option (List ℕ)) → Folds (λ a m b. Writes p m a b) old ms new → Appends old new (trace_in p ms)
 writes_all p old [] new is = subst (λ (now : Option (List ℕ)). Appends old now []) is (Appends-nil old)
 writes_all p old (m ∷ ms) new folds = Appends-trans old folds.0 new (trace_of p m) (trace_in p ms) folds.1 (writes_all p folds.0 ms new folds.2)
+
+-- some text is written, or none
+pub some_none : (a : Option (List ℕ)) → Appended a a
+some_none a = record { text = []; wrote = Appends-nil a }
+
+pub some_one : (a b : Option (List ℕ)) (text : List ℕ) → Appends a b text → Appended a b
+some_one a b text wrote = record { text = text; wrote = wrote }
+
+-- So far in a loop: these lines are written.
+pub record Lined (p : Profile) (old now : Option (List ℕ)) (items : List Executed) (index : ℕ) : Type 0 where
+  pub sent : List ℕ
+  pub wrote : Appends old now sent
+  pub rest : sent ++ lines_of p (drop index items) ≡ lines_of p items
+
+line_first : (p : Profile) (items : List Executed) (index : ℕ) → index < length items → lines_of p (drop index items) ≡ line_if p (slice_get items index) ++ lines_of p (drop (suc index) items)
+line_first p [] index within = absurd (omega (arith, within))
+line_first p (i ∷ is) zero within = refl
+line_first p (i ∷ is) (suc index) within = line_first p is index (omega (arith, within))
+
+pub lined_none : (p : Profile) (old : Option (List ℕ)) (items : List Executed) → Lined p old old items 0
+lined_none p old items = record { sent = []; wrote = Appends-nil old; rest = refl }
+
+pub lined_more : (p : Profile) (old now new : Option (List ℕ)) (items : List Executed) (index : ℕ) → Lined p old now items index → index < length items → Appends now new (line_if p (slice_get items index)) → Lined p old new items (index + 1)
+lined_more p old now new items index lined within wrote =
+    let line = line_if p (slice_get items index) in
+    let more : Lined p old new items (suc index) = record {
+      sent = lined.sent ++ line;
+      wrote = Appends-trans old now new lined.sent line lined.wrote wrote;
+      rest = append_assoc lined.sent line (lines_of p (drop (suc index) items)) ∙ ap (λ (l : List ℕ). lined.sent ++ l) (sym (line_first p items index within)) ∙ lined.rest;
+    } in
+    subst (Lined p old new items) (sym (add-one index)) more
+
+pub lined_all : (p : Profile) (old now : Option (List ℕ)) (items : List Executed) (index : ℕ) → Lined p old now items index → length items ≤ index → Appends old now (lines_of p items)
+lined_all p old now items index lined past =
+    let all : lined.sent ≡ lines_of p items = sym (append-nil lined.sent) ∙ ap (λ (is : List Executed). lined.sent ++ lines_of p is) (sym (drop_all index items past)) ∙ lined.rest in
+    rw (← all) lined.wrote

@@ -5,14 +5,13 @@ use Rattle.peripherals.specs.declared.Event.{Event}
 use Rattle.peripherals.specs.declared.Event.TheVariants.{Step, Key, PrinterDone, ReaderDone, PunchDone, Switches, Continue}
 use Rattle.peripherals.specs.Devices.{WorldState}
 use Rattle.peripherals.specs.Operator.{Plan, due, first_due, frame_due, key_due, left_after, round_due}
-use Rattle.runs.specs.Operating.{events_left, rank}
-use Rattle.runs.specs.TypingParts.{rounds_left}
+use Rattle.runs.specs.Operating.{events_left, rank, rounds_left}
 
 -- An event leaves fewer.
-abbrev pub Less : ℕ → Option Event → Event → Type 0
+abbrev Less : ℕ → Option Event → Event → Type 0
 Less rounds last e = rounds_left e rounds * 5 + rank (Some e) < rounds * 5 + rank last
 
-pub none_is : {e : Event} → None ≡ Some e → ⊥
+none_is : {e : Event} → None ≡ Some e → ⊥
 none_is is = cc
 
 event_is : (e f : Event) → Some e ≡ Some f → e ≡ f
@@ -21,14 +20,14 @@ event_is e f is = ap (λ (o : Option Event). unwrap_or o Step) is
 step_less : (n : ℕ) (last : Option Event) → Less (suc n) last Step
 step_less n last = omega arith
 
-pub other_less : (rounds : ℕ) (last : Option Event) (e f : Event) → Some f ≡ Some e → rounds_left f rounds ≡ rounds → rank (Some f) < rank last → Less rounds last e
+other_less : (rounds : ℕ) (last : Option Event) (e f : Event) → Some f ≡ Some e → rounds_left f rounds ≡ rounds → rank (Some f) < rank last → Less rounds last e
 other_less rounds last e f is same less = subst (Less rounds last) (event_is f e is) (rw same (omega (arith, less)))
 
-pub round_less : (rounds : ℕ) (last : Option Event) (e : Event) → round_due rounds ≡ Some e → Less rounds last e
+round_less : (rounds : ℕ) (last : Option Event) (e : Event) → round_due rounds ≡ Some e → Less rounds last e
 round_less zero last e due = absurd (none_is due)
 round_less (suc n) last e due = subst (Less (suc n) last) (event_is Step e due) (step_less n last)
 
-pub first_less : (plan : Plan) (switches : Option ℕ) (e : Event) → first_due plan switches ≡ Some e → Less plan.rounds None e
+first_less : (plan : Plan) (switches : Option ℕ) (e : Event) → first_due plan switches ≡ Some e → Less plan.rounds None e
 first_less plan None e due = round_less plan.rounds None e due
 first_less plan (Some word) e due = other_less plan.rounds None e (Switches word) due refl (omega arith)
 

@@ -12,6 +12,7 @@ use Rattle.peripherals.specs.declared.Event.TheVariants.{Step, Key, PrinterDone,
 use Rattle.peripherals.specs.Devices.{Devices, Writer, WorldState, Instructs, word_at_pc, devices_after, fetches, clears_keyboard, given, fetched, with_writer_flag, with_reader_flag, with_keyboard_flag}
 use Rattle.peripherals.specs.Events.{Happens, Steps}
 use Rattle.runs.specs.Moments.{Folds, Happened, HappensBy, Moment, refuses}
+use Rattle.runs.proofs.MomentLemmas.{folds_map}
 use Rattle.runs.specs.Output.{PutsOut, as_it_is, character}
 
 -- So far in a loop: these characters are typed.
@@ -207,10 +208,24 @@ puts_all paper done written pick picked resumes p w o (m ∷ ms) x q world obser
     let rest = puts_all paper done written pick picked resumes p world.0 v ms x q world.2 observer.2 fits in
     puts_both written (pick after) (pick x.devices) (paper o) (paper v) (paper q) (done o) (done v) (done q) (picked after x.devices later) step rest
 
--- all that was printed is typed, where nothing was before
+-- how much was written, where that is always all
+all_done : {O : Type 0} (done : O → ℕ) (resumes : ℕ → Bool) (p : Profile) (w : WorldState) (o : O) (ms : List Moment) (x : WorldState) (q : O) → Folds (Happened resumes p) w ms x →
+    Folds (λ a m b. done b ≡ length m.after.devices.printer.output) o ms q → done o ≡ length w.devices.printer.output → done q ≡ length x.devices.printer.output
+all_done done resumes p w o [] x q world observer all = rw (sym world, sym observer) all
+all_done done resumes p w o (m ∷ ms) x q world observer all =
+    let next : done observer.0 ≡ length world.0.devices.printer.output = rw (sym world.1.after) observer.1 in
+    all_done done resumes p world.0 observer.0 ms x q world.2 observer.2 next
+
+-- all that was printed is typed
 pub typed_whole : {O : Type 0} (paper : O → Option (List ℕ)) (done : O → ℕ) (resumes : ℕ → Bool) (p : Profile) (w : WorldState) (o : O) (ms : List Moment) (x : WorldState) (q : O) → Folds (Happened resumes p) w ms x →
-    Folds (λ a m b. done a ≤ length m.after.devices.printer.output → PutsOut character m.after.devices.printer.output (paper a) (paper b) (done a) (done b)) o ms q → done o ≡ 0 → done q ≡ length x.devices.printer.output →
-    Appends (paper o) (paper q) (map character x.devices.printer.output)
-typed_whole paper done resumes p w o ms x q world observer none all =
-    let puts = puts_all paper done character (λ v. v.printer.output) (λ v u g. g.printed) resumes p w o ms x q world observer (omega (arith, none)) in
-    rw (none, all, take_all (length x.devices.printer.output) x.devices.printer.output (omega arith)) at puts.wrote
+    Folds (λ a m b. (done a ≤ length m.after.devices.printer.output → PutsOut character m.after.devices.printer.output (paper a) (paper b) (done a) (done b)) × (done b ≡ length m.after.devices.printer.output)) o ms q →
+    done o ≡ length w.devices.printer.output → Appends (paper o) (paper q) (map character (drop (done o) x.devices.printer.output))
+typed_whole {O = O} paper done resumes p w o ms x q world observer all =
+    let output = x.devices.printer.output in
+    let each : Folds (λ a m b. done a ≤ length m.after.devices.printer.output → PutsOut character m.after.devices.printer.output (paper a) (paper b) (done a) (done b)) o ms q = folds_map same _ _ (λ a m b sees. sees.0) o ms q observer in
+    let last : done q ≡ length output = all_done done resumes p w o ms x q world (folds_map same _ _ (λ a m b sees. sees.1) o ms q observer) all in
+    let puts = puts_all paper done character (λ v. v.printer.output) (λ v u g. g.printed) resumes p w o ms x q world each (omega (arith, all)) in
+    rw (last, take_all (length output) output (omega arith)) at puts.wrote
+  where
+    same : O → O
+    same a = a

@@ -144,6 +144,16 @@ pub record Driven {S C O : Type 0} (k : Choice S C O) (a : Standing S C O) (ende
   pub came : Came k a last
   pub ends : Ends k last ended b
 
+-- A run was stopped before a step.
+abbrev pub is_stopped : Ended → Bool
+is_stopped Stopped = true
+is_stopped _ = false
+
+-- Memory was refused for a step of a run.
+abbrev pub lacks_memory : Ended → Bool
+lacks_memory NoMemory = true
+lacks_memory _ = false
+
 -- This is so unless an observer could not take down the last event.
 abbrev pub UnlessFailed : Ended → Type 0 → Type 0
 UnlessFailed (ObserverFailed fault) is = Unit {0}

@@ -21,7 +21,7 @@ use Rattle.runs.specs.declared.observers.ObserverFault.{ObserverFault}
 use Rattle.runs.specs.declared.observers.ObserverFault.TheVariants as observer_fault
 use Rattle.runs.specs.declared.stops.Answer.{Answer}
 use Rattle.runs.specs.declared.stops.Answer.TheVariants as answer
-use Rattle.runs.specs.Drives.{IsRefused, Passes}
+use Rattle.runs.specs.Drives.{Choice, Driven, IsRefused, Passes, Standing}
 use Rattle.runs.specs.Moments.{Folds, Moment, moment}
 use Rattle.runs.specs.Sources.{goes_on}
 use Rattle.runs.specs.Tracing.{counted, steps_in, trace_in, trace_of}
@@ -138,3 +138,9 @@ abbrev pub Failed : {C O : Type 0} → (C → Profile → WorldState → Answer 
 Failed answers sees breaks ready p ending events c o w fault d q x =
     (RanToRefusal answers sees p ending events c o w d q x × ready q × (fault ≡ run_fault.NoMemory))
     ⊎ ((why : ObserverFault) × RanIntoFault sees breaks p ending events o w why q x × (fault ≡ fault_of why))
+
+-- A run came to this end, by what it is made of.
+pub record Held {S C O : Type 0} (k : Choice S C O) (a : Standing S C O) (last : End) (b : Standing S C O) : Type 0 where
+  pub why : Ended
+  pub driven : Driven k a why b
+  pub is_told : told b.world why ≡ Ok last

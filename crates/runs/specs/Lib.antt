@@ -8,5 +8,3 @@ pub mod Drives
 pub mod Follows
 pub mod Operating
 pub mod Typing
-pub mod TypingParts
-pub mod Interrupted

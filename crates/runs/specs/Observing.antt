@@ -60,3 +60,13 @@ BreaksIf breaks None p m why q = ⊥
 abbrev pub ReadyIf : {O : Type 0} → (O → Type 0) → Option O → Type 0
 ReadyIf ready (Some o) = ready o
 ReadyIf ready None = Unit {0}
+
+-- Some text was appended.
+pub record Appended (old new : Option (List ℕ)) : Type 0 where
+  pub text : List ℕ
+  pub wrote : Appends old new text
+
+-- A write failed, and memory was not refused.
+abbrev pub is_write : ObserverFault → Bool
+is_write fault.Write = true
+is_write fault.NoMemory = false

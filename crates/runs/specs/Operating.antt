@@ -3,7 +3,7 @@ use Rattle.std.specs.Prelude.{ℕ, ◌≡◌, ◌+◌, ◌*◌, Option, Some, No
 use Rattle.peripherals.specs.declared.Event.{Event}
 use Rattle.peripherals.specs.declared.Event.TheVariants.{Step, Key, PrinterDone, ReaderDone, PunchDone, Switches, Continue}
 use Rattle.peripherals.specs.Devices.{WorldState}
-use Rattle.peripherals.specs.Operator.{Plan, due, left_after}
+use Rattle.peripherals.specs.Operator.{Plan, due, left_after, one_less}
 use Rattle.runs.specs.declared.sources.Next.{Next}
 use Rattle.runs.specs.declared.sources.Next.TheVariants as next
 
@@ -28,3 +28,8 @@ rank (Some Continue) = 0
 -- How many events may come at most.
 abbrev pub events_left : Plan → Option Event → ℕ
 events_left plan last = plan.rounds * 5 + rank last
+
+-- The rounds that are left behind an event: an instruction begins one.
+abbrev pub rounds_left : Event → ℕ → ℕ
+rounds_left Step rounds = one_less rounds
+rounds_left _ rounds = rounds

@@ -1,5 +1,5 @@
 -- What observers see of a run: the instructions that were carried out, as records and as lines of a trace, and their number.
-use Rattle.std.specs.Prelude.{ℕ, ◌+◌, Bool, true, false, if◌then◌else◌, List, [], ◌∷◌, ◌++◌, codes}
+use Rattle.std.specs.Prelude.{ℕ, ◌+◌, Bool, true, false, if◌then◌else◌, Option, Some, None, List, [], ◌∷◌, ◌++◌, codes}
 use Rattle.word12.specs.Words.{octal_text}
 use Rattle.instruct.specs.declared.Profile.{Profile}
 use Rattle.instruct.specs.declared.Profile.TheVariants.{Pdp8I, Pdp8E}
@@ -61,6 +61,16 @@ effect_text profile i = codes " AC=" ++ octal_text i.ac ++ (codes " L=" ++ link_
 -- The line of an instruction: where it stood and what it was, and the registers after it.
 abbrev pub line_of : Profile → Executed → List ℕ
 line_of profile i = place_text profile i.at i.word ++ effect_text profile i ++ codes "\n"
+
+-- The line of an instruction, if there is one.
+abbrev pub line_if : Profile → Option Executed → List ℕ
+line_if profile None = []
+line_if profile (Some i) = line_of profile i
+
+-- The lines of some instructions.
+abbrev pub lines_of : Profile → List Executed → List ℕ
+lines_of profile [] = []
+lines_of profile (i ∷ is) = line_of profile i ++ lines_of profile is
 
 -- What a moment adds to a trace.
 abbrev pub trace_of : Profile → Moment → List ℕ

@@ -1,60 +1,108 @@
 -- A session at the teletype: a key is struck where the program asks for one, and each frame and each key is read when it is due.
-use Rattle.std.specs.Prelude.{ℕ, ◌==◌, Bool, true, false, not, ◌||◌, ◌&&◌, if◌then◌else◌, Option, Some, None, List, [], ◌∷◌}
+use Rattle.std.specs.Prelude.{ℕ, ◌≡◌, ◌==◌, ◌-◌, ◌⊎◌, Bool, true, false, not, ◌&&◌, if◌then◌else◌, Option, Some, None, List, [], ◌∷◌}
+use Rattle.std.specs.Io.KnownBytes.{Consumes, IsAtEnd}
 use Rattle.instruct.specs.Devices.{word_of}
 use Rattle.instruct.specs.declared.devices.DeviceOperation.TheVariants.{SkipOnKeyboardFlag}
-use Rattle.peripherals.specs.declared.Event.{Event}
-use Rattle.peripherals.specs.declared.Event.TheVariants.{Step, Key, PrinterDone, ReaderDone, PunchDone, Switches, Continue}
+use Rattle.peripherals.specs.declared.Event.TheVariants as event
 use Rattle.peripherals.specs.Devices.{WorldState, word_at_pc}
-use Rattle.peripherals.specs.Operator.{Plan, first_due, round_due, struck_as}
+use Rattle.peripherals.specs.Operator.{struck_as}
+use Rattle.runs.specs.declared.sources.Next.{Next}
+use Rattle.runs.specs.declared.sources.Next.TheVariants as next
 use Rattle.runs.specs.declared.typist.KeyOptions.{KeyOptions}
+use Rattle.runs.specs.declared.typist.Turn.{Turn}
+use Rattle.runs.specs.declared.typist.Turn.TheVariants as turn
+use Rattle.runs.specs.declared.typist.Typist.{Typist}
 
 -- The next instruction asks for a key: it is KSF, and finds the keyboard's flag clear.
 abbrev pub asks : WorldState → Bool
 asks w = word_at_pc w == word_of SkipOnKeyboardFlag && not w.devices.keyboard.flag
-
--- Whether a key is requested after an event in a world: an instruction asks for one or does not, a key is the answer, and anything
--- else leaves it as it was.
-abbrev pub asked_after : Bool → WorldState → Event → Bool
-asked_after asked w Step = asks w
-asked_after asked w (Key key) = false
-asked_after asked w _ = asked
-
--- At the keyboard's turn in a round: where a key is requested the next one is due, and nothing if none is left; else the next
--- round is.
-abbrev pub answer_due : Bool → List ℕ → ℕ → Option Event
-answer_due false keys rounds = round_due rounds
-answer_due true [] rounds = None
-answer_due true (key ∷ keys) rounds = Some (Key key)
-
--- At the reader's turn: the next frame is due where the reader waits for one; else it is the keyboard's turn.
-abbrev pub read_due : Plan → WorldState → Bool → List ℕ → Option Event
-read_due plan w asked [] = answer_due asked plan.keys plan.rounds
-read_due plan w asked (frame ∷ frames) =
-    if w.devices.reader.fetching then Some (ReaderDone frame) else answer_due asked plan.keys plan.rounds
-
--- What is due after an event: the turns in a round are those of a run with an operator.
-abbrev pub typed_after : Plan → WorldState → Bool → Event → Option Event
-typed_after plan w asked Step = Some PrinterDone
-typed_after plan w asked PrinterDone = Some PunchDone
-typed_after plan w asked PunchDone = read_due plan w asked plan.frames
-typed_after plan w asked (ReaderDone frame) = answer_due asked plan.keys plan.rounds
-typed_after plan w asked (Key key) = round_due plan.rounds
-typed_after plan w asked (Switches word) = round_due plan.rounds
-typed_after plan w asked Continue = round_due plan.rounds
-
--- What is due in a world, after the last event if there was one.
-abbrev pub typed_due : Plan → WorldState → Bool → Option Event → Option Event
-typed_due plan w asked None = first_due plan plan.switches
-typed_due plan w asked (Some last) = typed_after plan w asked last
-
--- A frame is read where the reader waits for one at its turn, and a key where one is requested at the keyboard's turn.
-abbrev pub is_read : WorldState → Bool → Option Event → Bool
-is_read w asked (Some PunchDone) = w.devices.reader.fetching || asked
-is_read w asked (Some (ReaderDone frame)) = asked
-is_read w asked _ = false
 
 -- The byte of a key. As people type at a terminal a carriage return is struck for a line feed, and channel 8 is set; as the bytes
 -- come they stay as they are, except for channel 8 where that is requested.
 abbrev pub typed_as : KeyOptions → ℕ → ℕ
 typed_as manner byte =
     if manner.raw then struck_as manner.mark byte else struck_as true (if byte == 10 then 13 else byte)
+
+-- The byte is that of the key, if there is one.
+abbrev pub is_key : Option ℕ → ℕ → Bool
+is_key None byte = false
+is_key (Some key) byte = byte == key
+
+-- A byte came from a source whose end was not found before, or its end was found: no byte that it tells is left.
+abbrev pub Reads : {S : Type 0} → (S → Option (List ℕ)) → (S → Bool) → S → Option ℕ → S → Type 0
+Reads remaining ended s (Some byte) t = Consumes (remaining s) (remaining t) (byte ∷ []) × (ended s ≡ false)
+Reads remaining ended s None t = Consumes (remaining s) (remaining t) [] × IsAtEnd (remaining t) × (ended t ≡ true)
+
+-- An instruction is tried, which may ask for a key; no round is left otherwise.
+abbrev pub Tries : {F K : Type 0} → WorldState → Typist F K → Next → Typist F K → Type 0
+Tries w s said t =
+    ((s.rounds ≡ 0) × (said ≡ next.Over) × (t ≡ s))
+    ⊎ ((s.rounds ≡ 0 → ⊥) × (said ≡ next.Comes event.Step) × (t ≡ record s { turn = turn.Printer; rounds = s.rounds - 1; asked = asks w }))
+
+-- The switches are set where they are to be, and else an instruction is tried.
+abbrev pub SetsTo : {F K : Type 0} → Option ℕ → WorldState → Typist F K → Next → Typist F K → Type 0
+SetsTo None w s said t = Tries w s said t
+SetsTo (Some word) w s said t = (said ≡ next.Comes (event.Switches word)) × (t ≡ record s { turn = turn.Instruction })
+
+-- The same, by what the typist was told.
+abbrev pub Sets : {F K : Type 0} → WorldState → Typist F K → Next → Typist F K → Type 0
+Sets w s said t = SetsTo s.options.switches w s said t
+
+-- The next key is struck, after which none is requested; or it is the one that interrupts the session.
+pub record StrikesKey {F K : Type 0} (key : K → Option ℕ → K → Type 0) (s : Typist F K) (said : Next) (t : Typist F K) : Type 0 where
+  pub byte : ℕ
+  pub read : key s.keys (Some byte) t.keys
+  pub so : ((is_key s.options.leave byte ≡ true) × (said ≡ next.Interrupted) × (t ≡ record s { keys = t.keys }))
+      ⊎ ((is_key s.options.leave byte ≡ false) × (said ≡ next.Comes (event.Key (typed_as s.options.manner byte))) × (t ≡ record s { keys = t.keys; turn = turn.Instruction; asked = false }))
+
+-- A key is struck, or none is left, or the read of one failed.
+abbrev pub AsksKey : {F K : Type 0} → (K → Option ℕ → K → Type 0) → Typist F K → Next → Typist F K → Type 0
+AsksKey key s said t =
+    StrikesKey key s said t
+    ⊎ ((key s.keys None t.keys × (said ≡ next.Over) × (t ≡ record s { keys = t.keys }))
+    ⊎ ((said ≡ next.ReadFailed) × (t ≡ record s { keys = t.keys })))
+
+-- Where a key is requested it is struck, and else an instruction is tried.
+abbrev pub StrikesIf : {F K : Type 0} → Bool → (K → Option ℕ → K → Type 0) → WorldState → Typist F K → Next → Typist F K → Type 0
+StrikesIf true key w s said t = AsksKey key s said t
+StrikesIf false key w s said t = Tries w s said t
+
+-- The same, by whether the instruction asked for one.
+abbrev pub Strikes : {F K : Type 0} → (K → Option ℕ → K → Type 0) → WorldState → Typist F K → Next → Typist F K → Type 0
+Strikes key w s said t = StrikesIf s.asked key w s said t
+
+-- No frame is left, and it is the keyboard's turn.
+pub record TakesNone {F K : Type 0} (frame : F → Option ℕ → F → Type 0) (key : K → Option ℕ → K → Type 0) (w : WorldState) (s : Typist F K) (said : Next) (t : Typist F K) : Type 0 where
+  pub reader : F
+  pub read : frame s.reader None reader
+  pub strikes : Strikes key w (record s { reader = reader }) said t
+
+-- The reader gets its next frame, or none is left, or the read of it failed.
+abbrev pub Takes : {F K : Type 0} → (F → Option ℕ → F → Type 0) → (K → Option ℕ → K → Type 0) → WorldState → Typist F K → Next → Typist F K → Type 0
+Takes frame key w s said t =
+    ((byte : ℕ) × frame s.reader (Some byte) t.reader × (said ≡ next.Comes (event.ReaderDone byte)) × (t ≡ record s { reader = t.reader; turn = turn.Keyboard }))
+    ⊎ (TakesNone frame key w s said t
+    ⊎ ((said ≡ next.ReadFailed) × (t ≡ record s { reader = t.reader })))
+
+-- The reader gets a frame if it waits for one, and else it is the keyboard's turn.
+abbrev pub TakesIf : {F K : Type 0} → Bool → (F → Option ℕ → F → Type 0) → (K → Option ℕ → K → Type 0) → WorldState → Typist F K → Next → Typist F K → Type 0
+TakesIf true frame key w s said t = Takes frame key w s said t
+TakesIf false frame key w s said t = Strikes key w s said t
+
+-- What a typist says in a world, in turn.
+abbrev pub Types : {F K : Type 0} → (F → Option ℕ → F → Type 0) → (K → Option ℕ → K → Type 0) → Turn → WorldState → Typist F K → Next → Typist F K → Type 0
+Types frame key turn.Switches w s said t = Sets w s said t
+Types frame key turn.Instruction w s said t = Tries w s said t
+Types frame key turn.Printer w s said t = (said ≡ next.Comes event.PrinterDone) × (t ≡ record s { turn = turn.Punch })
+Types frame key turn.Punch w s said t = (said ≡ next.Comes event.PunchDone) × (t ≡ record s { turn = turn.Reader })
+Types frame key turn.Reader w s said t = TakesIf w.devices.reader.fetching frame key w s said t
+Types frame key turn.Keyboard w s said t = Strikes key w s said t
+
+-- How many events may come at most in the round that has begun.
+abbrev pub rank : Turn → ℕ
+rank turn.Switches = 1
+rank turn.Instruction = 0
+rank turn.Printer = 5
+rank turn.Punch = 4
+rank turn.Reader = 3
+rank turn.Keyboard = 2

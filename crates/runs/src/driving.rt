@@ -2,7 +2,7 @@
 
 ghost use Rattle.std.specs.Prelude.{◌≡◌, IfOk, IfErr, OnOk};
 ghost use Rattle.peripherals.specs.World.{view, profile_of};
-ghost use Rattle.runs.specs.Drives.{Attempted, Driven, Observed, Refused, UnlessFailed, Unobserved, Whole, choice, standing};
+ghost use Rattle.runs.specs.Drives.{Attempted, Driven, Observed, Refused, UnlessFailed, Unobserved, Whole, choice, is_stopped, lacks_memory, standing};
 ghost use Rattle.runs.specs.Moments.{refuses};
 
 use crate::observers::{Observer, ObserverFault};
@@ -28,6 +28,22 @@ pub enum Ended {
     NoMemory,
     /// What the last event did could not be taken down.
     ObserverFailed(ObserverFault),
+}
+
+impl Ended {
+    /// It was stopped before a step.
+    pub fn is_stopped(&self) -> bool
+        ensures { result ≡ is_stopped self.now }
+    {
+        matches!(self, Ended::Stopped)
+    }
+
+    /// Memory was refused for a step.
+    pub fn lacks_memory(&self) -> bool
+        ensures { result ≡ lacks_memory self.now }
+    {
+        matches!(self, Ended::NoMemory)
+    }
 }
 
 /// Whether an event is a CONTINUE that has no effect where the machine is halted.

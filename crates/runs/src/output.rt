@@ -51,8 +51,8 @@ impl<T: ByteSink> Observer for Typed<T> {
 
     ghost notes = { λ o w event note. Unit {0} };
 
-    ghost sees = { λ o p m q. o.done ≤ length m.after.devices.printer.output →
-        PutsOut character m.after.devices.printer.output (T.taken o.out) (T.taken q.out) o.done q.done
+    ghost sees = { λ o p m q. (o.done ≤ length m.after.devices.printer.output →
+        PutsOut character m.after.devices.printer.output (T.taken o.out) (T.taken q.out) o.done q.done)
         × (q.done ≡ length m.after.devices.printer.output) };
 
     ghost breaks = { λ o p m fault q. T.mark q.out ≡ true };

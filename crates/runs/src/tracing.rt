@@ -1,12 +1,12 @@
 //! Observers of the instructions that are carried out: a trace, the last ones, and their number.
 
-ghost use Rattle.std.specs.Prelude.{◌≡◌, ◌+◌, ◌≤◌, ◌++◌, [], false, codes, is_err, length, IfErr, IfOk, OnErr, OnOk};
+ghost use Rattle.std.specs.Prelude.{◌≡◌, ◌+◌, ◌≤◌, ◌++◌, [], false, codes, is_err, length, slice_get, IfErr, IfOk, OnErr, OnOk};
 ghost use Rattle.std.specs.Io.KnownBytes.{Appends};
 ghost use Rattle.streams.specs.Bytes.{AppendsFront};
 ghost use Rattle.word12.specs.Words.{octal_text};
 ghost use Rattle.peripherals.specs.Devices.{word_at_pc};
 ghost use Rattle.peripherals.specs.World.{view};
-ghost use Rattle.runs.specs.Tracing.{effect_text, executed, is_executed, line_of, link_text, mq_text, place_text};
+ghost use Rattle.runs.specs.Tracing.{effect_text, executed, is_executed, line_if, line_of, lines_of, link_text, mq_text, place_text};
 
 use crate::observers::{Observer, ObserverFault};
 use arrayvec::ArrayString;
@@ -233,6 +233,43 @@ impl<A: Allocator> Last<A> {
     }
 }
 
+impl<K: Allocator> Last<K> {
+    /// Writes the line of the instruction with this index, if it is kept.
+    fn put_at<W: ByteSink>(
+        &self,
+        out: &mut W,
+        profile: Profile,
+        index: usize,
+    ) -> Result<(), ObserverFault>
+        requires unmarked { W.mark out.old ≡ false }
+        ensures wrote { OnOk result (Appends (W.taken out.old) (W.taken out.new)
+            (line_if profile (slice_get self.now.kept.items index))) }
+        ensures marks { W.mark out.new ≡ is_err result }
+    {
+        match self.kept.get(index) {
+            Some(executed) => put_line(out, profile, executed),
+            None => Ok(()),
+        }
+    }
+
+    /// Writes the lines of the instructions that are kept.
+    ///
+    /// # Errors
+    ///
+    /// Where a write failed; some of the lines may be there.
+    pub fn put_lines<W: ByteSink>(&self, out: &mut W, profile: Profile) -> Result<(), ObserverFault>
+        requires unmarked { W.mark out.old ≡ false }
+        ensures wrote { OnOk result (Appends (W.taken out.old) (W.taken out.new)
+            (lines_of profile self.now.kept.items)) }
+        ensures marks { W.mark out.new ≡ is_err result }
+    {
+        for index in 0..self.kept.len() {
+            self.put_at(out, profile, index)?;
+        }
+        Ok(())
+    }
+}
+
 impl<K: Allocator> Observer for Last<K> {
     ghost use Rattle.runs.specs.Observing.{Fetches, Keeps};
 
@@ -271,6 +308,15 @@ impl<K: Allocator> Observer for Last<K> {
 pub struct Steps {
     /// How many were carried out, up to the largest number.
     pub count: u64,
+}
+
+impl Steps {
+    /// Nothing was carried out yet.
+    pub fn new() -> Steps
+        ensures { result.count ≡ 0 }
+    {
+        Steps { count: 0 }
+    }
 }
 
 impl Observer for Steps {

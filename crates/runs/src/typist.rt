@@ -1,17 +1,15 @@
 //! Who sits at the teletype: strikes a key where the program asks for one, and has a tape in the
 //! reader. Frames and keys are read one by one, each when it is due.
 
-ghost use Rattle.std.specs.Prelude.{ℕ, ◌≡◌, ◌==◌, ◌||◌, ◌&&◌, not, false, true, None, Some, Ok, List, [], ◌∷◌, IfOk, IfSome, OnErr, is_err};
+ghost use Rattle.std.specs.Prelude.{ℕ, ◌≡◌, ◌==◌, ◌&&◌, not, false, IfOk, is_err};
 ghost use Rattle.instruct.specs.Devices.{word_of};
 ghost use Rattle.instruct.specs.declared.devices.DeviceOperation.TheVariants.{SkipOnKeyboardFlag};
+ghost use Rattle.peripherals.specs.declared.Event.{Event};
 ghost use Rattle.peripherals.specs.Devices.{word_at_pc};
-ghost use Rattle.peripherals.specs.Operator.{first_due, round_due, struck_as};
-ghost use Rattle.peripherals.specs.declared.Event.TheVariants.{PunchDone};
+ghost use Rattle.peripherals.specs.Operator.{struck_as};
 ghost use Rattle.peripherals.specs.World.{view};
-ghost use Rattle.runs.specs.Typing.{asked_after, asks, is_read, typed_as};
-ghost use Rattle.runs.specs.TypingParts.{Answered, Brought, IsLeft, rounds_left, source, typed_plan};
+ghost use Rattle.runs.specs.Typing.{AsksKey, Reads, Sets, Strikes, Takes, Tries, Types, asks, is_key, typed_as};
 
-use crate::interrupting::OperatorPresence;
 use crate::lists::Ending;
 use crate::sources::{Next, Source};
 use instruct::{DeviceOperation, Profile};
@@ -37,31 +35,43 @@ pub struct TypistOptions {
     pub switches: Option<Word>,
     /// How the bytes of keys are struck.
     pub manner: KeyOptions,
+    /// The byte of the key that interrupts the session, if there is one. The program never gets it.
+    pub leave: Option<u8>,
 }
 
-/// A typist: where frames and keys come from, and how far the session has come.
-///
-/// The events come in rounds: an instruction is tried, the printer and the punch get done, the reader
-/// gets its next frame if it waits for one, and the next key is struck if the instruction asked for one.
+/// What is due next in a session.
+#[derive(Clone, Copy, PartialEq, Eq, Debug)]
+pub enum Turn {
+    /// The switches are set, if they are to be.
+    Switches,
+    /// An instruction is tried.
+    Instruction,
+    /// The printer gets done.
+    Printer,
+    /// The punch gets done.
+    Punch,
+    /// The reader gets its next frame, if it waits for one.
+    Reader,
+    /// The next key is struck, if the instruction asked for one.
+    Keyboard,
+}
+
+/// A typist: where frames and keys come from, and how far the session has come. The events come in rounds, in
+/// the order of the turns.
 #[derive(Drop)]
 pub struct Typist<F, K> {
     reader: F,
     keys: K,
     options: TypistOptions,
+    turn: Turn,
     rounds: u64,
-    last: Option<Event>,
     asked: bool,
 }
 
 /// The next byte of a source, which is requested one byte alone.
 fn next_byte<S: ByteSource>(source: &mut S) -> Result<Option<u8>, Failed>
     requires { S.mark source.old ≡ false }
-    ensures some { IfOk result (λ next. IfSome next (λ byte. (rest : List ℕ) →
-        IsLeft (S.remaining source.new) (S.ended source.new) rest →
-        IsLeft (S.remaining source.old) (S.ended source.old) (byte ∷ rest))) }
-    ensures none { result ≡ Ok None → (rest : List ℕ) →
-        IsLeft (S.remaining source.new) (S.ended source.new) rest →
-        (rest ≡ []) × IsLeft (S.remaining source.old) (S.ended source.old) [] }
+    ensures read { IfOk result (λ next. Reads S.remaining S.ended source.old next source.new) }
     ensures marks { S.mark source.new ≡ is_err result }
 {
     let mut piece = [0u8; 1];
@@ -121,7 +131,17 @@ fn typed_as(byte: u8, manner: KeyOptions) -> u8
     }
 }
 
-impl<F: ByteSource, K: ByteSource> Typist<F, K> {
+/// Whether a byte is that of a key, if there is one.
+fn is_key(key: Option<u8>, byte: u8) -> bool
+    ensures { result ≡ is_key key byte }
+{
+    match key {
+        None => false,
+        Some(key) => byte == key,
+    }
+}
+
+impl<F, K> Typist<F, K> {
     /// A typist who has this tape in the reader and these keys to strike, before the session.
     pub fn new(reader: F, keys: K, options: TypistOptions) -> Typist<F, K>
         ensures reader { result.reader ≡ reader }
@@ -132,212 +152,134 @@ impl<F: ByteSource, K: ByteSource> Typist<F, K> {
             reader,
             keys,
             options,
+            turn: Turn::Switches,
             rounds: u64::MAX,
-            last: None,
             asked: false,
         }
     }
 
-    /// How the session is held.
-    pub fn options(&self) -> TypistOptions
-        ensures { result ≡ self.now.options }
-    {
-        self.options
-    }
-
-    /// A round, where one is left.
-    fn round_due(&self) -> Option<Event>
-        ensures { result ≡ round_due self.now.rounds }
+    /// An instruction is tried, while rounds are left.
+    fn try_instruction<A: Allocator>(&mut self, world: &World<A>) -> Next
+        ensures says { Tries (view world.now) self.old result self.new }
+        ensures reader { self.new.reader ≡ self.old.reader }
+        ensures keys { self.new.keys ≡ self.old.keys }
     {
         if self.rounds == 0 {
-            None
-        } else {
-            Some(Event::Step)
+            return Next::Over;
         }
+        self.rounds -= 1;
+        self.asked = asks(world);
+        self.turn = Turn::Printer;
+        Next::Comes(Event::Step)
     }
 
-    /// A key is requested: the next one is due, or nothing if none is left.
-    fn key_due(&mut self) -> Result<Option<Event>, Failed>
-        requires { K.mark self.old.keys ≡ false }
-        ensures due { IfOk result (λ due. (after : List ℕ) →
-            IsLeft (K.remaining self.new.keys) (K.ended self.new.keys) after →
-            Answered self.old.options true self.old.rounds
-            (source (K.remaining self.old.keys) (K.ended self.old.keys)) due after) }
-        ensures marks { K.mark self.new.keys ≡ is_err result }
-        ensures same { self.new ≡ record self.old { keys = self.new.keys } }
-    {
-        match next_byte(&mut self.keys)? {
-            Some(byte) => Ok(Some(Event::Key(typed_as(byte, self.options.manner)))),
-            None => Ok(None),
-        }
-    }
-
-    /// At the keyboard's turn: the next key where one is requested, or nothing if none is left; else a
-    /// round.
-    fn answer_due(&mut self) -> Result<Option<Event>, Failed>
-        requires { K.mark self.old.keys ≡ false }
-        ensures due { IfOk result (λ due. (after : List ℕ) →
-            IsLeft (K.remaining self.new.keys) (K.ended self.new.keys) after →
-            Answered self.old.options self.old.asked self.old.rounds
-            (source (K.remaining self.old.keys) (K.ended self.old.keys)) due after) }
-        ensures asked { OnErr result (self.old.asked ≡ true) }
-        ensures marks { K.mark self.new.keys ≡ is_err result }
-        ensures same { self.new ≡ record self.old { keys = self.new.keys } }
-    {
-        if self.asked {
-            self.key_due()
-        } else {
-            Ok(self.round_due())
-        }
-    }
-
-    /// At the reader's turn: the next frame where the reader waits for one and one is left; else it is
-    /// the keyboard's turn.
-    fn read_due<A: Allocator>(&mut self, world: &World<A>) -> Result<Option<Event>, Failed>
-        requires reader { F.mark self.old.reader ≡ false }
-        requires keys { K.mark self.old.keys ≡ false }
-        ensures due { IfOk result (λ due. (frames bytes : List ℕ) →
-            IsLeft (F.remaining self.new.reader) (F.ended self.new.reader) frames →
-            IsLeft (K.remaining self.new.keys) (K.ended self.new.keys) bytes →
-            Brought self.old.options (view world.now) self.old.asked self.old.rounds
-            (Some PunchDone)
-            (source (F.remaining self.old.reader) (F.ended self.old.reader))
-            (source (K.remaining self.old.keys) (K.ended self.old.keys)) due frames bytes) }
-        ensures read { OnErr result
-            (is_read (view world.now) self.old.asked (Some PunchDone) ≡ true) }
-        ensures marks { F.mark self.new.reader || K.mark self.new.keys ≡ is_err result }
-        ensures same { self.new ≡
-            record self.old { reader = self.new.reader; keys = self.new.keys } }
-    {
-        let waits = world.panel().reader.fetching;
-        if !waits {
-            return self.answer_due();
-        }
-        match next_byte(&mut self.reader)? {
-            Some(frame) => Ok(Some(Event::ReaderDone(frame))),
-            None => self.answer_due(),
-        }
-    }
-
-    /// The first event.
-    fn first_due(&self) -> Option<Event>
-        ensures { result ≡ first_due (typed_plan self.now.options self.now.rounds [] [])
-            self.now.options.switches }
+    /// The switches are set, or else an instruction is tried.
+    fn set_switches<A: Allocator>(&mut self, world: &World<A>) -> Next
+        ensures says { Sets (view world.now) self.old result self.new }
+        ensures reader { self.new.reader ≡ self.old.reader }
+        ensures keys { self.new.keys ≡ self.old.keys }
     {
         match self.options.switches {
-            Some(word) => Some(Event::Switches(word)),
-            None => self.round_due(),
-        }
-    }
-
-    /// The event that is due after the last one.
-    fn due_after<A: Allocator>(
-        &mut self,
-        last: Event,
-        world: &World<A>,
-    ) -> Result<Option<Event>, Failed>
-        requires reader { F.mark self.old.reader ≡ false }
-        requires keys { K.mark self.old.keys ≡ false }
-        ensures due { IfOk result (λ due. (frames bytes : List ℕ) →
-            IsLeft (F.remaining self.new.reader) (F.ended self.new.reader) frames →
-            IsLeft (K.remaining self.new.keys) (K.ended self.new.keys) bytes →
-            Brought self.old.options (view world.now) self.old.asked self.old.rounds (Some last)
-            (source (F.remaining self.old.reader) (F.ended self.old.reader))
-            (source (K.remaining self.old.keys) (K.ended self.old.keys)) due frames bytes) }
-        ensures read { OnErr result (is_read (view world.now) self.old.asked (Some last) ≡ true) }
-        ensures marks { F.mark self.new.reader || K.mark self.new.keys ≡ is_err result }
-        ensures same { self.new ≡
-            record self.old { reader = self.new.reader; keys = self.new.keys } }
-    {
-        let round = self.round_due();
-        match last {
-            Event::Step => Ok(Some(Event::PrinterDone)),
-            Event::PrinterDone => Ok(Some(Event::PunchDone)),
-            Event::PunchDone => self.read_due(world),
-            Event::ReaderDone(_) => self.answer_due(),
-            Event::Key(_) => Ok(round),
-            Event::Switches(_) => Ok(round),
-            Event::Continue => Ok(round),
-        }
-    }
-
-    /// The event that is due.
-    fn due<A: Allocator>(&mut self, world: &World<A>) -> Result<Option<Event>, Failed>
-        requires reader { F.mark self.old.reader ≡ false }
-        requires keys { K.mark self.old.keys ≡ false }
-        ensures due { IfOk result (λ due. (frames bytes : List ℕ) →
-            IsLeft (F.remaining self.new.reader) (F.ended self.new.reader) frames →
-            IsLeft (K.remaining self.new.keys) (K.ended self.new.keys) bytes →
-            Brought self.old.options (view world.now) self.old.asked self.old.rounds self.old.last
-            (source (F.remaining self.old.reader) (F.ended self.old.reader))
-            (source (K.remaining self.old.keys) (K.ended self.old.keys)) due frames bytes) }
-        ensures read { OnErr result
-            (is_read (view world.now) self.old.asked self.old.last ≡ true) }
-        ensures marks { F.mark self.new.reader || K.mark self.new.keys ≡ is_err result }
-        ensures same { self.new ≡
-            record self.old { reader = self.new.reader; keys = self.new.keys } }
-    {
-        match self.last {
-            Some(last) => self.due_after(last, world),
-            None => Ok(self.first_due()),
-        }
-    }
-
-    /// An event comes in a world.
-    fn note<A: Allocator>(&mut self, event: &Event, world: &World<A>)
-        ensures { self.new ≡ record self.old {
-          rounds = rounds_left event.now self.old.rounds;
-          last = Some event.now;
-          asked = asked_after self.old.asked (view world.now) event.now;
-        } }
-    {
-        match event {
-            Event::Step => {
-                self.rounds = self.rounds.saturating_sub(1);
-                self.asked = asks(world);
+            None => self.try_instruction(world),
+            Some(word) => {
+                self.turn = Turn::Instruction;
+                Next::Comes(Event::Switches(word))
             }
-            Event::Key(_) => self.asked = false,
-            _ => {}
         }
-        self.last = Some(*event);
+    }
+}
+
+impl<F: ByteSource, K: ByteSource> Typist<F, K> {
+    /// The next key is struck, if one is left.
+    fn strike_key(&mut self) -> Next
+        requires { K.mark self.old.keys ≡ false }
+        ensures says { AsksKey (Reads K.remaining K.ended) self.old result self.new }
+        ensures reader { self.new.reader ≡ self.old.reader }
+        ensures keys { (event : Event) → result ≡ Next.Comes event → K.mark self.new.keys ≡ false }
+    {
+        match next_byte(&mut self.keys) {
+            Err(Failed) => Next::ReadFailed,
+            Ok(None) => Next::Over,
+            Ok(Some(byte)) => {
+                if is_key(self.options.leave, byte) {
+                    return Next::Interrupted;
+                }
+                self.asked = false;
+                self.turn = Turn::Instruction;
+                Next::Comes(Event::Key(typed_as(byte, self.options.manner)))
+            }
+        }
+    }
+
+    /// The next key is struck if one is requested, and else an instruction is tried.
+    fn strike<A: Allocator>(&mut self, world: &World<A>) -> Next
+        requires { K.mark self.old.keys ≡ false }
+        ensures says { Strikes (Reads K.remaining K.ended) (view world.now) self.old result self.new }
+        ensures reader { self.new.reader ≡ self.old.reader }
+        ensures keys { (event : Event) → result ≡ Next.Comes event → K.mark self.new.keys ≡ false }
+    {
+        if self.asked {
+            return self.strike_key();
+        }
+        self.try_instruction(world)
+    }
+
+    /// The reader gets its next frame; where none is left it is the keyboard's turn.
+    fn take_frame<A: Allocator>(&mut self, world: &World<A>) -> Next
+        requires reader { F.mark self.old.reader ≡ false }
+        requires keys { K.mark self.old.keys ≡ false }
+        ensures says { Takes (Reads F.remaining F.ended) (Reads K.remaining K.ended) (view world.now)
+            self.old result self.new }
+        ensures reader { (event : Event) → result ≡ Next.Comes event → F.mark self.new.reader ≡ false }
+        ensures keys { (event : Event) → result ≡ Next.Comes event → K.mark self.new.keys ≡ false }
+    {
+        match next_byte(&mut self.reader) {
+            Err(Failed) => Next::ReadFailed,
+            Ok(None) => self.strike(world),
+            Ok(Some(frame)) => {
+                self.turn = Turn::Keyboard;
+                Next::Comes(Event::ReaderDone(frame))
+            }
+        }
     }
 }
 
 /// The events of a typist. A halt ends the run, and so does the end of the keys where one is requested.
-impl<F: ByteSource, K: ByteSource + OperatorPresence> Source for Typist<F, K> {
+impl<F: ByteSource, K: ByteSource> Source for Typist<F, K> {
     ghost use Rattle.std.specs.Prelude.{◌+◌, ◌*◌};
-    ghost use Rattle.runs.specs.Operating.{rank};
     ghost use Rattle.runs.specs.Sources.{goes_on};
-    ghost use Rattle.runs.specs.TypingParts.{Types, sitting};
+    ghost use Rattle.runs.specs.Typing.{rank};
     ghost use Rattle.runs.specs.declared.lists.Ending.TheVariants.{AtHalt};
 
-    ghost says = { λ s w next t. Types s.options w
-        (sitting s.asked s.rounds s.last (source (F.remaining s.reader) (F.ended s.reader))
-        (source (K.remaining s.keys) (K.ended s.keys))) next
-        (sitting t.asked t.rounds t.last (source (F.remaining t.reader) (F.ended t.reader))
-        (source (K.remaining t.keys) (K.ended t.keys))) (K.left t.keys)
-        × (t.options ≡ s.options) };
+    ghost says = { λ s w next t.
+        Types (Reads F.remaining F.ended) (Reads K.remaining K.ended) s.turn w s next t };
 
     ghost goes_on = { λ s. goes_on AtHalt };
 
-    ghost to_come = { λ t. t.rounds * 5 + rank t.last };
+    ghost to_come = { λ s. s.rounds * 6 + rank s.turn };
 
-    ghost ready = { λ t. (F.mark t.reader || K.mark t.keys) ≡ false };
+    ghost ready = { λ s. (F.mark s.reader ≡ false) × (K.mark s.keys ≡ false) };
 
     fn next<A: Allocator>(&mut self, world: &World<A>) -> Next {
-        match self.due(world) {
-            Ok(Some(event)) => {
-                self.note(&event, world);
-                Next::Comes(event)
+        match self.turn {
+            Turn::Switches => self.set_switches(world),
+            Turn::Instruction => self.try_instruction(world),
+            Turn::Printer => {
+                self.turn = Turn::Punch;
+                Next::Comes(Event::PrinterDone)
             }
-            Ok(None) => {
-                if self.keys.has_left() {
-                    Next::Interrupted
-                } else {
-                    Next::Over
+            Turn::Punch => {
+                self.turn = Turn::Reader;
+                Next::Comes(Event::PunchDone)
+            }
+            Turn::Reader => {
+                let waits = world.panel().reader.fetching;
+                if waits {
+                    return self.take_frame(world);
                 }
+                self.strike(world)
             }
-            Err(Failed) => Next::ReadFailed,
+            Turn::Keyboard => self.strike(world),
         }
     }
 

@@ -6,6 +6,7 @@ use Rattle.processor.specs.Runs.{Image}
 use Rattle.peripherals.specs.declared.Event.{Event}
 use Rattle.peripherals.specs.declared.Event.TheVariants.{Step as Instruct}
 use Rattle.peripherals.specs.declared.Seen.{Seen}
+use Rattle.peripherals.specs.declared.Seen.TheVariants as seen
 use Rattle.peripherals.specs.Devices.{WorldState}
 use Rattle.peripherals.specs.EventOutcomes.{puts_out}
 use Rattle.declaration.specs.Declaration.{Declaration, IsDeclared}
@@ -28,8 +29,8 @@ use Rattle.runs.specs.declared.stops.Answer.TheVariants as answer
 use Rattle.declaration.specs.DeclarationInCode.{meaning}
 use Rattle.policy.specs.OpenCalls.{open_calls}
 use Rattle.watched_runs.specs.declared.watching.Watcher.{Watcher}
-use Rattle.runs.specs.Moments.{Folds, Moment, is_attempt}
-use Rattle.runs.specs.Drives.{Driven, Passes}
+use Rattle.runs.specs.Moments.{Folds, Moment, is_attempt, moment}
+use Rattle.runs.specs.Drives.{Came, Choice, Driven, Passes, Standing, choice, is_stopped, lacks_memory}
 use Rattle.runs.specs.Sources.{Tells, goes_on}
 use Rattle.watched_runs.specs.Watches.{Judges}
 use Rattle.runs.proofs.FollowLemmas.{came_first, events_of}
@@ -42,10 +43,22 @@ none_halted (Some at) is = cc
 tried_runs : (w : WorldState) (e : Event) → e ≡ Instruct → is_attempt w e ≡ true → w.halted_at ≡ None
 tried_runs w e step tries = let here : is_none w.halted_at ≡ true = rw step at tries in none_halted w.halted_at here
 
+-- a run that ends never after what is seen
+pub never_ends : (what : Seen) → goes_on Never what ≡ false → ⊥
+never_ends seen.NotEnabled is = cc
+never_ends seen.Changed is = cc
+never_ends seen.Ran is = cc
+never_ends seen.Halted is = cc
+never_ends (seen.Unsupported word) is = cc
+
 -- A run of known events under a watcher: what the source has of them, the calls and the rule that the watcher has, and what stays true of it.
 module _ {S C O : Type 0} (events : S → List Event) (calls : C → Calls) (rule : C → Option Rule) (keeps : C → Type 0) (says : S → WorldState → Next → S → Type 0) (answers : C → Profile → WorldState → Answer → C → Type 0) (sees : O → Profile → Moment → O → Type 0) (breaks : O → Profile → Moment → ObserverFault → O → Type 0) (d : Declaration) (declared : IsDeclared d) (tells : (s : S) (w : WorldState) (n : Next) (t : S) → says s w n t → Tells (events s) n (events t)) (judges : (c : C) (w : WorldState) (a : Answer) (b : C) → keeps c → answers c d.profile w a b → Judges d w (calls c) a (calls b) (rule b) × keeps b) where
-  one_goes : (c : C) (m : Moment) (b : C) → keeps c → Passes answers d.profile c m.before m.event b → CallsGo d (calls c) m (calls b) × keeps b
-  one_goes c m b kept passes = (
+  -- such a run
+  abbrev pub watched : Choice S C O
+  watched = choice says (goes_on Never) answers d.pause sees breaks d.profile
+
+  one_goes : (a : Standing S C O) (c : C) (m : Moment) (b : C) → keeps c → Passes answers d.profile c m.before m.event b → CallsGo d (calls c) m (calls b) × keeps b
+  one_goes a c m b kept passes = (
     record {
       asked = λ yes. (judges c m.before answer.Passes b kept (passes.asked yes)).0;
       unasked = λ no. ap calls (passes.unasked no);
@@ -57,80 +70,115 @@ module _ {S C O : Type 0} (events : S → List Event) (calls : C → Calls) (rul
       still true is = (judges c m.before answer.Passes b kept (passes.asked is)).1
       still false is = subst keeps (sym (passes.unasked is)) kept
 
-  -- the run so far
-  so_far : (s : S) (c : C) (o : O) (w : WorldState) (why : Ended) (t : S) (b : C) (q : O) (x : WorldState) → (run : Driven says (goes_on Never) answers d.pause sees breaks d.profile s c o w why t b q x) → keeps c → calls c ≡ [] →
-      Taken d (events s) w (length (events_of run.came.moments)) run.world (calls run.stops) × keeps run.stops
-  so_far s c o w why t b q x run kept none =
-      let went = folds_through calls keeps (λ f m g. Passes answers d.profile f m.before m.event g) (CallsGo d) one_goes c run.came.moments run.stops kept run.came.stops in
-      let first : events s ≡ events_of run.came.moments ++ events run.source = came_first events says (goes_on Never) tells s run.came.moments run.source run.came.source in
-      (taken_on d declared (events s) w [] run.came.moments (events run.source) w run.world (calls c) (calls run.stops) first (none_taken d (events s) w (calls c) none) run.came.world went.0, went.1)
+  first_come : (a last : Standing S C O) → (came : Came watched a last) → events a.source ≡ events_of came.moments ++ events last.source
+  first_come a last came = came_first watched events tells a.source came.moments last.source came.source
 
-  first_come : (s : S) (c : C) (o : O) (w : WorldState) (why : Ended) (t : S) (b : C) (q : O) (x : WorldState) → (run : Driven says (goes_on Never) answers d.pause sees breaks d.profile s c o w why t b q x) → events s ≡ events_of run.came.moments ++ events run.source
-  first_come s c o w why t b q x run = came_first events says (goes_on Never) tells s run.came.moments run.source run.came.source
+  -- the run so far
+  so_far : (a last : Standing S C O) → (came : Came watched a last) → keeps a.stops → calls a.stops ≡ [] →
+      Taken d (events a.source) a.world (length (events_of came.moments)) last.world (calls last.stops) × keeps last.stops
+  so_far a last came kept none =
+      let went = folds_through calls keeps (λ f m g. Passes answers d.profile f m.before m.event g) (CallsGo d) (one_goes a) a.stops came.moments last.stops kept came.stops in
+      (taken_on d declared (events a.source) a.world [] came.moments (events last.source) a.world last.world (calls a.stops) (calls last.stops) (first_come a last came) (none_taken d (events a.source) a.world (calls a.stops) none) came.world went.0, went.1)
 
   -- an event that came last
-  last_at : (s : S) (ms : List Event) (e : Event) (rest from : List Event) → events s ≡ ms ++ from → from ≡ e ∷ rest → slice_get (events s) (length ms) ≡ Some e
-  last_at s ms e rest from is begins = let all : events s ≡ ms ++ e ∷ rest = is ∙ ap (λ (l : List Event). ms ++ l) begins in rw all (event_at ms e rest)
+  last_at : (a last : Standing S C O) (e : Event) (t : S) → (came : Came watched a last) → says last.source last.world (next.Comes e) t → slice_get (events a.source) (length (events_of came.moments)) ≡ Some e
+  last_at a last e t came comes =
+      let ms = events_of came.moments in
+      let all : events a.source ≡ ms ++ e ∷ events t = first_come a last came ∙ ap (λ (l : List Event). ms ++ l) (tells last.source last.world (next.Comes e) t comes) in
+      rw all (event_at ms e (events t))
 
   -- all events came
-  pub is_clean : (s : S) (c : C) (o : O) (w : WorldState) (t : S) (b : C) (q : O) (x : WorldState) → Driven says (goes_on Never) answers d.pause sees breaks d.profile s c o w ended.Over t b q x → keeps c → calls c ≡ [] →
-      (image : Image) → KeepsCode image d w.state.memory → IsClean image d (events s) w
-  is_clean s c o w t b q x run kept none image code =
-      let told = tells run.source run.world next.Over t run.ends.0 in
-      let all : events s ≡ events_of run.came.moments = first_come s c o w ended.Over t b q x run ∙ ap (λ (l : List Event). events_of run.came.moments ++ l) told.0 ∙ append-nil (events_of run.came.moments) in
-      let long : length (events s) ≡ length (events_of run.came.moments) = ap length all in
-      all_taken image d (events s) w (length (events_of run.came.moments)) run.world (calls run.stops) (omega (arith, long)) (so_far s c o w ended.Over t b q x run kept none).0 code
+  is_clean : (a z : Standing S C O) → Driven watched a ended.Over z → keeps a.stops → calls a.stops ≡ [] → (image : Image) → KeepsCode image d a.world.state.memory → IsClean image d (events a.source) a.world
+  is_clean a z run kept none image code =
+      let came = run.came in
+      let over = tells run.last.source run.last.world next.Over z.source run.ends.0 in
+      let all : events a.source ≡ events_of came.moments = first_come a run.last came ∙ ap (λ (l : List Event). events_of came.moments ++ l) over.0 ∙ append-nil (events_of came.moments) in
+      let long : length (events a.source) ≡ length (events_of came.moments) = ap length all in
+      all_taken image d (events a.source) a.world (length (events_of came.moments)) run.last.world (calls run.last.stops) (omega (arith, long)) (so_far a run.last came kept none).0 code
 
   -- a step was stopped
-  pub is_broken : (s : S) (c : C) (o : O) (w : WorldState) (t : S) (b : C) (q : O) (x : WorldState) (r : Rule) (n : ℕ) → Driven says (goes_on Never) answers d.pause sees breaks d.profile s c o w ended.Stopped t b q x → keeps c → calls c ≡ [] → rule b ≡ Some r →
-      n ≡ length (events s) - length (events t) - 1 → (image : Image) → KeepsCode image d w.state.memory → BreaksAt image d (events s) w n r
-  is_broken s c o w t b q x r n run kept none is_rule at image code =
-      let ms = events_of run.came.moments in
-      let e = run.ends.event in
-      let refused = run.ends.so.0.refused in
-      let so = so_far s c o w ended.Stopped t b q x run kept none in
-      let comes : events run.source ≡ e ∷ events t = tells run.source run.world (next.Comes e) t run.ends.comes in
-      let first = first_come s c o w ended.Stopped t b q x run in
-      let there : slice_get (events s) (length ms) ≡ Some e = last_at s ms e (events t) (events run.source) first comes in
-      let told = (judges run.stops run.world answer.Stops b so.1 refused.answer).0 in
+  is_broken : (a z : Standing S C O) (r : Rule) (n : ℕ) → Driven watched a ended.Stopped z → keeps a.stops → calls a.stops ≡ [] → rule z.stops ≡ Some r →
+      n ≡ length (events a.source) - length (events z.source) - 1 → (image : Image) → KeepsCode image d a.world.state.memory → BreaksAt image d (events a.source) a.world n r
+  is_broken a z r n run kept none is_rule at image code =
+      let came = run.came in
+      let ms = events_of came.moments in
+      let closing = run.ends in
+      let e = closing.event in
+      let refused = closing.so.0.refused in
+      let so = so_far a run.last came kept none in
+      let comes : events run.last.source ≡ e ∷ events z.source = tells run.last.source run.last.world (next.Comes e) z.source closing.comes in
+      let there = last_at a run.last e z.source came closing.comes in
+      let told = (judges run.last.stops run.last.world answer.Stops z.stops so.1 refused.answer).0 in
       let same : told.rule ≡ r = some_rule told.rule r (sym told.is_told ∙ is_rule) in
-      let stops : Stops d run.world (calls run.stops) e told.rule = record { step = refused.step; runs = tried_runs run.world e refused.step refused.attempt; broken = told.broken } in
-      let long : length (events s) ≡ length ms + suc (length (events t)) = ap length (first ∙ ap (λ (l : List Event). ms ++ l) comes) ∙ length-append ms (e ∷ events t) in
+      let stops : Stops d run.last.world (calls run.last.stops) e told.rule = record { step = refused.step; runs = tried_runs run.last.world e refused.step refused.attempt; broken = told.broken } in
+      let long : length (events a.source) ≡ length ms + suc (length (events z.source)) = ap length (first_come a run.last came ∙ ap (λ (l : List Event). ms ++ l) comes) ∙ length-append ms (e ∷ events z.source) in
       let place : n ≡ length ms = omega (arith, long, at) in
-      rw (place, ← same) (stopped image d (events s) w (length ms) e run.world (calls run.stops) told.rule there so.0 stops code)
+      rw (place, ← same) (stopped image d (events a.source) a.world (length ms) e run.last.world (calls run.last.stops) told.rule there so.0 stops code)
     where
       some_rule : (a z : Rule) → Some a ≡ Some z → a ≡ z
       some_rule a z is = cc
 
   -- so what is told of it is true
-  pub tells_broken : (s : S) (c : C) (o : O) (w : WorldState) (t : S) (b : C) (q : O) (x : WorldState) (told : Watched) → Driven says (goes_on Never) answers d.pause sees breaks d.profile s c o w ended.Stopped t b q x → keeps c → calls c ≡ [] →
-      ((r : Rule) → rule b ≡ Some r → told ≡ Broken (length (events s) - length (events t) - 1) r) → (image : Image) → KeepsCode image d w.state.memory → TellsWatched image d (events s) w told
-  tells_broken s c o w t b q x told run kept none tells_so image code =
-      let so = so_far s c o w ended.Stopped t b q x run kept none in
-      let judged_so = (judges run.stops run.world answer.Stops b so.1 run.ends.so.0.refused.answer).0 in
-      rw (tells_so judged_so.rule judged_so.is_told) (is_broken s c o w t b q x judged_so.rule (length (events s) - length (events t) - 1) run kept none judged_so.is_told refl image code)
+  tells_broken : (a z : Standing S C O) (told : Watched) → Driven watched a ended.Stopped z → keeps a.stops → calls a.stops ≡ [] →
+      ((r : Rule) → rule z.stops ≡ Some r → told ≡ Broken (length (events a.source) - length (events z.source) - 1) r) → (image : Image) → KeepsCode image d a.world.state.memory → TellsWatched image d (events a.source) a.world told
+  tells_broken a z told run kept none tells_so image code =
+      let so = so_far a run.last run.came kept none in
+      let judged_so = (judges run.last.stops run.last.world answer.Stops z.stops so.1 run.ends.so.0.refused.answer).0 in
+      rw (tells_so judged_so.rule judged_so.is_told) (is_broken a z judged_so.rule (length (events a.source) - length (events z.source) - 1) run kept none judged_so.is_told refl image code)
 
   -- memory was refused for a step
-  pub is_grown : (s : S) (c : C) (o : O) (w : WorldState) (t : S) (b : C) (q : O) (x : WorldState) → Driven says (goes_on Never) answers d.pause sees breaks d.profile s c o w ended.NoMemory t b q x → keeps c → calls c ≡ [] →
-      (image : Image) → KeepsCode image d w.state.memory → LegalStepTakesMemory image d (events s) w
-  is_grown s c o w t b q x run kept none image code =
-      let ms = events_of run.came.moments in
-      let e = run.ends.event in
-      let so = so_far s c o w ended.NoMemory t b q x run kept none in
-      let comes : events run.source ≡ e ∷ events t = tells run.source run.world (next.Comes e) t run.ends.comes in
-      let there : slice_get (events s) (length ms) ≡ Some e = last_at s ms e (events t) (events run.source) (first_come s c o w ended.NoMemory t b q x run) comes in
-      let grows : Grows d run.world (calls run.stops) e = elim run.ends.so.0.refused [
+  is_grown : (a z : Standing S C O) → Driven watched a ended.NoMemory z → keeps a.stops → calls a.stops ≡ [] → (image : Image) → KeepsCode image d a.world.state.memory → LegalStepTakesMemory image d (events a.source) a.world
+  is_grown a z run kept none image code =
+      let came = run.came in
+      let ms = events_of came.moments in
+      let closing = run.ends in
+      let e = closing.event in
+      let x = run.last.world in
+      let ks = calls run.last.stops in
+      let so = so_far a run.last came kept none in
+      let there = last_at a run.last e z.source came closing.comes in
+      let grows : Grows d x ks e = elim closing.so.0.refused [
         | inl refused ↦
-            let told = (judges run.stops run.world answer.NoMemory b so.1 refused.answer).0 in
-            rw refused.step (legal_growth d run.world (calls run.stops) (tried_runs run.world e refused.step refused.attempt) told.1 told.0)
+            let told = (judges run.last.stops x answer.NoMemory z.stops so.1 refused.answer).0 in
+            rw refused.step (legal_growth d x ks (tried_runs x e refused.step refused.attempt) told.1 told.0)
         | inr lacks ↦
-            let step = puts_step run.world e lacks.puts in
-            let tries : is_attempt run.world e ≡ true = rw (step.0, step.1) refl in
-            let told = (judges run.stops run.world answer.Passes b so.1 (lacks.passes.asked tries)).0 in
-            let puts : puts_out run.world Instruct ≡ true = rw step.0 at lacks.puts in
-            rw step.0 (legal_growth d run.world (calls run.stops) step.1 (inl puts) told.0)
+            let step = puts_step x e lacks.puts in
+            let tries : is_attempt x e ≡ true = rw (step.0, step.1) refl in
+            let told = (judges run.last.stops x answer.Passes z.stops so.1 (lacks.passes.asked tries)).0 in
+            let puts : puts_out x Instruct ≡ true = rw step.0 at lacks.puts in
+            rw step.0 (legal_growth d x ks step.1 (inl puts) told.0)
       ] in
-      grown image d (events s) w (length ms) e run.world (calls run.stops) there so.0 grows code
+      grown image d (events a.source) a.world (length ms) e x ks there so.0 grows code
+
+  -- a run that ended otherwise
+  pub clean_so : ((o : O) (p : Profile) (m : Moment) (why : ObserverFault) (q : O) → breaks o p m why q → ⊥) →
+      (a : Standing S C O) (why : Ended) (z : Standing S C O) → lacks_memory why ≡ false → is_stopped why ≡ false → Driven watched a why z → keeps a.stops → calls a.stops ≡ [] → (image : Image) → KeepsCode image d a.world.state.memory → IsClean image d (events a.source) a.world
+  clean_so unbroken a ended.Over z lacks stops run kept none image code = is_clean a z run kept none image code
+  clean_so unbroken a ended.Interrupted z lacks stops run kept none image code = absurd (tells run.last.source run.last.world next.Interrupted z.source run.ends.0)
+  clean_so unbroken a ended.ReadFailed z lacks stops run kept none image code = absurd (tells run.last.source run.last.world next.ReadFailed z.source run.ends.0)
+  clean_so unbroken a ended.Stopped z lacks stops run kept none image code = cc
+  clean_so unbroken a (ended.After what) z lacks stops run kept none image code = absurd (never_ends what run.ends.so.0)
+  clean_so unbroken a ended.NoMemory z lacks stops run kept none image code = cc
+  clean_so unbroken a (ended.ObserverFailed fault) z lacks stops run kept none image code = absurd (unbroken run.last.observer d.profile (moment run.last.world run.ends.event run.ends.so.what z.world) fault z.observer run.ends.so.broke)
+
+  pub broken_so : (a : Standing S C O) (why : Ended) (z : Standing S C O) (told : Watched) → is_stopped why ≡ true → Driven watched a why z → keeps a.stops → calls a.stops ≡ [] →
+      ((r : Rule) → rule z.stops ≡ Some r → told ≡ Broken (length (events a.source) - length (events z.source) - 1) r) → (image : Image) → KeepsCode image d a.world.state.memory → TellsWatched image d (events a.source) a.world told
+  broken_so a ended.Over z told stops run kept none tells_so image code = cc
+  broken_so a ended.Interrupted z told stops run kept none tells_so image code = cc
+  broken_so a ended.ReadFailed z told stops run kept none tells_so image code = cc
+  broken_so a ended.Stopped z told stops run kept none tells_so image code = tells_broken a z told run kept none tells_so image code
+  broken_so a (ended.After what) z told stops run kept none tells_so image code = cc
+  broken_so a ended.NoMemory z told stops run kept none tells_so image code = cc
+  broken_so a (ended.ObserverFailed fault) z told stops run kept none tells_so image code = cc
+
+  pub grown_so : (a : Standing S C O) (why : Ended) (z : Standing S C O) → lacks_memory why ≡ true → Driven watched a why z → keeps a.stops → calls a.stops ≡ [] → (image : Image) → KeepsCode image d a.world.state.memory → LegalStepTakesMemory image d (events a.source) a.world
+  grown_so a ended.Over z lacks run kept none image code = cc
+  grown_so a ended.Interrupted z lacks run kept none image code = cc
+  grown_so a ended.ReadFailed z lacks run kept none image code = cc
+  grown_so a ended.Stopped z lacks run kept none image code = cc
+  grown_so a (ended.After what) z lacks run kept none image code = cc
+  grown_so a ended.NoMemory z lacks run kept none image code = is_grown a z run kept none image code
+  grown_so a (ended.ObserverFailed fault) z lacks run kept none image code = cc
 
 -- the calls that a watcher has
 abbrev pub calls_in : {A D : Type 0} → Watcher A D → Calls

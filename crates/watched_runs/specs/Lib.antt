@@ -1,1 +1,2 @@
+pub mod Continuing
 pub mod Watches

@@ -1,9 +1,17 @@
-//! Runs under a declaration: the watcher of the rules stops a run before the first step that violates one.
+//! Runs under a declaration: the watcher of the rules, declared runs, and an operator who presses CONTINUE.
 //!
-//! [`Watcher`] is a choice of `runs::Stops`, and [`watch`] a choice of source and stops for `runs::drive`, with the
-//! contract of `policy::watch`. Its proof is a draft, which the prover has not seen.
+//! - [`Watcher`] is a choice of `runs::Stops`: it stops a run before the first step that violates a rule, and tells
+//!   the rule. It keeps the calls that have not returned, so that what violates a rule can be explained from it
+//!   and from the world in which the run was stopped.
+//! - [`watch`] tells of a list of events exactly whether a run keeps the rules, and which rule is violated first.
+//! - [`run_declared`] gives the world after a list of events; it asks no rule ([`Pauses`]).
+//! - [`Continuing`] is a source: another one, with an operator who presses CONTINUE at declared pauses.
 #![tactic(auto)]
 
+mod continuing;
+mod declared;
 mod watching;
 
+pub use continuing::Continuing;
+pub use declared::{Pauses, run_declared};
 pub use watching::{Watcher, watch};

@@ -19,7 +19,7 @@ use declaration::Declaration;
 use peripherals::{Event, NoMemory, Start, World};
 use policy::{Call, Rule, Watched, follow_calls, legal_instruction};
 use processor::DecodedInstruction;
-use runs::{Answer, Ended, Ending, Listed, Stops, drive};
+use runs::{Answer, Ending, Listed, Stops, drive};
 use std::alloc::Allocator;
 use word12::Word;
 
@@ -96,7 +96,7 @@ impl<K: Allocator, D: Allocator> Stops for Watcher<'_, K, D> {
 
 /// The world in which a declared run begins: the tape's words lie over the given start, and the machine, which
 /// is the declared one, stands at the declared start.
-fn begin<A: Allocator + Copy, D: Allocator>(
+pub(crate) fn begin<A: Allocator + Copy, D: Allocator>(
     alloc: A,
     image: &Image,
     declaration: &Declaration<D>,
@@ -176,15 +176,13 @@ fn watch_from<A: Allocator, D: Allocator>(
     let mut source = Listed::new(events, Ending::Never);
     let mut watcher = Watcher::new(alloc, declaration);
     let ended = drive(world, &mut source, &mut watcher, &mut ());
-    match ended {
-        Ended::NoMemory => Err(NoMemory),
-        Ended::Stopped => Ok(broken_at(watcher.broken(), events.len(), source.to_come().len())),
-        Ended::Over
-        | Ended::Interrupted
-        | Ended::ReadFailed
-        | Ended::After(_)
-        | Ended::ObserverFailed(_) => Ok(Watched::Clean),
+    if ended.lacks_memory() {
+        return Err(NoMemory);
     }
+    if ended.is_stopped() {
+        return Ok(broken_at(watcher.broken(), events.len(), source.to_come().len()));
+    }
+    Ok(Watched::Clean)
 }
 
 /// What is told of a run that was stopped: the rule, and the place of the step in the list, of which so many

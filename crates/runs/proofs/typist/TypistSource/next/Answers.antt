@@ -1,38 +1,28 @@
-use Rattle.std.proofs.Common.{Some, None, refl}
+use Rattle.std.proofs.Common.{◌≡◌, ◌∙◌, ap, refl, true, false}
+use Rattle.peripherals.specs.Devices.{Devices}
 use Rattle.peripherals.specs.World.{view}
-use Rattle.runs.specs.TypingParts.{IsBrought, source}
-use Rattle.runs.proofs.OperatorLemmas.{Less}
-use Rattle.runs.proofs.TypistLemmas.{brought_less, or_left, or_right}
+use Rattle.runs.specs.declared.typist.Turn.TheVariants as turn
+use Rattle.runs.specs.Typing.{Reads, Types}
+use Rattle.runs.proofs.TypistLemmas.{types_less}
 use Rattle.runs.proofs.typist.TypistSource.next.Goals as goal
 
-pub due-requires : goal.due-requires
-due-requires g c = record {
-  reader = or_left (g.F.ByteSource.mark c.args.self.now.reader) (g.K.ByteSource.mark c.args.self.now.keys) c.requires.ready;
-  keys = or_right (g.F.ByteSource.mark c.args.self.now.reader) (g.K.ByteSource.mark c.args.self.now.keys) c.requires.ready;
-}
+pub returns-in-Switches-clause-says : goal.returns-in-Switches-clause-says
+returns-in-Switches-clause-says g c = rw c.in-Switches.is c.set_switches.ensures.says
 
-pub returns-in-Ok-Some-clause-says : goal.returns-in-Ok-Some-clause-says
-returns-in-Ok-Some-clause-says g c =
-    let t = c.args.self.now in
-    let s = c.due.new.self in
-    let reader = source (g.F.ByteSource.remaining t.reader) (g.F.ByteSource.ended t.reader) in
-    let keys = source (g.K.ByteSource.remaining t.keys) (g.K.ByteSource.ended t.keys) in
-    let reader_after = source (g.F.ByteSource.remaining s.reader) (g.F.ByteSource.ended s.reader) in
-    let keys_after = source (g.K.ByteSource.remaining s.keys) (g.K.ByteSource.ended s.keys) in
-    let brought : IsBrought t.options (view c.args.world.now) t.asked t.rounds t.last reader keys (Some c.in-Ok-Some.event) reader_after keys_after = rw c.in-Ok-Some.field-0-is at c.in-Ok-Some.ensures.due in
-    rw (c.note.ensures, c.due.ensures.same) ((brought, refl, refl, refl), refl)
+pub returns-in-Switches-clause-fewer : goal.returns-in-Switches-clause-fewer
+returns-in-Switches-clause-fewer g c = λ event is.
+    types_less (Reads g.F.ByteSource.remaining g.F.ByteSource.ended) (Reads g.K.ByteSource.remaining g.K.ByteSource.ended) turn.Switches (view c.args.world.now) c.args.self.now c.set_switches.new.self event c.in-Switches.is (rw is at c.set_switches.ensures.says)
 
-pub returns-in-Ok-Some-clause-fewer : goal.returns-in-Ok-Some-clause-fewer
-returns-in-Ok-Some-clause-fewer g c = λ event is.
-    let t = c.args.self.now in
-    let s = c.due.new.self in
-    let reader = source (g.F.ByteSource.remaining t.reader) (g.F.ByteSource.ended t.reader) in
-    let keys = source (g.K.ByteSource.remaining t.keys) (g.K.ByteSource.ended t.keys) in
-    let reader_after = source (g.F.ByteSource.remaining s.reader) (g.F.ByteSource.ended s.reader) in
-    let keys_after = source (g.K.ByteSource.remaining s.keys) (g.K.ByteSource.ended s.keys) in
-    let brought : IsBrought t.options (view c.args.world.now) t.asked t.rounds t.last reader keys (Some c.in-Ok-Some.event) reader_after keys_after = rw c.in-Ok-Some.field-0-is at c.in-Ok-Some.ensures.due in
-    let less : Less t.rounds t.last c.in-Ok-Some.event = brought_less t.options (view c.args.world.now) t.asked t.rounds t.last reader keys reader_after keys_after c.in-Ok-Some.event brought in
-    rw (c.note.ensures, c.due.ensures.same) less
+pub returns-in-Instruction-clause-says : goal.returns-in-Instruction-clause-says
+returns-in-Instruction-clause-says g c = rw c.in-Instruction.is c.try_instruction.ensures.says
 
-pub returns-in-Ok-Some-clause-ready : goal.returns-in-Ok-Some-clause-ready
-returns-in-Ok-Some-clause-ready g c = λ event is. rw c.note.ensures c.in-Ok-Some.ensures.marks
+pub returns-in-Instruction-clause-fewer : goal.returns-in-Instruction-clause-fewer
+returns-in-Instruction-clause-fewer g c = λ event is.
+    types_less (Reads g.F.ByteSource.remaining g.F.ByteSource.ended) (Reads g.K.ByteSource.remaining g.K.ByteSource.ended) turn.Instruction (view c.args.world.now) c.args.self.now c.try_instruction.new.self event c.in-Instruction.is (rw is at c.try_instruction.ensures.says)
+
+pub returns-in-Keyboard-clause-says : goal.returns-in-Keyboard-clause-says
+returns-in-Keyboard-clause-says g c = rw c.in-Keyboard.is c.strike-in-Keyboard.ensures.says
+
+pub returns-in-Keyboard-clause-fewer : goal.returns-in-Keyboard-clause-fewer
+returns-in-Keyboard-clause-fewer g c = λ event is.
+    types_less (Reads g.F.ByteSource.remaining g.F.ByteSource.ended) (Reads g.K.ByteSource.remaining g.K.ByteSource.ended) turn.Keyboard (view c.args.world.now) c.args.self.now c.strike-in-Keyboard.new.self event c.in-Keyboard.is (rw is at c.strike-in-Keyboard.ensures.says)

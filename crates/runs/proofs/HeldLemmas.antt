@@ -35,4 +35,4 @@ pub typed_so : {T X : Type 0} (taken : T → Option (List ℕ)) (resumes : ℕ �
 typed_so taken resumes sees p o w why q x last types whole all is =
     let run = unless_told why x last (Whole resumes sees p o w q x) is whole in
     typed_whole (λ (t : Typed _). taken t.out) (λ (t : Typed _). t.done) resumes p w o.first run.moments x q.first run.world
-      (folds_map (λ (b : Both (Typed _) _). b.first) (λ a m b. sees a p m b) (Types taken) types o run.moments q run.observer) all
+    (folds_map (λ (b : Both (Typed _) _). b.first) (λ a m b. sees a p m b) (Types taken) types o run.moments q run.observer) all

@@ -179,7 +179,7 @@ puts_both written output longer old now new done between last grown first next =
     let rest = map written (drop between (take last longer)) in
     let begun : Appends old now piece = rw same at first.wrote in
     let all : piece ++ rest ≡ map written (drop done (take last longer)) =
-        sym (map-append written (drop done (take between longer)) (drop between (take last longer))) ∙ ap (map written) (two_parts done between last longer first.order next.order) in
+    sym (map-append written (drop done (take between longer)) (drop between (take last longer))) ∙ ap (map written) (two_parts done between last longer first.order next.order) in
     record {
       order = omega (arith, first.order, next.order);
       within = next.within;

@@ -76,7 +76,7 @@ pub use driving::{Ended, drive};
 pub use following::{End, RunFault, RunOutcome, follow, told};
 pub use holding::hold;
 pub use lists::{Ending, KnownSource, Listed, Rounds};
-pub use long_trace::{LongTrace, MnemonicStatements, NextInstruction, Statements, push_full_name};
+pub use long_trace::{LongTrace, NextInstruction, Statements};
 pub use observers::{Observer, ObserverFault};
 pub use output::{Punched, Typed};
 pub use progress::Progress;

@@ -4,15 +4,12 @@ ghost use Rattle.std.specs.Prelude.{◌≡◌, false};
 ghost use Rattle.runs.specs.Observing.{Appended, is_write};
 
 use crate::observers::{Observer, ObserverFault};
-use instruct::{Operation, Profile, name, refers_to_memory, target};
+use instruct::{Operation, Profile};
 use peripherals::{Event, Seen, World};
 use processor::{Cpu, DecodedInstruction, Reference};
 use std::alloc::{AllocError, Allocator};
 use streams::{ByteSink, Failed, put};
 use word12::Word;
-
-/// How many characters of a memory reference's name say where its cell is.
-const PLACE_LENGTH: usize = 4;
 
 /// Says how instructions read.
 pub trait Statements {
@@ -42,42 +39,6 @@ fn push_place<A: Allocator>(
 ) -> Result<(), AllocError> {
     text.extend_from_slice(before)?;
     push_octal(text, word)
-}
-
-/// Adds the name of the word at an address; of a memory reference with the whole address that it names.
-pub fn push_full_name<A: Allocator>(
-    text: &mut Vec<u8, A>,
-    at: Word,
-    word: Word,
-    profile: Profile,
-) -> Result<(), AllocError> {
-    let found = name(word, profile);
-    let spelled = found.as_str().as_bytes();
-    if !refers_to_memory(word) {
-        return text.extend_from_slice(spelled);
-    }
-    let front = spelled.len().saturating_sub(PLACE_LENGTH);
-    text.extend_from_slice(spelled.get(..front).unwrap_or(spelled))?;
-    push_octal(text, target(word, at))
-}
-
-/// Instructions read as their names, with whole addresses.
-#[derive(Clone, Copy)]
-pub struct MnemonicStatements {
-    /// The machine that has these names.
-    pub profile: Profile,
-}
-
-impl Statements for MnemonicStatements {
-    fn push_statement<A: Allocator>(
-        &self,
-        line: &mut Vec<u8, A>,
-        at: Word,
-        word: Word,
-    ) -> Result<(), AllocError> {
-        line.extend_from_slice(b"  ")?;
-        push_full_name(line, at, word, self.profile)
-    }
 }
 
 /// A cell that an instruction uses, its word before, and whether it is written.
@@ -125,21 +86,17 @@ pub struct NextInstruction {
 
 /// The instruction that is about to be carried out.
 fn instruction_at(cpu: &Cpu) -> NextInstruction {
-    let (at, word) = (cpu.pc, cpu.memory.get(cpu.pc));
-    match cpu.fetch() {
-        DecodedInstruction::Refers(reference) => NextInstruction {
-            at,
-            word,
-            pointer: pointer_access(cpu, &reference),
-            operand: operand_access(cpu, &reference),
-        },
-        _ => NextInstruction {
-            at,
-            word,
-            pointer: None,
-            operand: None,
-        },
+    let mut next = NextInstruction {
+        at: cpu.pc,
+        word: cpu.memory.get(cpu.pc),
+        pointer: None,
+        operand: None,
+    };
+    if let DecodedInstruction::Refers(reference) = cpu.fetch() {
+        next.pointer = pointer_access(cpu, &reference);
+        next.operand = operand_access(cpu, &reference);
     }
+    next
 }
 
 /// Adds the words of a cell that an instruction used, behind a gap.

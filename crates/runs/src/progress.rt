@@ -18,18 +18,6 @@ pub struct Progress {
     pub keys: usize,
 }
 
-impl Progress {
-    /// Nothing came yet.
-    pub fn new() -> Progress {
-        Progress {
-            events: 0,
-            steps: 0,
-            frames: 0,
-            keys: 0,
-        }
-    }
-}
-
 impl Observer for Progress {
     type Note = ();
 

@@ -310,15 +310,6 @@ pub struct Steps {
     pub count: u64,
 }
 
-impl Steps {
-    /// Nothing was carried out yet.
-    pub fn new() -> Steps
-        ensures { result.count ≡ 0 }
-    {
-        Steps { count: 0 }
-    }
-}
-
 impl Observer for Steps {
     ghost use Rattle.runs.specs.Observing.{Counts};
 

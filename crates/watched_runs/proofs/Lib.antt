@@ -1,2 +1,3 @@
 pub mod WatchLemmas
 pub mod WatchedLemmas
+pub mod DeclaredLemmas

@@ -39,7 +39,7 @@ same_wait : (d : Declaration) (halted : Option ℕ) → refuses d.pause halted C
 same_wait d None = refl
 same_wait d (Some at) = refl
 
-continue_goes : (d : Declaration) (w x : WorldState) (ks : Calls) (b : Bool) → waits d w.halted_at ≡ b → HappensBy d.pause d.profile w Continue x → Goes d w ks Continue x ks
+pub continue_goes : (d : Declaration) (w x : WorldState) (ks : Calls) (b : Bool) → waits d w.halted_at ≡ b → HappensBy d.pause d.profile w Continue x → Goes d w ks Continue x ks
 continue_goes d w x ks true is happens =
     subst (λ (v : WorldState). Goes d w ks Continue v ks) (sym (happens.refused (same_wait d w.halted_at ∙ is))) (stays_halted d w ks is)
 continue_goes d w x ks false is happens = passes_on d w ks Continue x (goes_on d w.halted_at is) (happens.happens (same_wait d w.halted_at ∙ is))

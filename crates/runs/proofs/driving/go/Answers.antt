@@ -9,8 +9,8 @@ use Rattle.runs.proofs.driving.go.Goals as goal
 pub loop-event-init : goal.loop-event-init
 loop-event-init g c = record {
   came = came_none
-    (choice g.S.Source.says (g.S.Source.goes_on c.args.source.now) g.C.Stops.answers (g.C.Stops.resumes c.args.stops.now) g.O.Observer.sees g.O.Observer.breaks (profile_of c.args.world.now))
-    (standing c.args.source.now c.args.stops.now c.args.observer.now (view c.args.world.now));
+      (choice g.S.Source.says (g.S.Source.goes_on c.args.source.now) g.C.Stops.answers (g.C.Stops.resumes c.args.stops.now) g.O.Observer.sees g.O.Observer.breaks (profile_of c.args.world.now))
+      (standing c.args.source.now c.args.stops.now c.args.observer.now (view c.args.world.now));
   profile = refl;
   goes_on = refl;
   resumes = refl;

@@ -12,8 +12,8 @@ returns-in-Ok-clause-ran g c =
     let a = standing s c.args.stops.now c.args.observer.now (view c.args.world.now) in
     let b = standing c.drive-ended.new.source c.drive-ended.new.stops c.drive-ended.new.observer (view c.drive-ended.new.world) in
     ran_so k g.S.KnownSource.events (g.S.KnownSource.ending s) g.met.S.KnownSource.tells (g.met.S.KnownSource.ends s) c.requires.free
-      a c.drive-ended.result b (record { steps = c.drive-ended.new.observer.first.count; end = c.in-Ok.end })
-      c.drive-ended.ensures.driven c.requires.uncounted c.requires.few (sym c.told.ensures ∙ c.in-Ok.is) refl
+    a c.drive-ended.result b (record { steps = c.drive-ended.new.observer.first.count; end = c.in-Ok.end })
+    c.drive-ended.ensures.driven c.requires.uncounted c.requires.few (sym c.told.ensures ∙ c.in-Ok.is) refl
 
 pub returns-in-Err-clause-failed : goal.returns-in-Err-clause-failed
 returns-in-Err-clause-failed g c =
@@ -22,5 +22,5 @@ returns-in-Err-clause-failed g c =
     let a = standing s c.args.stops.now c.args.observer.now (view c.args.world.now) in
     let b = standing c.drive-ended.new.source c.drive-ended.new.stops c.drive-ended.new.observer (view c.drive-ended.new.world) in
     failed_so k g.S.KnownSource.events (g.S.KnownSource.ending s) g.met.S.KnownSource.tells (g.met.S.KnownSource.ends s) c.requires.free
-      g.O.Observer.ready a c.drive-ended.result b c.in-Err.fault
-      c.drive-ended.ensures.driven (unless_map c.drive-ended.result _ _ (λ both. both.1) c.drive-ended.ensures.observes) (sym c.told.ensures ∙ c.in-Err.is)
+    g.O.Observer.ready a c.drive-ended.result b c.in-Err.fault
+    c.drive-ended.ensures.driven (unless_map c.drive-ended.result _ _ (λ both. both.1) c.drive-ended.ensures.observes) (sym c.told.ensures ∙ c.in-Err.is)

@@ -11,6 +11,7 @@ returns-then-count-eq0-clause-read g c =
 
 pub returns-else-count-eq0-clause-read : goal.returns-else-count-eq0-clause-read
 returns-else-count-eq0-clause-read g c =
-    let sized : length c.read.new.piece ≡ 1 = c.read.auto.piece in
-    (byte_came _ _ c.in-Ok.count _ c.read.new.piece c.if-count-eq0.false (let few = c.in-Ok.ensures.count in omega (arith, few, sized)) (one_item c.read.new.piece sized) c.in-Ok.ensures.bytes.0,
-    not_so (g.S.ByteSource.ended c.args.source.now) (λ yes. c.if-count-eq0.false (let stays = c.in-Ok.ensures.stays yes in cc)))
+    let sized : length c.read.new.piece ≡ 1 = c.read.auto.piece in (
+      byte_came _ _ c.in-Ok.count _ c.read.new.piece c.if-count-eq0.false (let few = c.in-Ok.ensures.count in omega (arith, few, sized)) (one_item c.read.new.piece sized) c.in-Ok.ensures.bytes.0,
+      not_so (g.S.ByteSource.ended c.args.source.now) (λ yes. c.if-count-eq0.false (let stays = c.in-Ok.ensures.stays yes in cc)),
+    )

@@ -1,5 +1,5 @@
 -- What is typed in a run that has an outcome.
-use Rattle.std.proofs.Common.{ℕ, ◌≡◌, ◌≤◌, Bool, Result, Ok, Option, List, length, drop, map}
+use Rattle.std.proofs.Common.{ℕ, ◌≡◌, ◌≤◌, Bool, Ok, Option, List, length, drop, map}
 use Rattle.std.specs.Io.KnownBytes.{Appends}
 use Rattle.instruct.specs.declared.Profile.{Profile}
 use Rattle.peripherals.specs.Devices.{WorldState}

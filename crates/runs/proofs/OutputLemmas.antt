@@ -68,7 +68,7 @@ puts_rest written output old new done now within all wrote = record {
 }
 
 pub puts_plain : (output : List ℕ) (old new : Option (List ℕ)) (done now : ℕ) → done ≤ length output → now ≡ length output → Appends old new (drop done output) → PutsOut as_it_is output old new done now
-puts_plain output old new done now within all wrote = puts_rest as_it_is output old new done now within all (rw (map-id (drop done output)) wrote)
+puts_plain output old new done now within all wrote = puts_rest as_it_is output old new done now within all (subst (Appends old new) (sym (map-id (drop done output))) wrote)
 
 -- What a device put out stays, and more may come after it.
 record Grows (old new : List ℕ) : Type 0 where
@@ -222,10 +222,7 @@ pub typed_whole : {O : Type 0} (paper : O → Option (List ℕ)) (done : O → �
     done o ≡ length w.devices.printer.output → Appends (paper o) (paper q) (map character (drop (done o) x.devices.printer.output))
 typed_whole {O = O} paper done resumes p w o ms x q world observer all =
     let output = x.devices.printer.output in
-    let each : Folds (λ a m b. done a ≤ length m.after.devices.printer.output → PutsOut character m.after.devices.printer.output (paper a) (paper b) (done a) (done b)) o ms q = folds_map same _ _ (λ a m b sees. sees.0) o ms q observer in
-    let last : done q ≡ length output = all_done done resumes p w o ms x q world (folds_map same _ _ (λ a m b sees. sees.1) o ms q observer) all in
+    let each : Folds (λ a m b. done a ≤ length m.after.devices.printer.output → PutsOut character m.after.devices.printer.output (paper a) (paper b) (done a) (done b)) o ms q = folds_map (λ (a : O). a) _ _ (λ a m b sees. sees.0) o ms q observer in
+    let last : done q ≡ length output = all_done done resumes p w o ms x q world (folds_map (λ (a : O). a) _ _ (λ a m b sees. sees.1) o ms q observer) all in
     let puts = puts_all paper done character (λ v. v.printer.output) (λ v u g. g.printed) resumes p w o ms x q world each (omega (arith, all)) in
     rw (last, take_all (length output) output (omega arith)) at puts.wrote
-  where
-    same : O → O
-    same a = a

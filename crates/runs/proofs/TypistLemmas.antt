@@ -1,7 +1,7 @@
 -- What a typist says.
 use Rattle.std.proofs.Common.{inl, inr, ℕ, zero, suc, ◌≡◌, ◌==◌, ◌<◌, ◌≤◌, ◌+◌, ◌-◌, ◌*◌, Bool, true, false, ◌||◌, List, [], ◌∷◌, take, refl, sym, ◌∙◌, ap, arith, Some, None, Option, true≢false}
 use Rattle.std.proofs.lemmas.Bool.Decides.{eqb_tells}
-use Rattle.std.specs.Prelude.{◌&&◌, ◌⊎◌, not, is_some, length, slice_index}
+use Rattle.std.specs.Prelude.{◌&&◌, not, is_some, length, slice_index}
 use Rattle.std.specs.Io.KnownBytes.{Consumes}
 use Rattle.instruct.specs.declared.Profile.TheVariants.{Pdp8I}
 use Rattle.instruct.specs.Devices.{device_operation, word_of}

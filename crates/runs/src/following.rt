@@ -1,6 +1,6 @@
 //! A run of events that are known before it, and what is told of a run.
 
-ghost use Rattle.std.specs.Prelude.{ℕ, ◌≡◌, ◌<◌, Bool, true, length, IfOk, IfErr};
+ghost use Rattle.std.specs.Prelude.{ℕ, ◌≡◌, ◌<◌, true, length, IfOk, IfErr};
 ghost use Rattle.peripherals.specs.World.{view, profile_of};
 ghost use Rattle.runs.specs.Follows.{Failed, Ran, end_after, end_of, fault_of, told};
 

@@ -1,6 +1,6 @@
 //! Sources whose events are known before the run: rounds, and a list.
 
-ghost use Rattle.std.specs.Prelude.{ℕ, ◌≡◌, ◌<◌, List, length};
+ghost use Rattle.std.specs.Prelude.{◌≡◌, ◌<◌, List, length};
 ghost use Rattle.peripherals.specs.declared.Event.{Event};
 ghost use Rattle.peripherals.specs.declared.Seen.{Seen};
 ghost use Rattle.peripherals.specs.Devices.{WorldState};
@@ -75,7 +75,8 @@ pub struct Rounds {
 impl Rounds {
     /// So many rounds.
     pub fn new(count: u32) -> Rounds
-        ensures { rounds_to_come result ≡ rounds count }
+        ensures events { rounds_to_come result ≡ rounds count }
+        ensures few { length (rounds_to_come result) < 18446744073709551616 }
     {
         Rounds {
             left: count,

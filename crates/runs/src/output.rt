@@ -2,7 +2,6 @@
 
 ghost use Rattle.std.specs.Prelude.{◌≡◌, ◌≤◌, [], ◌∷◌, drop, false, get_or, is_err, length, map, true, IfErr, OnOk};
 ghost use Rattle.std.specs.Io.KnownBytes.{Appends};
-ghost use Rattle.peripherals.specs.World.{view};
 ghost use Rattle.runs.specs.Output.{PutsOut, as_it_is, character};
 
 use crate::observers::{Observer, ObserverFault};

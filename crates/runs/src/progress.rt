@@ -6,7 +6,7 @@ use std::alloc::Allocator;
 
 /// Counts events, the instructions that are carried out, the frames that are read and the keys that are struck.
 /// The numbers are tested and not proved.
-#[derive(Clone, Copy, PartialEq, Eq, Debug)]
+#[derive(Clone, Copy, Debug)]
 pub struct Progress {
     /// How many events came.
     pub events: usize,

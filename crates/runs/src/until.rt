@@ -14,7 +14,7 @@ use word12::Word;
 use wordset::WordSet;
 
 /// Stops a run before the first step that one of these asks for.
-#[derive(Clone, Copy, PartialEq, Eq, Debug)]
+#[derive(Clone, Copy, Debug)]
 pub struct Until {
     /// The address of an instruction, if the run is stopped at one.
     pub place: Option<Word>,

@@ -1,5 +1,5 @@
 -- The declared run of a list of events, from the contract of the driver.
-use Rattle.std.proofs.Common.{ℕ, ◌≡◌, ◌<◌, ◌+◌, Bool, true, false, inl, inr, Some, None, List, [], ◌∷◌, ◌++◌, length, take, refl, sym, ap, ◌∙◌, subst, append-nil}
+use Rattle.std.proofs.Common.{◌≡◌, ◌+◌, true, false, inl, inr, Some, List, [], ◌∷◌, ◌++◌, length, take, refl, ap, ◌∙◌, subst, append-nil}
 use Rattle.std.specs.Prelude.{slice_get}
 use Rattle.std.proofs.lemmas.List.{take_at}
 use Rattle.instruct.specs.declared.Profile.{Profile}

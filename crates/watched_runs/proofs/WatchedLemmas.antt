@@ -1,6 +1,6 @@
 -- What a watcher tells of a list of events, from the contract of the driver.
-use Rattle.std.proofs.Common.{ℕ, zero, suc, ◌≡◌, ◌<◌, ◌≤◌, ◌+◌, ◌-◌, Bool, true, false, inl, inr, Option, Some, None, List, [], ◌∷◌, ◌++◌, length, refl, sym, ap, ◌∙◌, subst, append-nil, length-append, arith}
-use Rattle.std.specs.Prelude.{◌⊎◌, IsTrue, is_none, slice_get}
+use Rattle.std.proofs.Common.{ℕ, suc, ◌≡◌, ◌+◌, ◌-◌, Bool, true, false, inl, inr, Option, Some, None, List, [], ◌∷◌, ◌++◌, length, refl, sym, ap, ◌∙◌, subst, append-nil, length-append, arith}
+use Rattle.std.specs.Prelude.{is_none, slice_get}
 use Rattle.instruct.specs.declared.Profile.{Profile}
 use Rattle.processor.specs.Runs.{Image}
 use Rattle.peripherals.specs.declared.Event.{Event}
@@ -29,7 +29,7 @@ use Rattle.runs.specs.declared.stops.Answer.TheVariants as answer
 use Rattle.declaration.specs.DeclarationInCode.{meaning}
 use Rattle.policy.specs.OpenCalls.{open_calls}
 use Rattle.watched_runs.specs.declared.watching.Watcher.{Watcher}
-use Rattle.runs.specs.Moments.{Folds, Moment, is_attempt, moment}
+use Rattle.runs.specs.Moments.{Moment, is_attempt, moment}
 use Rattle.runs.specs.Drives.{Came, Choice, Driven, Passes, Standing, choice, is_stopped, lacks_memory}
 use Rattle.runs.specs.Sources.{Tells, goes_on}
 use Rattle.watched_runs.specs.Watches.{Judges}

@@ -1,6 +1,6 @@
 use Rattle.std.proofs.Common.{◌≡◌, ◌∙◌, true, false, refl, sym}
 use Rattle.peripherals.specs.World.{view, profile_of}
-use Rattle.runs.specs.declared.driving.Ended.TheVariants.{Over, Interrupted, ReadFailed, After}
+use Rattle.runs.specs.declared.driving.Ended.TheVariants.{Over, Interrupted, ReadFailed}
 use Rattle.runs.specs.declared.sources.Next.TheVariants as next
 use Rattle.runs.specs.Drives.{Observed, Unobserved, choice, standing}
 use Rattle.runs.proofs.MomentLemmas.{came_more, came_none, ends_unobserved}

@@ -1,7 +1,5 @@
-use Rattle.std.proofs.Common.{◌≡◌, ◌∙◌, Ok, refl, sym}
+use Rattle.std.proofs.Common.{◌∙◌, Ok, sym}
 use Rattle.peripherals.specs.World.{view, profile_of}
-use Rattle.runs.specs.declared.both.Both.{Both}
-use Rattle.runs.specs.declared.output.Typed.{Typed}
 use Rattle.runs.proofs.HeldLemmas.{typed_so}
 use Rattle.runs.proofs.holding.hold.Goals as goal
 

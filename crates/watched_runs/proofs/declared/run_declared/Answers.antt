@@ -1,6 +1,5 @@
-use Rattle.std.proofs.Common.{◌≡◌, ◌∙◌, sym, subst}
+use Rattle.std.proofs.Common.{◌∙◌, sym, subst}
 use Rattle.peripherals.specs.Devices.{WorldState}
-use Rattle.peripherals.specs.Loading.{image_of, loaded}
 use Rattle.peripherals.specs.World.{view}
 use Rattle.declaration.specs.DeclarationInCode.{meaning}
 use Rattle.policy.specs.Watching.{LeadsTo, StepPutsOut}

@@ -1,8 +1,6 @@
-use Rattle.std.proofs.Common.{◌≡◌, ◌∙◌, ap, refl, true, false}
-use Rattle.peripherals.specs.Devices.{Devices}
 use Rattle.peripherals.specs.World.{view}
 use Rattle.runs.specs.declared.typist.Turn.TheVariants as turn
-use Rattle.runs.specs.Typing.{Reads, Types}
+use Rattle.runs.specs.Typing.{Reads}
 use Rattle.runs.proofs.TypistLemmas.{types_less}
 use Rattle.runs.proofs.typist.TypistSource.next.Goals as goal
 

@@ -1,3 +1,4 @@
 pub mod WatchLemmas
 pub mod WatchedLemmas
 pub mod DeclaredLemmas
+pub mod ContinuingLemmas

@@ -1,5 +1,5 @@
 -- What an operator brings who presses CONTINUE at declared pauses.
-use Rattle.std.specs.Prelude.{ℕ, ◌≡◌, ◌+◌, ◌==◌, Bool, true, false, not, ◌&&◌, Option, Some, None}
+use Rattle.std.specs.Prelude.{ℕ, ◌≡◌, ◌-◌, ◌==◌, Bool, true, false, not, ◌&&◌, Option, Some, None}
 use Rattle.peripherals.specs.declared.Event.TheVariants.{Continue}
 use Rattle.peripherals.specs.Devices.{WorldState}
 use Rattle.declaration.specs.Declaration.{Declaration}
@@ -8,7 +8,7 @@ use Rattle.runs.specs.declared.sources.Next.TheVariants as next
 
 -- Where CONTINUE can be pressed it is, and one press less is left; and else nothing comes any more.
 abbrev pub IsPressed : Bool → ℕ → Next → ℕ → Type 0
-IsPressed true left said more = (said ≡ next.Comes Continue) × (left ≡ more + 1)
+IsPressed true left said more = (said ≡ next.Comes Continue) × (more ≡ left - 1)
 IsPressed false left said more = (said ≡ next.Over) × (more ≡ left)
 
 -- While the machine runs another source says what comes. Where it is halted CONTINUE can be pressed at a pause, if a press is left.

@@ -1,12 +1,13 @@
 //! An operator who presses CONTINUE at declared pauses.
 
-ghost use Rattle.std.specs.Prelude.{◌+◌, ◌≡◌};
+ghost use Rattle.std.specs.Prelude.{◌&&◌, ◌+◌, ◌==◌, ◌≡◌, not};
 ghost use Rattle.declaration.specs.DeclarationInCode.{meaning};
 
 use declaration::Declaration;
 use peripherals::{Event, Seen, World};
 use runs::{Ending, Next, Source};
 use std::alloc::Allocator;
+use word12::Word;
 
 /// What another source gives, with an operator who presses CONTINUE where the machine is halted at a declared
 /// pause, at most so many times. At another HLT, and once no press is left, the run ends.
@@ -29,6 +30,13 @@ impl<'d, S, D: Allocator> Continuing<'d, S, D> {
             declaration,
             left,
         }
+    }
+
+    /// Whether CONTINUE can be pressed at a HLT with this address.
+    fn can_press(&self, at: Word) -> bool
+        ensures { result ≡ ((meaning self.now.declaration.now).pause at && not (self.now.left == 0)) }
+    {
+        self.declaration.is_pause(at) && self.left != 0
     }
 
     /// How many presses are left.
@@ -58,11 +66,11 @@ impl<S: Source, D: Allocator> Source for Continuing<'_, S, D> {
         match world.halted_at() {
             None => self.source.next(world),
             Some(at) => {
-                if self.left == 0 || !self.declaration.is_pause(at) {
-                    return Next::Over;
+                if self.can_press(at) {
+                    self.left = self.left.saturating_sub(1);
+                    return Next::Comes(Event::Continue);
                 }
-                self.left -= 1;
-                Next::Comes(Event::Continue)
+                Next::Over
             }
         }
     }

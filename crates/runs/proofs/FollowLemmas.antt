@@ -13,16 +13,11 @@ use Rattle.runs.specs.declared.following.End.{End}
 use Rattle.runs.specs.declared.lists.Ending.{Ending}
 use Rattle.runs.specs.declared.sources.Next.{Next}
 use Rattle.runs.specs.declared.sources.Next.TheVariants as next
-use Rattle.runs.specs.Moments.{Folds, Happened, HappensBy, Moment, refuses, seen_by}
+use Rattle.runs.specs.Moments.{Folds, Happened, HappensBy, Moment, events_of, refuses, seen_by}
 use Rattle.runs.specs.Drives.{Choice, Comes}
 use Rattle.runs.specs.Sources.{Tells, goes_on}
 use Rattle.runs.specs.Tracing.{counted, steps_in, trace_in, trace_of}
 use Rattle.runs.specs.Follows.{Follows, Went}
-
--- the events of moments
-abbrev pub events_of : List Moment → List Event
-events_of [] = []
-events_of (m ∷ ms) = m.event ∷ events_of ms
 
 -- the run goes on after each moment
 abbrev pub AllGoOn : Ending → List Moment → Type 0

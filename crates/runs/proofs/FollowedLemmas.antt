@@ -22,13 +22,13 @@ use Rattle.runs.specs.declared.lists.Ending.TheVariants.{Never, AtUnsupported, A
 use Rattle.runs.specs.declared.observers.ObserverFault.{ObserverFault}
 use Rattle.runs.specs.declared.sources.Next.{Next}
 use Rattle.runs.specs.declared.sources.Next.TheVariants as next
-use Rattle.runs.specs.Moments.{Folds, Moment, moment}
+use Rattle.runs.specs.Moments.{Folds, Moment, events_of, moment}
 use Rattle.runs.specs.Drives.{Came, Choice, Driven, Passes, Standing, UnlessFailed, choice}
 use Rattle.runs.specs.Observing.{Counts}
 use Rattle.runs.specs.Sources.{Tells, goes_on}
 use Rattle.runs.specs.Tracing.{counted, steps_in, trace_in, trace_of}
 use Rattle.runs.specs.Follows.{Failed, Follows, Over, Ran, Splits, Stopped, Stuck, end_after, end_of, fault_of, told}
-use Rattle.runs.proofs.FollowLemmas.{Leads, came_first, came_on, events_of, happens_plain, leads_all, seen_plain}
+use Rattle.runs.proofs.FollowLemmas.{Leads, came_first, came_on, happens_plain, leads_all, seen_plain}
 use Rattle.runs.proofs.MomentLemmas.{folds_map, folds_more}
 
 few_counted : (what : Seen) → counted what ≤ 1

@@ -52,6 +52,11 @@ abbrev pub Folds : {T : Type 0} → (T → Moment → T → Type 0) → T → Li
 Folds step t [] u = t ≡ u
 Folds step t (m ∷ ms) u = (v : _) × step t m v × Folds step v ms u
 
+-- The events of moments.
+abbrev pub events_of : List Moment → List Event
+events_of [] = []
+events_of (m ∷ ms) = m.event ∷ events_of ms
+
 -- The event is a step of a machine that is not halted.
 abbrev pub is_attempt : WorldState → Event → Bool
 is_attempt w Step = is_none w.halted_at

@@ -67,6 +67,6 @@ pub record Appended (old new : Option (List ℕ)) : Type 0 where
   pub wrote : Appends old new text
 
 -- A write failed, and memory was not refused.
-abbrev pub is_write : ObserverFault → Bool
-is_write fault.Write = true
-is_write fault.NoMemory = false
+abbrev pub failed_write : ObserverFault → Bool
+failed_write fault.Write = true
+failed_write fault.NoMemory = false

@@ -1,7 +1,7 @@
 //! The long trace: what each instruction is, and what it read and wrote. The lines are tested and not proved.
 
 ghost use Rattle.std.specs.Prelude.{◌≡◌, false};
-ghost use Rattle.runs.specs.Observing.{Appended, is_write};
+ghost use Rattle.runs.specs.Observing.{Appended, failed_write};
 
 use crate::observers::{Observer, ObserverFault};
 use instruct::{Operation, Profile};
@@ -178,7 +178,7 @@ impl<N: Statements, W: ByteSink, K: Allocator + Copy> Observer for LongTrace<'_,
 
     ghost sees = { λ o p m q. Appended (W.taken o.out) (W.taken q.out) };
 
-    ghost breaks = { λ o p m fault q. W.mark q.out ≡ is_write fault };
+    ghost breaks = { λ o p m fault q. W.mark q.out ≡ failed_write fault };
 
     ghost ready = { λ o. W.mark o.out ≡ false };
 

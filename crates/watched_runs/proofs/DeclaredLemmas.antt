@@ -20,10 +20,10 @@ use Rattle.runs.specs.declared.sources.Next.{Next}
 use Rattle.runs.specs.declared.sources.Next.TheVariants as next
 use Rattle.runs.specs.declared.stops.Answer.{Answer}
 use Rattle.runs.specs.declared.stops.Answer.TheVariants as answer
-use Rattle.runs.specs.Moments.{Folds, Happened, HappensBy, Moment, moment}
+use Rattle.runs.specs.Moments.{Folds, Happened, HappensBy, Moment, events_of, moment}
 use Rattle.runs.specs.Drives.{Came, Choice, Driven, Standing, choice, lacks_memory}
 use Rattle.runs.specs.Sources.{Tells, goes_on}
-use Rattle.runs.proofs.FollowLemmas.{came_first, events_of}
+use Rattle.runs.proofs.FollowLemmas.{came_first}
 use Rattle.watched_runs.proofs.WatchLemmas.{continue_goes, event_at, puts_step}
 use Rattle.watched_runs.proofs.WatchedLemmas.{never_ends}
 

@@ -11,9 +11,8 @@ use Rattle.declaration.specs.Declaration.{Declaration, IsDeclared}
 use Rattle.policy.specs.Calls.{Calls, calls_after}
 use Rattle.policy.specs.WatchedSteps.{Goes, waits}
 use Rattle.policy.proofs.WatchLemmas.{Taken, goes_on, halted_step, legal_step, passes_on, stays_halted, taken_more}
-use Rattle.runs.specs.Moments.{Folds, Happened, HappensBy, Moment, is_attempt, refuses}
+use Rattle.runs.specs.Moments.{Folds, Happened, HappensBy, Moment, events_of, is_attempt, refuses}
 use Rattle.watched_runs.specs.Watches.{IsLegalStep}
-use Rattle.runs.proofs.FollowLemmas.{events_of}
 
 -- The call stack goes with a moment: it follows a step, which is legal, and stays as it is otherwise.
 pub record CallsGo (d : Declaration) (ks : Calls) (m : Moment) (ls : Calls) : Type 0 where

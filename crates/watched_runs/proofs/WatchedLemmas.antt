@@ -29,18 +29,18 @@ use Rattle.runs.specs.declared.stops.Answer.TheVariants as answer
 use Rattle.declaration.specs.DeclarationInCode.{meaning}
 use Rattle.policy.specs.OpenCalls.{open_calls}
 use Rattle.watched_runs.specs.declared.watching.Watcher.{Watcher}
-use Rattle.runs.specs.Moments.{Moment, is_attempt, moment}
+use Rattle.runs.specs.Moments.{Moment, events_of, is_attempt, moment}
 use Rattle.runs.specs.Drives.{Came, Choice, Driven, Passes, Standing, choice, is_stopped, lacks_memory}
 use Rattle.runs.specs.Sources.{Tells, goes_on}
 use Rattle.watched_runs.specs.Watches.{Judges}
-use Rattle.runs.proofs.FollowLemmas.{came_first, events_of}
+use Rattle.runs.proofs.FollowLemmas.{came_first}
 use Rattle.watched_runs.proofs.WatchLemmas.{CallsGo, event_at, folds_through, puts_step, taken_on}
 
 none_halted : (halted : Option ℕ) → is_none halted ≡ true → halted ≡ None
 none_halted None is = refl
 none_halted (Some at) is = cc
 
-tried_runs : (w : WorldState) (e : Event) → e ≡ Instruct → is_attempt w e ≡ true → w.halted_at ≡ None
+pub tried_runs : (w : WorldState) (e : Event) → e ≡ Instruct → is_attempt w e ≡ true → w.halted_at ≡ None
 tried_runs w e step tries = let here : is_none w.halted_at ≡ true = rw step at tries in none_halted w.halted_at here
 
 -- a run that ends never after what is seen
@@ -52,7 +52,7 @@ never_ends seen.Halted is = cc
 never_ends (seen.Unsupported word) is = cc
 
 -- A run of known events under a watcher: what the source has of them, the calls and the rule that the watcher has, and what stays true of it.
-module _ {S C O : Type 0} (events : S → List Event) (calls : C → Calls) (rule : C → Option Rule) (keeps : C → Type 0) (says : S → WorldState → Next → S → Type 0) (answers : C → Profile → WorldState → Answer → C → Type 0) (sees : O → Profile → Moment → O → Type 0) (breaks : O → Profile → Moment → ObserverFault → O → Type 0) (d : Declaration) (declared : IsDeclared d) (tells : (s : S) (w : WorldState) (n : Next) (t : S) → says s w n t → Tells (events s) n (events t)) (judges : (c : C) (w : WorldState) (a : Answer) (b : C) → keeps c → answers c d.profile w a b → Judges d w (calls c) a (calls b) (rule b) × keeps b) where
+module _ {S C O : Type 0} (events : S → List Event) (calls : C → Calls) (rule : C → Option Rule) (keeps : C → Type 0) (says : S → WorldState → Next → S → Type 0) (answers : C → Profile → WorldState → Answer → C → Type 0) (sees : O → Profile → Moment → O → Type 0) (breaks : O → Profile → Moment → ObserverFault → O → Type 0) (d : Declaration) (declared : IsDeclared d) (tells : (s : S) (w : WorldState) (n : Next) (t : S) → says s w n t → Tells (events s) n (events t)) (judges : (c : C) (w : WorldState) (a : Answer) (b : C) → keeps c → answers c d.profile w a b → Judges d w (calls c) (rule c) a (calls b) (rule b) × keeps b) where
   -- such a run
   abbrev pub watched : Choice S C O
   watched = choice says (goes_on Never) answers d.pause sees breaks d.profile
@@ -60,7 +60,7 @@ module _ {S C O : Type 0} (events : S → List Event) (calls : C → Calls) (rul
   one_goes : (a : Standing S C O) (c : C) (m : Moment) (b : C) → keeps c → Passes answers d.profile c m.before m.event b → CallsGo d (calls c) m (calls b) × keeps b
   one_goes a c m b kept passes = (
     record {
-      asked = λ yes. (judges c m.before answer.Passes b kept (passes.asked yes)).0;
+      asked = λ yes. (judges c m.before answer.Passes b kept (passes.asked yes)).0.0;
       unasked = λ no. ap calls (passes.unasked no);
     },
     still (is_attempt m.before m.event) refl,
@@ -140,13 +140,13 @@ module _ {S C O : Type 0} (events : S → List Event) (calls : C → Calls) (rul
       let grows : Grows d x ks e = elim closing.so.0.refused [
         | inl refused ↦
             let told = (judges run.last.stops x answer.NoMemory z.stops so.1 refused.answer).0 in
-            rw refused.step (legal_growth d x ks (tried_runs x e refused.step refused.attempt) told.1 told.0)
+            rw refused.step (legal_growth d x ks (tried_runs x e refused.step refused.attempt) told.0.1 told.0.0)
         | inr lacks ↦
             let step = puts_step x e lacks.puts in
             let tries : is_attempt x e ≡ true = rw (step.0, step.1) refl in
             let told = (judges run.last.stops x answer.Passes z.stops so.1 (lacks.passes.asked tries)).0 in
             let puts : puts_out x Instruct ≡ true = rw step.0 at lacks.puts in
-            rw step.0 (legal_growth d x ks step.1 (inl puts) told.0)
+            rw step.0 (legal_growth d x ks step.1 (inl puts) told.0.0)
       ] in
       grown image d (events a.source) a.world (length ms) e x ks there so.0 grows code
 
@@ -192,6 +192,6 @@ rule_in c = c.broken
 abbrev pub WatchesBy : {A D : Type 0} → Declaration → Watcher A D → Type 0
 WatchesBy d c = meaning c.declaration.now ≡ d
 
-pub judged : {A D : Type 0} (d : Declaration) (c : Watcher A D) (w : WorldState) (a : Answer) (b : Watcher A D) → WatchesBy d c → Judges (meaning c.declaration.now) w (calls_in c) a (calls_in b) (rule_in b) × (b.declaration ≡ c.declaration) →
-    Judges d w (calls_in c) a (calls_in b) (rule_in b) × WatchesBy d b
+pub judged : {A D : Type 0} (d : Declaration) (c : Watcher A D) (w : WorldState) (a : Answer) (b : Watcher A D) → WatchesBy d c → Judges (meaning c.declaration.now) w (calls_in c) (rule_in c) a (calls_in b) (rule_in b) × (b.declaration ≡ c.declaration) →
+    Judges d w (calls_in c) (rule_in c) a (calls_in b) (rule_in b) × WatchesBy d b
 judged d c w a b kept is = (rw kept at is.0, rw is.1 kept)

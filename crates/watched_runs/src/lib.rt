@@ -4,6 +4,7 @@
 //!   the rule. It keeps the calls that have not returned, so that what violates a rule can be explained from it
 //!   and from the world in which the run was stopped.
 //! - [`watch`] tells of a list of events exactly whether a run keeps the rules, and which rule is violated first.
+//! - [`watch_run`] does so with what comes from any source, as with an operator, and with any stops and observers.
 //! - [`run_declared`] gives the world after a list of events; it asks no rule ([`Pauses`]).
 //! - [`Continuing`] is a source: another one, with an operator who presses CONTINUE at declared pauses.
 #![tactic(auto)]
@@ -14,4 +15,4 @@ mod watching;
 
 pub use continuing::Continuing;
 pub use declared::{Pauses, run_declared};
-pub use watching::{Watcher, watch};
+pub use watching::{Watcher, watch, watch_run};

@@ -1,6 +1,6 @@
 //! The watcher of the rules, and declared runs.
 
-ghost use Rattle.std.specs.Prelude.{ℕ, ◌≡◌, ◌-◌, [], None, Some, IfOk, OnErr};
+ghost use Rattle.std.specs.Prelude.{ℕ, ◌≡◌, ◌-◌, [], None, Some, true, IfOk, OnErr};
 ghost use Rattle.peripherals.specs.Events.{IsLoaded};
 ghost use Rattle.peripherals.specs.Loading.{image_of};
 ghost use Rattle.peripherals.specs.World.{view, profile_of};
@@ -12,14 +12,15 @@ ghost use Rattle.policy.specs.Rules.{KeepsCode};
 ghost use Rattle.policy.specs.Watching.{BreaksAt, IsClean, Tells, begun};
 ghost use Rattle.processor.specs.Runs.{Image as Words};
 ghost use Rattle.policy.specs.WatchedSteps.{LegalStepTakesMemory};
-ghost use Rattle.watched_runs.specs.Watches.{Judges};
+ghost use Rattle.runs.specs.Drives.{UnlessFailed};
+ghost use Rattle.watched_runs.specs.Watches.{IsWatched, Judges};
 
 use bin_tape::Image;
 use declaration::Declaration;
 use peripherals::{Event, NoMemory, Start, World};
 use policy::{Call, Rule, Watched, follow_calls, legal_instruction};
 use processor::DecodedInstruction;
-use runs::{Answer, Ending, Listed, Stops, drive};
+use runs::{Answer, Both, Ended, Ending, Listed, Observer, Source, Stops, drive};
 use std::alloc::Allocator;
 use word12::Word;
 
@@ -63,7 +64,7 @@ impl<'d, A: Allocator, D: Allocator> Watcher<'d, A, D> {
 
 impl<K: Allocator, D: Allocator> Stops for Watcher<'_, K, D> {
     ghost answers = { λ s p w answer t.
-        Judges (meaning s.declaration.now) w (open_calls s.calls.items) answer
+        Judges (meaning s.declaration.now) w (open_calls s.calls.items) s.broken answer
         (open_calls t.calls.items) t.broken × (t.declaration ≡ s.declaration) };
 
     ghost resumes = { λ s. (meaning s.declaration.now).pause };
@@ -92,6 +93,31 @@ impl<K: Allocator, D: Allocator> Stops for Watcher<'_, K, D> {
     fn resumes(&self, at: Word) -> bool {
         self.declaration.is_pause(at)
     }
+}
+
+/// Watches a run by what comes from a source, up to where it is stopped, or before the first step that violates a
+/// rule, and tells an observer of it. The watcher tells that rule, and has the calls that are open there.
+pub fn watch_run<A: Allocator, S: Source, C: Stops, K: Allocator, D: Allocator, O: Observer>(
+    world: &mut World<A>,
+    source: &mut S,
+    stops: &mut Both<C, Watcher<'_, K, D>>,
+    observer: &mut O,
+) -> Ended
+    requires ready { S.ready source.old }
+    requires suits { C.suits stops.old.first (profile_of world.old) }
+    requires profile { profile_of world.old ≡ (meaning stops.old.second.declaration.now).profile }
+    requires free { (at : ℕ) → C.resumes stops.old.first at ≡ true }
+    requires no_calls { open_calls stops.old.second.calls.items ≡ [] }
+    requires unbroken { stops.old.second.broken ≡ None }
+    requires observes { O.ready observer.old }
+    // The rule is violated by the step before which the run was stopped, and by none of lesser number; or no step
+    // of the run violates one.
+    ensures watched { IsWatched (meaning stops.old.second.declaration.now) (view world.old)
+        stops.new.second.broken (view world.new) }
+    ensures observes { UnlessFailed result (O.ready observer.new) }
+{
+    stops.second.declaration.is_declared();
+    drive(world, source, stops, observer)
 }
 
 /// The world in which a declared run begins: the tape's words lie over the given start, and the machine, which

@@ -20,9 +20,12 @@ pub returns-in-Ok-follow_calls-clause-answers : goal.returns-in-Ok-follow_calls-
 returns-in-Ok-follow_calls-clause-answers g c =
     let d = meaning c.args.self.now.declaration.now in (
       (
-        legal_here d (state_of c.cpu-cpu.result.now) (view c.args.world.now).state c.deref.result.now c.args.self.now.calls.items c.cpu-cpu.ensures.state c.deref.ensures.value c.in-Ok.ensures.legal,
-        calls_by_instruction d d.profile (state_of c.cpu-cpu.result.now) (view c.args.world.now).state c.in-Ok.instruction c.increment-after.result (open_calls c.args.self.now.calls.items) (open_calls c.follow_calls.new.calls.items)
-            c.cpu-cpu.ensures.state refl c.in-Ok.ensures.fetched c.increment-after.ensures c.in-Ok-follow_calls.ensures.calls,
+        (
+          legal_here d (state_of c.cpu-cpu.result.now) (view c.args.world.now).state c.deref.result.now c.args.self.now.calls.items c.cpu-cpu.ensures.state c.deref.ensures.value c.in-Ok.ensures.legal,
+          calls_by_instruction d d.profile (state_of c.cpu-cpu.result.now) (view c.args.world.now).state c.in-Ok.instruction c.increment-after.result (open_calls c.args.self.now.calls.items) (open_calls c.follow_calls.new.calls.items)
+              c.cpu-cpu.ensures.state refl c.in-Ok.ensures.fetched c.increment-after.ensures c.in-Ok-follow_calls.ensures.calls,
+        ),
+        refl,
       ),
       refl,
     )
@@ -31,8 +34,11 @@ pub returns-in-Err-follow_calls-clause-answers : goal.returns-in-Err-follow_call
 returns-in-Err-follow_calls-clause-answers g c =
     let d = meaning c.args.self.now.declaration.now in (
       (
-        legal_here d (state_of c.cpu-cpu.result.now) (view c.args.world.now).state c.deref.result.now c.args.self.now.calls.items c.cpu-cpu.ensures.state c.deref.ensures.value c.in-Ok.ensures.legal,
-        call_takes d d.profile (state_of c.cpu-cpu.result.now) (view c.args.world.now) c.in-Ok.instruction c.cpu-cpu.ensures.state refl c.in-Ok.ensures.fetched c.in-Err-follow_calls.ensures.only_calls,
+        (
+          legal_here d (state_of c.cpu-cpu.result.now) (view c.args.world.now).state c.deref.result.now c.args.self.now.calls.items c.cpu-cpu.ensures.state c.deref.ensures.value c.in-Ok.ensures.legal,
+          call_takes d d.profile (state_of c.cpu-cpu.result.now) (view c.args.world.now) c.in-Ok.instruction c.cpu-cpu.ensures.state refl c.in-Ok.ensures.fetched c.in-Err-follow_calls.ensures.only_calls,
+        ),
+        refl,
       ),
       refl,
     )

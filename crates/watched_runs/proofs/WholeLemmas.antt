@@ -1,24 +1,32 @@
 -- What a watcher tells of any run, from the contract of the driver.
 use Rattle.std.proofs.Common.{ℕ, ◌≡◌, Bool, true, false, inl, inr, Option, None, List, [], ◌∷◌, ◌++◌, length, refl, sym, ap, ◌∙◌, subst, append-nil, fun_ext, arith}
 use Rattle.std.specs.Prelude.{◌⊎◌, ◌&&◌}
+use Rattle.instruct.specs.declared.Profile.{Profile}
 use Rattle.peripherals.specs.declared.Event.{Event}
 use Rattle.peripherals.specs.declared.Event.TheVariants.{Step as Instruct}
 use Rattle.peripherals.specs.declared.Seen.{Seen}
 use Rattle.peripherals.specs.Devices.{WorldState}
 use Rattle.declaration.specs.Declaration.{Declaration, IsDeclared}
+use Rattle.declaration.specs.DeclarationInCode.{meaning}
 use Rattle.policy.specs.declared.rules.Rule.{Rule}
 use Rattle.policy.specs.Calls.{Calls, calls_after}
 use Rattle.policy.specs.WatchedSteps.{Stops}
 use Rattle.policy.proofs.WatchLemmas.{Taken, all_taken, none_taken, stopped}
 use Rattle.runs.specs.declared.driving.Ended.{Ended}
 use Rattle.runs.specs.declared.driving.Ended.TheVariants as ended
+use Rattle.runs.specs.declared.both.Both.{Both}
+use Rattle.runs.specs.declared.observers.ObserverFault.{ObserverFault}
+use Rattle.runs.specs.declared.sources.Next.{Next}
+use Rattle.runs.specs.declared.stops.Answer.{Answer}
 use Rattle.runs.specs.declared.stops.Answer.TheVariants as answer
+use Rattle.runs.specs.Stopping.{BothAnswer}
 use Rattle.runs.specs.Moments.{Folds, Happened, Moment, events_of, is_attempt, moment}
-use Rattle.runs.specs.Drives.{Attempted, Choice, Driven, Passes, Standing}
+use Rattle.runs.specs.Drives.{Attempted, Choice, Driven, Passes, Standing, choice}
 use Rattle.runs.proofs.MomentLemmas.{folds_more}
-use Rattle.watched_runs.specs.Watches.{IsLegalStep, IsWatched, TellsRule}
+use Rattle.watched_runs.specs.Watches.{IsLegalStep, IsWatched, Judges, TellsRule}
 use Rattle.watched_runs.proofs.WatchLemmas.{CallsGo, event_at, folds_through, taken_on}
-use Rattle.watched_runs.proofs.WatchedLemmas.{tried_runs}
+use Rattle.watched_runs.proofs.WatchedLemmas.{WatchesBy, calls_in, judged, rule_in, tried_runs}
+use Rattle.watched_runs.specs.declared.watching.Watcher.{Watcher}
 
 -- Any run under a watcher: the calls and the rule that the watcher has, and what stays true of it; what is so where a step passes, is stopped, or
 -- is refused memory.
@@ -104,3 +112,27 @@ module _ {S C O : Type 0} (k : Choice S C O) (calls : C → Calls) (rule : C →
 -- a CONTINUE has its effect where the watcher lets it
 pub pauses : (first second : ℕ → Bool) → ((at : ℕ) → first at ≡ true) → (λ (at : ℕ). first at && second at) ≡ second
 pauses first second free = fun_ext (λ at. rw (free at) refl)
+
+-- What a watcher answers.
+abbrev pub watcher_answers : {A D : Type 0} → Watcher A D → Profile → WorldState → Answer → Watcher A D → Type 0
+watcher_answers s p w a t = Judges (meaning s.declaration.now) w (calls_in s) (rule_in s) a (calls_in t) (rule_in t) × (t.declaration ≡ s.declaration)
+
+-- What other stops and a watcher behind them answer.
+abbrev pub both_answer : {C A D : Type 0} → (C → Profile → WorldState → Answer → C → Type 0) → Both C (Watcher A D) → Profile → WorldState → Answer → Both C (Watcher A D) → Type 0
+both_answer answers s p w a t = BothAnswer answers watcher_answers p w a s.first s.second t.first t.second
+
+pub both_watched : {S C O A D : Type 0} (answers : C → Profile → WorldState → Answer → C → Type 0) (says : S → WorldState → Next → S → Type 0) (goes_on : Seen → Bool) (resumes : ℕ → Bool) (sees : O → Profile → Moment → O → Type 0) (breaks : O → Profile → Moment → ObserverFault → O → Type 0) (p : Profile) (d : Declaration) → IsDeclared d → resumes ≡ d.pause → p ≡ d.profile →
+    (a : Standing S (Both C (Watcher A D)) O) (why : Ended) (z : Standing S (Both C (Watcher A D)) O) → WatchesBy d a.stops.second → rule_in a.stops.second ≡ None → calls_in a.stops.second ≡ [] → Driven (choice says goes_on (both_answer answers) resumes sees breaks p) a why z →
+    IsWatched d a.world (rule_in z.stops.second) z.world
+both_watched answers says goes_on resumes sees breaks p d declared resumes_is profile_is a why z watches unbroken none run =
+    watched_whole (choice says goes_on (both_answer answers) resumes sees breaks p) (λ b. calls_in b.second) (λ b. rule_in b.second) (λ b. WatchesBy d b.second) d declared resumes_is profile_is
+    (λ c w b kept so. let j = judged d c.second w answer.Passes b.second kept so.1 in (j.0.0, j.0.1, j.1))
+    (λ c w b kept so. elim so [
+      | inl same ↦ inl (ap rule_in same.1)
+      | inr both ↦ inr (judged d c.second w answer.Stops b.second kept both.1).0
+    ])
+    (λ c w b kept so. elim so [
+      | inl same ↦ ap rule_in same.1
+      | inr both ↦ (judged d c.second w answer.NoMemory b.second kept both.1).0.1
+    ])
+    a why z (watches, unbroken) none run

@@ -1,5 +1,5 @@
 -- What is typed in a run that has an outcome.
-use Rattle.std.proofs.Common.{ℕ, ◌≡◌, ◌≤◌, Bool, Ok, Option, List, length, drop, map}
+use Rattle.std.proofs.Common.{ℕ, ◌≡◌, Bool, Ok, Option, List, length, drop, map}
 use Rattle.std.specs.Io.KnownBytes.{Appends}
 use Rattle.instruct.specs.declared.Profile.{Profile}
 use Rattle.peripherals.specs.Devices.{WorldState}
@@ -11,13 +11,13 @@ use Rattle.runs.specs.declared.output.Typed.{Typed}
 use Rattle.runs.specs.Drives.{UnlessFailed, Whole}
 use Rattle.runs.specs.Follows.{told}
 use Rattle.runs.specs.Moments.{Moment}
-use Rattle.runs.specs.Output.{PutsOut, character}
+use Rattle.runs.specs.Output.{TypesRest, character}
 use Rattle.runs.proofs.MomentLemmas.{folds_map}
 use Rattle.runs.proofs.OutputLemmas.{typed_whole}
 
 -- What a first observer that types has seen.
 abbrev pub Types : {T : Type 0} → (T → Option (List ℕ)) → Typed T → Moment → Typed T → Type 0
-Types taken o m q = (o.done ≤ length m.after.devices.printer.output → PutsOut character m.after.devices.printer.output (taken o.out) (taken q.out) o.done q.done) × (q.done ≡ length m.after.devices.printer.output)
+Types taken o m q = TypesRest m.after.devices.printer.output (taken o.out) (taken q.out) o.done q.done
 
 -- a run that has an outcome is seen whole
 unless_told : (why : Ended) (x : WorldState) (last : End) (A : Type 0) → told x why ≡ Ok last → UnlessFailed why A → A

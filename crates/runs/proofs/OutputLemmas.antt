@@ -13,7 +13,7 @@ use Rattle.peripherals.specs.Devices.{Devices, Writer, WorldState, Instructs, wo
 use Rattle.peripherals.specs.Events.{Happens, Steps}
 use Rattle.runs.specs.Moments.{Folds, Happened, HappensBy, Moment, refuses}
 use Rattle.runs.proofs.MomentLemmas.{folds_map}
-use Rattle.runs.specs.Output.{PutsOut, as_it_is, character}
+use Rattle.runs.specs.Output.{PutsOut, TypesRest, as_it_is, character}
 
 -- So far in a loop: these characters are typed.
 pub record Typed (told now : Option (List ℕ)) (bytes : List ℕ) (from index : ℕ) : Type 0 where
@@ -218,7 +218,7 @@ all_done done resumes p w o (m ∷ ms) x q world observer all =
 
 -- all that was printed is typed
 pub typed_whole : {O : Type 0} (paper : O → Option (List ℕ)) (done : O → ℕ) (resumes : ℕ → Bool) (p : Profile) (w : WorldState) (o : O) (ms : List Moment) (x : WorldState) (q : O) → Folds (Happened resumes p) w ms x →
-    Folds (λ a m b. (done a ≤ length m.after.devices.printer.output → PutsOut character m.after.devices.printer.output (paper a) (paper b) (done a) (done b)) × (done b ≡ length m.after.devices.printer.output)) o ms q →
+    Folds (λ a m b. TypesRest m.after.devices.printer.output (paper a) (paper b) (done a) (done b)) o ms q →
     done o ≡ length w.devices.printer.output → Appends (paper o) (paper q) (map character (drop (done o) x.devices.printer.output))
 typed_whole {O = O} paper done resumes p w o ms x q world observer all =
     let output = x.devices.printer.output in

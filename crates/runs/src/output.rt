@@ -2,7 +2,7 @@
 
 ghost use Rattle.std.specs.Prelude.{◌≡◌, ◌≤◌, [], ◌∷◌, drop, false, get_or, is_err, length, map, true, IfErr, OnOk};
 ghost use Rattle.std.specs.Io.KnownBytes.{Appends};
-ghost use Rattle.runs.specs.Output.{PutsOut, as_it_is, character};
+ghost use Rattle.runs.specs.Output.{PutsOut, TypesRest, as_it_is, character};
 
 use crate::observers::{Observer, ObserverFault};
 use instruct::{DeviceOperation, Profile};
@@ -45,14 +45,32 @@ pub struct Typed<T> {
     pub done: usize,
 }
 
+impl<T: ByteSink> Typed<T> {
+    /// Types what was printed and is not typed.
+    #[inline(always)]
+    fn type_rest(&mut self, printed: &[u8]) -> Result<(), ObserverFault>
+        requires { T.mark self.old.out ≡ false }
+        ensures typed { OnOk result (TypesRest printed.now (T.taken self.old.out) (T.taken self.new.out)
+            self.old.done self.new.done) }
+        ensures marks { T.mark self.new.out ≡ is_err result }
+    {
+        match type_from(printed, self.done, &mut self.out) {
+            Ok(()) => {
+                self.done = printed.len();
+                Ok(())
+            }
+            Err(Failed) => Err(ObserverFault::Write),
+        }
+    }
+}
+
 impl<T: ByteSink> Observer for Typed<T> {
     type Note = ();
 
     ghost notes = { λ o w event note. Unit {0} };
 
-    ghost sees = { λ o p m q. (o.done ≤ length m.after.devices.printer.output →
-        PutsOut character m.after.devices.printer.output (T.taken o.out) (T.taken q.out) o.done q.done)
-        × (q.done ≡ length m.after.devices.printer.output) };
+    ghost sees = { λ o p m q. TypesRest m.after.devices.printer.output
+        (T.taken o.out) (T.taken q.out) o.done q.done };
 
     ghost breaks = { λ o p m fault q. T.mark q.out ≡ true };
 
@@ -62,7 +80,6 @@ impl<T: ByteSink> Observer for Typed<T> {
     fn before<A: Allocator>(&self, _: &World<A>, _: &Event) {}
 
     #[inline(always)]
-    #[tactic(auto, using(crate::proofs::OutputLemmas::puts_none, crate::proofs::OutputLemmas::puts_rest))]
     fn after<A: Allocator>(
         &mut self,
         _: (),
@@ -70,17 +87,7 @@ impl<T: ByteSink> Observer for Typed<T> {
         _: &Event,
         _: &Seen,
     ) -> Result<(), ObserverFault> {
-        let printed = world.printed();
-        if printed.len() == self.done {
-            return Ok(());
-        }
-        match type_from(printed, self.done, &mut self.out) {
-            Ok(()) => {
-                self.done = printed.len();
-                Ok(())
-            }
-            Err(Failed) => Err(ObserverFault::Write),
-        }
+        self.type_rest(world.printed())
     }
 }
 

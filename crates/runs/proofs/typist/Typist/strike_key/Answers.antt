@@ -1,4 +1,4 @@
-use Rattle.std.proofs.Common.{◌∙◌, inl, inr, refl, sym, ap}
+use Rattle.std.proofs.Common.{◌∙◌, inl, inr, refl, sym}
 use Rattle.runs.proofs.typist.Typist.strike_key.Goals as goal
 
 pub returns-in-Err-clause-says : goal.returns-in-Err-clause-says

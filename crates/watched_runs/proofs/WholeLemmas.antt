@@ -56,7 +56,7 @@ module _ {S C O : Type 0} (k : Choice S C O) (calls : C → Calls) (rule : C →
   clean_at : (a : Standing S C O) (ms : List Moment) (c : C) (x : WorldState) (told : Option Rule) → keeps a.stops × (rule a.stops ≡ None) → calls a.stops ≡ [] → Folds (λ f m g. Passes k.answers k.profile f m.before m.event g) a.stops ms c → Folds (Happened k.resumes k.profile) a.world ms x →
       told ≡ rule c → IsWatched d a.world told x
   clean_at a ms c x told kept none stops world same =
-      let nothing : told ≡ None = same ∙ (went a ms c kept stops).1.1 in
+      let nothing : told ≡ None = same ∙ (went a ms c kept stops).2 in
       let taken : Taken d (events_of ms) a.world (length (events_of ms)) x (calls c) = rw (append-nil (events_of ms)) at (taken_with a ms c x [] kept none stops world) in
       record {
         moments = ms;
@@ -93,17 +93,17 @@ module _ {S C O : Type 0} (k : Choice S C O) (calls : C → Calls) (rule : C →
   watched_whole a ended.Stopped z kept none run =
       let refused = run.ends.so.0.refused in
       let ms = run.came.moments in
-      let so = (went a ms run.last.stops kept run.came.stops).1 in
-      rw run.ends.so.0.still (elim (stopped_by run.last.stops run.last.world z.stops so.0 refused.answer) [
+      let so = went a ms run.last.stops kept run.came.stops in
+      rw run.ends.so.0.still (elim (stopped_by run.last.stops run.last.world z.stops so.1 refused.answer) [
         | inl same ↦ clean_at a ms run.last.stops run.last.world (rule z.stops) kept none run.came.stops run.came.world same
         | inr tells ↦ broken_at a ms run.last.stops run.last.world (rule z.stops) kept none run.came.stops run.came.world (tried_runs run.last.world run.ends.event refused.step refused.attempt) tells
       ])
   watched_whole a ended.NoMemory z kept none run =
       let ms = run.came.moments in
-      let so = (went a ms run.last.stops kept run.came.stops).1 in
+      let so = went a ms run.last.stops kept run.came.stops in
       let same : rule z.stops ≡ rule run.last.stops = elim run.ends.so.0.refused [
-        | inl refused ↦ lacked run.last.stops run.last.world z.stops so.0 refused.answer
-        | inr lacks ↦ (rest_stays a run.last.stops run.last.world run.ends.event z.stops so.0 lacks.passes (is_attempt run.last.world run.ends.event) refl).0
+        | inl refused ↦ lacked run.last.stops run.last.world z.stops so.1 refused.answer
+        | inr lacks ↦ (rest_stays a run.last.stops run.last.world run.ends.event z.stops so.1 lacks.passes (is_attempt run.last.world run.ends.event) refl).0
       ] in
       rw run.ends.so.0.still (clean_at a ms run.last.stops run.last.world (rule z.stops) kept none run.came.stops run.came.world same)
   watched_whole a (ended.After what) z kept none run = more_at a run.last z run.came.moments run.ends.event what kept none run.came.stops run.came.world run.ends.so.1.attempted
@@ -126,13 +126,13 @@ pub both_watched : {S C O A D : Type 0} (answers : C → Profile → WorldState 
     IsWatched d a.world (rule_in z.stops.second) z.world
 both_watched answers says goes_on resumes sees breaks p d declared resumes_is profile_is a why z watches unbroken none run =
     watched_whole (choice says goes_on (both_answer answers) resumes sees breaks p) (λ b. calls_in b.second) (λ b. rule_in b.second) (λ b. WatchesBy d b.second) d declared resumes_is profile_is
-    (λ c w b kept so. let j = judged d c.second w answer.Passes b.second kept so.1 in (j.0.0, j.0.1, j.1))
+    (λ c w b kept so. let j = judged d c.second w answer.Passes b.second kept (so.1, so.2) in (j.0.0, j.0.1, j.1))
     (λ c w b kept so. elim so [
       | inl same ↦ inl (ap rule_in same.1)
-      | inr both ↦ inr (judged d c.second w answer.Stops b.second kept both.1).0
+      | inr both ↦ inr (judged d c.second w answer.Stops b.second kept (both.1, both.2)).0
     ])
     (λ c w b kept so. elim so [
       | inl same ↦ ap rule_in same.1
-      | inr both ↦ (judged d c.second w answer.NoMemory b.second kept both.1).0.1
+      | inr both ↦ (judged d c.second w answer.NoMemory b.second kept (both.1, both.2)).0.1
     ])
     a why z (watches, unbroken) none run

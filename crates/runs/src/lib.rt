@@ -52,6 +52,12 @@
 //! instructions and the end are those of the events up to where it is stopped, also where memory is
 //! refused or an observer fails, and whatever the observer is, it saw just these. [`hold`] says of any other run that
 //! all that was printed is typed.
+//!
+//! # What is not proved yet
+//!
+//! An earlier version of this crate was checked in part: the prover accepted `attempt` and `observe` (the two functions
+//! below the loop), [`Both`], `()`, [`Steps`], [`Trace`], [`Last`] as an observer, [`Listed`] and [`Rounds`] as sources,
+//! and the text of a line, which are as they were. The other proofs are drafts that it has not seen.
 #![tactic(auto)]
 
 mod both;

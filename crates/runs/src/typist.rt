@@ -242,25 +242,16 @@ impl<F: ByteSource, K: ByteSource> Typist<F, K> {
             }
         }
     }
-}
 
-/// The events of a typist. A halt ends the run, and so does the end of the keys where one is requested.
-impl<F: ByteSource, K: ByteSource> Source for Typist<F, K> {
-    ghost use Rattle.std.specs.Prelude.{◌+◌, ◌*◌};
-    ghost use Rattle.runs.specs.Sources.{goes_on};
-    ghost use Rattle.runs.specs.Typing.{rank};
-    ghost use Rattle.runs.specs.declared.lists.Ending.TheVariants.{AtHalt};
-
-    ghost says = { λ s w next t.
-        Types (Reads F.remaining F.ended) (Reads K.remaining K.ended) s.turn w s next t };
-
-    ghost goes_on = { λ s. goes_on AtHalt };
-
-    ghost to_come = { λ s. s.rounds * 6 + rank s.turn };
-
-    ghost ready = { λ s. (F.mark s.reader ≡ false) × (K.mark s.keys ≡ false) };
-
-    fn next<A: Allocator>(&mut self, world: &World<A>) -> Next {
+    /// What comes next, in turn.
+    fn take_turn<A: Allocator>(&mut self, world: &World<A>) -> Next
+        requires reader { F.mark self.old.reader ≡ false }
+        requires keys { K.mark self.old.keys ≡ false }
+        ensures says { Types (Reads F.remaining F.ended) (Reads K.remaining K.ended) self.old.turn
+            (view world.now) self.old result self.new }
+        ensures reader { (event : Event) → result ≡ Next.Comes event → F.mark self.new.reader ≡ false }
+        ensures keys { (event : Event) → result ≡ Next.Comes event → K.mark self.new.keys ≡ false }
+    {
         match self.turn {
             Turn::Switches => self.set_switches(world),
             Turn::Instruction => self.try_instruction(world),
@@ -281,6 +272,27 @@ impl<F: ByteSource, K: ByteSource> Source for Typist<F, K> {
             }
             Turn::Keyboard => self.strike(world),
         }
+    }
+}
+
+/// The events of a typist. A halt ends the run, and so does the end of the keys where one is requested.
+impl<F: ByteSource, K: ByteSource> Source for Typist<F, K> {
+    ghost use Rattle.std.specs.Prelude.{◌+◌, ◌*◌};
+    ghost use Rattle.runs.specs.Sources.{goes_on};
+    ghost use Rattle.runs.specs.Typing.{rank};
+    ghost use Rattle.runs.specs.declared.lists.Ending.TheVariants.{AtHalt};
+
+    ghost says = { λ s w next t.
+        Types (Reads F.remaining F.ended) (Reads K.remaining K.ended) s.turn w s next t };
+
+    ghost goes_on = { λ s. goes_on AtHalt };
+
+    ghost to_come = { λ s. s.rounds * 6 + rank s.turn };
+
+    ghost ready = { λ s. (F.mark s.reader ≡ false) × (K.mark s.keys ≡ false) };
+
+    fn next<A: Allocator>(&mut self, world: &World<A>) -> Next {
+        self.take_turn(world)
     }
 
     #[inline(always)]

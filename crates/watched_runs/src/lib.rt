@@ -7,6 +7,8 @@
 //! - [`watch_run`] does so with what comes from any source, as with an operator, and with any stops and observers.
 //! - [`run_declared`] gives the world after a list of events; it asks no rule ([`Pauses`]).
 //! - [`Continuing`] is a source: another one, with an operator who presses CONTINUE at declared pauses.
+//!
+//! The proofs of this crate are drafts that the prover has not seen.
 #![tactic(auto)]
 
 mod continuing;

@@ -30,9 +30,9 @@ unless_told ended.NoMemory x last A is a = a
 unless_told (ended.ObserverFailed fault) x last A is a = cc
 
 pub typed_so : {T X : Type 0} (taken : T → Option (List ℕ)) (resumes : ℕ → Bool) (sees : Both (Typed T) X → Profile → Moment → Both (Typed T) X → Type 0) (p : Profile) (o : Both (Typed T) X) (w : WorldState) (why : Ended) (q : Both (Typed T) X) (x : WorldState) (last : End) →
-    ((a : Both (Typed T) X) (m : Moment) (b : Both (Typed T) X) → sees a p m b → Types taken a.first m b.first) → UnlessFailed why (Whole resumes sees p o w q x) → o.first.done ≡ length w.devices.printer.output → told x why ≡ Ok last →
+    UnlessFailed why (Whole resumes sees p o w q x) → ((a : Both (Typed T) X) (m : Moment) (b : Both (Typed T) X) → sees a p m b → Types taken a.first m b.first) → o.first.done ≡ length w.devices.printer.output → told x why ≡ Ok last →
     Appends (taken o.first.out) (taken q.first.out) (map character (drop o.first.done x.devices.printer.output))
-typed_so taken resumes sees p o w why q x last types whole all is =
+typed_so taken resumes sees p o w why q x last whole types all is =
     let run = unless_told why x last (Whole resumes sees p o w q x) is whole in
     typed_whole (λ (t : Typed _). taken t.out) (λ (t : Typed _). t.done) resumes p w o.first run.moments x q.first run.world
     (folds_map (λ (b : Both (Typed _) _). b.first) (λ a m b. sees a p m b) (Types taken) types o run.moments q run.observer) all

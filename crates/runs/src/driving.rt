@@ -2,7 +2,7 @@
 
 ghost use Rattle.std.specs.Prelude.{◌≡◌, IfOk, IfErr, OnOk};
 ghost use Rattle.peripherals.specs.World.{view, profile_of};
-ghost use Rattle.runs.specs.Drives.{Attempted, Driven, Observed, Refused, UnlessFailed, Unobserved, Whole, choice, is_stopped, lacks_memory, standing};
+ghost use Rattle.runs.specs.Drives.{Attempted, Driven, Observed, Refused, UnlessFailed, Unobserved, choice, is_stopped, lacks_memory, standing};
 ghost use Rattle.runs.specs.Moments.{refuses};
 
 use crate::observers::{Observer, ObserverFault};
@@ -130,10 +130,9 @@ fn observe<A: Allocator, C: Stops, O: Observer>(
     }
 }
 
-/// Takes one event after the other from a source, up to the first step before which the run is stopped, and
-/// tells an observer of each.
-#[inline(always)]
-fn go<A: Allocator, S: Source, C: Stops, O: Observer>(
+/// Runs a machine: takes one event after the other from a source, up to the first step before which it
+/// is stopped, and tells an observer of each.
+pub fn drive<A: Allocator, S: Source, C: Stops, O: Observer>(
     world: &mut World<A>,
     source: &mut S,
     stops: &mut C,
@@ -142,6 +141,8 @@ fn go<A: Allocator, S: Source, C: Stops, O: Observer>(
     requires ready { S.ready source.old }
     requires suits { C.suits stops.old (profile_of world.old) }
     requires observes { O.ready observer.old }
+    // The events came that the source gave, the stops let them pass, the observer saw them, and the run ended
+    // as is said.
     ensures driven { Driven (choice S.says (S.goes_on source.old) C.answers (C.resumes stops.old)
         O.sees O.breaks (profile_of world.old))
         (standing source.old stops.old observer.old (view world.old)) result
@@ -165,29 +166,4 @@ fn go<A: Allocator, S: Source, C: Stops, O: Observer>(
             Err(ended) => return ended,
         }
     }
-}
-
-/// Runs a machine: takes one event after the other from a source, up to the first step before which it
-/// is stopped, and tells an observer of each.
-pub fn drive<A: Allocator, S: Source, C: Stops, O: Observer>(
-    world: &mut World<A>,
-    source: &mut S,
-    stops: &mut C,
-    observer: &mut O,
-) -> Ended
-    requires ready { S.ready source.old }
-    requires suits { C.suits stops.old (profile_of world.old) }
-    requires observes { O.ready observer.old }
-    // The events came that the source gave, the stops let them pass, and the run ended as is said.
-    ensures driven { Driven (choice S.says (S.goes_on source.old) C.answers (C.resumes stops.old)
-        O.sees O.breaks (profile_of world.old))
-        (standing source.old stops.old observer.old (view world.old)) result
-        (standing source.new stops.new observer.new (view world.new)) }
-    // The observer saw the whole run.
-    ensures whole { UnlessFailed result (Whole (C.resumes stops.old) O.sees (profile_of world.old)
-        observer.old (view world.old) observer.new (view world.new)) }
-    ensures observes { UnlessFailed result (O.ready observer.new) }
-    ensures profile { profile_of world.new ≡ profile_of world.old }
-{
-    go(world, source, stops, observer)
 }

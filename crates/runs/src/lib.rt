@@ -42,7 +42,7 @@
 //!
 //! # What the contracts say
 //!
-//! The contract of [`drive`] is `Driven` and `Whole` of `specs/Drives.antt`. A run is a list of moments: the
+//! The contract of [`drive`] is `Driven` of `specs/Drives.antt`. A run is a list of moments: the
 //! world before an event, the event, what was seen of it, and the world after it. One relation, `Folds`, says what
 //! it means that something goes from one state to another by such a list, and it is used four times: the world
 //! goes by what the events do, the source by what it gives, the stops by what they let pass, and the observer by

@@ -1,7 +1,7 @@
 use Rattle.std.proofs.Common.{◌≡◌}
 use Rattle.peripherals.specs.World.{view, profile_of}
 use Rattle.runs.specs.Drives.{Came, choice, standing}
-use Rattle.runs.proofs.driving.go.Given as goal
+use Rattle.runs.proofs.driving.drive.Given as goal
 
 abbrev pub invariant-loop-event : goal.invariant-loop-event
 invariant-loop-event g l = record {

@@ -8,11 +8,11 @@ use Rattle.runs.specs.declared.driving.Ended.{Ended}
 use Rattle.runs.specs.declared.driving.Ended.TheVariants as ended
 use Rattle.runs.specs.declared.following.End.{End}
 use Rattle.runs.specs.declared.output.Typed.{Typed}
-use Rattle.runs.specs.Drives.{UnlessFailed, Whole}
+use Rattle.runs.specs.Drives.{UnlessFailed}
 use Rattle.runs.specs.Follows.{told}
 use Rattle.runs.specs.Moments.{Moment}
 use Rattle.runs.specs.Output.{TypesRest, character}
-use Rattle.runs.proofs.MomentLemmas.{folds_map}
+use Rattle.runs.proofs.MomentLemmas.{Whole, folds_map}
 use Rattle.runs.proofs.OutputLemmas.{typed_whole}
 
 -- What a first observer that types has seen.

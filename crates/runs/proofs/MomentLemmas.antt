@@ -12,7 +12,7 @@ use Rattle.runs.specs.Moments.{Folds, Happened, Moment, moment}
 use Rattle.runs.specs.declared.stops.Answer.{Answer}
 use Rattle.runs.specs.declared.driving.Ended.{Ended}
 use Rattle.runs.specs.declared.driving.Ended.TheVariants.{Over, Interrupted, ReadFailed, Stopped, After, NoMemory, ObserverFailed}
-use Rattle.runs.specs.Drives.{Came, Choice, Comes, Driven, Ends, Observed, Passes, Standing, UnlessFailed, Unobserved, Whole, standing}
+use Rattle.runs.specs.Drives.{Came, Choice, Comes, Driven, Ends, Observed, Passes, Standing, UnlessFailed, Unobserved, standing}
 
 -- one moment more
 pub folds_more : {T : Type 0} (step : T → Moment → T → Type 0) (t : T) (ms : List Moment) (u : T) (m : Moment) (v : T) → Folds step t ms u → step u m v → Folds step t (ms ++ m ∷ []) v
@@ -78,6 +78,12 @@ unless_map Stopped A B f a = f a
 unless_map (After what) A B f a = f a
 unless_map NoMemory A B f a = f a
 unless_map (ObserverFailed fault) A B f a = tt
+
+-- A whole run from w to x, as one observer sees it: the world is that of the run by these events, and the observer saw what each of them did.
+pub record Whole {O : Type 0} (resumes : ℕ → Bool) (sees : O → Profile → Moment → O → Type 0) (p : Profile) (o : O) (w : WorldState) (q : O) (x : WorldState) : Type 0 where
+  pub moments : List Moment
+  pub world : Folds (Happened resumes p) w moments x
+  pub observer : Folds (λ b m a. sees b p m a) o moments q
 
 -- the whole run, as an observer sees it: where nothing came last
 still_whole : {S C O : Type 0} (k : Choice S C O) (a last b : Standing S C O) → Came k a last → b.observer ≡ last.observer → b.world ≡ last.world → Whole k.resumes k.sees k.profile a.observer a.world b.observer b.world

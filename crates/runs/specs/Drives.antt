@@ -158,9 +158,3 @@ lacks_memory _ = false
 abbrev pub UnlessFailed : Ended → Type 0 → Type 0
 UnlessFailed (ObserverFailed fault) is = Unit {0}
 UnlessFailed ended is = is
-
--- A whole run from w to x, as one observer sees it: the world is that of the run by these events, and the observer saw what each of them did.
-pub record Whole {O : Type 0} (resumes : ℕ → Bool) (sees : O → Profile → Moment → O → Type 0) (p : Profile) (o : O) (w : WorldState) (q : O) (x : WorldState) : Type 0 where
-  pub moments : List Moment
-  pub world : Folds (Happened resumes p) w moments x
-  pub observer : Folds (λ b m a. sees b p m a) o moments q

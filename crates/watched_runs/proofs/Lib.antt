@@ -1,5 +1,5 @@
 pub mod WatchLemmas
-pub mod WatchedLemmas
 pub mod WholeLemmas
+pub mod WatchedLemmas
 pub mod DeclaredLemmas
 pub mod ContinuingLemmas

@@ -8,11 +8,16 @@ use Rattle.peripherals.specs.declared.Event.TheVariants.{Step as Instruct, Key, 
 use Rattle.peripherals.specs.Devices.{WorldState}
 use Rattle.peripherals.specs.EventOutcomes.{puts_out}
 use Rattle.declaration.specs.Declaration.{Declaration, IsDeclared}
+use Rattle.declaration.specs.DeclarationInCode.{meaning}
+use Rattle.policy.specs.OpenCalls.{open_calls}
+use Rattle.policy.specs.declared.rules.Rule.{Rule}
 use Rattle.policy.specs.Calls.{Calls, calls_after}
 use Rattle.policy.specs.WatchedSteps.{Goes, waits}
 use Rattle.policy.proofs.WatchLemmas.{Taken, goes_on, halted_step, legal_step, passes_on, stays_halted, taken_more}
 use Rattle.runs.specs.Moments.{Folds, Happened, HappensBy, Moment, events_of, is_attempt, refuses}
-use Rattle.watched_runs.specs.Watches.{IsLegalStep}
+use Rattle.runs.specs.declared.stops.Answer.{Answer}
+use Rattle.watched_runs.specs.declared.watching.Watcher.{Watcher}
+use Rattle.watched_runs.specs.Watches.{IsLegalStep, Judges}
 
 -- The call stack goes with a moment: it follows a step, which is legal, and stays as it is otherwise.
 pub record CallsGo (d : Declaration) (ks : Calls) (m : Moment) (ls : Calls) : Type 0 where
@@ -109,3 +114,27 @@ puts_step w (ReaderDone byte) puts = cc
 puts_step w PunchDone puts = cc
 puts_step w (Switches word) puts = cc
 puts_step w Continue puts = cc
+
+-- a step that is tried
+none_halted : (halted : Option ℕ) → is_none halted ≡ true → halted ≡ None
+none_halted None is = refl
+none_halted (Some at) is = cc
+
+pub tried_runs : (w : WorldState) (e : Event) → e ≡ Instruct → is_attempt w e ≡ true → w.halted_at ≡ None
+tried_runs w e step tries = let here : is_none w.halted_at ≡ true = rw step at tries in none_halted w.halted_at here
+
+-- the calls that a watcher has
+abbrev pub calls_in : {A D : Type 0} → Watcher A D → Calls
+calls_in c = open_calls c.calls.items
+
+-- the rule that it tells
+abbrev pub rule_in : {A D : Type 0} → Watcher A D → Option Rule
+rule_in c = c.broken
+
+-- it watches by this declaration
+abbrev pub WatchesBy : {A D : Type 0} → Declaration → Watcher A D → Type 0
+WatchesBy d c = meaning c.declaration.now ≡ d
+
+pub judged : {A D : Type 0} (d : Declaration) (c : Watcher A D) (w : WorldState) (a : Answer) (b : Watcher A D) → WatchesBy d c → Judges (meaning c.declaration.now) w (calls_in c) (rule_in c) a (calls_in b) (rule_in b) × (b.declaration ≡ c.declaration) →
+    Judges d w (calls_in c) (rule_in c) a (calls_in b) (rule_in b) × WatchesBy d b
+judged d c w a b kept is = (rw kept at is.0, rw is.1 kept)

@@ -1,6 +1,6 @@
 -- What a watcher tells of a list of events, from the contract of the driver.
-use Rattle.std.proofs.Common.{ℕ, suc, ◌≡◌, ◌+◌, ◌-◌, Bool, true, false, inl, inr, Option, Some, None, List, [], ◌∷◌, ◌++◌, length, refl, sym, ap, ◌∙◌, subst, append-nil, length-append, arith}
-use Rattle.std.specs.Prelude.{is_none, slice_get}
+use Rattle.std.proofs.Common.{ℕ, suc, ◌≡◌, ◌+◌, ◌-◌, true, false, inl, inr, Option, Some, None, List, [], ◌∷◌, ◌++◌, length, refl, sym, ap, ◌∙◌, append-nil, length-append, arith}
+use Rattle.std.specs.Prelude.{slice_get}
 use Rattle.instruct.specs.declared.Profile.{Profile}
 use Rattle.processor.specs.Runs.{Image}
 use Rattle.peripherals.specs.declared.Event.{Event}
@@ -17,7 +17,7 @@ use Rattle.policy.specs.Watching.{BreaksAt, IsClean, Tells as TellsWatched}
 use Rattle.policy.specs.declared.watcher.Watched.{Watched}
 use Rattle.policy.specs.declared.watcher.Watched.TheVariants.{Broken}
 use Rattle.policy.specs.WatchedSteps.{Grows, LegalStepTakesMemory, Stops}
-use Rattle.policy.proofs.WatchLemmas.{Taken, all_taken, grown, legal_growth, none_taken, stopped}
+use Rattle.policy.proofs.WatchLemmas.{Taken, all_taken, grown, legal_growth, stopped}
 use Rattle.runs.specs.declared.driving.Ended.{Ended}
 use Rattle.runs.specs.declared.driving.Ended.TheVariants as ended
 use Rattle.runs.specs.declared.lists.Ending.TheVariants.{Never}
@@ -26,22 +26,13 @@ use Rattle.runs.specs.declared.sources.Next.{Next}
 use Rattle.runs.specs.declared.sources.Next.TheVariants as next
 use Rattle.runs.specs.declared.stops.Answer.{Answer}
 use Rattle.runs.specs.declared.stops.Answer.TheVariants as answer
-use Rattle.declaration.specs.DeclarationInCode.{meaning}
-use Rattle.policy.specs.OpenCalls.{open_calls}
-use Rattle.watched_runs.specs.declared.watching.Watcher.{Watcher}
 use Rattle.runs.specs.Moments.{Moment, events_of, is_attempt, moment}
 use Rattle.runs.specs.Drives.{Came, Choice, Driven, Passes, Standing, choice, is_stopped, lacks_memory}
 use Rattle.runs.specs.Sources.{Tells, goes_on}
 use Rattle.watched_runs.specs.Watches.{Judges}
 use Rattle.runs.proofs.FollowLemmas.{came_first}
-use Rattle.watched_runs.proofs.WatchLemmas.{CallsGo, event_at, folds_through, puts_step, taken_on}
-
-none_halted : (halted : Option ℕ) → is_none halted ≡ true → halted ≡ None
-none_halted None is = refl
-none_halted (Some at) is = cc
-
-pub tried_runs : (w : WorldState) (e : Event) → e ≡ Instruct → is_attempt w e ≡ true → w.halted_at ≡ None
-tried_runs w e step tries = let here : is_none w.halted_at ≡ true = rw step at tries in none_halted w.halted_at here
+use Rattle.watched_runs.proofs.WatchLemmas.{event_at, puts_step, tried_runs}
+use Rattle.watched_runs.proofs.WholeLemmas.{taken_with, went}
 
 -- a run that ends never after what is seen
 pub never_ends : (what : Seen) → goes_on Never what ≡ false → ⊥
@@ -57,28 +48,16 @@ module _ {S C O : Type 0} (events : S → List Event) (calls : C → Calls) (rul
   abbrev pub watched : Choice S C O
   watched = choice says (goes_on Never) answers d.pause sees breaks d.profile
 
-  one_goes : (a : Standing S C O) (c : C) (m : Moment) (b : C) → keeps c → Passes answers d.profile c m.before m.event b → CallsGo d (calls c) m (calls b) × keeps b
-  one_goes a c m b kept passes = (
-    record {
-      asked = λ yes. (judges c m.before answer.Passes b kept (passes.asked yes)).0.0;
-      unasked = λ no. ap calls (passes.unasked no);
-    },
-    still (is_attempt m.before m.event) refl,
-  )
-    where
-      still : (tries : Bool) → is_attempt m.before m.event ≡ tries → keeps b
-      still true is = (judges c m.before answer.Passes b kept (passes.asked is)).1
-      still false is = subst keeps (sym (passes.unasked is)) kept
-
   first_come : (a last : Standing S C O) → (came : Came watched a last) → events a.source ≡ events_of came.moments ++ events last.source
   first_come a last came = came_first watched events tells a.source came.moments last.source came.source
 
   -- the run so far
-  so_far : (a last : Standing S C O) → (came : Came watched a last) → keeps a.stops → calls a.stops ≡ [] →
-      Taken d (events a.source) a.world (length (events_of came.moments)) last.world (calls last.stops) × keeps last.stops
+  so_far : (a last : Standing S C O) → (came : Came watched a last) → keeps a.stops × (rule a.stops ≡ None) → calls a.stops ≡ [] → Taken d (events a.source) a.world (length (events_of came.moments)) last.world (calls last.stops)
   so_far a last came kept none =
-      let went = folds_through calls keeps (λ f m g. Passes answers d.profile f m.before m.event g) (CallsGo d) (one_goes a) a.stops came.moments last.stops kept came.stops in
-      (taken_on d declared (events a.source) a.world [] came.moments (events last.source) a.world last.world (calls a.stops) (calls last.stops) (first_come a last came) (none_taken d (events a.source) a.world (calls a.stops) none) came.world went.0, went.1)
+      rw (first_come a last came) (taken_with watched calls rule keeps d declared refl refl (λ c w b stays so. let j = judges c w answer.Passes b stays so in (j.0.0, j.0.1, j.1)) a came.moments last.stops last.world (events last.source) kept none came.stops came.world)
+
+  keeps_on : (a last : Standing S C O) → (came : Came watched a last) → keeps a.stops × (rule a.stops ≡ None) → keeps last.stops
+  keeps_on a last came kept = (went watched calls rule keeps d declared refl refl (λ c w b stays so. let j = judges c w answer.Passes b stays so in (j.0.0, j.0.1, j.1)) a came.moments last.stops kept came.stops).1
 
   -- an event that came last
   last_at : (a last : Standing S C O) (e : Event) (t : S) → (came : Came watched a last) → says last.source last.world (next.Comes e) t → slice_get (events a.source) (length (events_of came.moments)) ≡ Some e
@@ -88,16 +67,16 @@ module _ {S C O : Type 0} (events : S → List Event) (calls : C → Calls) (rul
       rw all (event_at ms e (events t))
 
   -- all events came
-  is_clean : (a z : Standing S C O) → Driven watched a ended.Over z → keeps a.stops → calls a.stops ≡ [] → (image : Image) → KeepsCode image d a.world.state.memory → IsClean image d (events a.source) a.world
+  is_clean : (a z : Standing S C O) → Driven watched a ended.Over z → keeps a.stops × (rule a.stops ≡ None) → calls a.stops ≡ [] → (image : Image) → KeepsCode image d a.world.state.memory → IsClean image d (events a.source) a.world
   is_clean a z run kept none image code =
       let came = run.came in
       let over = tells run.last.source run.last.world next.Over z.source run.ends.0 in
       let all : events a.source ≡ events_of came.moments = first_come a run.last came ∙ ap (λ (l : List Event). events_of came.moments ++ l) over.0 ∙ append-nil (events_of came.moments) in
       let long : length (events a.source) ≡ length (events_of came.moments) = ap length all in
-      all_taken image d (events a.source) a.world (length (events_of came.moments)) run.last.world (calls run.last.stops) (omega (arith, long)) (so_far a run.last came kept none).0 code
+      all_taken image d (events a.source) a.world (length (events_of came.moments)) run.last.world (calls run.last.stops) (omega (arith, long)) (so_far a run.last came kept none) code
 
   -- a step was stopped
-  is_broken : (a z : Standing S C O) (r : Rule) (n : ℕ) → Driven watched a ended.Stopped z → keeps a.stops → calls a.stops ≡ [] → rule z.stops ≡ Some r →
+  is_broken : (a z : Standing S C O) (r : Rule) (n : ℕ) → Driven watched a ended.Stopped z → keeps a.stops × (rule a.stops ≡ None) → calls a.stops ≡ [] → rule z.stops ≡ Some r →
       n ≡ length (events a.source) - length (events z.source) - 1 → (image : Image) → KeepsCode image d a.world.state.memory → BreaksAt image d (events a.source) a.world n r
   is_broken a z r n run kept none is_rule at image code =
       let came = run.came in
@@ -108,26 +87,25 @@ module _ {S C O : Type 0} (events : S → List Event) (calls : C → Calls) (rul
       let so = so_far a run.last came kept none in
       let comes : events run.last.source ≡ e ∷ events z.source = tells run.last.source run.last.world (next.Comes e) z.source closing.comes in
       let there = last_at a run.last e z.source came closing.comes in
-      let told = (judges run.last.stops run.last.world answer.Stops z.stops so.1 refused.answer).0 in
+      let told = (judges run.last.stops run.last.world answer.Stops z.stops (keeps_on a run.last came kept) refused.answer).0 in
       let same : told.rule ≡ r = some_rule told.rule r (sym told.is_told ∙ is_rule) in
       let stops : Stops d run.last.world (calls run.last.stops) e told.rule = record { step = refused.step; runs = tried_runs run.last.world e refused.step refused.attempt; broken = told.broken } in
       let long : length (events a.source) ≡ length ms + suc (length (events z.source)) = ap length (first_come a run.last came ∙ ap (λ (l : List Event). ms ++ l) comes) ∙ length-append ms (e ∷ events z.source) in
       let place : n ≡ length ms = omega (arith, long, at) in
-      rw (place, ← same) (stopped image d (events a.source) a.world (length ms) e run.last.world (calls run.last.stops) told.rule there so.0 stops code)
+      rw (place, ← same) (stopped image d (events a.source) a.world (length ms) e run.last.world (calls run.last.stops) told.rule there so stops code)
     where
       some_rule : (a z : Rule) → Some a ≡ Some z → a ≡ z
       some_rule a z is = cc
 
   -- so what is told of it is true
-  tells_broken : (a z : Standing S C O) (told : Watched) → Driven watched a ended.Stopped z → keeps a.stops → calls a.stops ≡ [] →
+  tells_broken : (a z : Standing S C O) (told : Watched) → Driven watched a ended.Stopped z → keeps a.stops × (rule a.stops ≡ None) → calls a.stops ≡ [] →
       ((r : Rule) → rule z.stops ≡ Some r → told ≡ Broken (length (events a.source) - length (events z.source) - 1) r) → (image : Image) → KeepsCode image d a.world.state.memory → TellsWatched image d (events a.source) a.world told
   tells_broken a z told run kept none tells_so image code =
-      let so = so_far a run.last run.came kept none in
-      let judged_so = (judges run.last.stops run.last.world answer.Stops z.stops so.1 run.ends.so.0.refused.answer).0 in
+      let judged_so = (judges run.last.stops run.last.world answer.Stops z.stops (keeps_on a run.last run.came kept) run.ends.so.0.refused.answer).0 in
       rw (tells_so judged_so.rule judged_so.is_told) (is_broken a z judged_so.rule (length (events a.source) - length (events z.source) - 1) run kept none judged_so.is_told refl image code)
 
   -- memory was refused for a step
-  is_grown : (a z : Standing S C O) → Driven watched a ended.NoMemory z → keeps a.stops → calls a.stops ≡ [] → (image : Image) → KeepsCode image d a.world.state.memory → LegalStepTakesMemory image d (events a.source) a.world
+  is_grown : (a z : Standing S C O) → Driven watched a ended.NoMemory z → keeps a.stops × (rule a.stops ≡ None) → calls a.stops ≡ [] → (image : Image) → KeepsCode image d a.world.state.memory → LegalStepTakesMemory image d (events a.source) a.world
   is_grown a z run kept none image code =
       let came = run.came in
       let ms = events_of came.moments in
@@ -139,20 +117,20 @@ module _ {S C O : Type 0} (events : S → List Event) (calls : C → Calls) (rul
       let there = last_at a run.last e z.source came closing.comes in
       let grows : Grows d x ks e = elim closing.so.0.refused [
         | inl refused ↦
-            let told = (judges run.last.stops x answer.NoMemory z.stops so.1 refused.answer).0 in
+            let told = (judges run.last.stops x answer.NoMemory z.stops (keeps_on a run.last came kept) refused.answer).0 in
             rw refused.step (legal_growth d x ks (tried_runs x e refused.step refused.attempt) told.0.1 told.0.0)
         | inr lacks ↦
             let step = puts_step x e lacks.puts in
             let tries : is_attempt x e ≡ true = rw (step.0, step.1) refl in
-            let told = (judges run.last.stops x answer.Passes z.stops so.1 (lacks.passes.asked tries)).0 in
+            let told = (judges run.last.stops x answer.Passes z.stops (keeps_on a run.last came kept) (lacks.passes.asked tries)).0 in
             let puts : puts_out x Instruct ≡ true = rw step.0 at lacks.puts in
             rw step.0 (legal_growth d x ks step.1 (inl puts) told.0.0)
       ] in
-      grown image d (events a.source) a.world (length ms) e x ks there so.0 grows code
+      grown image d (events a.source) a.world (length ms) e x ks there so grows code
 
   -- a run that ended otherwise
   pub clean_so : ((o : O) (p : Profile) (m : Moment) (why : ObserverFault) (q : O) → breaks o p m why q → ⊥) →
-      (a : Standing S C O) (why : Ended) (z : Standing S C O) → lacks_memory why ≡ false → is_stopped why ≡ false → Driven watched a why z → keeps a.stops → calls a.stops ≡ [] → (image : Image) → KeepsCode image d a.world.state.memory → IsClean image d (events a.source) a.world
+      (a : Standing S C O) (why : Ended) (z : Standing S C O) → lacks_memory why ≡ false → is_stopped why ≡ false → Driven watched a why z → keeps a.stops × (rule a.stops ≡ None) → calls a.stops ≡ [] → (image : Image) → KeepsCode image d a.world.state.memory → IsClean image d (events a.source) a.world
   clean_so unbroken a ended.Over z lacks stops run kept none image code = is_clean a z run kept none image code
   clean_so unbroken a ended.Interrupted z lacks stops run kept none image code = absurd (tells run.last.source run.last.world next.Interrupted z.source run.ends.0)
   clean_so unbroken a ended.ReadFailed z lacks stops run kept none image code = absurd (tells run.last.source run.last.world next.ReadFailed z.source run.ends.0)
@@ -161,7 +139,7 @@ module _ {S C O : Type 0} (events : S → List Event) (calls : C → Calls) (rul
   clean_so unbroken a ended.NoMemory z lacks stops run kept none image code = cc
   clean_so unbroken a (ended.ObserverFailed fault) z lacks stops run kept none image code = absurd (unbroken run.last.observer d.profile (moment run.last.world run.ends.event run.ends.so.what z.world) fault z.observer run.ends.so.broke)
 
-  pub broken_so : (a : Standing S C O) (why : Ended) (z : Standing S C O) (told : Watched) → is_stopped why ≡ true → Driven watched a why z → keeps a.stops → calls a.stops ≡ [] →
+  pub broken_so : (a : Standing S C O) (why : Ended) (z : Standing S C O) (told : Watched) → is_stopped why ≡ true → Driven watched a why z → keeps a.stops × (rule a.stops ≡ None) → calls a.stops ≡ [] →
       ((r : Rule) → rule z.stops ≡ Some r → told ≡ Broken (length (events a.source) - length (events z.source) - 1) r) → (image : Image) → KeepsCode image d a.world.state.memory → TellsWatched image d (events a.source) a.world told
   broken_so a ended.Over z told stops run kept none tells_so image code = cc
   broken_so a ended.Interrupted z told stops run kept none tells_so image code = cc
@@ -171,7 +149,7 @@ module _ {S C O : Type 0} (events : S → List Event) (calls : C → Calls) (rul
   broken_so a ended.NoMemory z told stops run kept none tells_so image code = cc
   broken_so a (ended.ObserverFailed fault) z told stops run kept none tells_so image code = cc
 
-  pub grown_so : (a : Standing S C O) (why : Ended) (z : Standing S C O) → lacks_memory why ≡ true → Driven watched a why z → keeps a.stops → calls a.stops ≡ [] → (image : Image) → KeepsCode image d a.world.state.memory → LegalStepTakesMemory image d (events a.source) a.world
+  pub grown_so : (a : Standing S C O) (why : Ended) (z : Standing S C O) → lacks_memory why ≡ true → Driven watched a why z → keeps a.stops × (rule a.stops ≡ None) → calls a.stops ≡ [] → (image : Image) → KeepsCode image d a.world.state.memory → LegalStepTakesMemory image d (events a.source) a.world
   grown_so a ended.Over z lacks run kept none image code = cc
   grown_so a ended.Interrupted z lacks run kept none image code = cc
   grown_so a ended.ReadFailed z lacks run kept none image code = cc
@@ -179,19 +157,3 @@ module _ {S C O : Type 0} (events : S → List Event) (calls : C → Calls) (rul
   grown_so a (ended.After what) z lacks run kept none image code = cc
   grown_so a ended.NoMemory z lacks run kept none image code = is_grown a z run kept none image code
   grown_so a (ended.ObserverFailed fault) z lacks run kept none image code = cc
-
--- the calls that a watcher has
-abbrev pub calls_in : {A D : Type 0} → Watcher A D → Calls
-calls_in c = open_calls c.calls.items
-
--- the rule that it tells
-abbrev pub rule_in : {A D : Type 0} → Watcher A D → Option Rule
-rule_in c = c.broken
-
--- it watches by this declaration
-abbrev pub WatchesBy : {A D : Type 0} → Declaration → Watcher A D → Type 0
-WatchesBy d c = meaning c.declaration.now ≡ d
-
-pub judged : {A D : Type 0} (d : Declaration) (c : Watcher A D) (w : WorldState) (a : Answer) (b : Watcher A D) → WatchesBy d c → Judges (meaning c.declaration.now) w (calls_in c) (rule_in c) a (calls_in b) (rule_in b) × (b.declaration ≡ c.declaration) →
-    Judges d w (calls_in c) (rule_in c) a (calls_in b) (rule_in b) × WatchesBy d b
-judged d c w a b kept is = (rw kept at is.0, rw is.1 kept)

@@ -24,13 +24,11 @@ use Rattle.runs.specs.Moments.{Folds, Happened, Moment, events_of, is_attempt, m
 use Rattle.runs.specs.Drives.{Attempted, Choice, Driven, Passes, Standing, choice}
 use Rattle.runs.proofs.MomentLemmas.{folds_more}
 use Rattle.watched_runs.specs.Watches.{IsLegalStep, IsWatched, Judges, TellsRule}
-use Rattle.watched_runs.proofs.WatchLemmas.{CallsGo, event_at, folds_through, taken_on}
-use Rattle.watched_runs.proofs.WatchedLemmas.{WatchesBy, calls_in, judged, rule_in, tried_runs}
+use Rattle.watched_runs.proofs.WatchLemmas.{CallsGo, WatchesBy, calls_in, event_at, folds_through, judged, rule_in, taken_on, tried_runs}
 use Rattle.watched_runs.specs.declared.watching.Watcher.{Watcher}
 
--- Any run under a watcher: the calls and the rule that the watcher has, and what stays true of it; what is so where a step passes, is stopped, or
--- is refused memory.
-module _ {S C O : Type 0} (k : Choice S C O) (calls : C → Calls) (rule : C → Option Rule) (keeps : C → Type 0) (d : Declaration) (declared : IsDeclared d) (resumes_is : k.resumes ≡ d.pause) (profile_is : k.profile ≡ d.profile) (passed : (c : C) (w : WorldState) (b : C) → keeps c → k.answers c k.profile w answer.Passes b → (IsLegalStep d w (calls c) × (calls b ≡ calls_after d w.state (calls c))) × (rule b ≡ rule c) × keeps b) (stopped_by : (c : C) (w : WorldState) (b : C) → keeps c → k.answers c k.profile w answer.Stops b → (rule b ≡ rule c) ⊎ TellsRule d w (calls c) (rule b)) (lacked : (c : C) (w : WorldState) (b : C) → keeps c → k.answers c k.profile w answer.NoMemory b → rule b ≡ rule c) where
+-- Any run under a watcher: the calls and the rule that the watcher has, and what stays true of it; what is so where a step passes.
+module _ {S C O : Type 0} (k : Choice S C O) (calls : C → Calls) (rule : C → Option Rule) (keeps : C → Type 0) (d : Declaration) (declared : IsDeclared d) (resumes_is : k.resumes ≡ d.pause) (profile_is : k.profile ≡ d.profile) (passed : (c : C) (w : WorldState) (b : C) → keeps c → k.answers c k.profile w answer.Passes b → (IsLegalStep d w (calls c) × (calls b ≡ calls_after d w.state (calls c))) × (rule b ≡ rule c) × keeps b) where
   -- with an event that was not stopped
   rest_stays : (a : Standing S C O) (c : C) (w : WorldState) (e : Event) (b : C) → keeps c → Passes k.answers k.profile c w e b → (tries : Bool) → is_attempt w e ≡ tries → (rule b ≡ rule c) × keeps b
   rest_stays a c w e b kept passes true is = let so = passed c w b kept (passes.asked is) in (so.1, so.2)
@@ -42,11 +40,11 @@ module _ {S C O : Type 0} (k : Choice S C O) (calls : C → Calls) (rule : C →
       (record { asked = λ yes. (passed c m.before b kept.0 (passes.asked yes)).0; unasked = λ no. ap calls (passes.unasked no) }, (rest.1, rest.0 ∙ kept.1))
 
   -- what stays true as long as steps pass
-  went : (a : Standing S C O) (ms : List Moment) (c : C) → keeps a.stops × (rule a.stops ≡ None) → Folds (λ f m g. Passes k.answers k.profile f m.before m.event g) a.stops ms c → Folds (CallsGo d) (calls a.stops) ms (calls c) × (keeps c × (rule c ≡ None))
+  pub went : (a : Standing S C O) (ms : List Moment) (c : C) → keeps a.stops × (rule a.stops ≡ None) → Folds (λ f m g. Passes k.answers k.profile f m.before m.event g) a.stops ms c → Folds (CallsGo d) (calls a.stops) ms (calls c) × (keeps c × (rule c ≡ None))
   went a ms c kept stops = folds_through calls (λ b. keeps b × (rule b ≡ None)) (λ f m g. Passes k.answers k.profile f m.before m.event g) (CallsGo d) (one_goes a) a.stops ms c kept stops
 
   -- these events, and others that might come
-  taken_with : (a : Standing S C O) (ms : List Moment) (c : C) (x : WorldState) (rest : List Event) → keeps a.stops × (rule a.stops ≡ None) → calls a.stops ≡ [] → Folds (λ f m g. Passes k.answers k.profile f m.before m.event g) a.stops ms c → Folds (Happened k.resumes k.profile) a.world ms x →
+  pub taken_with : (a : Standing S C O) (ms : List Moment) (c : C) (x : WorldState) (rest : List Event) → keeps a.stops × (rule a.stops ≡ None) → calls a.stops ≡ [] → Folds (λ f m g. Passes k.answers k.profile f m.before m.event g) a.stops ms c → Folds (Happened k.resumes k.profile) a.world ms x →
       Taken d (events_of ms ++ rest) a.world (length (events_of ms)) x (calls c)
   taken_with a ms c x rest kept none stops world =
       let world_so : Folds (Happened d.pause d.profile) a.world ms x = rw (resumes_is, profile_is) at world in
@@ -86,11 +84,12 @@ module _ {S C O : Type 0} (k : Choice S C O) (calls : C → Calls) (rule : C →
       (folds_more (Happened k.resumes k.profile) a.world ms last.world m z.world world happened) refl
 
   -- the whole run
-  pub watched_whole : (a : Standing S C O) (why : Ended) (z : Standing S C O) → keeps a.stops × (rule a.stops ≡ None) → calls a.stops ≡ [] → Driven k a why z → IsWatched d a.world (rule z.stops) z.world
-  watched_whole a ended.Over z kept none run = rw run.ends.1.world (clean_at a run.came.moments run.last.stops run.last.world (rule z.stops) kept none run.came.stops run.came.world (ap rule run.ends.1.stops))
-  watched_whole a ended.Interrupted z kept none run = rw run.ends.1.world (clean_at a run.came.moments run.last.stops run.last.world (rule z.stops) kept none run.came.stops run.came.world (ap rule run.ends.1.stops))
-  watched_whole a ended.ReadFailed z kept none run = rw run.ends.1.world (clean_at a run.came.moments run.last.stops run.last.world (rule z.stops) kept none run.came.stops run.came.world (ap rule run.ends.1.stops))
-  watched_whole a ended.Stopped z kept none run =
+  pub watched_whole : ((c : C) (w : WorldState) (b : C) → keeps c → k.answers c k.profile w answer.Stops b → (rule b ≡ rule c) ⊎ TellsRule d w (calls c) (rule b)) → ((c : C) (w : WorldState) (b : C) → keeps c → k.answers c k.profile w answer.NoMemory b → rule b ≡ rule c) →
+      (a : Standing S C O) (why : Ended) (z : Standing S C O) → keeps a.stops × (rule a.stops ≡ None) → calls a.stops ≡ [] → Driven k a why z → IsWatched d a.world (rule z.stops) z.world
+  watched_whole stopped_by lacked a ended.Over z kept none run = rw run.ends.1.world (clean_at a run.came.moments run.last.stops run.last.world (rule z.stops) kept none run.came.stops run.came.world (ap rule run.ends.1.stops))
+  watched_whole stopped_by lacked a ended.Interrupted z kept none run = rw run.ends.1.world (clean_at a run.came.moments run.last.stops run.last.world (rule z.stops) kept none run.came.stops run.came.world (ap rule run.ends.1.stops))
+  watched_whole stopped_by lacked a ended.ReadFailed z kept none run = rw run.ends.1.world (clean_at a run.came.moments run.last.stops run.last.world (rule z.stops) kept none run.came.stops run.came.world (ap rule run.ends.1.stops))
+  watched_whole stopped_by lacked a ended.Stopped z kept none run =
       let refused = run.ends.so.0.refused in
       let ms = run.came.moments in
       let so = went a ms run.last.stops kept run.came.stops in
@@ -98,7 +97,7 @@ module _ {S C O : Type 0} (k : Choice S C O) (calls : C → Calls) (rule : C →
         | inl same ↦ clean_at a ms run.last.stops run.last.world (rule z.stops) kept none run.came.stops run.came.world same
         | inr tells ↦ broken_at a ms run.last.stops run.last.world (rule z.stops) kept none run.came.stops run.came.world (tried_runs run.last.world run.ends.event refused.step refused.attempt) tells
       ])
-  watched_whole a ended.NoMemory z kept none run =
+  watched_whole stopped_by lacked a ended.NoMemory z kept none run =
       let ms = run.came.moments in
       let so = went a ms run.last.stops kept run.came.stops in
       let same : rule z.stops ≡ rule run.last.stops = elim run.ends.so.0.refused [
@@ -106,8 +105,8 @@ module _ {S C O : Type 0} (k : Choice S C O) (calls : C → Calls) (rule : C →
         | inr lacks ↦ (rest_stays a run.last.stops run.last.world run.ends.event z.stops so.1 lacks.passes (is_attempt run.last.world run.ends.event) refl).0
       ] in
       rw run.ends.so.0.still (clean_at a ms run.last.stops run.last.world (rule z.stops) kept none run.came.stops run.came.world same)
-  watched_whole a (ended.After what) z kept none run = more_at a run.last z run.came.moments run.ends.event what kept none run.came.stops run.came.world run.ends.so.1.attempted
-  watched_whole a (ended.ObserverFailed fault) z kept none run = more_at a run.last z run.came.moments run.ends.event run.ends.so.what kept none run.came.stops run.came.world run.ends.so.attempted
+  watched_whole stopped_by lacked a (ended.After what) z kept none run = more_at a run.last z run.came.moments run.ends.event what kept none run.came.stops run.came.world run.ends.so.1.attempted
+  watched_whole stopped_by lacked a (ended.ObserverFailed fault) z kept none run = more_at a run.last z run.came.moments run.ends.event run.ends.so.what kept none run.came.stops run.came.world run.ends.so.attempted
 
 -- a CONTINUE has its effect where the watcher lets it
 pub pauses : (first second : ℕ → Bool) → ((at : ℕ) → first at ≡ true) → (λ (at : ℕ). first at && second at) ≡ second

@@ -102,7 +102,7 @@ abbrev first_count : {U : Type 0} → Both Steps U → ℕ
 first_count o = o.first.count
 
 broke_second : {U : Type 0} (breaks : U → Profile → Moment → ObserverFault → U → Type 0) (o : Both Steps U) (p : Profile) (m : Moment) (why : ObserverFault) (q : Both Steps U) → breaks_with breaks o p m why q → breaks o.second p m why q.second
-broke_second breaks o p m why q (inl no) = absurd no.0
+broke_second breaks o p m why q (inl never) = absurd never.0
 broke_second breaks o p m why q (inr both) = both.1
 
 -- A run of known events, in which each CONTINUE has its effect.

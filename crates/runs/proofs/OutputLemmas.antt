@@ -71,7 +71,7 @@ pub puts_plain : (output : List ℕ) (old new : Option (List ℕ)) (done now : �
 puts_plain output old new done now within all wrote = puts_rest as_it_is output old new done now within all (subst (Appends old new) (sym (map-id (drop done output))) wrote)
 
 -- What a device put out stays, and more may come after it.
-record Grows (old new : List ℕ) : Type 0 where
+pub record Grows (old new : List ℕ) : Type 0 where
   more : List ℕ
   is : new ≡ old ++ more
 
@@ -85,7 +85,7 @@ grows_on : (a b c : List ℕ) → Grows a b → Grows b c → Grows a c
 grows_on a b c first next = record { more = first.more ++ next.more; is = next.is ∙ ap (λ (l : List ℕ). l ++ next.more) first.is ∙ append_assoc a first.more next.more }
 
 -- What was printed and punched.
-record BothGrow (v u : Devices) : Type 0 where
+pub record BothGrow (v u : Devices) : Type 0 where
   printed : Grows v.printer.output u.printer.output
   punched : Grows v.punch.output u.punch.output
 

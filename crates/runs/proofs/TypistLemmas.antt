@@ -47,8 +47,8 @@ or_true true = refl
 or_true false = refl
 
 pub not_so : (b : Bool) → (b ≡ true → ⊥) → b ≡ false
-not_so true no = absurd (no refl)
-not_so false no = refl
+not_so true never = absurd (never refl)
+not_so false never = refl
 
 -- How many events may come at most.
 abbrev to_come : {F K : Type 0} → Typist F K → ℕ

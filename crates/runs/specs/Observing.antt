@@ -42,7 +42,7 @@ Counts m old new = old + counted m.seen < 18446744073709551616 → new ≡ old +
 abbrev pub NotesIf : {O N : Type 0} → (O → WorldState → Event → N → Type 0) → Option O → WorldState → Event → Option N → Type 0
 NotesIf notes (Some o) w e (Some note) = notes o w e note
 NotesIf notes (Some o) w e None = ⊥
-NotesIf notes None w e note = Unit {0}
+NotesIf notes None w e taken = Unit {0}
 
 -- It sees an event if it is there.
 abbrev pub SeesIf : {O : Type 0} → (O → Profile → Moment → O → Type 0) → Option O → Profile → Moment → Option O → Type 0

@@ -5,4 +5,4 @@ pub returns-then-self-eq0-clause-says : goal.returns-then-self-eq0-clause-says
 returns-then-self-eq0-clause-says g c = inl (c.if-self-eq0.true, refl, refl)
 
 pub returns-clause-says : goal.returns-clause-says
-returns-clause-says g c = inr (c.if-self-eq0.false, refl, rw c.asks.ensures refl)
+returns-clause-says g c = inr (c.if-self-eq0.false, refl, rw c.asks-self.ensures refl)

@@ -3,6 +3,7 @@ use Rattle.std.proofs.Common.{ℕ, ◌≡◌, ◌<◌, ◌+◌, Bool, true, fals
 use Rattle.std.specs.Prelude.{is_none, ◌&&◌, take, get_or, slice_get}
 use Rattle.std.proofs.lemmas.List.{take_more}
 use Rattle.std.proofs.lemmas.Option.{get_or_from_slice_get, slice_get_within}
+use Rattle.instruct.specs.declared.Profile.{Profile}
 use Rattle.peripherals.specs.declared.Event.{Event}
 use Rattle.peripherals.specs.declared.Event.TheVariants.{Step as Instruct, Key, PrinterDone, ReaderDone, PunchDone, Switches, Continue}
 use Rattle.peripherals.specs.Devices.{WorldState}
@@ -15,7 +16,12 @@ use Rattle.policy.specs.Calls.{Calls, calls_after}
 use Rattle.policy.specs.WatchedSteps.{Goes, waits}
 use Rattle.policy.proofs.WatchLemmas.{Taken, goes_on, halted_step, legal_step, passes_on, stays_halted, taken_more}
 use Rattle.runs.specs.Moments.{Folds, Happened, HappensBy, Moment, events_of, is_attempt, refuses}
+use Rattle.peripherals.specs.declared.Seen.{Seen}
+use Rattle.runs.specs.declared.driving.Ended.{Ended}
+use Rattle.runs.specs.declared.observers.ObserverFault.{ObserverFault}
+use Rattle.runs.specs.declared.sources.Next.{Next}
 use Rattle.runs.specs.declared.stops.Answer.{Answer}
+use Rattle.runs.specs.Drives.{Driven, Standing, choice}
 use Rattle.watched_runs.specs.declared.watching.Watcher.{Watcher}
 use Rattle.watched_runs.specs.Watches.{IsLegalStep, Judges}
 
@@ -138,3 +144,11 @@ WatchesBy d c = meaning c.declaration.now ≡ d
 pub judged : {A D : Type 0} (d : Declaration) (c : Watcher A D) (w : WorldState) (a : Answer) (b : Watcher A D) → WatchesBy d c → Judges (meaning c.declaration.now) w (calls_in c) (rule_in c) a (calls_in b) (rule_in b) × (b.declaration ≡ c.declaration) →
     Judges d w (calls_in c) (rule_in c) a (calls_in b) (rule_in b) × WatchesBy d b
 judged d c w a b kept is = (rw kept at is.0, rw is.1 kept)
+
+-- the same run, of an equal choice
+pub driven_as : {S C O : Type 0} (says : S → WorldState → Next → S → Type 0) (answers : C → Profile → WorldState → Answer → C → Type 0) (sees : O → Profile → Moment → O → Type 0) (breaks : O → Profile → Moment → ObserverFault → O → Type 0) (g h : Seen → Bool) (r q : ℕ → Bool) (p u : Profile) (a : Standing S C O) (why : Ended) (z : Standing S C O) →
+    g ≡ h → r ≡ q → p ≡ u → Driven (choice says g answers r sees breaks p) a why z → Driven (choice says h answers q sees breaks u) a why z
+driven_as says answers sees breaks g h r q p u a why z goes resumes profile run =
+    subst (λ (x : Seen → Bool). Driven (choice says x answers q sees breaks u) a why z) goes
+    (subst (λ (x : ℕ → Bool). Driven (choice says g answers x sees breaks u) a why z) resumes
+    (subst (λ (x : Profile). Driven (choice says g answers r sees breaks x) a why z) profile run))

@@ -55,9 +55,8 @@
 //!
 //! # What is not proved yet
 //!
-//! An earlier version of this crate was checked in part: the prover accepted `attempt` and `observe` (the two functions
-//! below the loop), [`Both`], `()`, [`Steps`], [`Trace`], [`Last`] as an observer, [`Listed`] and [`Rounds`] as sources,
-//! and the text of a line, which are as they were. The other proofs are drafts that it has not seen.
+//! The prover has accepted every function of this crate but [`hold`] and those of [`Typist`], whose proofs were mended
+//! after the last check.
 #![tactic(auto)]
 
 mod both;

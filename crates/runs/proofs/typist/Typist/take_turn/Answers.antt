@@ -28,7 +28,7 @@ returns-then-waits-clause-says g c =
     let key = Reads g.K.ByteSource.remaining g.K.ByteSource.ended in
     let waits : (view c.args.world.now).devices.reader.fetching ≡ true = ap (λ (v : Devices). v.reader.fetching) c.panel-waits.ensures ∙ c.if-waits.true in
     subst (λ (u : Turn). Types frame key u (view c.args.world.now) s c.take_frame.result c.take_frame.new.self) (sym c.in-Reader.is)
-      (subst (λ (b : Bool). TakesIf b frame key (view c.args.world.now) s c.take_frame.result c.take_frame.new.self) (sym waits) c.take_frame.ensures.says)
+    (subst (λ (b : Bool). TakesIf b frame key (view c.args.world.now) s c.take_frame.result c.take_frame.new.self) (sym waits) c.take_frame.ensures.says)
 
 pub returns-else-waits-clause-says : goal.returns-else-waits-clause-says
 returns-else-waits-clause-says g c =
@@ -37,7 +37,7 @@ returns-else-waits-clause-says g c =
     let key = Reads g.K.ByteSource.remaining g.K.ByteSource.ended in
     let waits : (view c.args.world.now).devices.reader.fetching ≡ false = ap (λ (v : Devices). v.reader.fetching) c.panel-waits.ensures ∙ c.if-waits.false in
     subst (λ (u : Turn). Types frame key u (view c.args.world.now) s c.strike.result c.strike.new.self) (sym c.in-Reader.is)
-      (subst (λ (b : Bool). TakesIf b frame key (view c.args.world.now) s c.strike.result c.strike.new.self) (sym waits) c.strike.ensures.says)
+    (subst (λ (b : Bool). TakesIf b frame key (view c.args.world.now) s c.strike.result c.strike.new.self) (sym waits) c.strike.ensures.says)
 
 pub returns-in-Keyboard-clause-says : goal.returns-in-Keyboard-clause-says
 returns-in-Keyboard-clause-says g c =

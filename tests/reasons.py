@@ -103,7 +103,7 @@ def added_text(word):
 def term_text(term):
     """A term as a sentence names it."""
     if isinstance(term, tuple):
-        return f"the word at [{term[0]:04o}]" + added_text(term[1])
+        return f"the word at [{term[0]:04o}]" + added_text(term[1]).replace(" ", "")
     return "AC" if term == AC else f"[{term:04o}]"
 
 

@@ -55,12 +55,16 @@ def name_of(name):
     return "AC" if name == AC else f"[{name:04o}]"
 
 
+def added_text(word):
+    return "" if word == 0 else f" + {word:04o}" if word < 0o4000 else f" - {4096 - word:04o}"
+
+
 def equation_items(fact, above):
     """The equations of a fact, each with the words that the equations and the sets leave for the name on its left."""
     for x, y, k in sorted(fact.equations):
         left = fact.narrowed(x)
         same = above is not None and (x, y, k) in above.equations and above.narrowed(x) == left
-        yield f"{name_of(x)} = [{y:04o}] + {k:04o}" + ("" if left == sets.ALL else ", so " + shown(left)), same
+        yield f"{name_of(x)} = [{y:04o}]" + added_text(k) + ("" if left == sets.ALL else ", so " + shown(left)), same
 
 
 def all_of_fact(fact, above, offsets=True):

@@ -6,6 +6,7 @@ pub mod message;
 pub mod options;
 pub mod outcome;
 pub mod programs;
+pub mod sentence;
 pub mod status;
 pub mod text;
 pub mod text_sink;

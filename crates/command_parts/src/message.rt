@@ -1,64 +1,53 @@
 //! Texts for people, in which each address of the program is known as one: whoever has the source can put its names
 //! beside them without reading the text.
 
-ghost use Rattle.std.specs.Prelude.{◌≡◌, ◌++◌, [], List, ℕ, OnOk};
-ghost use Rattle.word12.specs.Words.{octal_text};
-ghost use Rattle.command_parts.specs.Dumping.{dump_line};
+ghost use Rattle.std.specs.Prelude.{◌≡◌, ◌++◌, [], OnOk};
 
 use crate::text::{push_dump_line, push_word};
 use instruct::Profile;
 use std::alloc::{AllocError, Allocator};
 use word12::Word;
 
-/// Takes a text for people, piece by piece. A call fails where memory is refused.
-pub trait MessageWriter {
-    /// The text so far, as it reads without a source.
-    ghost text: { Self → List ℕ };
+/// Whether something was written: it fails only where memory is refused.
+pub type Written = Result<(), AllocError>;
 
+/// Takes a text for people, piece by piece.
+pub trait MessageWriter {
     /// Adds a piece in which nothing is an address of the program.
-    fn push_text(&mut self, piece: &[u8]) -> Result<(), AllocError>
-        ensures { OnOk result (text self.new ≡ text self.old ++ piece.now) };
+    fn push_text(&mut self, piece: &[u8]) -> Written;
 
     /// Adds an address of the program.
-    fn push_address(&mut self, at: Word) -> Result<(), AllocError>
-        ensures { OnOk result (text self.new ≡ text self.old ++ octal_text at) };
+    fn push_address(&mut self, at: Word) -> Written;
+
+    /// Adds the address of a cell of which something is said: the same, but for a link to it.
+    fn push_cell(&mut self, at: Word) -> Written;
 
     /// Adds an address within a line of a declaration that is advised, where a symbol may stand in its place.
-    fn push_advised_address(&mut self, at: Word) -> Result<(), AllocError>
-        ensures { OnOk result (text self.new ≡ text self.old ++ octal_text at) };
+    fn push_advised_address(&mut self, at: Word) -> Written;
 
     /// Adds the line of an instruction, as `dump` writes it, if its address has a word.
-    fn push_instruction(
-        &mut self,
-        at: Word,
-        word: Option<Word>,
-        profile: Profile,
-    ) -> Result<(), AllocError>
-        ensures { OnOk result (text self.new ≡ text self.old ++ dump_line profile at word) };
+    fn push_instruction(&mut self, at: Word, word: Option<Word>, profile: Profile) -> Written;
 }
 
 /// Bytes take a text as it reads without a source.
 impl<A: Allocator> MessageWriter for Vec<u8, A> {
-    ghost text = { λ bytes. bytes.items };
-
-    fn push_text(&mut self, piece: &[u8]) -> Result<(), AllocError> {
+    fn push_text(&mut self, piece: &[u8]) -> Written {
         self.extend_from_slice(piece)
     }
 
-    fn push_address(&mut self, at: Word) -> Result<(), AllocError> {
+    fn push_address(&mut self, at: Word) -> Written {
         push_word(self, at)
     }
 
-    fn push_advised_address(&mut self, at: Word) -> Result<(), AllocError> {
+    fn push_cell(&mut self, at: Word) -> Written {
         push_word(self, at)
     }
 
-    fn push_instruction(
-        &mut self,
-        at: Word,
-        word: Option<Word>,
-        profile: Profile,
-    ) -> Result<(), AllocError> {
+    fn push_advised_address(&mut self, at: Word) -> Written {
+        push_word(self, at)
+    }
+
+    fn push_instruction(&mut self, at: Word, word: Option<Word>, profile: Profile) -> Written {
         push_dump_line(self, at, word, profile)
     }
 }
@@ -96,7 +85,7 @@ fn push_marks<A: Allocator>(
     marks: &mut Vec<PlacedMark, A>,
     others: &[PlacedMark],
     before: usize,
-) -> Result<(), AllocError> {
+) -> Written {
     for other in others {
         marks.push(PlacedMark {
             place: before.saturating_add(other.place),
@@ -141,12 +130,21 @@ impl<A: Allocator> Message<A> {
     }
 
     /// Marks what the text ends with.
-    fn mark(&mut self, mark: AddressMark) -> Result<(), AllocError>
-        ensures { self.new.bytes ≡ self.old.bytes }
-    {
+    fn mark(&mut self, mark: AddressMark) -> Written {
         let place = self.bytes.len();
         self.marks.push(PlacedMark { place, mark })?;
         Ok(())
+    }
+
+    /// Adds lines in which nothing is an address of the program.
+    ///
+    /// # Errors
+    ///
+    /// Memory was refused.
+    pub fn push_lines(&mut self, lines: &[u8]) -> Written
+        ensures { OnOk result (plain self.new ≡ plain self.old ++ lines.now) }
+    {
+        self.bytes.extend_from_slice(lines)
     }
 
     /// Adds another text.
@@ -154,7 +152,7 @@ impl<A: Allocator> Message<A> {
     /// # Errors
     ///
     /// Memory was refused.
-    pub fn push_message(&mut self, other: &Message<A>) -> Result<(), AllocError>
+    pub fn push_message(&mut self, other: &Message<A>) -> Written
         ensures { OnOk result (plain self.new ≡ plain self.old ++ plain other.now) }
     {
         let before = self.bytes.len();
@@ -164,70 +162,30 @@ impl<A: Allocator> Message<A> {
 }
 
 impl<A: Allocator> MessageWriter for Message<A> {
-    ghost use Rattle.command_parts.specs.Messages.{plain};
-
-    ghost text = { λ message. plain message };
-
-    fn push_text(&mut self, piece: &[u8]) -> Result<(), AllocError> {
+    fn push_text(&mut self, piece: &[u8]) -> Written {
         self.bytes.extend_from_slice(piece)
     }
 
-    fn push_address(&mut self, at: Word) -> Result<(), AllocError> {
+    fn push_address(&mut self, at: Word) -> Written {
         push_word(&mut self.bytes, at)?;
         self.mark(AddressMark::Address(at))
     }
 
-    fn push_advised_address(&mut self, at: Word) -> Result<(), AllocError> {
+    fn push_cell(&mut self, at: Word) -> Written {
+        push_word(&mut self.bytes, at)?;
+        self.mark(AddressMark::Address(at))
+    }
+
+    fn push_advised_address(&mut self, at: Word) -> Written {
         push_word(&mut self.bytes, at)?;
         self.mark(AddressMark::AdvisedAddress(at))
     }
 
-    fn push_instruction(
-        &mut self,
-        at: Word,
-        word: Option<Word>,
-        profile: Profile,
-    ) -> Result<(), AllocError> {
+    fn push_instruction(&mut self, at: Word, word: Option<Word>, profile: Profile) -> Written {
         push_dump_line(&mut self.bytes, at, word, profile)?;
         if word.is_none() {
             return Ok(());
         }
         self.mark(AddressMark::Instruction(at))
     }
-}
-
-/// Adds a text, and after it an address.
-pub fn push_text_and_address<L: MessageWriter>(
-    text: &mut L,
-    before: &[u8],
-    at: Word,
-) -> Result<(), AllocError>
-    ensures { OnOk result (L.text text.new ≡ L.text text.old ++ (before.now ++ octal_text at)) }
-{
-    text.push_text(before)?;
-    text.push_address(at)
-}
-
-/// Adds a text, and after it an address within a line of a declaration that is advised.
-pub fn push_text_and_advised<L: MessageWriter>(
-    text: &mut L,
-    before: &[u8],
-    at: Word,
-) -> Result<(), AllocError>
-    ensures { OnOk result (L.text text.new ≡ L.text text.old ++ (before.now ++ octal_text at)) }
-{
-    text.push_text(before)?;
-    text.push_advised_address(at)
-}
-
-/// Adds a text, and after it a word that is not an address.
-pub fn push_text_and_word<L: MessageWriter>(
-    text: &mut L,
-    before: &[u8],
-    word: Word,
-) -> Result<(), AllocError>
-    ensures { OnOk result (L.text text.new ≡ L.text text.old ++ (before.now ++ octal_text word)) }
-{
-    text.push_text(before)?;
-    text.push_text(&word.to_octal())
 }

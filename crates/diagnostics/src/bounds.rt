@@ -4,22 +4,20 @@
 mod draft_facts;
 mod losses;
 mod relations;
-mod sets;
 mod sufficient;
 
 use crate::bounds::draft_facts::DraftFacts;
 use crate::bounds::losses::{PrecisionLoss, loss_at, may_go_on};
-use crate::bounds::relations::{Relation, lost_relation};
-use crate::bounds::sets::push_set;
+use crate::bounds::relations::lost_relation;
 use crate::bounds::sufficient::{sufficient_words, test_of_pointer};
-use crate::pieces::Piece::{Address, Octal, Text};
-use crate::pieces::{push_around, push_pieces};
 use bin_tape::Image;
 use certificate::Certificate;
-use command_parts::message::{MessageWriter, push_text_and_address};
+use command_parts::message::{MessageWriter, Written};
+use command_parts::sentence::Argument::{Address, Name, Octal, Text, Words};
+use command_parts::sentence::{Argument, push_sentence};
 use declaration::Declaration;
 use domain::Location;
-use instruct::{name, refers_indirectly, refers_to_memory, target};
+use instruct::{refers_indirectly, refers_to_memory, target};
 use judge::{Case, Claims};
 use std::alloc::{AllocError, Allocator};
 use word12::Word;
@@ -110,7 +108,7 @@ fn lost_before<A: Allocator + Copy, D: Allocator, C: Allocator>(
 ///
 /// # Errors
 ///
-/// `AllocError` if memory was refused.
+/// Memory was refused.
 pub fn push_bound<A: Allocator + Copy, L: MessageWriter, D: Allocator, C: Allocator>(
     alloc: A,
     text: &mut L,
@@ -118,7 +116,7 @@ pub fn push_bound<A: Allocator + Copy, L: MessageWriter, D: Allocator, C: Alloca
     declaration: &Declaration<D>,
     draft: &Certificate<C>,
     at: Word,
-) -> Result<(), AllocError> {
+) -> Written {
     let Some(pointer) = pointer_at(image, declaration, at) else {
         return Ok(());
     };
@@ -131,23 +129,25 @@ pub fn push_bound<A: Allocator + Copy, L: MessageWriter, D: Allocator, C: Alloca
         declaration,
         claims: draft,
     };
-    push_around(text, b"the pointer ", pointer, b" may hold ")?;
     let held = known.words_at(at, &Location::Cell(pointer));
-    push_set(text, &held)?;
-    text.push_text(b" there\n")?;
+    push_sentence(
+        text,
+        "the pointer {} may hold {} there\n",
+        &[Address(pointer), Words(&held)],
+    )?;
     push_sufficient(text, &case, at, pointer, &held)?;
     push_lost(alloc, text, &case, &mut known, pointer, at)
 }
 
-/// Adds which of the words that a pointer may hold would be enough for the instruction at an address, if they are fewer, and which test
-/// in the same body could show it. No words are enough where the pointer itself may not be read.
+/// Adds which of the words that a pointer may hold would be enough for the instruction at an address, if they are fewer, and which skip
+/// in the same body tests a sum with it, or that there is none. No words are enough where the pointer itself may not be read.
 fn push_sufficient<L: MessageWriter, D: Allocator, C: Allocator>(
     text: &mut L,
     case: &Case<'_, D, Certificate<C>>,
     at: Word,
     pointer: Word,
     held: &WordSet,
-) -> Result<(), AllocError> {
+) -> Written {
     if !case.declaration.may_read(pointer) {
         return Ok(());
     }
@@ -158,29 +158,31 @@ fn push_sufficient<L: MessageWriter, D: Allocator, C: Allocator>(
     if sufficient.is_empty() || held.is_subset(&sufficient) {
         return Ok(());
     }
-    text.push_text(b"for this instruction, it would be enough if the pointer held only ")?;
-    push_set(text, &sufficient)?;
-    text.push_text(b"\n")?;
-    push_test(text, case, at, pointer)
-}
-
-/// Adds the skip in the same body that tests a sum with a pointer, or that there is none.
-fn push_test<L: MessageWriter, D: Allocator, C: Allocator>(
-    text: &mut L,
-    case: &Case<'_, D, Certificate<C>>,
-    at: Word,
-    pointer: Word,
-) -> Result<(), AllocError> {
+    push_sentence(
+        text,
+        "for this instruction, it would be enough if the pointer held only {}\n",
+        &[Words(&sufficient)],
+    )?;
     match test_of_pointer(case.image, case.declaration, at, pointer) {
-        Some(test) => {
-            push_place(text, case, b"the skip at ", test)?;
-            text.push_text(
-                b" tests a sum that contains the pointer, and could show that the pointer holds only the words that would be enough\n",
-            )
-        }
+        Some(test) => push_sentence(
+            text,
+            "the skip at {} {} tests a sum that contains the pointer, and could show that the pointer holds only the words that would be enough\n",
+            &[Address(test), name_at(case, test)],
+        ),
         None => text.push_text(
             b"no skip in this body tests a sum that contains the pointer; a test or a mask before this instruction could show that the pointer holds only the words that would be enough\n",
         ),
+    }
+}
+
+/// The name of the word at an address.
+fn name_at<D: Allocator, C: Allocator>(
+    case: &Case<'_, D, Certificate<C>>,
+    at: Word,
+) -> Argument<'static> {
+    match case.image.get(at) {
+        Some(word) => Name(word, case.declaration.profile()),
+        None => Text(""),
     }
 }
 
@@ -193,64 +195,35 @@ fn push_lost<A: Allocator + Copy, L: MessageWriter, D: Allocator, C: Allocator>(
     known: &mut DraftFacts<'_, C>,
     pointer: Word,
     at: Word,
-) -> Result<(), AllocError> {
+) -> Written {
     let Some(lost) = lost_before(alloc, case, known, pointer, at)? else {
         return Ok(());
     };
-    if lost.loss != PrecisionLoss::Meeting {
-        return push_loss(text, case, pointer, &lost);
-    }
-    let found = lost_relation(alloc, case, pointer, lost.from, lost.to)?;
+    let found = match lost.loss {
+        PrecisionLoss::Meeting => lost_relation(alloc, case, pointer, lost.from, lost.to)?,
+        _ => None,
+    };
     match found {
-        Some((relation, at)) => push_relation(text, case, &relation, at),
-        None => push_loss(text, case, pointer, &lost),
+        Some((relation, at)) => push_sentence(
+            text,
+            "the word in {} is the word in {} plus {}; this is known up to {} {}, and lost there\n",
+            &[
+                Address(pointer),
+                Address(relation.cell),
+                Octal(relation.more),
+                Address(at),
+                name_at(case, at),
+            ],
+        ),
+        None => push_sentence(
+            text,
+            "the bound of {} was lost at {} {}: {}\n",
+            &[
+                Address(pointer),
+                Address(lost.from),
+                name_at(case, lost.from),
+                Text(lost.loss.told()),
+            ],
+        ),
     }
-}
-
-/// Adds an address behind a few words, and the name of the word there.
-fn push_place<L: MessageWriter, D: Allocator, C: Allocator>(
-    text: &mut L,
-    case: &Case<'_, D, Certificate<C>>,
-    before: &[u8],
-    at: Word,
-) -> Result<(), AllocError> {
-    push_pieces(text, &[Text(before), Address(at), Text(b" ")])?;
-    match case.image.get(at) {
-        Some(word) => text.push_text(name(word, case.declaration.profile()).as_str().as_bytes()),
-        None => Ok(()),
-    }
-}
-
-/// Adds a relation of a pointer that a loop keeps on one way, and the instruction at which it is lost on another.
-fn push_relation<L: MessageWriter, D: Allocator, C: Allocator>(
-    text: &mut L,
-    case: &Case<'_, D, Certificate<C>>,
-    relation: &Relation,
-    at: Word,
-) -> Result<(), AllocError> {
-    push_pieces(
-        text,
-        &[
-            Text(b"the word in "),
-            Address(relation.pointer),
-            Text(b" is the word in "),
-            Address(relation.cell),
-            Text(b" plus "),
-            Octal(relation.more),
-        ],
-    )?;
-    push_place(text, case, b"; this is known up to ", at)?;
-    text.push_text(b", and lost there\n")
-}
-
-/// Adds where the bound of a pointer was lost, and why.
-fn push_loss<L: MessageWriter, D: Allocator, C: Allocator>(
-    text: &mut L,
-    case: &Case<'_, D, Certificate<C>>,
-    pointer: Word,
-    lost: &LostBound,
-) -> Result<(), AllocError> {
-    push_text_and_address(text, b"the bound of ", pointer)?;
-    push_place(text, case, b" was lost at ", lost.from)?;
-    push_pieces(text, &[Text(b": "), Text(lost.loss.told()), Text(b"\n")])
 }

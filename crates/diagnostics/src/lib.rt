@@ -3,5 +3,5 @@
 
 pub mod bounds;
 pub mod inputs;
-mod pieces;
+pub mod sums;
 pub mod verdicts;

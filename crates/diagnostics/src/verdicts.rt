@@ -3,7 +3,7 @@
 pub mod certificates;
 pub mod explanation;
 pub mod messages;
-pub mod reason_context;
+mod reason_context;
 pub mod reason_text;
 pub mod surplus_text;
 pub mod verdict;

@@ -14,7 +14,6 @@ pub mod messages;
 mod progress;
 pub mod running;
 mod schedule;
-mod sentence;
 pub mod session;
 mod shown_cells;
 pub mod stopped_watch;

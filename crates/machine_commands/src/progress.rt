@@ -1,14 +1,15 @@
 //! The lines that say how far a watched run came. They are tested and not proved.
 
 use crate::declared_run::{is_continue, waits};
-use crate::sentence::{Argument, push_sentence};
 use bin_tape::Image;
-use command_parts::message::{Message, MessageWriter};
+use command_parts::message::{Message, MessageWriter, Written};
+use command_parts::sentence::Argument::{Address, Number, Text};
+use command_parts::sentence::push_sentence;
 use declaration::Declaration;
 use instruct::{DeviceOperation, Format, Operation, Profile, refers_indirectly, target};
 use peripherals::{Event, NoMemory, Panel, Seen, Start, World};
 use processor::Cpu;
-use std::alloc::{AllocError, Allocator};
+use std::alloc::Allocator;
 use word12::Word;
 
 /// What there was to come for a run.
@@ -80,12 +81,9 @@ fn awaited(panel: &Panel, word: Word) -> &'static str {
 }
 
 /// Adds where a run stands: at which HLT, or where it waits and for which device, or at which address.
-fn push_standing<L: MessageWriter, B: Allocator>(
-    text: &mut L,
-    world: &World<B>,
-) -> Result<(), AllocError> {
+fn push_standing<L: MessageWriter, B: Allocator>(text: &mut L, world: &World<B>) -> Written {
     if let Some(at) = world.halted_at() {
-        return push_sentence(text, "halted at {}\n", &[Argument::Address(at)]);
+        return push_sentence(text, "halted at {}\n", &[Address(at)]);
     }
     let cpu = world.cpu();
     let at = jump_from(cpu, cpu.pc).unwrap_or(cpu.pc);
@@ -94,10 +92,10 @@ fn push_standing<L: MessageWriter, B: Allocator>(
         _ => "",
     };
     if device.is_empty() {
-        let next = [Argument::Address(cpu.pc)];
+        let next = [Address(cpu.pc)];
         return push_sentence(text, "the next instruction is at {}\n", &next);
     }
-    let arguments = [Argument::Address(at), Argument::Text(device)];
+    let arguments = [Address(at), Text(device)];
     push_sentence(text, "waits at {} for the {}\n", &arguments)
 }
 
@@ -107,18 +105,18 @@ fn push_progress<L: MessageWriter, B: Allocator>(
     world: &World<B>,
     came: &Progress,
     offered: AvailableInput,
-) -> Result<(), AllocError> {
+) -> Written {
     push_sentence(
         text,
         "steps {}, frames read {} of {}, keys struck {} of {}, bytes printed {}, bytes punched {}\n",
         &[
-            Argument::Number(came.steps),
-            Argument::Number(came.frames),
-            Argument::Number(offered.frames),
-            Argument::Number(came.keys),
-            Argument::Number(offered.keys),
-            Argument::Number(world.printed().len()),
-            Argument::Number(world.punched().len()),
+            Number(came.steps),
+            Number(came.frames),
+            Number(offered.frames),
+            Number(came.keys),
+            Number(offered.keys),
+            Number(world.printed().len()),
+            Number(world.punched().len()),
         ],
     )?;
     push_standing(text, world)

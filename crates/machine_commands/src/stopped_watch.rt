@@ -17,7 +17,6 @@ use crate::messages::{RunMessage, watched_line, watched_status, why_of};
 use crate::progress::{AvailableInput, offered_by};
 use crate::shown_cells::shown_of;
 use bin_tape::Image;
-use command_parts::message::MessageWriter;
 use command_parts::options::{SessionOptions, Stops};
 use command_parts::status::Fault;
 use declaration::Declaration;
@@ -87,7 +86,7 @@ pub(crate) fn watch_of<A: Allocator + Copy, D: Allocator>(
         explained,
     )?;
     let shown = shown_of(alloc, image, declaration, events, watched, show)?;
-    details.push_text(&shown)?;
+    details.push_lines(&shown)?;
     let status = watched_status(watched);
     Ok(RunMessage {
         lines,

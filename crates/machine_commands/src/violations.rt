@@ -9,15 +9,16 @@ mod control;
 mod references;
 mod returns;
 
-use crate::sentence::{Argument, push_sentence};
 use crate::shown_cells::first;
 use bin_tape::Image;
-use command_parts::message::{Message, MessageWriter};
+use command_parts::message::{Message, MessageWriter, Written};
+use command_parts::sentence::Argument::{Address, Number, Text};
+use command_parts::sentence::push_sentence;
 use declaration::Declaration;
 use peripherals::{Event, NoMemory, Start};
 use policy::{Call, Rule, Watcher};
 use processor::{Cpu, DecodedInstruction};
-use std::alloc::{AllocError, Allocator};
+use std::alloc::Allocator;
 use word12::Word;
 
 /// An instruction that was carried out: its address and its word.
@@ -71,7 +72,7 @@ impl<D: Allocator> ViolatingStep<'_, D> {
     }
 
     /// Adds what the memory reference at the program counter does that a rule does not allow.
-    fn push_reference<L: MessageWriter>(&self, text: &mut L, rule: Rule) -> Result<(), AllocError> {
+    fn push_reference<L: MessageWriter>(&self, text: &mut L, rule: Rule) -> Written {
         let DecodedInstruction::Refers(reference) = self.cpu.fetch() else {
             return Ok(());
         };
@@ -84,8 +85,8 @@ impl<D: Allocator> ViolatingStep<'_, D> {
     }
 
     /// Adds what the step does that its rule does not allow.
-    fn push_act<L: MessageWriter>(&self, text: &mut L, rule: Rule) -> Result<(), AllocError> {
-        let at = Argument::Address(self.cpu.pc);
+    fn push_act<L: MessageWriter>(&self, text: &mut L, rule: Rule) -> Written {
+        let at = Address(self.cpu.pc);
         match rule {
             Rule::StaysInBody => self.push_stray(text),
             Rule::HaltsDeclared => self.push_no_halt(text),
@@ -99,11 +100,11 @@ impl<D: Allocator> ViolatingStep<'_, D> {
 
     /// Adds what the step is about to do: the instruction with its address, what the rule requires, what the step does in
     /// place of it, where control came from, and the routine that runs.
-    fn push<L: MessageWriter>(&self, text: &mut L, rule: Rule) -> Result<(), AllocError> {
+    fn push<L: MessageWriter>(&self, text: &mut L, rule: Rule) -> Written {
         let word = self.cpu.memory.get(self.cpu.pc);
         text.push_instruction(self.cpu.pc, Some(word), self.declaration.profile())?;
-        let number = Argument::Number(usize::from(rule.number()));
-        let required = Argument::Text(requirement(rule));
+        let number = Number(usize::from(rule.number()));
+        let required = Text(requirement(rule));
         push_sentence(text, "rule {}: {}\n", &[number, required])?;
         self.push_act(text, rule)?;
         if matches!(rule, Rule::StaysInBody) {

@@ -2,7 +2,7 @@
 
 use crate::examination::Examination;
 use crate::findings::Finding;
-use crate::lines::{count_characters, push_characters};
+use crate::lines::{Written, count_characters, push_characters};
 use crate::meanings::Occurrence;
 use crate::pieces::{bytes_of, name_of};
 use crate::symbols::letters_of;
@@ -29,7 +29,7 @@ impl<A: Allocator + Copy> Examination<'_, A> {
         text: &mut String<A>,
         one: Occurrence,
         other: Occurrence,
-    ) -> Result<(), AllocError> {
+    ) -> Written {
         let (first, second) = (self.written(one), self.written(other));
         if first == second {
             text.push_str("it got that value on ")?;

@@ -3,7 +3,7 @@
 use crate::copies::{copies_of, first_fault, replace};
 use crate::examination::{Examination, Source};
 use crate::findings::{Finding, has_order_mark};
-use crate::lines::{bytes_between, count_characters, line_at, push_marked};
+use crate::lines::{Written, bytes_between, count_characters, line_at, push_marked};
 use crate::meanings::{NOWHERE, meanings_before};
 use crate::statement::{Act, FaultyStatement, faulty_of};
 use instruct::Profile;
@@ -45,7 +45,7 @@ fn push_finding<A: Allocator + Copy>(
     source: &Source<'_>,
     faulty: &FaultyStatement<A>,
     finding: &Finding<A>,
-) -> Result<(), AllocError> {
+) -> Written {
     let bytes = source.bytes(faulty.part);
     let found = line_at(alloc, bytes, finding.start)?;
     let before = count_characters(bytes_between(bytes, found.line.start, finding.start));
@@ -142,7 +142,7 @@ fn push_next<A: Allocator + Copy>(
     copies: &mut [Vec<u8, A>],
     fault: PalFault,
     course: &mut FaultProgress<A>,
-) -> Result<(), AllocError> {
+) -> Written {
     let part = fault.part.saturating_sub(1);
     let Some(copy) = copies.get(part) else {
         return Ok(());
@@ -180,7 +180,7 @@ pub fn push_faults<A: Allocator + Copy>(
     names: &[&str],
     parts: &[&[u8]],
     profile: Profile,
-) -> Result<(), AllocError> {
+) -> Written {
     let source = Source {
         names,
         parts,

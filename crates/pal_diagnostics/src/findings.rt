@@ -2,7 +2,7 @@
 
 use crate::examination::Examination;
 use crate::forms::{FaultText, UNFINISHED, about, end_of_small, misplaced};
-use crate::lines::{bytes_between, push_characters};
+use crate::lines::{Written, bytes_between, push_characters};
 use crate::meanings::number_of;
 use crate::pieces::{bytes_of, tokens_from, told_kind};
 use pal_acts::FaultCode;
@@ -47,7 +47,7 @@ fn push_named<A: Allocator>(
     bytes: &[u8],
     start: usize,
     end: usize,
-) -> Result<(), AllocError> {
+) -> Written {
     let code = code_at(bytes, start);
     match code {
         b' ' | b'\t' => text.push_str("the space"),

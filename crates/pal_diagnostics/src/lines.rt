@@ -7,6 +7,9 @@ use std::alloc::{AllocError, Allocator};
 /// The maximum length, in bytes, of a line that is shown.
 const LONGEST_SHOWN: usize = 200;
 
+/// Whether something was added to a text: it fails only where memory is refused.
+pub(crate) type Written = Result<(), AllocError>;
+
 /// A line and its number, counted from 1.
 #[derive(Clone, Copy)]
 pub(crate) struct NumberedLine {
@@ -50,10 +53,7 @@ pub(crate) fn count_characters(bytes: &[u8]) -> usize {
 }
 
 /// Adds the characters that these bytes stand for, or a question mark for one that cannot be shown.
-pub(crate) fn push_characters<A: Allocator>(
-    text: &mut String<A>,
-    bytes: &[u8],
-) -> Result<(), AllocError> {
+pub(crate) fn push_characters<A: Allocator>(text: &mut String<A>, bytes: &[u8]) -> Written {
     for byte in bytes {
         let code = *byte % 0o200;
         if code == b'\t' || (b' ' <= code && code <= b'~') {
@@ -66,7 +66,7 @@ pub(crate) fn push_characters<A: Allocator>(
 }
 
 /// Adds, for each byte, a blank as wide as its character.
-fn push_blanks<A: Allocator>(text: &mut String<A>, bytes: &[u8]) -> Result<(), AllocError> {
+fn push_blanks<A: Allocator>(text: &mut String<A>, bytes: &[u8]) -> Written {
     for byte in bytes {
         let code = *byte % 0o200;
         if code == b'\t' {
@@ -86,7 +86,7 @@ pub(crate) fn push_marked<A: Allocator>(
     line: Line,
     start: usize,
     end: usize,
-) -> Result<(), AllocError> {
+) -> Written {
     let shown = bytes_between(part, line.start, line.end);
     if shown.len() > LONGEST_SHOWN {
         return Ok(());

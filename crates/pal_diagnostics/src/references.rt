@@ -2,7 +2,7 @@
 
 use crate::examination::Examination;
 use crate::findings::Finding;
-use crate::lines::{bytes_between, push_characters};
+use crate::lines::{Written, bytes_between, push_characters};
 use crate::meanings::terms_of;
 use crate::pieces::{bytes_of, name_of, tokens_from};
 use crate::statement::Act;
@@ -58,7 +58,7 @@ fn without_space(tokens: &[Token]) -> &[Token] {
 }
 
 /// Adds the page of an address, and the first and the last address on it.
-fn push_page<A: Allocator>(text: &mut String<A>, at: Word) -> Result<(), AllocError> {
+fn push_page<A: Allocator>(text: &mut String<A>, at: Word) -> Written {
     let page = at.page().value();
     let first = Word::ZERO.in_page_of(at);
     let last = Word::from_index(0o177).in_page_of(at);
@@ -80,7 +80,7 @@ fn push_address<A: Allocator>(
     bytes: &[u8],
     address: &[Token],
     value: Word,
-) -> Result<(), AllocError> {
+) -> Written {
     let is_number = matches!(address, [only] if only.kind == TokenKind::Number);
     if !is_number {
         let (start, end) = span_of(address);
@@ -125,10 +125,7 @@ impl<A: Allocator + Copy> Examination<'_, A> {
     }
 
     /// Adds the findings about the symbols of the statement that have no value when one is needed.
-    pub(crate) fn put_undefined(
-        &self,
-        findings: &mut Vec<Finding<A>, A>,
-    ) -> Result<(), AllocError> {
+    pub(crate) fn put_undefined(&self, findings: &mut Vec<Finding<A>, A>) -> Written {
         let is_word = self.faulty.act() == Act::Other;
         let meanings = if is_word { self.known } else { self.before };
         for token in self.faulty.operand() {

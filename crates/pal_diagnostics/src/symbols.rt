@@ -1,7 +1,7 @@
 //! Messages about symbols.
 
 use crate::examination::Examination;
-use crate::lines::{line_at, push_characters};
+use crate::lines::{Written, line_at, push_characters};
 use crate::meanings::Occurrence;
 use crate::pieces::bytes_of;
 use instruct::Profile;
@@ -74,11 +74,7 @@ impl<A: Allocator + Copy> Examination<'_, A> {
     }
 
     /// Adds the line that a symbol is on, and the name of its file if that is another one.
-    pub(crate) fn push_line_of(
-        &self,
-        text: &mut String<A>,
-        occurrence: Occurrence,
-    ) -> Result<(), AllocError> {
+    pub(crate) fn push_line_of(&self, text: &mut String<A>, occurrence: Occurrence) -> Written {
         let bytes = self.source.bytes(occurrence.part);
         let number = line_at(self.alloc, bytes, occurrence.token.start)?.number;
         write!(text, "line {number}")?;
@@ -90,11 +86,7 @@ impl<A: Allocator + Copy> Examination<'_, A> {
     }
 
     /// Adds a symbol of the source's own, as it is written and where it is defined.
-    pub(crate) fn push_defined(
-        &self,
-        text: &mut String<A>,
-        occurrence: Occurrence,
-    ) -> Result<(), AllocError> {
+    pub(crate) fn push_defined(&self, text: &mut String<A>, occurrence: Occurrence) -> Written {
         push_characters(text, self.written(occurrence))?;
         text.push_str(", defined on ")?;
         self.push_line_of(text, occurrence)
@@ -102,7 +94,7 @@ impl<A: Allocator + Copy> Examination<'_, A> {
 
     /// Adds the question whether another symbol is meant, if one is near to this one: one of the source's own or, if none
     /// of those is near, a permanent symbol.
-    fn push_nearest(&self, text: &mut String<A>, wanted: &str) -> Result<(), AllocError> {
+    fn push_nearest(&self, text: &mut String<A>, wanted: &str) -> Written {
         let symbols = &self.known.symbols;
         if let Some(own) = nearest(self.alloc, &symbols.own, wanted)? {
             if let Some(occurrence) = self.known.occurrence(&own) {
@@ -118,11 +110,7 @@ impl<A: Allocator + Copy> Examination<'_, A> {
     }
 
     /// Adds what to do about a symbol that has no value anywhere in the source.
-    pub(crate) fn push_undefined_advice(
-        &self,
-        text: &mut String<A>,
-        name: &Name,
-    ) -> Result<(), AllocError> {
+    pub(crate) fn push_undefined_advice(&self, text: &mut String<A>, name: &Name) -> Written {
         if let Some(words) = about_other_word(name) {
             return text.push_str(words);
         }

@@ -3,6 +3,7 @@
 use crate::known_fact::KnownFact;
 use crate::report::{CellKind, Report};
 use crate::writer::ReportWriter;
+use command_parts::sentence::Argument::{Addresses, Text, Words};
 use declaration::Declaration;
 use facts::Place;
 use instruct::{Instruction, Operation, decode, refers_indirectly, target};
@@ -25,15 +26,11 @@ struct Access {
 }
 
 /// Writes an item with addresses, if there are any.
-fn write_places<A: Allocator>(writer: &mut ReportWriter<'_, A>, name: &[u8], set: &WordSet) {
-    if set.is_empty() {
-        return;
-    }
-    writer.item(name);
+fn write_places<A: Allocator>(writer: &mut ReportWriter<'_, A>, name: &str, set: &WordSet) {
     if set.is_all() {
-        writer.put(b"any");
-    } else {
-        writer.places(set);
+        writer.item("{} any", &[Text(name)]);
+    } else if !set.is_empty() {
+        writer.item("{} {}", &[Text(name), Addresses(set)]);
     }
 }
 
@@ -99,12 +96,9 @@ impl<D: Allocator> Spot<'_, '_, D> {
     /// Where a routine returns: after the sites of the fact, by its offsets.
     fn returned(&self) -> WordSet {
         let sites = self.known.sites();
-        let offsets = self.known.fact.offsets();
         let mut found = WordSet::empty();
-        for offset in 0..64usize {
-            if offsets.contains(offset) {
-                found = found.union(&sites.shift(Word::from_index(offset + 1)));
-            }
+        for offset in self.known.offsets().iter() {
+            found = found.union(&sites.shift(offset.increment()));
         }
         found
     }
@@ -146,21 +140,20 @@ impl<D: Allocator> Spot<'_, '_, D> {
     /// Writes what some words may do, beside what their names say.
     fn write_each<A: Allocator>(&self, writer: &mut ReportWriter<'_, A>, words: &WordSet) {
         let access = self.access_of(words);
-        write_places(writer, b"reads ", &access.reads);
-        write_places(writer, b"writes ", &access.writes);
-        write_places(writer, b"calls ", &access.calls);
-        write_places(writer, b"jumps to ", &access.jumps);
-        write_places(writer, b"returns to ", &access.returns);
+        write_places(writer, "reads", &access.reads);
+        write_places(writer, "writes", &access.writes);
+        write_places(writer, "calls", &access.calls);
+        write_places(writer, "jumps to", &access.jumps);
+        write_places(writer, "returns to", &access.returns);
     }
 
     /// Writes which words may stand at the address, and what they do, unless they are many.
     fn write_varying<A: Allocator>(&self, writer: &mut ReportWriter<'_, A>) {
         let words = self.words_in(self.at);
         if words.is_all() {
-            return writer.item(b"may be any word");
+            return writer.item("may be any word", &[]);
         }
-        writer.item(b"may be ");
-        writer.words(&words);
+        writer.item("may be {}", &[Words(&words)]);
         if words.count() <= MOST_WORDS {
             self.write_each(writer, &words);
         }
@@ -194,7 +187,7 @@ impl<A: Allocator, D: Allocator, C: Allocator> Report<'_, A, D, C> {
         let declaration = self.declaration;
         if let Some(word) = self.fixed_word(at) {
             if stores(declaration, word) && !is_indirect(declaration, word) {
-                write_places(writer, b"writes ", &WordSet::one(target(word, at)));
+                write_places(writer, "writes", &WordSet::one(target(word, at)));
             }
         }
     }

@@ -6,7 +6,6 @@ ghost use Rattle.certificate_lines.specs.CertificateInCode.{claims};
 use crate::known_fact::{KnownFact, Subject};
 use bin_tape::Image;
 use certificate::Certificate;
-use domain::{Location, ReturnOffsets};
 use std::alloc::Allocator;
 use word12::Word;
 use wordset::WordSet;
@@ -20,8 +19,8 @@ pub(crate) struct FactDifferences {
     pub(crate) offsets: bool,
     /// By the link.
     pub(crate) link: bool,
-    /// By the words of a name.
-    pub(crate) name: Option<Location>,
+    /// By the words of a cell or of the accumulator.
+    pub(crate) name: Option<Subject>,
 }
 
 /// The names by which facts were found to differ.
@@ -33,18 +32,6 @@ struct Names {
     cells: WordSet,
     /// Cells that hold one word each in all facts.
     single: WordSet,
-}
-
-/// Whether these are the same offsets.
-pub(crate) fn are_same_offsets(offsets: ReturnOffsets, others: ReturnOffsets) -> bool {
-    offsets.is_subset(others) && others.is_subset(offsets)
-}
-
-/// Whether a return word was not counted up: there is no offset but 0.
-pub(crate) fn is_uncounted(offsets: ReturnOffsets) -> bool {
-    let mut zero = ReturnOffsets::none();
-    zero.insert(0);
-    offsets.is_subset(zero)
 }
 
 impl Names {
@@ -79,16 +66,16 @@ impl Names {
 
     /// The name that tells most about which of the facts holds: a cell that holds one word in each; if there is none and
     /// they do not differ otherwise, another cell, or the accumulator.
-    fn chosen(&self, differ: bool) -> Option<Location> {
+    fn chosen(&self, differ: bool) -> Option<Subject> {
         if let Some(cell) = self.cells.meet(&self.single).least() {
-            return Some(Location::Cell(cell));
+            return Some(Subject::Cell(cell));
         }
         if differ {
             return None;
         }
         match self.cells.least() {
-            Some(cell) => Some(Location::Cell(cell)),
-            None if self.accumulator => Some(Location::Accumulator),
+            Some(cell) => Some(Subject::Cell(cell)),
+            None if self.accumulator => Some(Subject::Accumulator),
             None => None,
         }
     }
@@ -108,7 +95,7 @@ impl FactDifferences {
     /// Adds that by which another fact differs from the first, names apart.
     fn add(&mut self, first: &KnownFact, other: &KnownFact) {
         self.sites |= first.sites() != other.sites();
-        self.offsets |= !are_same_offsets(first.fact.offsets(), other.fact.offsets());
+        self.offsets |= first.offsets() != other.offsets();
         self.link |= first.fact.link() != other.fact.link();
     }
 
@@ -140,9 +127,19 @@ impl FactDifferences {
         apart
     }
 
-    /// Whether facts are distinguished by the words of this name.
-    pub(crate) fn is_by(&self, name: &Location) -> bool {
-        self.name == Some(*name)
+    /// By which subjects facts are distinguished.
+    pub(crate) fn subjects(&self) -> [Option<Subject>; 4] {
+        [
+            self.sites.then_some(Subject::Sites),
+            self.offsets.then_some(Subject::Offsets),
+            self.name,
+            self.link.then_some(Subject::Link),
+        ]
+    }
+
+    /// Whether facts are distinguished by a subject.
+    pub(crate) fn is_by(&self, subject: &Subject) -> bool {
+        self.subjects().contains(&Some(*subject))
     }
 
     /// Whether facts are distinguished by something.

@@ -10,41 +10,10 @@ use bin_tape::Image;
 use certificate::Certificate;
 use command_parts::text::push_place;
 use declaration::Declaration;
-use diagnostics::bounds::push_bound;
-use diagnostics::verdicts::reason_context::reason_context_of;
-use diagnostics::verdicts::reason_text::push_why;
 use diagnostics::verdicts::verdict::condition_name;
-use judge::Refusal;
-use reasons::{Reason, ReasonWorkspace, why_stuck};
+use reasons::{ReasonWorkspace, why_stuck};
 use std::alloc::{AllocError, Allocator};
 use word12::Word;
-
-/// Why a search is stuck at an address, as far as the draft tells: the condition that fails there, if one is told, and what
-/// is known of the pointer.
-fn found_lines<A: Allocator + Copy, D: Allocator, C: Allocator>(
-    alloc: A,
-    image: &Image,
-    declaration: &Declaration<D>,
-    draft: &Certificate<C>,
-    at: Word,
-    told: &Option<(Refusal, Reason)>,
-) -> Result<Vec<u8, A>, AllocError> {
-    let mut text = Vec::new(alloc);
-    if let Some((refusal, reason)) = told {
-        let (verdict, reason) = (Err(*refusal), Some(*reason));
-        let telling = reason_context_of(draft, &verdict, &reason);
-        push_why(
-            &mut text,
-            declaration.profile(),
-            image,
-            &verdict,
-            &reason,
-            &telling,
-        )?;
-    }
-    push_bound(alloc, &mut text, image, declaration, draft, at)?;
-    Ok(text)
-}
 
 /// The line of a search that is stuck, with what comes before and right after it in a form, and the rest.
 fn joined<A: Allocator>(
@@ -65,7 +34,7 @@ fn joined<A: Allocator>(
     Ok(page)
 }
 
-/// The report of a draft for a program that has these names. If the lines that say why the search is stuck are given, it has these.
+/// The report of a draft for a program that has these names, with the lines that say why the search is stuck.
 ///
 /// # Errors
 ///
@@ -79,7 +48,7 @@ pub fn draft_page<A: Allocator + Copy, D: Allocator, C: Allocator>(
     form: ReportForm,
     names: PageNames<'_>,
     notes: Option<&SourceNotes<A>>,
-    given: Option<&[u8]>,
+    lines: &[u8],
 ) -> Result<Vec<u8, A>, AllocError>
     ensures { IfOk result (λ page. HasLine (stuck_line at) page.items) }
 {
@@ -99,12 +68,6 @@ pub fn draft_page<A: Allocator + Copy, D: Allocator, C: Allocator>(
         names.files,
         notes,
     )?;
-    let rest = match given {
-        Some(lines) => below_lines(alloc, &report, lines, form)?,
-        None => {
-            let lines = found_lines(alloc, image, declaration, draft, at, &told)?;
-            below_lines(alloc, &report, &lines, form)?
-        }
-    };
+    let rest = below_lines(alloc, &report, lines, form)?;
     joined(alloc, form, names.program, at, &rest)
 }

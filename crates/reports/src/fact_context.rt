@@ -1,13 +1,14 @@
 //! What is known at an address, item by item, and what of it is the same as on the line above.
 
-use crate::cases::{FactDifferences, are_same_offsets, is_uncounted};
-use crate::items::{Equation, Item, link_text, write_item, write_subject, write_up_by};
+use crate::cases::FactDifferences;
+use crate::items::{Item, push_subject, write_item};
 use crate::known_fact::{KnownFact, Subject};
 use crate::writer::ReportWriter;
 use bin_tape::Image;
-use domain::{Chain, Location, Relation, Rules};
+use domain::{Chain, Relation, Rules};
 use instruct::Profile;
 use std::alloc::Allocator;
+use word12::Word;
 use wordset::WordSet;
 
 /// Where facts stand: the tape, the rules by which they are read, the machine, and the sites of the routine in whose body
@@ -44,17 +45,9 @@ fn is_same_chain(chain: &Chain, other: &Chain) -> bool {
         && chain.steps() == other.steps()
 }
 
-/// The equation that a relation is, if one word is how much the first name is more than the second.
-fn equation_of(relation: &Relation) -> Option<Equation> {
-    let [left, right, ..] = relation.sum.summands() else {
-        return None;
-    };
-    let more = relation.set.only()?;
-    Some(Equation {
-        left: left.term.name(),
-        right: right.term.name(),
-        more,
-    })
+/// Whether a return word may have been incremented by another offset than 0.
+fn is_counted(offsets: &WordSet) -> bool {
+    !offsets.is_subset(&WordSet::one(Word::ZERO))
 }
 
 impl ShownFact<'_, '_, '_> {
@@ -68,12 +61,15 @@ impl ShownFact<'_, '_, '_> {
 
     /// Whether there is an item on a subject that has these words.
     fn is_told(&self, subject: &Subject, set: &WordSet) -> bool {
+        if self.apart.is_by(subject) {
+            return false;
+        }
         match subject {
-            Subject::Accumulator => !self.apart.is_by(&Location::Accumulator),
+            Subject::Accumulator | Subject::Link | Subject::Cell(_) => true,
             Subject::Mq => self.is_unusual(subject, set, &WordSet::all()),
-            Subject::Cell(cell) => !self.apart.is_by(&Location::Cell(*cell)),
-            Subject::Sites => !self.apart.sites
-                && self.is_unusual(subject, set, &self.setting.sites),
+            Subject::Offsets => is_counted(set)
+                || self.above.is_some_and(|above| is_counted(&above.offsets())),
+            Subject::Sites => self.is_unusual(subject, set, &self.setting.sites),
         }
     }
 
@@ -85,15 +81,6 @@ impl ShownFact<'_, '_, '_> {
                 .above
                 .is_some_and(|above| above.words_of(subject) == set);
             write_item(writer, &Item::Words(subject, &set), same);
-        }
-    }
-
-    /// Writes the item on the link, unless facts are distinguished by it.
-    fn write_link<A: Allocator>(&self, writer: &mut ReportWriter<'_, A>) {
-        if !self.apart.link {
-            let links = self.known.fact.link();
-            let same = self.above.is_some_and(|above| above.fact.link() == links);
-            write_item(writer, &Item::Link(links), same);
         }
     }
 
@@ -116,14 +103,15 @@ impl ShownFact<'_, '_, '_> {
 
     /// Writes the item of an equation, with the words that all that is known leaves to the name on its left.
     fn write_equation<A: Allocator>(&self, writer: &mut ReportWriter<'_, A>, relation: &Relation) {
-        let Some(equation) = equation_of(relation) else {
+        let [first, ..] = relation.sum.summands() else {
             return;
         };
-        let set = self.known.narrowed(&self.setting, &equation.left);
+        let left = first.term.name();
+        let set = self.known.narrowed(&self.setting, &left);
         let same = self.above.is_some_and(|above| {
-            has_relation(above, relation) && above.narrowed(&self.setting, &equation.left) == set
+            has_relation(above, relation) && above.narrowed(&self.setting, &left) == set
         });
-        write_item(writer, &Item::Equation(&equation, &set), same);
+        write_item(writer, &Item::Equation(relation, &set), same);
     }
 
     /// Writes the items of the relations that the fact claims.
@@ -181,25 +169,11 @@ impl ShownFact<'_, '_, '_> {
         }
     }
 
-    /// Writes the item on how far the return word was incremented, where it may have been or was above.
-    fn write_offsets<A: Allocator>(&self, writer: &mut ReportWriter<'_, A>) {
-        let offsets = self.known.fact.offsets();
-        let was_counted = self
-            .above
-            .is_some_and(|above| !is_uncounted(above.fact.offsets()));
-        if !self.apart.offsets && (was_counted || !is_uncounted(offsets)) {
-            let same = self.above.is_some_and(|above| {
-                are_same_offsets(above.fact.offsets(), offsets)
-            });
-            write_item(writer, &Item::Offsets(offsets), same);
-        }
-    }
-
     /// Writes the items on what the fact claims: where one above is near, what differs from it, and in a page also what does not.
     fn write_claims<A: Allocator>(&self, writer: &mut ReportWriter<'_, A>) {
         self.write_subject(writer, &Subject::Accumulator);
         self.write_subject(writer, &Subject::Mq);
-        self.write_link(writer);
+        self.write_subject(writer, &Subject::Link);
         self.write_cells(writer);
         if let Some(above) = self.above {
             self.write_lost_cells(writer, above);
@@ -215,7 +189,7 @@ impl ShownFact<'_, '_, '_> {
     /// Writes what the fact says as items.
     pub(crate) fn write<A: Allocator>(&self, writer: &mut ReportWriter<'_, A>) {
         self.write_claims(writer);
-        self.write_offsets(writer);
+        self.write_subject(writer, &Subject::Offsets);
         self.write_subject(writer, &Subject::Sites);
     }
 
@@ -226,44 +200,19 @@ impl ShownFact<'_, '_, '_> {
     }
 }
 
-/// Begins a part of what distinguishes a fact from others.
-fn begin_part<A: Allocator>(writer: &mut ReportWriter<'_, A>, is_first: &mut bool) {
-    if !*is_first {
-        writer.put(b", ");
-    }
-    *is_first = false;
-}
-
 /// Writes what distinguishes a fact from others.
 pub(crate) fn write_apart<A: Allocator>(
     writer: &mut ReportWriter<'_, A>,
     known: &KnownFact,
     apart: &FactDifferences,
 ) {
-    let mut is_first = true;
-    if apart.sites {
-        begin_part(writer, &mut is_first);
-        write_subject(writer, &Subject::Sites, &known.sites());
-    }
-    if apart.offsets {
-        begin_part(writer, &mut is_first);
-        write_up_by(writer, known.fact.offsets());
-    }
-    if let Some(name) = &apart.name {
-        begin_part(writer, &mut is_first);
-        let subject = subject_of(name);
-        write_subject(writer, &subject, &known.words_of(&subject));
-    }
-    if apart.link {
-        begin_part(writer, &mut is_first);
-        writer.put(link_text(known.fact.link()));
-    }
-}
-
-/// The subject that a name is.
-fn subject_of(name: &Location) -> Subject {
-    match name {
-        Location::Accumulator => Subject::Accumulator,
-        Location::Cell(cell) => Subject::Cell(*cell),
+    let mut between = "";
+    let subjects = apart.subjects();
+    for subject in &subjects {
+        if let Some(subject) = subject {
+            writer.fill(between, &[]);
+            let _ = push_subject(writer, subject, &known.words_of(subject));
+            between = ", ";
+        }
     }
 }

@@ -2,9 +2,10 @@
 
 use crate::map::colour_of;
 use crate::report::{Finding, Report, claimed_of};
-use crate::routines::write_return_offsets;
 use crate::writer::ReportWriter;
+use command_parts::sentence::Argument::{Address, Number, Offsets, Text};
 use declaration::Routine;
+use diagnostics::verdicts::surplus_text::declared_offsets;
 use std::alloc::{AllocError, Allocator};
 use word12::Word;
 
@@ -36,35 +37,33 @@ fn write_line<A: Allocator>(writer: &mut ReportWriter<'_, A>, caller: usize, cal
         .abs_diff(callee)
         .saturating_mul(ASIDE)
         .saturating_add(130);
-    writer.numbered(b"<path class=l d=\"M130 ", from);
-    writer.numbered(b"C", aside);
-    writer.numbered(b" ", from);
-    writer.numbered(b" ", aside);
-    writer.numbered(b" ", to);
-    writer.numbered(b" 130 ", to);
-    writer.put(b"\" />");
+    let (from, to, aside) = (Number(from), Number(to), Number(aside));
+    writer.fill(
+        "<path class=l d=\"M130 {}C{} {} {} {} 130 {}\" />",
+        &[from, aside, from, aside, to, to],
+    );
 }
 
 /// Writes a box: that of the routine with this entry, with its label, or that of main.
 fn write_box<A: Allocator>(
     writer: &mut ReportWriter<'_, A>,
     place: usize,
-    class: &[u8],
+    class: &str,
     entry: Option<Word>,
 ) {
     let top = top(place);
-    writer.numbered(b"<rect class=b width=120 height=40 x=10 y=", top);
-    writer.put(b" /><rect width=10 height=40 class=");
-    writer.put(class);
-    writer.numbered(b" x=10 y=", top);
-    writer.numbered(b" /><text class=n x=28 y=", top.saturating_add(24));
-    writer.put(b">");
+    writer.fill(
+        "<rect class=b width=120 height=40 x=10 y={} /><rect width=10 height=40 class={} x=10 y={} /><text class=n x=28 y={}>",
+        &[
+            Number(top),
+            Text(class),
+            Number(top),
+            Number(top.saturating_add(24)),
+        ],
+    );
     match entry {
         None => writer.put(b"main"),
-        Some(entry) => {
-            writer.word(entry);
-            writer.label(entry);
-        }
+        Some(entry) => writer.named(entry),
     }
     writer.put(b"</text>\n");
 }
@@ -129,26 +128,24 @@ impl<A: Allocator, D: Allocator, C: Allocator> Report<'_, A, D, C> {
     /// Writes the row of a routine in the table.
     fn write_routine_row(&self, writer: &mut ReportWriter<'_, A>, routine: &Routine) {
         let entry = routine.entry();
-        writer.put(b"<tr><td>");
-        writer.linked(entry);
-        writer.label(entry);
+        writer.fill("<tr><td>{}", &[Address(entry)]);
         self.write_claimed_columns(writer, entry);
-        writer.put(b"<td>");
-        write_return_offsets(writer, self.declaration, entry);
-        writer.put(b"\n")
+        let offsets = declared_offsets(self.declaration, entry);
+        writer.fill("<td>{}\n", &[Offsets(&offsets)]);
     }
 
     /// Writes the drawing: the lines, and above them the boxes.
     fn write_drawing(&self, writer: &mut ReportWriter<'_, A>, ranks: &[usize]) {
         let width = ranks.len().saturating_mul(ASIDE).saturating_add(150);
-        writer.numbered(b"<svg role=img aria-label=\"graph of calls\" width=", width);
-        writer.numbered(b" viewBox=\"0 0 ", width);
-        writer.numbered(b" ", top(ranks.len()).saturating_add(45));
-        writer.put(b"\">\n");
+        let height = top(ranks.len()).saturating_add(45);
+        writer.fill(
+            "<svg role=img aria-label=\"graph of calls\" width={} viewBox=\"0 0 {} {}\">\n",
+            &[Number(width), Number(width), Number(height)],
+        );
         for (at, routine) in self.declaration.routines().iter().enumerate() {
             self.write_call_lines(writer, ranks, at, routine);
         }
-        write_box(writer, MAIN, b"m", None);
+        write_box(writer, MAIN, "m", None);
         self.write_boxes(writer, ranks);
         writer.put(b"</svg>\n");
     }

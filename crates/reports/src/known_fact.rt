@@ -10,18 +10,22 @@ use domain::{Chain, Location, Relation, Rules};
 use facts::{Fact, NarrowedFact};
 use judge::{Claims, put_asked, put_sites};
 use std::alloc::Allocator;
-use word12::Word;
+use word12::{Link, Word};
 use wordset::WordSet;
 
 /// Of what a fact says which words it may be.
-#[derive(Clone, Copy)]
+#[derive(Clone, Copy, PartialEq)]
 pub(crate) enum Subject {
     /// The accumulator.
     Accumulator,
     /// MQ.
     Mq,
+    /// The link.
+    Link,
     /// A cell.
     Cell(Word),
+    /// By how much the return word was incremented.
+    Offsets,
     /// The sites from which the running routine may have been called.
     Sites,
 }
@@ -127,7 +131,9 @@ impl KnownFact {
         match subject {
             Subject::Accumulator => *self.fact.accumulator(),
             Subject::Mq => *self.fact.mq(),
+            Subject::Link => self.links(),
             Subject::Cell(cell) => words_in_cell(&self.fact, *cell),
+            Subject::Offsets => self.offsets(),
             Subject::Sites => self.sites(),
         }
     }
@@ -137,6 +143,29 @@ impl KnownFact {
         let mut set = WordSet::empty();
         self.fact
             .put_words_by(&setting.rules, setting.image, name, &mut set);
+        set
+    }
+
+    /// The words that the link may be.
+    fn links(&self) -> WordSet {
+        let mut set = WordSet::empty();
+        if self.fact.link().contains(Link::CLEAR) {
+            set.insert(Word::ZERO);
+        }
+        if self.fact.link().contains(Link::SET) {
+            set.insert(Word::from_index(1));
+        }
+        set
+    }
+
+    /// By how much the return word may have been incremented.
+    pub(crate) fn offsets(&self) -> WordSet {
+        let mut set = WordSet::empty();
+        for offset in 0..64usize {
+            if self.fact.offsets().contains(offset) {
+                set.insert(Word::from_index(offset));
+            }
+        }
         set
     }
 

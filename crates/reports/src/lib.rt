@@ -5,17 +5,14 @@ ghost use Rattle.reports.specs.Findings.{IsFindingTrue};
 
 mod access;
 mod cases;
-mod escaping;
 mod fact_context;
 mod graph;
 mod items;
 mod known_fact;
 mod listing;
 mod map;
-mod names;
 mod page;
 mod promises;
-mod relations;
 mod report;
 mod routines;
 mod source_notes;
@@ -24,7 +21,6 @@ mod variables;
 mod writer;
 
 use listing::ClaimCache;
-pub use names::PageNames;
 pub use page::page_below;
 pub use report::{Finding, Report};
 pub use source_notes::{LinePlace, SourceNote, SourceNotes};
@@ -32,6 +28,15 @@ use std::alloc::{AllocError, Allocator};
 pub use style::{opening, stuck_opening};
 pub use writer::ReportForm;
 use writer::ReportWriter;
+
+/// What a page says about a program and its files.
+#[derive(Clone, Copy)]
+pub struct PageNames<'a> {
+    /// The name of the program.
+    pub program: &'a [u8],
+    /// A line on its files.
+    pub files: &'a [u8],
+}
 
 /// The listing as plain text, as it stands below the verdict and its reason.
 ///

@@ -11,6 +11,7 @@ use crate::report::{CellKind, Finding, Report, before, claimed_in};
 use crate::source_notes::SourceNote;
 use crate::writer::ReportWriter;
 use certificate_lines::RoutineClaim;
+use command_parts::sentence::Argument::{Bytes, Number, Octal, Text, Words};
 use instruct::{Instruction, decode, name, refers_indirectly, target};
 use judge::Claims;
 use std::alloc::{AllocError, Allocator};
@@ -106,11 +107,11 @@ fn write_case_head<A: Allocator>(
 ) {
     writer.mark(b"<tr><td colspan=3><td><b>");
     writer.begin_items(WITHOUT);
-    writer.item(b"");
+    writer.separate();
     if apart.is_told() {
         write_apart(writer, known, apart);
     } else {
-        writer.numbered(b"case ", index.saturating_add(1));
+        writer.fill("case {}", &[Number(index.saturating_add(1))]);
     }
     writer.put(b": ");
     writer.mark(b"</b>");
@@ -123,13 +124,13 @@ fn write_note<A: Allocator>(writer: &mut ReportWriter<'_, A>, note: Option<Sourc
         return;
     };
     writer.mark(b"<td>");
-    writer.note();
-    writer.noted_label(note.label);
-    writer.numbered(b"line ", note.line);
-    if note.is_first {
-        writer.put(b": ");
-        writer.say(note.text);
-    }
+    writer.begin_note(note.label);
+    let template = if note.is_first {
+        "line {}: {}"
+    } else {
+        "line {}"
+    };
+    writer.fill(template, &[Number(note.line), Bytes(note.text)]);
 }
 
 impl<A: Allocator, D: Allocator, C: Allocator> Report<'_, A, D, C> {
@@ -159,8 +160,7 @@ impl<A: Allocator, D: Allocator, C: Allocator> Report<'_, A, D, C> {
         });
         writer.mark(&at.to_octal());
         writer.mark(b"><td>");
-        writer.word(at);
-        writer.label(at);
+        writer.named(at);
         writer.put(b" ");
         writer.mark(b"<td>");
         writer.begin_items(SHORT);
@@ -168,7 +168,7 @@ impl<A: Allocator, D: Allocator, C: Allocator> Report<'_, A, D, C> {
             writer.put(b"----");
             return writer.mark(b"<td>");
         };
-        writer.word(word);
+        writer.fill("{}", &[Octal(word)]);
         writer.mark(b"<td class=c>");
         if self.is_code(at) {
             writer.put(b" ");
@@ -179,23 +179,20 @@ impl<A: Allocator, D: Allocator, C: Allocator> Report<'_, A, D, C> {
     /// Writes what is declared of an address.
     fn write_declared(&self, writer: &mut ReportWriter<'_, A>, at: Word) {
         let declaration = self.declaration;
-        writer.item_if(self.is_start(at), b"start");
-        writer.item_if(declaration.is_stop(at), b"stop");
-        writer.item_if(declaration.is_pause(at), b"pause");
-        writer.item_if(declaration.is_entry(at), b"entry");
+        writer.item_if(self.is_start(at), "start");
+        writer.item_if(declaration.is_stop(at), "stop");
+        writer.item_if(declaration.is_pause(at), "pause");
+        writer.item_if(declaration.is_entry(at), "entry");
     }
 
     /// Writes which words a variable may hold, and where nothing is known about it.
     pub(crate) fn write_variable(&self, writer: &mut ReportWriter<'_, A>, cell: Word) {
         let Some(held) = self.held_in(cell) else {
-            return writer.item(b"any word");
+            return writer.item("any word", &[]);
         };
-        writer.item(b"holds ");
-        if held.words.is_all() {
-            writer.put(b"any word");
-        } else {
-            writer.words(&held.words);
-        }
+        let is_any = held.words.is_all();
+        let template = if is_any { "holds any word" } else { "holds {}" };
+        writer.item(template, &[Words(&held.words)]);
         if !self.facts.is_subset(&held.known_at) {
             writer.put(b" where it is known");
         }
@@ -217,8 +214,8 @@ impl<A: Allocator, D: Allocator, C: Allocator> Report<'_, A, D, C> {
     {
         match kind {
             CellKind::Main | CellKind::Routine(_) => match self.absence() {
-                FactAbsence::NeverReached => writer.item(b"never reached"),
-                FactAbsence::NoFact => writer.item(b"no fact"),
+                FactAbsence::NeverReached => writer.item("never reached", &[]),
+                FactAbsence::NoFact => writer.item("no fact", &[]),
             },
             CellKind::Variable => self.write_variable(writer, at),
             CellKind::Entry | CellKind::Other | CellKind::Unset => {}
@@ -232,11 +229,9 @@ impl<A: Allocator, D: Allocator, C: Allocator> Report<'_, A, D, C> {
         }
         writer.mark(b"<b>");
         if self.failing.is_empty() {
-            writer.item(b"STUCK HERE");
+            writer.item("STUCK HERE", &[]);
         } else {
-            writer.item(b"HERE ");
-            writer.say(self.failing.as_bytes());
-            writer.put(b" FAILS");
+            writer.item("HERE {} FAILS", &[Text(self.failing)]);
         }
         writer.mark(b"</b>");
     }
@@ -292,9 +287,7 @@ impl<A: Allocator, D: Allocator, C: Allocator> Report<'_, A, D, C> {
             return self.write_only_fact(writer, cache, &kind, at);
         }
         cache.last = None;
-        writer.item(b"one of ");
-        writer.number(count);
-        writer.put(b" cases");
+        writer.item("one of {} cases", &[Number(count)]);
         self.write_direct(writer, at);
     }
 
@@ -319,7 +312,7 @@ impl<A: Allocator, D: Allocator, C: Allocator> Report<'_, A, D, C> {
             shown.write(writer);
             self.write_access(writer, &self.kind_of(at), known, at);
         } else {
-            writer.item(b"never");
+            writer.item("never", &[]);
         }
         writer.put(b"\n");
     }
@@ -388,10 +381,14 @@ impl<A: Allocator, D: Allocator, C: Allocator> Report<'_, A, D, C> {
         writer.mark(&first.to_octal());
         writer.mark(b"><td colspan=3>");
         let last = self.last_quiet(first);
-        writer.cell_run(first, last);
+        writer.named(first);
+        if first != last {
+            writer.put(b"-");
+            writer.named(last);
+        }
         writer.mark(b"<td>");
         writer.begin_items(if first == last { ALONE } else { SHORT });
-        writer.item(b"any word\n");
+        writer.item("any word\n", &[]);
     }
 
     /// Writes the heading of lines of a kind; that of a routine with what is claimed about it.
@@ -405,8 +402,7 @@ impl<A: Allocator, D: Allocator, C: Allocator> Report<'_, A, D, C> {
             CellKind::Unset => writer.put(b"nothing is declared here\n"),
             CellKind::Routine(entry) => {
                 writer.put(b"body of routine ");
-                writer.word(entry);
-                writer.label(entry);
+                writer.named(entry);
                 writer.put(b"\n");
             }
             CellKind::Entry => {
@@ -427,14 +423,11 @@ impl<A: Allocator, D: Allocator, C: Allocator> Report<'_, A, D, C> {
         let Some(last) = last else {
             return true;
         };
-        let above = self.kind_of(*last);
-        match self.kind_of(at) {
+        let (above, kind) = (self.kind_of(*last), self.kind_of(at));
+        match kind {
             CellKind::Entry => true,
-            CellKind::Routine(entry) => above != CellKind::Routine(entry) && *last != entry,
-            CellKind::Main => above != CellKind::Main,
-            CellKind::Variable => above != CellKind::Variable,
-            CellKind::Other => above != CellKind::Other,
-            CellKind::Unset => above != CellKind::Unset,
+            CellKind::Routine(entry) => above != kind && *last != entry,
+            _ => above != kind,
         }
     }
 

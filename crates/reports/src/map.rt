@@ -2,8 +2,8 @@
 
 use crate::report::{CellKind, Report, before};
 use crate::writer::ReportWriter;
+use command_parts::sentence::Argument::{Address, Cell, Name, Number, Octal, Text};
 use declaration::Declaration;
-use instruct::name;
 use std::alloc::Allocator;
 use word12::Word;
 use wordset::WordSet;
@@ -23,12 +23,10 @@ const PAGES: usize = 32;
 
 const PAGE_WORDS: usize = 128;
 
-/// What the map begins with, up to its height.
-const MAP: &[u8] = b"<h2 id=memory>Memory, addresses in octal</h2>\n<svg viewBox=\"0 0 680 ";
-
-/// What comes after its height.
-const GROUND: &[u8] = b"\" width=680 role=img aria-label=\"map of memory\">\n\
-<rect class=u x=34 y=14 width=640 height=";
+/// What the map begins with.
+const MAP: &str =
+    "<h2 id=memory>Memory, addresses in octal</h2>\n<svg viewBox=\"0 0 680 {}\" width=680 role=img aria-label=\"map of memory\">\n\
+<rect class=u x=34 y=14 width=640 height={} />\n";
 
 /// What colours and marks mean that are not those of a body.
 const LEGEND: &[u8] = b"<span class=\"k e\"></span>entry of a routine\n\
@@ -91,22 +89,22 @@ impl MapRows {
 }
 
 /// The class of a colour for a routine.
-pub(crate) fn colour_of(place: usize) -> &'static [u8] {
+pub(crate) fn colour_of(place: usize) -> &'static str {
     match place % COLOURS {
-        0 => b"r0",
-        1 => b"r1",
-        2 => b"r2",
-        3 => b"r3",
-        4 => b"r4",
-        _ => b"r5",
+        0 => "r0",
+        1 => "r1",
+        2 => "r2",
+        3 => "r3",
+        4 => "r4",
+        _ => "r5",
     }
 }
 
 /// The class of a cell's colour.
-fn class_of<D: Allocator>(declaration: &Declaration<D>, kind: &CellKind) -> &'static [u8] {
+fn class_of<D: Allocator>(declaration: &Declaration<D>, kind: &CellKind) -> &'static str {
     match kind {
-        CellKind::Entry => b"e",
-        CellKind::Main => b"m",
+        CellKind::Entry => "e",
+        CellKind::Main => "m",
         CellKind::Routine(entry) => {
             let mut routines = declaration.routines().iter();
             colour_of(
@@ -115,17 +113,16 @@ fn class_of<D: Allocator>(declaration: &Declaration<D>, kind: &CellKind) -> &'st
                     .unwrap_or(0),
             )
         }
-        CellKind::Variable => b"v",
-        CellKind::Other => b"o",
-        CellKind::Unset => b"u",
+        CellKind::Variable => "v",
+        CellKind::Other => "o",
+        CellKind::Unset => "u",
     }
 }
 
 /// Writes a text beside the row that begins at an address.
 fn begin_row_text<A: Allocator>(writer: &mut ReportWriter<'_, A>, rows: &MapRows, first: Word) {
-    writer.numbered(b"<text x=4 y=", rows.top_of(first).saturating_add(8));
-    writer.put(b">");
-    writer.word(first);
+    let base = rows.top_of(first).saturating_add(8);
+    writer.fill("<text x=4 y={}>{}", &[Number(base), Octal(first)]);
 }
 
 /// Writes the numbers at the side.
@@ -143,18 +140,17 @@ fn write_row_numbers<A: Allocator>(writer: &mut ReportWriter<'_, A>, rows: &MapR
 fn write_empty_rows<A: Allocator>(writer: &mut ReportWriter<'_, A>, rows: &MapRows) {
     for (first, last) in rows.empty.ranges() {
         begin_row_text(writer, rows, first);
-        writer.put(b"-");
-        writer.word(last);
-        writer.put(b": nothing</text>");
+        writer.fill("-{}: nothing</text>", &[Octal(last)]);
     }
 }
 
 /// Writes the numbers above.
 fn write_column_numbers<A: Allocator>(writer: &mut ReportWriter<'_, A>) {
     for column in 0..8usize {
-        writer.numbered(b"<text x=", LEFT + 8 * STEP * column);
-        writer.numbered(b" y=10>+", 10 * column);
-        writer.put(b"</text>");
+        writer.fill(
+            "<text x={} y=10>+{}</text>",
+            &[Number(LEFT + 8 * STEP * column), Number(10 * column)],
+        );
     }
 }
 
@@ -163,16 +159,15 @@ fn write_dot<A: Allocator>(
     writer: &mut ReportWriter<'_, A>,
     rows: &MapRows,
     at: Word,
-    class: &[u8],
-    size: &[u8],
+    class: &str,
+    size: &str,
 ) {
-    writer.put(b"<circle class=");
-    writer.put(class);
-    writer.numbered(b" cx=", left_of(at).saturating_add(STEP / 2));
-    writer.numbered(b" cy=", rows.top_of(at).saturating_add(STEP / 2));
-    writer.put(b" r=");
-    writer.put(size);
-    writer.put(b" />");
+    let left = Number(left_of(at).saturating_add(STEP / 2));
+    let top = Number(rows.top_of(at).saturating_add(STEP / 2));
+    writer.fill(
+        "<circle class={} cx={} cy={} r={} />",
+        &[Text(class), left, top, Text(size)],
+    );
 }
 
 /// Writes the square of a cell, or a frame around it.
@@ -180,13 +175,12 @@ fn write_square<A: Allocator>(
     writer: &mut ReportWriter<'_, A>,
     rows: &MapRows,
     at: Word,
-    class: &[u8],
+    class: &str,
 ) {
+    let (left, top) = (Number(left_of(at)), Number(rows.top_of(at)));
     writer.put(b"<rect class=");
-    writer.put(class);
-    writer.numbered(b" x=", left_of(at));
-    writer.numbered(b" y=", rows.top_of(at));
-    writer.put(b" width=9 height=9 />");
+    writer.put(class.as_bytes());
+    writer.fill(" x={} y={} width=9 height=9 />", &[left, top]);
 }
 
 impl<A: Allocator, D: Allocator, C: Allocator> Report<'_, A, D, C> {
@@ -224,42 +218,35 @@ impl<A: Allocator, D: Allocator, C: Allocator> Report<'_, A, D, C> {
     ) {
         let declaration = self.declaration;
         if declaration.is_variable(at) && *kind != CellKind::Variable {
-            write_dot(writer, rows, at, b"w", b"2.5");
+            write_dot(writer, rows, at, "w", "2.5");
         }
         if declaration.is_stop(at) || declaration.is_pause(at) {
-            write_dot(writer, rows, at, b"h", b"3");
+            write_dot(writer, rows, at, "h", "3");
         }
         if self.is_start(at) {
-            write_square(writer, rows, at, b"s");
+            write_square(writer, rows, at, "s");
         }
         if self.is_marked(at) {
-            write_square(writer, rows, at, b"\"s bad\"");
+            write_square(writer, rows, at, "\"s bad\"");
         }
     }
 
     /// Writes what is shown where a pointer rests on a cell: what stands there, and the word that the tape has for it.
     fn write_cell_title(&self, writer: &mut ReportWriter<'_, A>, at: Word, kind: &CellKind) {
         writer.put(b"<title>");
-        writer.word(at);
-        writer.label(at);
+        writer.named(at);
         match kind {
             CellKind::Entry => writer.put(b" entry"),
             CellKind::Main => writer.put(b" main"),
-            CellKind::Routine(entry) => {
-                writer.put(b" routine ");
-                writer.cell(*entry);
-            }
+            CellKind::Routine(entry) => writer.fill(" routine {}", &[Cell(*entry)]),
             CellKind::Variable => writer.put(b" variable"),
             CellKind::Other => writer.put(b" other word"),
             CellKind::Unset => writer.put(b" unset"),
         }
         if let Some(word) = self.image.get(at) {
-            writer.put(b": ");
-            writer.word(word);
-            if self.is_code(at) {
-                writer.put(b" ");
-                writer.say(name(word, self.declaration.profile()).as_str().as_bytes());
-            }
+            let template = if self.is_code(at) { ": {} {}" } else { ": {}" };
+            let name = Name(word, self.declaration.profile());
+            writer.fill(template, &[Octal(word), name]);
         }
         writer.put(b"</title>");
     }
@@ -298,12 +285,10 @@ impl<A: Allocator, D: Allocator, C: Allocator> Report<'_, A, D, C> {
     fn write_legend(&self, writer: &mut ReportWriter<'_, A>) {
         writer.put(b"<p><span class=\"k m\"></span>main\n");
         for (place, routine) in self.declaration.routines().iter().enumerate() {
-            writer.put(b"<span class=\"k ");
-            writer.put(colour_of(place));
-            writer.put(b"\"></span>routine ");
-            writer.linked(routine.entry());
-            writer.label(routine.entry());
-            writer.put(b"\n");
+            writer.fill(
+                "<span class=\"k {}\"></span>routine {}\n",
+                &[Text(colour_of(place)), Address(routine.entry())],
+            );
         }
         writer.put(LEGEND);
     }
@@ -311,9 +296,8 @@ impl<A: Allocator, D: Allocator, C: Allocator> Report<'_, A, D, C> {
     /// Writes memory as a map.
     pub(crate) fn write_map(&self, writer: &mut ReportWriter<'_, A>) {
         let rows = MapRows::of(self);
-        writer.numbered(MAP, rows.bottom.saturating_add(6));
-        writer.numbered(GROUND, rows.bottom.saturating_sub(TOP));
-        writer.put(b" />\n");
+        let height = Number(rows.bottom.saturating_add(6));
+        writer.fill(MAP, &[height, Number(rows.bottom.saturating_sub(TOP))]);
         write_row_numbers(writer, &rows);
         write_empty_rows(writer, &rows);
         write_column_numbers(writer);

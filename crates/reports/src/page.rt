@@ -6,6 +6,7 @@ use crate::listing::ClaimCache;
 use crate::promises::{write_assertions, write_moves, write_returns};
 use crate::report::{Finding, Report};
 use crate::writer::{ReportForm, ReportWriter};
+use command_parts::sentence::Argument::{Address, Addresses, Bytes, Octal, Text};
 use declaration::Declaration;
 use domain::Rules;
 use instruct::Profile;
@@ -93,15 +94,12 @@ and continues after that cell; <code>JMP I</code> through the entry continues at
 it returns.</p>\n<table>\n";
 
 /// Writes a point of a list: a text and cells.
-fn write_point<A: Allocator>(writer: &mut ReportWriter<'_, A>, text: &[u8], cells: &WordSet) {
-    writer.put(b"<li>");
-    writer.put(text);
+fn write_point<A: Allocator>(writer: &mut ReportWriter<'_, A>, text: &str, cells: &WordSet) {
     if cells.is_empty() {
-        writer.put(b"none");
+        writer.fill("<li>{}: none\n", &[Text(text)]);
     } else {
-        writer.places(cells);
+        writer.fill("<li>{}: {}\n", &[Text(text), Addresses(cells)]);
     }
-    writer.put(b"\n");
 }
 
 /// Writes the parts of what a yes says.
@@ -111,17 +109,17 @@ fn write_points<A: Allocator, D: Allocator>(
 ) {
     write_point(
         writer,
-        b"only these cells are executed: ",
+        "only these cells are executed",
         &declaration.bodies(),
     );
     write_point(
         writer,
-        b"only these cells, the variables, are written: ",
+        "only these cells, the variables, are written",
         declaration.variables(),
     );
     write_point(
         writer,
-        b"and these entries, by the JMS that calls the routine or by an ISZ of the routine that skips an argument: ",
+        "and these entries, by the JMS that calls the routine or by an ISZ of the routine that skips an argument",
         &declaration.entries(),
     );
     write_moves(writer, declaration);
@@ -129,19 +127,19 @@ fn write_points<A: Allocator, D: Allocator>(
         None => writer.put(b"<li>any cell may be read: the declaration has no list of reads\n"),
         Some(cells) => write_point(
             writer,
-            b"only these cells and the entry of the running routine are read: ",
+            "only these cells and the entry of the running routine are read",
             cells,
         ),
     }
     write_returns(writer, declaration);
     write_point(
         writer,
-        b"if it halts, it halts only at: ",
+        "if it halts, it halts only at",
         &declaration.stops().union(declaration.pauses()),
     );
     write_point(
         writer,
-        b"of these, CONTINUE may be pressed only at: ",
+        "of these, CONTINUE may be pressed only at",
         declaration.pauses(),
     );
     write_assertions(writer, declaration);
@@ -152,11 +150,14 @@ fn write_yes<A: Allocator, D: Allocator>(
     writer: &mut ReportWriter<'_, A>,
     declaration: &Declaration<D>,
 ) {
-    writer.put(match declaration.profile() {
-        Profile::Pdp8I => b" This holds for <b>every</b> run on a PDP-8/I that starts at ",
-        Profile::Pdp8E => b" This holds for <b>every</b> run on a PDP-8/E that starts at ",
-    });
-    writer.place(declaration.start());
+    let machine = match declaration.profile() {
+        Profile::Pdp8I => "PDP-8/I",
+        Profile::Pdp8E => "PDP-8/E",
+    };
+    writer.fill(
+        " This holds for <b>every</b> run on a {} that starts at {}",
+        &[Text(machine), Address(declaration.start())],
+    );
     writer.put(RUN);
     write_points(writer, declaration);
     writer.put(NOT_SHOWN);
@@ -165,24 +166,20 @@ fn write_yes<A: Allocator, D: Allocator>(
 /// Writes why nothing is shown: what fails, at which address, what that means, and the reason as it is told.
 fn write_reason<A: Allocator>(
     writer: &mut ReportWriter<'_, A>,
-    fails: &[u8],
+    fails: &str,
     at: Word,
     means: &[u8],
     why: &[u8],
 ) {
-    writer.put(fails);
-    writer.place(at);
+    writer.fill(fails, &[Address(at)]);
     writer.put(means);
-    writer.say(why);
-    writer.put(b"</pre>\n");
+    writer.fill("{}</pre>\n", &[Bytes(why)]);
 }
 
 /// Writes from which files the program was read, if they have names.
 fn write_files<A: Allocator>(writer: &mut ReportWriter<'_, A>, files: &[u8]) {
     if !files.is_empty() {
-        writer.put(b"<p>");
-        writer.say(files);
-        writer.put(b"</p>\n");
+        writer.fill("<p>{}</p>\n", &[Bytes(files)]);
     }
 }
 
@@ -233,11 +230,11 @@ impl<A: Allocator, D: Allocator, C: Allocator> Report<'_, A, D, C> {
         match self.finding {
             Finding::Shown => write_yes(writer, self.declaration),
             Finding::Refused(at) => {
-                write_reason(writer, b" A condition on it fails at ", at, REFUSED, why);
+                write_reason(writer, " A condition on it fails at {}", at, REFUSED, why);
             }
             Finding::Stuck(at) => write_reason(
                 writer,
-                b" The search for a certificate is stuck at ",
+                " The search for a certificate is stuck at {}",
                 at,
                 STUCK,
                 why,
@@ -249,15 +246,11 @@ impl<A: Allocator, D: Allocator, C: Allocator> Report<'_, A, D, C> {
 
     /// Writes the row of a variable.
     fn write_variable_row(&self, writer: &mut ReportWriter<'_, A>, cell: Word) {
-        writer.put(b"<tr><td>");
-        writer.linked(cell);
-        writer.label(cell);
-        writer.put(b"<td>");
-        match self.image.get(cell) {
-            Some(word) => writer.word(word),
-            None => writer.put(b"----"),
-        }
-        writer.put(b"<td>");
+        let word = match self.image.get(cell) {
+            Some(word) => Octal(word),
+            None => Text("----"),
+        };
+        writer.fill("<tr><td>{}<td>{}<td>", &[Address(cell), word]);
         writer.begin_items(0);
         self.write_variable(writer, cell);
         writer.put(b"\n");
@@ -265,8 +258,10 @@ impl<A: Allocator, D: Allocator, C: Allocator> Report<'_, A, D, C> {
 
     /// Writes the variables of which something is known, each with the words that it may hold anywhere.
     fn write_variables(&self, writer: &mut ReportWriter<'_, A>) {
-        writer.put(b"<h2 id=variables>Variables, in octal</h2>\n<p>The declared variables: ");
-        writer.places(self.declaration.variables());
+        writer.fill(
+            "<h2 id=variables>Variables, in octal</h2>\n<p>The declared variables: {}",
+            &[Addresses(self.declaration.variables())],
+        );
         writer.put(VARIABLES);
         for index in 0..4096 {
             let cell = Word::from_index(index);

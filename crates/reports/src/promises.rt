@@ -1,58 +1,38 @@
 //! What a declaration promises beyond bodies, variables, halts and reads: how its routines return, and what holds where.
 
-use crate::items::{offsets_where, write_offsets};
 use crate::writer::ReportWriter;
+use command_parts::sentence::Argument::{Address, Addresses, Offset, Offsets, Text, Words};
 use declaration::{Assertion, Declaration, PlaceAssertion, ReturnAssertion, Subject};
 use std::alloc::Allocator;
-use wordset::WordSet;
 
 /// How many offsets there are by which a routine may return.
-const OFFSETS: usize = 64;
+const MOST_OFFSETS: usize = 64;
 
-/// Writes what an assertion is about.
-fn write_subject<A: Allocator>(writer: &mut ReportWriter<'_, A>, subject: &Subject) {
-    match subject {
-        Subject::Accumulator => writer.put(b"AC"),
-        Subject::Link => writer.put(b"the link"),
-        Subject::Mq => writer.put(b"MQ"),
-        Subject::Cell(cell) => {
-            writer.put(b"the cell ");
-            writer.place(*cell);
-        }
-    }
-}
-
-/// Writes the words of an assertion: a link has one digit.
-fn write_words<A: Allocator>(writer: &mut ReportWriter<'_, A>, subject: &Subject, words: &WordSet) {
-    match (subject, words.only()) {
-        (Subject::Link, Some(word)) => {
-            writer.put(b" is ");
-            writer.offset(word.index() % 2);
-        }
-        (_, Some(_)) => {
-            writer.put(b" is ");
-            writer.words(words);
-        }
-        (_, None) => {
-            writer.put(b" is one of ");
-            writer.words(words);
-        }
-    }
-}
-
-/// Writes an assertion.
+/// Writes an assertion: a link has one digit.
 fn write_assertion<A: Allocator>(writer: &mut ReportWriter<'_, A>, assertion: &Assertion) {
-    write_subject(writer, assertion.subject());
-    write_words(writer, assertion.subject(), assertion.words());
+    let words = assertion.words();
+    let (name, subject) = match assertion.subject() {
+        Subject::Accumulator => ("AC", Text("")),
+        Subject::Link => ("the link", Text("")),
+        Subject::Mq => ("MQ", Text("")),
+        Subject::Cell(cell) => ("the cell ", Address(*cell)),
+    };
+    let is_link = matches!(assertion.subject(), Subject::Link);
+    let (template, held) = match words.only() {
+        Some(word) if is_link => ("{}{} is {}\n", Offset(word.index() % 2)),
+        Some(_) => ("{}{} is {}\n", Words(words)),
+        None => ("{}{} is one of {}\n", Words(words)),
+    };
+    writer.fill(template, &[Text(name), subject, held]);
 }
 
 /// Writes what holds whenever control is at some places.
 fn write_place_assertion<A: Allocator>(writer: &mut ReportWriter<'_, A>, holding: &PlaceAssertion) {
-    writer.put(b"<li>whenever control is at ");
-    writer.places(holding.places());
-    writer.put(b", ");
+    writer.fill(
+        "<li>whenever control is at {}, ",
+        &[Addresses(holding.places())],
+    );
     write_assertion(writer, holding.assertion());
-    writer.put(b"\n");
 }
 
 /// Writes what holds whenever a routine returns, by some offsets or by any.
@@ -60,17 +40,16 @@ fn write_return_assertion<A: Allocator>(
     writer: &mut ReportWriter<'_, A>,
     returning: &ReturnAssertion,
 ) {
-    writer.put(b"<li>whenever the routine ");
-    writer.place(returning.entry());
-    writer.put(b" returns");
-    if returning.offsets().count() < OFFSETS {
-        writer.put(b" by ");
-        let offsets = returning.offsets();
-        write_offsets(writer, offsets_where(&|offset| offsets.contains(offset)));
-    }
-    writer.put(b", ");
+    let template = if returning.offsets().count() < MOST_OFFSETS {
+        "<li>whenever the routine {} returns by {}, "
+    } else {
+        "<li>whenever the routine {} returns, "
+    };
+    writer.fill(
+        template,
+        &[Address(returning.entry()), Offsets(returning.offsets())],
+    );
     write_assertion(writer, returning.assertion());
-    writer.put(b"\n");
 }
 
 /// Writes what is declared to hold, a point for each line of the declaration.
@@ -94,9 +73,10 @@ pub(crate) fn write_moves<A: Allocator, D: Allocator>(
     if declaration.moves().is_empty() {
         return;
     }
-    writer.put(b"<li>of these, a routine itself may store its return word, by a DCA, only in: ");
-    writer.places(declaration.moves());
-    writer.put(b"\n");
+    writer.fill(
+        "<li>of these, a routine itself may store its return word, by a DCA, only in: {}\n",
+        &[Addresses(declaration.moves())],
+    );
 }
 
 /// Writes where returns lead, and for which places all calls may be abandoned, if there are such.
@@ -109,9 +89,8 @@ pub(crate) fn write_returns<A: Allocator, D: Allocator>(
             b"<li>each routine returns to the address after its own call plus a declared offset\n",
         );
     }
-    writer.put(
-        b"<li>each return reaches a declared place after its own call, or all calls are abandoned for a declared place: ",
+    writer.fill(
+        "<li>each return reaches a declared place after its own call, or all calls are abandoned for a declared place: {}\n",
+        &[Addresses(declaration.abandons())],
     );
-    writer.places(declaration.abandons());
-    writer.put(b"\n");
 }

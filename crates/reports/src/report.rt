@@ -160,7 +160,7 @@ impl<A: Allocator, D: Allocator, C: Allocator> Report<'_, A, D, C> {
 
     /// What is known about a variable, if something is.
     pub(crate) fn held_in(&self, cell: Word) -> Option<&VariableSummary> {
-        self.held.get(cell)
+        self.held.get(&cell.index())
     }
 
     /// Whether nothing is to be said about a cell but that it is a variable.

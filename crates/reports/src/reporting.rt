@@ -17,7 +17,6 @@ use command_parts::outcome::CommandResult;
 use command_parts::status::Fault;
 use declaration::Declaration;
 use diagnostics::verdicts::certificates::ProgramWithCertificate;
-use diagnostics::verdicts::reason_context::reason_context_of;
 use diagnostics::verdicts::reason_text::push_why;
 use diagnostics::verdicts::verdict::{condition_name, verdict_line, verdict_status};
 use judge::{JudgeWorkspace, Refusal, judge};
@@ -33,22 +32,11 @@ fn why_lines<A: Allocator + Copy, D: Allocator, C: Allocator>(
     verdict: &Result<(), Refusal>,
 ) -> Result<Vec<u8, A>, AllocError> {
     let mut text = Vec::new(alloc);
-    let reason = match verdict {
-        Ok(()) => None,
-        Err(refusal) => {
-            let mut rooms = ReasonWorkspace::boxed(alloc)?;
-            why(image, declaration, certificate, refusal, &mut rooms)
-        }
-    };
-    let telling = reason_context_of(certificate, verdict, &reason);
-    push_why(
-        &mut text,
-        declaration.profile(),
-        image,
-        verdict,
-        &reason,
-        &telling,
-    )?;
+    if let Err(refusal) = verdict {
+        let mut rooms = ReasonWorkspace::boxed(alloc)?;
+        let reason = why(image, declaration, certificate, refusal, &mut rooms);
+        push_why(&mut text, image, declaration, certificate, refusal, &reason)?;
+    }
     Ok(text)
 }
 

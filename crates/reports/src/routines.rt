@@ -2,39 +2,26 @@
 
 use crate::cases::FactDifferences;
 use crate::fact_context::ShownFact;
-use crate::items::{offsets_where, write_offsets};
 use crate::known_fact::KnownFact;
 use crate::report::{Report, claimed_of};
 use crate::writer::ReportWriter;
 use certificate_lines::RoutineClaim;
-use declaration::{Declaration, Routine};
+use command_parts::sentence::Argument::{Addresses, Number, Offset, Offsets};
+use declaration::Routine;
+use diagnostics::verdicts::surplus_text::declared_offsets;
 use judge::Claims;
 use std::alloc::Allocator;
 use word12::Word;
 use wordset::WordSet;
 
-/// Writes the declared offsets of a routine, in octal digits.
-pub(crate) fn write_return_offsets<A: Allocator, D: Allocator>(
-    writer: &mut ReportWriter<'_, A>,
-    declaration: &Declaration<D>,
-    entry: Word,
-) {
-    let offsets = offsets_where(&|offset| declaration.has_offset(entry, offset));
-    if offsets.is_empty() {
-        writer.put(b"-");
-    } else {
-        write_offsets(writer, offsets);
-    }
-}
-
-/// Writes the cells that a routine may write.
-fn write_written<A: Allocator>(writer: &mut ReportWriter<'_, A>, cells: &WordSet) {
+/// How the cells are told that a routine may write.
+fn said_of_written(cells: &WordSet) -> &'static str {
     if cells.is_empty() {
-        writer.put(b"nothing");
+        "nothing"
     } else if cells.is_all() {
-        writer.put(b"any cell");
+        "any cell"
     } else {
-        writer.places(cells);
+        "{}"
     }
 }
 
@@ -42,38 +29,39 @@ impl<A: Allocator, D: Allocator, C: Allocator> Report<'_, A, D, C> {
     /// Writes as items what the certificate claims about a routine, if it is listed.
     fn write_claimed_items(&self, writer: &mut ReportWriter<'_, A>, entry: Word) {
         let Some(claimed) = self.certificate.routine(entry) else {
-            return writer.item(b"nothing is claimed about it");
+            return writer.item("nothing is claimed about it", &[]);
         };
-        writer.item(b"rank ");
-        writer.number(claimed.rank);
-        writer.item(b"called from ");
-        writer.places(&claimed.sites);
-        writer.item(b"may write ");
-        write_written(writer, &claimed.writes);
+        writer.item("rank {}", &[Number(claimed.rank)]);
+        writer.item("called from {}", &[Addresses(&claimed.sites)]);
+        writer.item("may write ", &[]);
+        writer.fill(
+            said_of_written(&claimed.writes),
+            &[Addresses(&claimed.writes)],
+        );
     }
 
     /// Writes as columns of a table what the certificate claims about a routine, if it is listed.
     pub(crate) fn write_claimed_columns(&self, writer: &mut ReportWriter<'_, A>, entry: Word) {
         let Some(claimed) = self.certificate.routine(entry) else {
-            return writer.put(b"<td colspan=3>nothing is claimed about it");
+            return writer.fill("<td colspan=3>nothing is claimed about it", &[]);
         };
-        writer.numbered(b"<td>", claimed.rank);
-        writer.put(b"<td>");
-        writer.places(&claimed.sites);
-        writer.put(b"<td>");
-        write_written(writer, &claimed.writes);
+        let (rank, sites) = (Number(claimed.rank), Addresses(&claimed.sites));
+        writer.fill("<td>{}<td>{}<td>", &[rank, sites]);
+        writer.fill(
+            said_of_written(&claimed.writes),
+            &[Addresses(&claimed.writes)],
+        );
     }
 
     /// Writes a routine in a line: its entry, its rank, from where it is called, what it may write, and how it returns.
     pub(crate) fn write_routine(&self, writer: &mut ReportWriter<'_, A>, routine: &Routine) {
         let entry = routine.entry();
         writer.begin_items(0);
-        writer.item(b"routine ");
-        writer.word(entry);
-        writer.label(entry);
+        writer.item("routine ", &[]);
+        writer.named(entry);
         self.write_claimed_items(writer, entry);
-        writer.item(b"returns by ");
-        write_return_offsets(writer, self.declaration, entry);
+        let offsets = declared_offsets(self.declaration, entry);
+        writer.item("returns by {}", &[Offsets(&offsets)]);
     }
 
     /// Writes the line of an exit: what holds when the routine returns by that offset.
@@ -85,8 +73,7 @@ impl<A: Allocator, D: Allocator, C: Allocator> Report<'_, A, D, C> {
         exit: &KnownFact,
     ) {
         writer.mark(b"<tr><td colspan=3>");
-        writer.put(b"return by ");
-        writer.offset(offset);
+        writer.fill("return by {}", &[Offset(offset)]);
         writer.mark(b"<td>");
         writer.begin_items(if offset < 8 { 14 } else { 13 });
         let shown = ShownFact {

@@ -1,7 +1,6 @@
 //! What a page begins with, up to the verdict, and what it says right after it.
 
-use crate::escaping::push_escaped;
-use crate::writer::ReportForm;
+use crate::writer::{ReportForm, push_escaped};
 use judge::Refusal;
 use std::alloc::{AllocError, Allocator};
 

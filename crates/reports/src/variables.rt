@@ -8,6 +8,7 @@ use certificate_lines::RoutineClaim;
 use declaration::{Declaration, Owner};
 use judge::Claims;
 use std::alloc::{AllocError, Allocator};
+use std::collections::BTreeMap;
 use word12::Word;
 use wordset::WordSet;
 
@@ -20,107 +21,57 @@ pub(crate) struct VariableSummary {
     pub(crate) known_at: WordSet,
 }
 
-/// What is known about all variables.
-#[derive(Drop)]
-pub(crate) struct VariableSummaries<A: Allocator> {
-    /// For each address the place of its cell in the list, or none.
-    places: Vec<Option<usize>, A>,
-    list: Vec<VariableSummary, A>,
-}
+/// What is known about variables, by their addresses.
+pub(crate) type VariableSummaries<A> = BTreeMap<usize, VariableSummary, A>;
 
-impl<A: Allocator + Copy> VariableSummaries<A> {
-    /// Nothing is known.
-    fn new(alloc: A) -> Result<VariableSummaries<A>, AllocError> {
-        Ok(VariableSummaries {
-            places: Vec::from_elem(alloc, None, 4096)?,
-            list: Vec::new(alloc),
-        })
-    }
-}
-
-impl<A: Allocator> VariableSummaries<A> {
-    /// The place of a cell in the list, if something is known about it.
-    fn place_of(&self, cell: Word) -> Option<usize> {
-        self.places.get(cell.index()).copied().flatten()
-    }
-
-    /// What is known about a cell.
-    pub(crate) fn get(&self, cell: Word) -> Option<&VariableSummary> {
-        self.list.get(self.place_of(cell)?)
-    }
-
-    /// Adds a cell that may hold these words.
-    fn push(&mut self, cell: Word, words: &WordSet) -> Result<(), AllocError> {
-        let place = self.list.len();
-        self.list.push(VariableSummary {
-            words: *words,
+/// Adds what a fact says about variables: which words they may hold.
+fn add_fact<A: Allocator + Copy, D: Allocator>(
+    held: &mut VariableSummaries<A>,
+    declaration: &Declaration<D>,
+    known: &KnownFact,
+) -> Result<(), AllocError> {
+    for cell in known.cells.meet(declaration.variables()).iter() {
+        let nothing = VariableSummary {
+            words: WordSet::empty(),
             known_at: WordSet::empty(),
-        })?;
-        if let Some(found) = self.places.get_mut(cell.index()) {
-            *found = Some(place);
-        }
-        Ok(())
-    }
-
-    /// Adds that a cell may hold these words.
-    fn add(&mut self, cell: Word, words: &WordSet) -> Result<(), AllocError> {
-        let Some(place) = self.place_of(cell) else {
-            return self.push(cell, words);
         };
-        if let Some(held) = self.list.get_mut(place) {
-            held.words = held.words.union(words);
-        }
-        Ok(())
+        let words = known.words_of(&Subject::Cell(cell));
+        let summary = held.entry(cell.index())?.or_insert(nothing);
+        summary.words = summary.words.union(&words);
     }
+    Ok(())
+}
 
-    /// Adds what a fact says about variables.
-    fn add_fact<D: Allocator>(
-        &mut self,
-        declaration: &Declaration<D>,
-        known: &KnownFact,
-    ) -> Result<(), AllocError> {
-        for cell in known.cells.iter() {
-            if declaration.is_variable(cell) {
-                self.add(cell, &known.words_of(&Subject::Cell(cell)))?;
-            }
-        }
-        Ok(())
+/// Adds what the facts at an address say about variables, and tells whether there are any. Something is known about a cell there if each
+/// of them says it. One fact is lent.
+fn add_facts<A: Allocator + Copy, D: Allocator, C: Allocator>(
+    held: &mut VariableSummaries<A>,
+    image: &Image,
+    declaration: &Declaration<D>,
+    certificate: &Certificate<C>,
+    at: Word,
+    known: &mut KnownFact,
+) -> Result<bool, AllocError> {
+    let count = certificate.count_facts(at, 0);
+    let sites = claimed_at(declaration, certificate, at).sites;
+    let mut cells = WordSet::all();
+    for index in 0..count {
+        known.read(image, certificate, &sites, at, index);
+        add_fact(held, declaration, known)?;
+        cells = cells.meet(&known.cells);
     }
-
-    /// Adds that something is known about some cells at an address.
-    fn know(&mut self, cells: &WordSet, at: Word) {
-        for cell in cells.iter() {
-            if let Some(place) = self.place_of(cell) {
-                if let Some(held) = self.list.get_mut(place) {
-                    held.known_at.insert(at);
-                }
-            }
-        }
+    if count > 0 {
+        know(held, &cells, at);
     }
+    Ok(count > 0)
+}
 
-    /// Adds what the facts at an address say about variables. Something is known about a cell there if each of them says
-    /// it. One fact is lent.
-    fn add_facts<D: Allocator, C: Allocator>(
-        &mut self,
-        image: &Image,
-        declaration: &Declaration<D>,
-        certificate: &Certificate<C>,
-        at: Word,
-        known: &mut KnownFact,
-    ) -> Result<bool, AllocError> {
-        let count = certificate.count_facts(at, 0);
-        if count == 0 {
-            return Ok(false);
+/// Adds that something is known about some cells at an address.
+fn know<A: Allocator>(held: &mut VariableSummaries<A>, cells: &WordSet, at: Word) {
+    for cell in cells.iter() {
+        if let Some(summary) = held.get_mut(&cell.index()) {
+            summary.known_at.insert(at);
         }
-        let sites = claimed_at(declaration, certificate, at).sites;
-        let mut cells = WordSet::all();
-        for index in 0..count {
-            known.read(image, certificate, &sites, at, index);
-            self.add_fact(declaration, known)?;
-            cells = cells.meet(&known.cells);
-        }
-        self.know(&cells, at);
-        Ok(true)
     }
 }
 
@@ -147,11 +98,11 @@ pub(crate) fn held_of<A: Allocator + Copy, D: Allocator, C: Allocator>(
     certificate: &Certificate<C>,
     facts: &mut WordSet,
 ) -> Result<VariableSummaries<A>, AllocError> {
-    let mut held = VariableSummaries::new(alloc)?;
+    let mut held = BTreeMap::new(alloc);
     let mut known = Box::new(alloc, KnownFact::new())?;
     for index in 0..4096 {
         let at = Word::from_index(index);
-        if held.add_facts(image, declaration, certificate, at, &mut known)? {
+        if add_facts(&mut held, image, declaration, certificate, at, &mut known)? {
             facts.insert(at);
         }
     }

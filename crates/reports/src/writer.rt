@@ -1,17 +1,38 @@
-//! What writes: words, numbers, sets and items, as plain text or as HTML.
+//! What writes: templates, sentences and items, as plain text or as HTML.
 
-use crate::escaping::push_escaped;
 use crate::source_notes::{SourceNotes, label_in};
-use itoa::Buffer;
+use command_parts::message::{MessageWriter, Written};
+use command_parts::sentence::Argument::Number;
+use command_parts::sentence::{Argument, push_argument};
+use instruct::{Profile, name};
 use std::alloc::{AllocError, Allocator};
 use word12::Word;
 use wordset::WordSet;
 
-/// How many runs of a set are shown.
-const MOST_RUNS: usize = 16;
-
 /// How many items of a line are shown that are the same as on the line above.
 const MOST_SAME: usize = 8;
+
+/// Adds a text that is not markup.
+///
+/// # Errors
+///
+/// Memory was refused.
+pub(crate) fn push_escaped<A: Allocator>(
+    bytes: &mut Vec<u8, A>,
+    text: &[u8],
+) -> Result<(), AllocError> {
+    for byte in text {
+        match *byte {
+            b'"' => bytes.extend_from_slice(b"&quot;")?,
+            b'&' => bytes.extend_from_slice(b"&amp;")?,
+            b'\'' => bytes.extend_from_slice(b"&#39;")?,
+            b'<' => bytes.extend_from_slice(b"&lt;")?,
+            b'>' => bytes.extend_from_slice(b"&gt;")?,
+            _ => bytes.push(*byte)?,
+        }
+    }
+    Ok(())
+}
 
 /// In which form a report is written.
 #[derive(Clone, Copy)]
@@ -96,152 +117,51 @@ impl<'a, A: Allocator> ReportWriter<'a, A> {
         }
     }
 
-    /// Writes a number in decimal digits.
-    pub(crate) fn number(&mut self, number: usize) {
-        let mut digits = Buffer::new();
-        self.put(digits.format(number).as_bytes());
-    }
-
-    /// Writes by how much a return word is incremented, in octal digits.
-    pub(crate) fn offset(&mut self, offset: usize) {
-        if offset >= 8 {
-            self.number(offset / 8);
+    /// Writes a template, which in a page may have markup, with an argument in place of each `{}`, which has none.
+    pub(crate) fn fill(&mut self, template: &str, arguments: &[Argument<'_>]) {
+        let mut rest = template;
+        for argument in arguments {
+            let Some((before, behind)) = rest.split_once("{}") else {
+                break;
+            };
+            self.put(before.as_bytes());
+            let _ = push_argument(self, argument);
+            rest = behind;
         }
-        self.number(offset % 8);
-    }
-
-    /// Writes a text, and after it a number in decimal digits.
-    pub(crate) fn numbered(&mut self, text: &[u8], number: usize) {
-        self.put(text);
-        self.number(number);
-    }
-
-    /// Writes the four octal digits of a word.
-    pub(crate) fn word(&mut self, word: Word) {
-        self.put(&word.to_octal());
+        self.put(rest.as_bytes());
     }
 
     /// Writes in a page the beginning of a link to the line of an address.
     pub(crate) fn link(&mut self, at: Word) {
-        if self.is_page {
-            self.put(b"<a href=#a");
-            self.word(at);
-            self.put(b">");
-        }
+        self.mark(b"<a href=#a");
+        self.mark(&at.to_octal());
+        self.mark(b">");
     }
 
-    /// Writes an address, in a page with a link to its line, if it has one.
-    pub(crate) fn linked(&mut self, at: Word) {
-        if self.has_line(at) {
-            self.link(at);
-            self.word(at);
-            self.mark(b"</a>");
-        } else {
-            self.word(at);
-        }
-    }
-
-    /// Writes in a page the label of an address after it in parentheses, if there is one.
-    fn label_in_text(&mut self, at: Word) {
+    /// Writes in a page the label of an address, if there is one, with what stands before it and behind it.
+    fn label(&mut self, before: &[u8], at: Word, behind: &[u8]) {
         let label = label_in(self.notes, at);
         if self.is_page && !label.is_empty() {
-            self.put(b" (");
+            self.put(before);
             self.say(label);
-            self.put(b")");
+            self.put(behind);
         }
     }
 
-    /// Writes in a page the label of an address beside it, if there is one.
-    pub(crate) fn label(&mut self, at: Word) {
-        let label = label_in(self.notes, at);
-        if self.is_page && !label.is_empty() {
-            self.put(b" ");
-            self.say(label);
-        }
+    /// Writes an address without a link, in a page with its label.
+    pub(crate) fn named(&mut self, at: Word) {
+        self.put(&at.to_octal());
+        self.label(b" ", at, b"");
     }
 
-    /// Writes an address in a text, in a page with a link to its line, if it has one, and with its label.
-    pub(crate) fn place(&mut self, at: Word) {
-        self.linked(at);
-        self.label_in_text(at);
-    }
-
-    /// Writes the address of a cell of which something is said, in a page with its label.
-    pub(crate) fn cell(&mut self, at: Word) {
-        self.word(at);
-        self.label_in_text(at);
-    }
-
-    /// Writes in plain text the label of a note, if there is one; in a page it stands after the address.
-    pub(crate) fn noted_label(&mut self, label: &[u8]) {
-        if !self.is_page && !label.is_empty() {
+    /// Writes in plain text what comes before a note after the items, and its label, if there is one. In a page the label
+    /// stands after the address.
+    pub(crate) fn begin_note(&mut self, label: &[u8]) {
+        if !self.is_page {
+            self.put(b"  / ");
             self.put(label);
-            self.put(b", ");
+            self.put(if label.is_empty() { b"" } else { b", " });
         }
-    }
-
-    /// Writes the addresses from one to another, both of them, in a page with their labels.
-    pub(crate) fn cell_run(&mut self, first: Word, last: Word) {
-        self.cell(first);
-        if first != last {
-            self.put(b"-");
-            self.cell(last);
-        }
-    }
-
-    /// Writes a run of words.
-    fn word_run(&mut self, first: Word, last: Word) {
-        self.word(first);
-        if first != last {
-            self.put(b"-");
-            self.word(last);
-        }
-    }
-
-    /// Writes a run of addresses, of which the first has a link in a page.
-    fn place_run(&mut self, first: Word, last: Word) {
-        self.place(first);
-        if first != last {
-            self.put(b"-");
-            self.cell(last);
-        }
-    }
-
-    /// Writes the words or the addresses of a set by their runs, at most some of them; `-` if there is none.
-    fn runs(&mut self, set: &WordSet, are_places: bool) {
-        if set.is_empty() {
-            self.put(b"-");
-        }
-        let mut runs = set.ranges();
-        let mut rest = *set;
-        for place in 0..MOST_RUNS {
-            let Some((first, last)) = runs.next() else {
-                return;
-            };
-            if place > 0 {
-                self.put(b",");
-            }
-            if are_places {
-                self.place_run(first, last);
-            } else {
-                self.word_run(first, last);
-            }
-            rest = rest.minus(&WordSet::range(first, last));
-        }
-        if !rest.is_empty() {
-            self.numbered(b" and ", rest.count());
-            self.put(b" more");
-        }
-    }
-
-    /// Writes the words of a set.
-    pub(crate) fn words(&mut self, set: &WordSet) {
-        self.runs(set, false);
-    }
-
-    /// Writes the addresses of a set, in a page with their labels and with links to the lines that there are.
-    pub(crate) fn places(&mut self, set: &WordSet) {
-        self.runs(set, true);
     }
 
     /// Begins the items of a line, of which the first stands after some blanks.
@@ -274,29 +194,63 @@ impl<'a, A: Allocator> ReportWriter<'a, A> {
     pub(crate) fn end_same(&mut self) {
         let more = self.same.saturating_sub(MOST_SAME);
         if self.is_page && more > 0 {
-            self.separate();
-            self.numbered(b"<i>and ", more);
-            self.put(b" more as above</i>");
-        }
-    }
-
-    /// Writes in plain text what comes before a note after the items.
-    pub(crate) fn note(&mut self) {
-        if !self.is_page {
-            self.put(b"  / ");
+            self.item("<i>and {} more as above</i>", &[Number(more)]);
         }
     }
 
     /// Writes an item that has nothing to do with the line above.
-    pub(crate) fn item(&mut self, text: &[u8]) {
+    pub(crate) fn item(&mut self, template: &str, arguments: &[Argument<'_>]) {
         self.separate();
-        self.say(text);
+        self.fill(template, arguments);
     }
 
     /// Writes an item that has nothing to do with the line above, if it is told.
-    pub(crate) fn item_if(&mut self, is_told: bool, text: &[u8]) {
+    pub(crate) fn item_if(&mut self, is_told: bool, text: &str) {
         if is_told {
-            self.item(text);
+            self.item(text, &[]);
         }
+    }
+}
+
+/// A report takes a sentence as text that is not markup, and each address with a link to its line, if it has one, and with
+/// its label. A call never fails: where memory is refused, nothing more is written.
+impl<A: Allocator> MessageWriter for ReportWriter<'_, A> {
+    fn push_text(&mut self, piece: &[u8]) -> Written {
+        self.say(piece);
+        Ok(())
+    }
+
+    fn push_address(&mut self, at: Word) -> Written {
+        if self.has_line(at) {
+            self.link(at);
+            self.put(&at.to_octal());
+            self.mark(b"</a>");
+            self.label(b" (", at, b")");
+            Ok(())
+        } else {
+            self.push_cell(at)
+        }
+    }
+
+    fn push_cell(&mut self, at: Word) -> Written {
+        self.put(&at.to_octal());
+        self.label(b" (", at, b")");
+        Ok(())
+    }
+
+    fn push_advised_address(&mut self, at: Word) -> Written {
+        self.push_address(at)
+    }
+
+    fn push_instruction(&mut self, at: Word, word: Option<Word>, profile: Profile) -> Written {
+        if let Some(word) = word {
+            self.push_address(at)?;
+            self.put(b" ");
+            self.put(&word.to_octal());
+            self.put(b" ");
+            self.say(name(word, profile).as_str().as_bytes());
+            self.put(b"\n");
+        }
+        Ok(())
     }
 }

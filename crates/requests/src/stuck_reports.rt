@@ -22,14 +22,8 @@ fn stuck_page<R: Files>(
     stuck: &StuckSearch<'_>,
     source: Option<&AssembledSource>,
 ) -> Result<Vec<u8>, Fault> {
-    let why = match source {
-        Some(_) => {
-            let mut lines = Vec::new(alloc);
-            push_details(alloc, &mut lines, source, &stuck_explanation(alloc, stuck)?)?;
-            Some(lines)
-        }
-        None => None,
-    };
+    let mut lines = Vec::new(alloc);
+    push_details(alloc, &mut lines, source, &stuck_explanation(alloc, stuck)?)?;
     let names = NamedFiles::of(rt, alloc, files)?;
     Ok(draft_page(
         alloc,
@@ -40,7 +34,7 @@ fn stuck_page<R: Files>(
         ReportForm::Page,
         names.names(),
         source.map(|source| &source.notes),
-        why.as_ref().map(|lines| lines.as_slice()),
+        &lines,
     )?)
 }
 

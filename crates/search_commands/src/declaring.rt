@@ -12,10 +12,10 @@ use crate::verifying::InconclusiveReason;
 use bin_tape::Image;
 pub use command_parts::options::DeclareOptions;
 use command_parts::outcome::CommandResult;
+use command_parts::sentence::Argument::{Address, Number};
+use command_parts::sentence::push_sentence;
 use command_parts::status::{Fault, Status};
-use command_parts::text::push_place;
 use declaration::{Declaration, DeclarationFault};
-use itoa::Buffer;
 use proposer::{ObservedRuns, Proposal, Verdict, propose, propose_with_reads};
 use std::alloc::{AllocError, Allocator};
 use turns::{ProposeFault, Turns};
@@ -30,8 +30,12 @@ fn push_unfollowed<A: Allocator>(
     addresses: &WordSet,
 ) -> Result<(), AllocError> {
     for at in addresses.iter() {
-        push_place(text, b"/ It is not known where the program goes on at ", at)?;
-        text.extend_from_slice(b".\n")?;
+        let place = [Address(at)];
+        push_sentence(
+            text,
+            "/ It is not known where the program goes on at {}.\n",
+            &place,
+        )?;
     }
     Ok(())
 }
@@ -42,16 +46,15 @@ fn push_inconclusive_reason<A: Allocator>(
     lack: InconclusiveReason,
 ) -> Result<(), AllocError> {
     match lack {
-        InconclusiveReason::Stuck(at) => push_place(
+        InconclusiveReason::Stuck(at) => push_sentence(
             text,
-            b"/ No certificate is found: stuck at ",
-            at,
-        )?,
+            "/ No certificate is found: stuck at {}.\n",
+            &[Address(at)],
+        ),
         InconclusiveReason::TurnsSpent => {
-            text.extend_from_slice(b"/ No certificate is found within the limit of turns")?
+            text.extend_from_slice(b"/ No certificate is found within the limit of turns.\n")
         }
     }
-    text.extend_from_slice(b".\n")
 }
 
 /// Adds a comment that says in which runs the behaviour of the program was seen, if it was.
@@ -62,11 +65,11 @@ fn push_seen<A: Allocator>(
     let Some(seen) = seen else {
         return Ok(());
     };
-    text.extend_from_slice(b"/ Seen in ")?;
-    text.extend_from_slice(Buffer::new().format(seen.runs).as_bytes())?;
-    text.extend_from_slice(b" runs of ")?;
-    text.extend_from_slice(Buffer::new().format(seen.steps).as_bytes())?;
-    text.extend_from_slice(b" steps in all, but not proved.\n")
+    push_sentence(
+        text,
+        "/ Seen in {} runs of {} steps in all, but not proved.\n",
+        &[Number(seen.runs as usize), Number(seen.steps as usize)],
+    )
 }
 
 /// Adds comments that say why no certificate is found, in which runs the behaviour of the program was seen, and at which

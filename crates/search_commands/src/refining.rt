@@ -19,7 +19,7 @@ use crate::narrowing::narrowed;
 use crate::returning::push_all_returns;
 use crate::verifying::certificate_for;
 use bin_tape::Image;
-use command_parts::message::{Message, MessageWriter};
+use command_parts::message::{Message, MessageWriter, Written};
 use command_parts::status::Fault;
 use declaration::{Declaration, DeclarationFault};
 use diagnostics::verdicts::surplus_text::{Shown, push_cells, push_routine_offsets};
@@ -118,13 +118,13 @@ fn push_lost_offsets<L: MessageWriter, A: Allocator, B: Allocator>(
     told: &mut L,
     given: &Declaration<A>,
     less: &Declaration<B>,
-) -> Result<(), AllocError> {
+) -> Written {
     for routine in less.routines() {
         let entry = routine.entry();
         let offsets = offsets_of(given, entry).minus(&offsets_of(less, entry));
         push_routine_offsets(
             told,
-            b"--tight leaves out offsets by which the routine ",
+            "--tight leaves out offsets by which the routine",
             entry,
             &offsets,
         )?;
@@ -132,29 +132,35 @@ fn push_lost_offsets<L: MessageWriter, A: Allocator, B: Allocator>(
     Ok(())
 }
 
-/// Adds the halts and the permissions that one declaration has and another one lacks.
-fn push_lost_leave<L: MessageWriter, A: Allocator, B: Allocator>(
-    told: &mut L,
+/// The cells, other than those of bodies and entries, that one declaration lists for a use and another one does not.
+fn lost_uses<A: Allocator, B: Allocator>(
     given: &Declaration<A>,
     less: &Declaration<B>,
-) -> Result<(), AllocError> {
+) -> [(&'static str, WordSet); 5] {
     let halts = given.stops().union(given.pauses());
     let kept_halts = less.stops().union(less.pauses());
-    push_cells(
-        told,
-        b"--tight leaves out stops and pauses at which no run halts",
-        &halts.minus(&kept_halts),
-    )?;
-    push_cells(
-        told,
-        b"--tight leaves out addresses in `abandon` lines at which no call is abandoned",
-        &given.abandons().minus(less.abandons()),
-    )?;
-    push_cells(
-        told,
-        b"--tight leaves out routines in `moves` lines that do not store their return word",
-        &given.moves().minus(less.moves()),
-    )
+    [
+        (
+            "--tight leaves out variables that no instruction writes",
+            given.variables().minus(less.variables()),
+        ),
+        (
+            "--tight leaves out listed reads that are not needed",
+            reads_of(given).minus(&reads_of(less)),
+        ),
+        (
+            "--tight leaves out stops and pauses at which no run halts",
+            halts.minus(&kept_halts),
+        ),
+        (
+            "--tight leaves out addresses in `abandon` lines at which no call is abandoned",
+            given.abandons().minus(less.abandons()),
+        ),
+        (
+            "--tight leaves out routines in `moves` lines that do not store their return word",
+            given.moves().minus(less.moves()),
+        ),
+    ]
 }
 
 /// Adds what one declaration has and another one lacks.
@@ -162,29 +168,18 @@ fn push_lost<L: MessageWriter, A: Allocator, B: Allocator>(
     told: &mut L,
     given: &Declaration<A>,
     less: &Declaration<B>,
-) -> Result<(), AllocError> {
-    push_cells(
-        told,
-        b"--tight leaves out body cells that no run reaches",
-        &given.bodies().minus(&less.bodies()),
-    )?;
-    push_cells(
-        told,
-        b"--tight leaves out routines that are never called",
-        &given.entries().minus(&less.entries()),
-    )?;
+) -> Written {
+    let lost_bodies = (
+        "--tight leaves out body cells that no run reaches",
+        given.bodies().minus(&less.bodies()),
+    );
+    let lost_routines = (
+        "--tight leaves out routines that are never called",
+        given.entries().minus(&less.entries()),
+    );
+    push_cells(told, &[lost_bodies, lost_routines])?;
     push_lost_offsets(told, given, less)?;
-    push_cells(
-        told,
-        b"--tight leaves out variables that no instruction writes",
-        &given.variables().minus(less.variables()),
-    )?;
-    push_cells(
-        told,
-        b"--tight leaves out listed reads that are not needed",
-        &reads_of(given).minus(&reads_of(less)),
-    )?;
-    push_lost_leave(told, given, less)
+    push_cells(told, &lost_uses(given, less))
 }
 
 /// The message about a declaration from which something, or nothing, was left out.

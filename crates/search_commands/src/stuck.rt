@@ -4,9 +4,7 @@ use bin_tape::Image;
 use certificate::Certificate;
 use command_parts::message::Message;
 use declaration::Declaration;
-use diagnostics::verdicts::reason_context::reason_context_of;
 use diagnostics::verdicts::reason_text::push_why;
-use judge::Refusal;
 use reasons::{ReasonWorkspace, why_stuck};
 use std::alloc::{AllocError, Allocator};
 use word12::Word;
@@ -28,16 +26,7 @@ pub fn draft_message<A: Allocator + Copy, D: Allocator, C: Allocator>(
     let Some((refusal, reason)) = why_stuck(image, declaration, draft, at, &mut rooms) else {
         return Ok(text);
     };
-    let verdict: Result<(), Refusal> = Err(refusal);
     let reason = Some(reason);
-    let context = reason_context_of(draft, &verdict, &reason);
-    push_why(
-        &mut text,
-        declaration.profile(),
-        image,
-        &verdict,
-        &reason,
-        &context,
-    )?;
+    push_why(&mut text, image, declaration, draft, &refusal, &reason)?;
     Ok(text)
 }

@@ -11,8 +11,9 @@ ghost use Rattle.search_commands.specs.WidenedSearch.{IsEnded, IsNext, IsSettled
 
 use crate::verifying::{Answer, InconclusiveReason, RefuteOptions};
 use bin_tape::Image;
+use command_parts::sentence::Argument::{Address, Text};
+use command_parts::sentence::push_sentence;
 use command_parts::status::Fault;
-use command_parts::text::push_place;
 use declaration::Declaration;
 use proposer::{Evidence, Obstacle, Proposal, Verdict, Widening, widened};
 use refuter::{Witness, refute_within};
@@ -221,8 +222,11 @@ pub(crate) fn reason_line<A: Allocator>(
         return Ok(text);
     };
     let (words, at) = words_of(found);
-    text.extend_from_slice(b"no declaration allows what the runs do: ")?;
-    push_place(&mut text, words.as_bytes(), at)?;
-    text.extend_from_slice(b"\n")?;
+    let by = [Text(words), Address(at)];
+    push_sentence(
+        &mut text,
+        "no declaration allows what the runs do: {}{}\n",
+        &by,
+    )?;
     Ok(text)
 }

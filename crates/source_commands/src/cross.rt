@@ -1,7 +1,8 @@
 //! The table of the symbols of a source, with what its statements do with them. This is tested, not proved.
 
 use crate::mentions::{Mention, Role, Site};
-use itoa::Buffer;
+use command_parts::sentence::Argument::Number;
+use command_parts::sentence::push_sentence;
 use labels::Tags;
 use pal_acts::{Name, SymbolTable};
 use std::alloc::{AllocError, Allocator};
@@ -41,12 +42,6 @@ pub struct PlaceNames<'s, A: Allocator + Copy> {
     pub parts: usize,
 }
 
-/// Adds a number in decimal digits.
-fn push_number<A: Allocator>(text: &mut Vec<u8, A>, number: usize) -> Result<(), AllocError> {
-    let mut digits = Buffer::new();
-    text.extend_from_slice(digits.format(number).as_bytes())
-}
-
 /// Adds where something is done: the number of the line, with that of its part if there are several, or the address by
 /// its tag.
 fn push_site<A: Allocator + Copy>(
@@ -57,12 +52,9 @@ fn push_site<A: Allocator + Copy>(
 ) -> Result<(), AllocError> {
     match site {
         Site::Line(place) => {
-            push_number(text, place.line)?;
-            if places.parts > 1 {
-                text.extend_from_slice(b" of part ")?;
-                push_number(text, place.part)?;
-            }
-            Ok(())
+            let is_one = places.parts <= 1;
+            let template = if is_one { "{}" } else { "{} of part {}" };
+            push_sentence(text, template, &[Number(place.line), Number(place.part)])
         }
         Site::Word(at) => places.tags.push_name(alloc, places.own, at, text),
     }

@@ -28,16 +28,16 @@ pub(crate) enum PrecisionLoss {
 
 impl PrecisionLoss {
     /// What is said about it.
-    pub(crate) fn told(self) -> &'static [u8] {
+    pub(crate) fn told(self) -> &'static str {
         match self {
             PrecisionLoss::ClearingSkip =>
-                b"a skip that also clears AC shows nothing about this cell",
+                "a skip that also clears AC shows nothing about this cell",
             PrecisionLoss::Complement =>
-                b"a complement before a test loses what is known about this cell",
-            PrecisionLoss::Call => b"the routine may write this cell",
-            PrecisionLoss::Store => b"the store through a pointer may reach this cell",
+                "a complement before a test loses what is known about this cell",
+            PrecisionLoss::Call => "the routine may write this cell",
+            PrecisionLoss::Store => "the store through a pointer may reach this cell",
             PrecisionLoss::Meeting =>
-                b"the pointer may hold more words at the next address if that address can also be reached on another path",
+                "the pointer may hold more words at the next address if that address can also be reached on another path",
         }
     }
 }

@@ -1,9 +1,8 @@
 //! The lines of a text.
 
 use crate::inputs::FaultyFile;
-use peripherals::NoMemory;
+use command_parts::message::Written;
 use std::alloc::Allocator;
-use std::fmt::Write;
 
 /// The most characters of a line that are shown.
 const MOST_SHOWN: usize = 100;
@@ -29,18 +28,18 @@ pub(crate) fn first_word(line: &[u8]) -> &[u8] {
 ///
 /// # Errors
 ///
-/// `NoMemory` if memory was refused.
+/// Memory was refused.
 pub fn push_numbered<A: Allocator>(
     text: &mut String<A>,
     file: &FaultyFile<'_>,
     number: usize,
-) -> Result<(), NoMemory> {
+) -> Written {
     let name = file.name;
-    write!(text, "{name}:{number}: ").map_err(|_| NoMemory)?;
+    write!(text, "{name}:{number}: ")?;
     for byte in line_of(file.bytes, number).iter().take(MOST_SHOWN) {
         let is_shown = matches!(*byte, b' '..=b'~' | b'\t');
         let shown = if is_shown { *byte as char } else { '?' };
-        text.push(shown).map_err(|_| NoMemory)?;
+        text.push(shown)?;
     }
-    text.push('\n').map_err(|_| NoMemory)
+    text.push('\n')
 }

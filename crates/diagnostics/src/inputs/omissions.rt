@@ -10,16 +10,16 @@ ghost use Rattle.declaration.specs.Declaration.{Declaration as Promise, Routine}
 ghost use Rattle.declaration.specs.DeclarationInCode.{meaning, routine_of};
 ghost use Rattle.diagnostics.specs.Omissions.{IsHalt, IsOmitted, IsOnTape, IsViolation, Means, Stores};
 
-use crate::pieces::Piece::{Advised, Text};
-use crate::pieces::{push_around, push_pieces};
 use bin_tape::Image;
-use command_parts::message::MessageWriter;
+use command_parts::message::{MessageWriter, Written};
+use command_parts::sentence::Argument::{Address, Advised};
+use command_parts::sentence::push_sentence;
 use declaration::{Declaration, Owner};
 use instruct::{
     Instruction, Operation, Profile, SkipCondition, decode, halts, refers_indirectly, target,
 };
 use processor::is_auto_index;
-use std::alloc::{AllocError, Allocator};
+use std::alloc::Allocator;
 use word12::Word;
 
 /// The most instructions that are named.
@@ -320,187 +320,90 @@ fn omitted_at<D: Allocator>(
     omitted_in_body(image, declaration, owner, at)
 }
 
-/// Adds an address within a line of a declaration that is advised, with what comes before it and after it.
-fn push_advice<'a, L: MessageWriter>(
-    text: &mut L,
-    before: &'a [u8],
-    place: Word,
-    after: &'a [u8],
-) -> Result<(), AllocError> {
-    push_pieces(text, &[Text(before), Advised(place), Text(after)])
-}
-
-/// Adds what the instruction at an address does, and what is not declared of the address that it names, if it names one.
-fn push_act<L: MessageWriter>(
-    text: &mut L,
-    at: Word,
-    omission: &Omission,
-) -> Result<(), AllocError> {
+/// The address of which an omission speaks: the one that the instruction names, or else its own.
+fn place_of(at: Word, omission: &Omission) -> Word {
     match omission {
-        Omission::NoWord => {
-            push_around(
-                text,
-                b"",
-                at,
-                b" is in a body, but the tape has no word there",
-            )
-        }
-        Omission::Unsupported => text.push_text(b"the machine does not implement this word"),
-        Omission::OfThe8e => {
-            text.push_text(b"of the two machines modelled, only the PDP-8/E implements this word")
-        }
-        Omission::Halts => text.push_text(b"it halts, and no halt is declared there"),
-        Omission::Stores(cell) => {
-            push_around(
-                text,
-                b"it stores into ",
-                *cell,
-                b", which is not a variable",
-            )
-        }
-        Omission::StoresInEntry(cell) => {
-            push_around(text, b"it stores into ", *cell, b", which is an entry")
-        }
-        Omission::StoresInOwn(cell) => {
-            push_around(
-                text,
-                b"it stores into ",
-                *cell,
-                b", which is the routine's own entry",
-            )
-        }
-        Omission::Steps(cell) => {
-            push_around(
-                text,
-                b"it increments the pointer ",
-                *cell,
-                b", which is not a variable",
-            )
-        }
-        Omission::Calls(place) | Omission::CallsIntoBody(place) | Omission::CallsAutoIndex(place) =>
-            push_around(text, b"it calls ", *place, b", which is not an entry"),
-        Omission::Jumps(place) | Omission::JumpsAcross(place) | Omission::JumpsToMain(place) => {
-            push_around(
-                text,
-                b"it jumps to ",
-                *place,
-                b", which is not in the same body",
-            )
-        }
-        Omission::GoesOn(next) | Omission::GoesAcross(next) => push_around(
-            text,
-            b"the operator may continue at ",
-            *next,
-            b", which is not in the same body",
-        ),
+        Omission::NoWord | Omission::Unsupported | Omission::OfThe8e | Omission::Halts => at,
+        Omission::Stores(place)
+        | Omission::StoresInEntry(place)
+        | Omission::StoresInOwn(place)
+        | Omission::Steps(place)
+        | Omission::Calls(place)
+        | Omission::CallsIntoBody(place)
+        | Omission::CallsAutoIndex(place)
+        | Omission::Jumps(place)
+        | Omission::JumpsAcross(place)
+        | Omission::JumpsToMain(place)
+        | Omission::GoesOn(place)
+        | Omission::GoesAcross(place) => *place,
     }
 }
 
-/// Adds that a stop may be declared at an address, or a pause.
-fn push_halt_remedy<L: MessageWriter>(text: &mut L, at: Word) -> Result<(), AllocError> {
-    push_pieces(
-        text,
-        &[
-            Text(b"add `stop "),
-            Advised(at),
-            Text(b"`, or `pause "),
-            Advised(at),
-            Text(b"` if the operator may continue"),
-        ],
-    )
-}
-
-/// Adds that a stop is declared at an address in place of a pause.
-fn push_stop_for_pause<L: MessageWriter>(
-    text: &mut L,
-    before: &[u8],
-    at: Word,
-) -> Result<(), AllocError> {
-    push_pieces(
-        text,
-        &[
-            Text(before),
-            Advised(at),
-            Text(b"` in place of `pause "),
-            Advised(at),
-            Text(b"`"),
-        ],
-    )
-}
-
-/// Adds what to do about what is omitted at an address.
-fn push_remedy<L: MessageWriter>(
-    text: &mut L,
-    at: Word,
-    omission: &Omission,
-) -> Result<(), AllocError> {
+/// What the instruction at an address does, and what is not declared of the address of which the omission speaks.
+fn act_of(omission: &Omission) -> &'static str {
     match omission {
-        Omission::NoWord => text.push_text(
-            b"remove it from the body, or end the program before it",
-        ),
-        Omission::Unsupported => text.push_text(b"if this word is data, remove it from the body"),
-        Omission::OfThe8e => text.push_text(b"add `profile 8e` if the program is for a PDP-8/E"),
-        Omission::Stores(cell) | Omission::Steps(cell) => {
-            push_advice(text, b"add `var ", *cell, b"`")
-        }
-        Omission::StoresInEntry(_) => text.push_text(
-            b"only a JMS that calls the routine, an ISZ in the routine and, with a `moves` line, a DCA in the routine may write there",
-        ),
-        Omission::StoresInOwn(entry) => push_advice(text, b"add `moves ", *entry, b"`"),
-        Omission::Calls(entry) => push_advice(text, b"add `sub ", *entry, b" body .. returns ..`"),
-        Omission::CallsIntoBody(entry) => push_advice(
-            text,
-            b"add `sub ",
-            *entry,
-            b" body .. returns ..`, and remove the entry from the body and the variables",
-        ),
-        Omission::CallsAutoIndex(_) => text.push_text(b"no routine can begin at 0010 to 0017"),
-        Omission::Jumps(_) => text.push_text(b"add that address to the body"),
-        Omission::JumpsAcross(_) => {
-            text.push_text(b"call a routine with a JMS, and leave it with a return")
-        },
-        Omission::JumpsToMain(place) => push_advice(
-            text,
-            b"leave the routine with a return, or add `abandon ",
-            *place,
-            b"`",
-        ),
-        Omission::Halts => push_halt_remedy(text, at),
-        Omission::GoesOn(_) => {
-            push_stop_for_pause(text, b"add that address to the body, or declare `stop ", at)
-        }
-        Omission::GoesAcross(_) => push_stop_for_pause(text, b"declare `stop ", at),
+        Omission::NoWord => "{} is in a body, but the tape has no word there",
+        Omission::Unsupported => "the machine does not implement this word",
+        Omission::OfThe8e => "of the two machines modelled, only the PDP-8/E implements this word",
+        Omission::Halts => "it halts, and no halt is declared there",
+        Omission::Stores(_) => "it stores into {}, which is not a variable",
+        Omission::StoresInEntry(_) => "it stores into {}, which is an entry",
+        Omission::StoresInOwn(_) => "it stores into {}, which is the routine's own entry",
+        Omission::Steps(_) => "it increments the pointer {}, which is not a variable",
+        Omission::Calls(_) | Omission::CallsIntoBody(_) | Omission::CallsAutoIndex(_) =>
+            "it calls {}, which is not an entry",
+        Omission::Jumps(_) | Omission::JumpsAcross(_) | Omission::JumpsToMain(_) =>
+            "it jumps to {}, which is not in the same body",
+        Omission::GoesOn(_) | Omission::GoesAcross(_) =>
+            "the operator may continue at {}, which is not in the same body",
+    }
+}
+
+/// What to do about what is omitted: with a line of a declaration about the address of which the omission speaks or, at a
+/// pause, about its own.
+fn remedy_of(omission: &Omission) -> &'static str {
+    match omission {
+        Omission::NoWord => "remove it from the body, or end the program before it",
+        Omission::Unsupported => "if this word is data, remove it from the body",
+        Omission::OfThe8e => "add `profile 8e` if the program is for a PDP-8/E",
+        Omission::Stores(_) | Omission::Steps(_) => "add `var {}`",
+        Omission::StoresInEntry(_) =>
+            "only a JMS that calls the routine, an ISZ in the routine and, with a `moves` line, a DCA in the routine may write there",
+        Omission::StoresInOwn(_) => "add `moves {}`",
+        Omission::Calls(_) => "add `sub {} body .. returns ..`",
+        Omission::CallsIntoBody(_) =>
+            "add `sub {} body .. returns ..`, and remove the entry from the body and the variables",
+        Omission::CallsAutoIndex(_) => "no routine can begin at 0010 to 0017",
+        Omission::Jumps(_) => "add that address to the body",
+        Omission::JumpsAcross(_) => "call a routine with a JMS, and leave it with a return",
+        Omission::JumpsToMain(_) => "leave the routine with a return, or add `abandon {}`",
+        Omission::Halts => "add `stop {}`, or `pause {}` if the operator may continue",
+        Omission::GoesOn(_) =>
+            "add that address to the body, or declare `stop {}` in place of `pause {}`",
+        Omission::GoesAcross(_) => "declare `stop {}` in place of `pause {}`",
     }
 }
 
 /// Adds the line of what to do about what is omitted at an address.
-fn push_remedy_line<L: MessageWriter>(
-    text: &mut L,
-    at: Word,
-    omission: &Omission,
-) -> Result<(), AllocError> {
-    push_remedy(text, at, omission)?;
+fn push_remedy_line<L: MessageWriter>(text: &mut L, at: Word, omission: &Omission) -> Written {
+    let place = match omission {
+        Omission::GoesOn(_) | Omission::GoesAcross(_) => at,
+        _ => place_of(at, omission),
+    };
+    push_sentence(text, remedy_of(omission), &[Advised(place), Advised(place)])?;
     text.push_text(b"\n")
 }
 
 /// Adds the line of what the instruction at an address would violate, and what to do about it.
-fn push_omission<L: MessageWriter>(
-    text: &mut L,
-    at: Word,
-    omission: &Omission,
-) -> Result<(), AllocError> {
-    push_act(text, at, omission)?;
+fn push_omission<L: MessageWriter>(text: &mut L, at: Word, omission: &Omission) -> Written {
+    push_sentence(text, act_of(omission), &[Address(place_of(at, omission))])?;
     text.push_text(b": ")?;
     push_remedy_line(text, at, omission)
 }
 
 /// Adds what is said of the instruction at which a search is stuck, where this is omitted. Where the reason already names a line
 /// that would allow the instruction, nothing is added.
-fn push_stuck<L: MessageWriter>(
-    text: &mut L,
-    at: Word,
-    omission: &Omission,
-) -> Result<(), AllocError> {
+fn push_stuck<L: MessageWriter>(text: &mut L, at: Word, omission: &Omission) -> Written {
     match omission {
         Omission::NoWord | Omission::OfThe8e => push_omission(text, at, omission),
         Omission::StoresInOwn(_) | Omission::JumpsToMain(_) => Ok(()),
@@ -528,13 +431,13 @@ fn push_stuck<L: MessageWriter>(
 ///
 /// # Errors
 ///
-/// `AllocError` if memory was refused.
+/// Memory was refused.
 pub fn push_stuck_remedy<L: MessageWriter, D: Allocator>(
     text: &mut L,
     image: &Image,
     declaration: &Declaration<D>,
     at: Word,
-) -> Result<(), AllocError> {
+) -> Written {
     match omitted_at(image, declaration, at) {
         Some(omission) => push_stuck(text, at, &omission),
         None => Ok(()),
@@ -547,13 +450,13 @@ pub fn push_stuck_remedy<L: MessageWriter, D: Allocator>(
 ///
 /// # Errors
 ///
-/// `AllocError` if memory was refused.
+/// Memory was refused.
 pub fn push_omissions<L: MessageWriter, D: Allocator>(
     text: &mut L,
     image: &Image,
     declaration: &Declaration<D>,
     left_out: Option<Word>,
-) -> Result<(), AllocError> {
+) -> Written {
     let mut found = 0usize;
     for index in 0..4096usize {
         let at = Word::from_index(index);

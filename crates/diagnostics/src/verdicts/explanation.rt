@@ -1,10 +1,10 @@
 //! Why a verdict is no. What is said of it is tested, not proved.
 
-use crate::verdicts::reason_context::{place_of, reason_context_of};
+use crate::verdicts::reason_context::place_of;
 use crate::verdicts::reason_text::push_why;
 use bin_tape::Image;
 use certificate::Certificate;
-use command_parts::message::{Message, MessageWriter};
+use command_parts::message::{Message, MessageWriter, Written};
 use command_parts::text_sink::TextSink;
 use declaration::Declaration;
 use judge::{Claims, Refusal};
@@ -19,7 +19,7 @@ fn push_fact<A: Allocator + Copy, C: Allocator>(
     certificate: &Certificate<C>,
     at: Word,
     reason: &Option<Reason>,
-) -> Result<(), AllocError> {
+) -> Written {
     let index = match place_of(reason) {
         Some(index) => index,
         None if certificate.count_facts(at, 0) == 1 => 0,
@@ -46,17 +46,8 @@ pub fn explanation_of<A: Allocator + Copy, D: Allocator, C: Allocator>(
 ) -> Result<Message<A>, AllocError> {
     let mut rooms = ReasonWorkspace::boxed(alloc)?;
     let reason = why(image, declaration, certificate, refusal, &mut rooms);
-    let verdict = Err(*refusal);
-    let context = reason_context_of(certificate, &verdict, &reason);
     let mut text = Message::new(alloc);
-    push_why(
-        &mut text,
-        declaration.profile(),
-        image,
-        &verdict,
-        &reason,
-        &context,
-    )?;
+    push_why(&mut text, image, declaration, certificate, refusal, &reason)?;
     push_fact(alloc, &mut text, certificate, refusal.address, &reason)?;
     Ok(text)
 }

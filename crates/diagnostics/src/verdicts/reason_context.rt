@@ -34,14 +34,9 @@ pub struct ReasonContext {
     pub count: usize,
     /// The place of the fact among them, if the reason is one fact's.
     pub place: Option<usize>,
-    /// From where the running routine was called.
-    pub site: Option<Distinction>,
-    /// What the link is.
-    pub link: Option<Distinction>,
-    /// What the accumulator holds.
-    pub accumulator: Option<Distinction>,
-    /// What a cell holds.
-    pub cell: Option<Distinction>,
+    /// What tells it from others there, as far as these do: from where the running routine was called, what the link is, and what the
+    /// accumulator and a cell hold.
+    pub marks: [Option<Distinction>; 4],
 }
 
 /// The place, among those at its address, of the fact of which a reason speaks, if there is a reason and it speaks of one.
@@ -127,9 +122,9 @@ fn cell_mark<C: Claims>(
     None
 }
 
-/// A telling with what tells the fact at this place from others at its address.
+/// What tells the fact at this place from others at its address.
 #[inline(never)]
-fn with_marks<C: Claims>(claims: &C, at: Word, index: usize, plain: &ReasonContext) -> ReasonContext
+fn marks_of<C: Claims>(claims: &C, at: Word, index: usize) -> [Option<Distinction>; 4]
     requires { index < length ((C.claims claims.now).facts at) }
 {
     let mut fact = Fact::any();
@@ -142,41 +137,32 @@ fn with_marks<C: Claims>(claims: &C, at: Word, index: usize, plain: &ReasonConte
         Distinction::LinkSet
     };
     let accumulator = fact.accumulator().only().map(Distinction::Accumulator);
-    ReasonContext {
-        site: told(claims, at, &fact, site, &mut given),
-        link: told(claims, at, &fact, Some(link), &mut given),
-        accumulator: told(claims, at, &fact, accumulator, &mut given),
-        cell: cell_mark(claims, at, &fact, &mut given),
-        ..*plain
-    }
+    [
+        told(claims, at, &fact, site, &mut given),
+        told(claims, at, &fact, Some(link), &mut given),
+        told(claims, at, &fact, accumulator, &mut given),
+        cell_mark(claims, at, &fact, &mut given),
+    ]
 }
 
-/// How the reason of a verdict is told: by which rules, how many facts stand at the address of a refusal, and what tells the one by
-/// which the condition fails from the others there.
-pub fn reason_context_of<C: Claims>(
+/// How the reason of a refusal is told: by which rules, how many facts stand at its address, and what tells the one by which the
+/// condition fails from the others there.
+pub(crate) fn reason_context_of<C: Claims>(
     claims: &C,
-    verdict: &Result<(), Refusal>,
+    refusal: &Refusal,
     reason: &Option<Reason>,
 ) -> ReasonContext {
-    let mut plain = ReasonContext {
+    let at = refusal.address;
+    let count = claims.count_facts(at, 0);
+    let place = place_of(reason);
+    let marks = match place {
+        Some(index) if count > 1 && index < count => marks_of(claims, at, index),
+        _ => [None; 4],
+    };
+    ReasonContext {
         rules: claims.rules(),
-        count: 0,
-        place: None,
-        site: None,
-        link: None,
-        accumulator: None,
-        cell: None,
-    };
-    let Err(refusal) = verdict else {
-        return plain;
-    };
-    let count = claims.count_facts(refusal.address, 0);
-    plain.count = count;
-    plain.place = place_of(reason);
-    match plain.place {
-        Some(index) if count > 1 && index < count => {
-            with_marks(claims, refusal.address, index, &plain)
-        }
-        _ => plain,
+        count,
+        place,
+        marks,
     }
 }

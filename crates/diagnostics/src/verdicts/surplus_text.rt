@@ -2,11 +2,11 @@
 
 ghost use Rattle.std.specs.Prelude.{◌<◌};
 
-use crate::pieces::Piece::{Address, Octal, Offset, Text};
-use crate::pieces::{Piece, push_pieces};
 use bin_tape::Image;
 use certificate::Certificate;
-use command_parts::message::{Message, MessageWriter};
+use command_parts::message::{Message, MessageWriter, Written};
+use command_parts::sentence::Argument::{Address, Offset, Text, Words};
+use command_parts::sentence::push_sentence;
 use declaration::Declaration;
 use std::alloc::{AllocError, Allocator};
 use usage::{Register, Surplus, returned, surplus_of};
@@ -15,6 +15,18 @@ use wordset::WordSet;
 
 /// How many offsets there are by which a routine may be declared to return.
 pub const OFFSETS: usize = 64;
+
+/// The offsets by which a routine is declared to return.
+pub fn declared_offsets<D: Allocator>(declaration: &Declaration<D>, entry: Word) -> WordSet {
+    let mut offsets = WordSet::empty();
+    for index in 0..OFFSETS {
+        let offset = Word::from_index(index);
+        if declaration.has_offset(entry, offset) {
+            offsets.insert(offset);
+        }
+    }
+    offsets
+}
 
 /// A program with its declaration, and a certificate which shows that it complies with it.
 #[derive(Drop)]
@@ -56,18 +68,6 @@ impl<D: Allocator, C: Allocator> Shown<'_, D, C> {
         offsets
     }
 
-    /// The offsets by which a routine is declared to return.
-    fn declared_offsets(&self, entry: Word) -> WordSet {
-        let mut offsets = WordSet::empty();
-        for index in 0..OFFSETS {
-            let offset = Word::from_index(index);
-            if self.declaration.has_offset(entry, offset) {
-                offsets.insert(offset);
-            }
-        }
-        offsets
-    }
-
     /// The places at which something is declared to hold.
     fn asserted_places(&self) -> WordSet {
         let mut places = WordSet::empty();
@@ -100,70 +100,43 @@ impl<D: Allocator, C: Allocator> Shown<'_, D, C> {
     }
 }
 
-/// What the words of a set are.
-#[derive(Clone, Copy)]
-enum SetKind {
-    Addresses,
-    Words,
-    Offsets,
-}
-
-impl SetKind {
-    /// One of the words, as a piece of a text.
-    fn piece(self, word: Word) -> Piece<'static> {
-        match self {
-            SetKind::Addresses => Address(word),
-            SetKind::Words => Octal(word),
-            SetKind::Offsets => Offset(word.index()),
-        }
-    }
-}
-
-/// Adds the ranges of a set.
-fn push_ranges<L: MessageWriter>(
-    text: &mut L,
-    kind: SetKind,
-    set: &WordSet,
-) -> Result<(), AllocError> {
+/// Adds the ranges of some offsets or addresses, as a declaration has them.
+fn push_ranges<L: MessageWriter>(text: &mut L, set: &WordSet, are_offsets: bool) -> Written {
     for (first, last) in set.ranges() {
-        push_pieces(text, &[Text(b" "), kind.piece(first)])?;
-        if last != first {
-            push_pieces(text, &[Text(b"-"), kind.piece(last)])?;
+        let template = if first == last { " {}" } else { " {}-{}" };
+        let ends = if are_offsets {
+            [Offset(first.index()), Offset(last.index())]
+        } else {
+            [Address(first), Address(last)]
+        };
+        push_sentence(text, template, &ends)?;
+    }
+    text.push_text(b"\n")
+}
+
+/// Adds a line for each of some sets of cells that has any, with what these are.
+pub fn push_cells<L: MessageWriter>(text: &mut L, sets: &[(&str, WordSet)]) -> Written {
+    for (name, cells) in sets {
+        if !cells.is_empty() {
+            push_sentence(text, "{}:", &[Text(*name)])?;
+            push_ranges(text, cells, false)?;
         }
     }
     Ok(())
 }
 
-/// Adds a line that names some cells, if there are any.
-pub fn push_cells<L: MessageWriter>(
-    text: &mut L,
-    name: &[u8],
-    cells: &WordSet,
-) -> Result<(), AllocError> {
-    if cells.is_empty() {
-        return Ok(());
-    }
-    push_pieces(text, &[Text(name), Text(b":")])?;
-    push_ranges(text, SetKind::Addresses, cells)?;
-    text.push_text(b"\n")
-}
-
 /// Adds a line that names some offsets of a routine, if there are any.
 pub fn push_routine_offsets<L: MessageWriter>(
     text: &mut L,
-    name: &[u8],
+    name: &str,
     entry: Word,
     offsets: &WordSet,
-) -> Result<(), AllocError> {
+) -> Written {
     if offsets.is_empty() {
         return Ok(());
     }
-    push_pieces(
-        text,
-        &[Text(name), Address(entry), Text(b" never returns:")],
-    )?;
-    push_ranges(text, SetKind::Offsets, offsets)?;
-    text.push_text(b"\n")
+    push_sentence(text, "{} {} never returns:", &[Text(name), Address(entry)])?;
+    push_ranges(text, offsets, true)
 }
 
 /// The cells for which a tape has a word.
@@ -183,38 +156,35 @@ fn push_unused<L: MessageWriter, D: Allocator, C: Allocator>(
     text: &mut L,
     shown: &Shown<'_, D, C>,
     surplus: &Surplus,
-) -> Result<(), AllocError> {
+) -> Written {
     let on_tape = cells_of(shown.image);
-    let rows: [(&[u8], WordSet); 9] = [
+    let rows: [(&str, WordSet); 9] = [
         (
-            b"Body cells that no run reaches",
+            "Body cells that no run reaches",
             surplus.unexecuted.meet(&on_tape),
         ),
         (
-            b"Body cells that no run reaches, and for which the tape has no word",
+            "Body cells that no run reaches, and for which the tape has no word",
             surplus.unexecuted.minus(&on_tape),
         ),
-        (b"Variables that no instruction writes", surplus.unwritten),
-        (b"Listed reads that are not needed", surplus.unread),
-        (b"Stops and pauses at which no run halts", surplus.unhalted),
-        (b"Routines that are never called", surplus.uncalled),
+        ("Variables that no instruction writes", surplus.unwritten),
+        ("Listed reads that are not needed", surplus.unread),
+        ("Stops and pauses at which no run halts", surplus.unhalted),
+        ("Routines that are never called", surplus.uncalled),
         (
-            b"Addresses in `abandon` lines at which no call is abandoned",
+            "Addresses in `abandon` lines at which no call is abandoned",
             surplus.unabandoned,
         ),
         (
-            b"Routines that `moves` lines name but that do not store their return word",
+            "Routines that `moves` lines name but that do not store their return word",
             surplus.unmoved,
         ),
         (
-            b"Addresses in `holds` lines that no run reaches",
+            "Addresses in `holds` lines that no run reaches",
             shown.asserted_places().meet(&surplus.unexecuted),
         ),
     ];
-    for (name, cells) in &rows {
-        push_cells(text, name, cells)?;
-    }
-    Ok(())
+    push_cells(text, &rows)
 }
 
 /// Adds the offsets by which routines are declared to return and never do, and those of which a `returns` line speaks in vain. Of a
@@ -223,7 +193,7 @@ fn push_idle_offsets<L: MessageWriter, D: Allocator, C: Allocator>(
     text: &mut L,
     shown: &Shown<'_, D, C>,
     surplus: &Surplus,
-) -> Result<(), AllocError> {
+) -> Written {
     for routine in shown.declaration.routines() {
         let entry = routine.entry();
         if surplus.uncalled.contains(entry) {
@@ -232,14 +202,14 @@ fn push_idle_offsets<L: MessageWriter, D: Allocator, C: Allocator>(
         let found = shown.offsets_of(entry);
         push_routine_offsets(
             text,
-            b"Declared offsets by which the routine ",
+            "Declared offsets by which the routine",
             entry,
-            &shown.declared_offsets(entry).minus(&found),
+            &declared_offsets(shown.declaration, entry).minus(&found),
         )?;
         if !found.is_empty() {
             push_routine_offsets(
                 text,
-                b"Offsets that `returns` lines name but by which the routine ",
+                "Offsets that `returns` lines name but by which the routine",
                 entry,
                 &shown.asserted_offsets(entry).minus(&found),
             )?;
@@ -248,25 +218,26 @@ fn push_idle_offsets<L: MessageWriter, D: Allocator, C: Allocator>(
     Ok(())
 }
 
-/// Adds what the accumulator may hold.
-fn push_accumulator<L: MessageWriter>(text: &mut L, set: &WordSet) -> Result<(), AllocError> {
+/// How it is said what the accumulator may hold.
+fn said_of_accumulator(set: &WordSet) -> &'static str {
     if set.is_all() {
-        return text.push_text(b"; AC may be any word");
+        "AC may be any word"
+    } else if set.only().is_some() {
+        "AC is {}"
+    } else {
+        "AC may be {}"
     }
-    let is_one = set.only().is_some();
-    text.push_text(if is_one { b"; AC is" } else { b"; AC may be" })?;
-    push_ranges(text, SetKind::Words, set)
 }
 
 /// What is said of what the link may be.
-fn link_words(set: &WordSet) -> &'static [u8] {
+fn said_of_link(set: &WordSet) -> &'static str {
     match (
         set.contains(Word::from_index(0)),
         set.contains(Word::from_index(1)),
     ) {
-        (true, true) => b", and the link may be 0 or 1\n",
-        (false, true) => b", and the link is 1\n",
-        (_, false) => b", and the link is 0\n",
+        (true, true) => "may be 0 or 1",
+        (false, true) => "is 1",
+        (_, false) => "is 0",
     }
 }
 
@@ -275,23 +246,21 @@ fn push_returns<L: MessageWriter, D: Allocator, C: Allocator>(
     text: &mut L,
     shown: &Shown<'_, D, C>,
     entry: Word,
-) -> Result<(), AllocError> {
+) -> Written {
     for offset in 0..OFFSETS {
         let accumulator = shown.returned(Register::Accumulator, entry, offset);
         if accumulator.is_empty() {
             continue;
         }
-        push_pieces(
+        let by = [Address(entry), Offset(offset)];
+        push_sentence(text, "The routine {} returns with offset {}; ", &by)?;
+        push_sentence(
             text,
-            &[
-                Text(b"The routine "),
-                Address(entry),
-                Text(b" returns with offset "),
-                Offset(offset),
-            ],
+            said_of_accumulator(&accumulator),
+            &[Words(&accumulator)],
         )?;
-        push_accumulator(text, &accumulator)?;
-        text.push_text(link_words(&shown.returned(Register::Link, entry, offset)))?;
+        let link = said_of_link(&shown.returned(Register::Link, entry, offset));
+        push_sentence(text, ", and the link {}\n", &[Text(link)])?;
     }
     Ok(())
 }
@@ -300,15 +269,15 @@ fn push_returns<L: MessageWriter, D: Allocator, C: Allocator>(
 fn push_unneeded<A: Allocator + Copy, D: Allocator, C: Allocator>(
     text: &mut Message<A>,
     shown: &Shown<'_, D, C>,
-) -> Result<(), AllocError> {
+) -> Written {
     let surplus = surplus_of(shown.image, shown.declaration, shown.certificate);
     push_unused(text, shown, &surplus)?;
     push_idle_offsets(text, shown, &surplus)?;
-    push_cells(
-        text,
-        b"Routines in `returns` lines that never return",
-        &shown.asserted_in_vain(),
-    )?;
+    let in_vain = (
+        "Routines in `returns` lines that never return",
+        shown.asserted_in_vain(),
+    );
+    push_cells(text, &[in_vain])?;
     if text.is_empty() {
         text.push_text(b"The certificate needs all that the declaration lists.\n")?;
     }

@@ -1,81 +1,48 @@
 //! Lines of cells that a memory reference writes or reads, though it may not.
 
-use crate::sentence::{Argument, push_sentence};
 use crate::violations::ViolatingStep;
-use command_parts::message::MessageWriter;
+use command_parts::message::{MessageWriter, Written};
+use command_parts::sentence::Argument::{Address, Advised, Octal, Text};
+use command_parts::sentence::push_sentence;
 use instruct::Operation;
 use processor::Reference;
-use std::alloc::{AllocError, Allocator};
+use std::alloc::Allocator;
 use word12::Word;
 
 impl<D: Allocator> ViolatingStep<'_, D> {
-    /// Adds what else a cell is that is not a variable, and what to declare if the program may write it.
-    fn push_variable_advice<L: MessageWriter>(
-        &self,
-        text: &mut L,
-        cell: Word,
-    ) -> Result<(), AllocError> {
-        if self.declaration.is_entry(cell) {
-            return push_sentence(text, " but an entry\n", &[]);
-        }
-        let what = match self.declaration.owner_of(cell) {
-            Some(_) => " but code",
-            None => "",
+    /// Adds what else a cell is that is not a variable, and what to declare if the program may write it. `moves` tells whether a
+    /// DCA that names the cell does so.
+    fn push_advice<L: MessageWriter>(&self, text: &mut L, cell: Word, moves: bool) -> Written {
+        let template = if moves && self.is_own(cell) {
+            " but the running routine's own entry; if this is intended, add `moves {}`\n"
+        } else if self.declaration.is_entry(cell) {
+            " but an entry\n"
+        } else if self.declaration.owner_of(cell).is_some() {
+            " but code; if this is intended, add `var {}`\n"
+        } else {
+            "; if this is intended, add `var {}`\n"
         };
-        push_sentence(
-            text,
-            "{}; if this is intended, add `var {}`\n",
-            &[Argument::Text(what), Argument::Advised(cell)],
-        )
-    }
-
-    /// Adds what to declare if the program may store where a reference does.
-    fn push_store_advice<L: MessageWriter>(
-        &self,
-        text: &mut L,
-        reference: &Reference,
-    ) -> Result<(), AllocError> {
-        let is_direct_dca = matches!(reference.operation, Operation::Dca) && !reference.indirect;
-        if is_direct_dca && self.is_own(reference.place) {
-            return push_sentence(
-                text,
-                " but the running routine's own entry; if this is intended, add `moves {}`\n",
-                &[Argument::Advised(reference.place)],
-            );
-        }
-        self.push_variable_advice(text, reference.place)
+        push_sentence(text, template, &[Advised(cell)])
     }
 
     /// Adds the line of what a cell holds, and of the word that would take its place.
-    fn push_change<L: MessageWriter>(
-        &self,
-        text: &mut L,
-        cell: Word,
-        then: Word,
-    ) -> Result<(), AllocError> {
+    fn push_change<L: MessageWriter>(&self, text: &mut L, cell: Word, then: Word) -> Written {
         push_sentence(
             text,
             "{} holds {}, and would hold {} after the write\n",
-            &[
-                Argument::Address(cell),
-                Argument::Word(self.cpu.memory.get(cell)),
-                Argument::Word(then),
-            ],
+            &[Address(cell), Octal(self.cpu.memory.get(cell)), Octal(then)],
         )
     }
 
     /// Adds the lines of a cell that is stored into.
-    fn push_store<L: MessageWriter>(
-        &self,
-        text: &mut L,
-        reference: &Reference,
-    ) -> Result<(), AllocError> {
+    fn push_store<L: MessageWriter>(&self, text: &mut L, reference: &Reference) -> Written {
         let place = reference.place;
-        let to = [Argument::Address(place)];
+        let to = [Address(place)];
         push_sentence(text, "it stores into {}, which is not a variable", &to)?;
-        self.push_store_advice(text, reference)?;
+        let moves = matches!(reference.operation, Operation::Dca) && !reference.indirect;
+        self.push_advice(text, place, moves)?;
         if reference.indirect {
-            let pointer = [Argument::Address(reference.named)];
+            let pointer = [Address(reference.named)];
             push_sentence(text, "the address comes from the pointer {}\n", &pointer)?;
         }
         let then = match reference.operation {
@@ -91,7 +58,7 @@ impl<D: Allocator> ViolatingStep<'_, D> {
         &self,
         text: &mut L,
         reference: &Reference,
-    ) -> Result<(), AllocError> {
+    ) -> Written {
         let pointer = reference.named;
         if !reference.steps_pointer() || self.declaration.is_variable(pointer) {
             return self.push_store(text, reference);
@@ -99,9 +66,9 @@ impl<D: Allocator> ViolatingStep<'_, D> {
         push_sentence(
             text,
             "it increments the pointer {}, which is not a variable",
-            &[Argument::Address(pointer)],
+            &[Address(pointer)],
         )?;
-        self.push_variable_advice(text, pointer)?;
+        self.push_advice(text, pointer, false)?;
         self.push_change(text, pointer, self.cpu.memory.get(pointer).increment())
     }
 
@@ -110,7 +77,7 @@ impl<D: Allocator> ViolatingStep<'_, D> {
         &self,
         text: &mut L,
         reference: &Reference,
-    ) -> Result<(), AllocError> {
+    ) -> Written {
         let may_load = self.declaration.may_read(reference.named) || self.is_own(reference.named);
         let (what, cell) = if reference.indirect && !may_load {
             ("the pointer ", reference.named)
@@ -121,11 +88,11 @@ impl<D: Allocator> ViolatingStep<'_, D> {
             text,
             "it reads {}{}, which is not on the list of reads; if this is intended, add `read {}`\n{} holds {}\n",
             &[
-                Argument::Text(what),
-                Argument::Address(cell),
-                Argument::Advised(cell),
-                Argument::Address(cell),
-                Argument::Word(self.cpu.memory.get(cell)),
+                Text(what),
+                Address(cell),
+                Advised(cell),
+                Address(cell),
+                Octal(self.cpu.memory.get(cell)),
             ],
         )
     }

@@ -1,10 +1,11 @@
 //! Lines of a return that does not go where its call may return.
 
-use crate::sentence::{Argument, push_sentence};
 use crate::violations::ViolatingStep;
-use command_parts::message::MessageWriter;
+use command_parts::message::{MessageWriter, Written};
+use command_parts::sentence::Argument::{Address, Advised, Number, Octal};
+use command_parts::sentence::push_sentence;
 use policy::Call;
-use std::alloc::{AllocError, Allocator};
+use std::alloc::Allocator;
 use word12::Word;
 
 /// How far an address is after another, modulo 4096.
@@ -19,26 +20,26 @@ fn push_offset_advice<L: MessageWriter>(
     call: &Call,
     entry: Word,
     to: Word,
-) -> Result<(), AllocError> {
+) -> Written {
     let offset = distance(to, call.after);
     if call.entry != entry || offset.value() > 63 {
         return Ok(());
     }
-    let to = [Argument::Address(to)];
+    let to = [Address(to)];
     push_sentence(text, "if a return to {} is intended, add ", &to)?;
     if offset.value() < 8 {
-        let number = Argument::Number(offset.index());
-        let arguments = [number, Argument::Advised(entry)];
+        let number = Number(offset.index());
+        let arguments = [number, Advised(entry)];
         return push_sentence(text, "the offset {} to the line `sub {}`\n", &arguments);
     }
-    let arguments = [Argument::Advised(entry), Argument::Word(offset)];
+    let arguments = [Advised(entry), Octal(offset)];
     push_sentence(text, "`skips {} {}`\n", &arguments)
 }
 
 impl<D: Allocator> ViolatingStep<'_, D> {
     /// Adds the line of the addresses to which a call may return: those by the offsets that are declared of its routine.
-    fn push_returns<L: MessageWriter>(&self, text: &mut L, call: &Call) -> Result<(), AllocError> {
-        let entry = [Argument::Address(call.entry)];
+    fn push_returns<L: MessageWriter>(&self, text: &mut L, call: &Call) -> Written {
+        let entry = [Address(call.entry)];
         let mut is_one_told = false;
         for index in 0..64usize {
             let offset = Word::from_index(index);
@@ -61,16 +62,12 @@ impl<D: Allocator> ViolatingStep<'_, D> {
 
     /// Adds the lines of a return through an entry, to the address in it: the call that it does not return from, and where
     /// that may return to.
-    pub(super) fn push_return<L: MessageWriter>(
-        &self,
-        text: &mut L,
-        entry: Word,
-    ) -> Result<(), AllocError> {
+    pub(super) fn push_return<L: MessageWriter>(&self, text: &mut L, entry: Word) -> Written {
         let to = self.cpu.memory.get(entry);
         push_sentence(
             text,
             "it goes to {}, which is the word in the entry {}",
-            &[Argument::Address(to), Argument::Address(entry)],
+            &[Address(to), Address(entry)],
         )?;
         let Some(call) = self.last else {
             return push_sentence(text, "; no call is open\n", &[]);
@@ -78,7 +75,7 @@ impl<D: Allocator> ViolatingStep<'_, D> {
         push_sentence(
             text,
             "; the last call is to {}, and its return address is {}\n",
-            &[Argument::Address(call.entry), Argument::Address(call.after)],
+            &[Address(call.entry), Address(call.after)],
         )?;
         self.push_returns(text, &call)?;
         push_offset_advice(text, &call, entry, to)

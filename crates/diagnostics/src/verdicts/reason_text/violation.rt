@@ -1,122 +1,96 @@
 //! What a word violates: a write, a call, a return, or where it goes on.
 
-use crate::pieces::Piece::{Address, Advised, Decimal, Octal, Offset, Text};
-use crate::pieces::{push_around, push_pieces};
 use crate::verdicts::reason_text::landing::{push_exit, push_landing};
-use command_parts::message::{MessageWriter, push_text_and_address};
+use command_parts::message::{MessageWriter, Written};
+use command_parts::sentence::Argument::{Address, Advised, Digit, Number, Octal, Offset, Text};
+use command_parts::sentence::push_sentence;
 use declaration::Subject;
 use domain::Rules;
 use reasons::{CallViolation, ReturnViolation, Violation};
-use std::alloc::AllocError;
-use word12::Word;
+use word12::{Link, Word};
 
 /// Adds an offset, and by the rules of sums the number of its exit line, counted from 1, behind a few words.
 pub fn push_exit_line<L: MessageWriter>(
     text: &mut L,
     rules: &Rules,
     offset: usize,
-    between: &[u8],
+    between: &str,
     index: usize,
-) -> Result<(), AllocError> {
-    match rules {
-        Rules::OfEquations => push_pieces(text, &[Offset(offset)]),
-        Rules::OfSums => push_pieces(
-            text,
-            &[
-                Offset(offset),
-                Text(between),
-                Decimal(index.saturating_add(1)),
-            ],
-        ),
+) -> Written {
+    let template = match rules {
+        Rules::OfEquations => "{}",
+        Rules::OfSums => "{}{}{}",
+    };
+    let number = index.saturating_add(1);
+    push_sentence(
+        text,
+        template,
+        &[Offset(offset), Text(between), Number(number)],
+    )
+}
+
+/// What is wrong with a call, up to the cell or the two ranks of which this is said, or up to why the run does not land.
+fn said_of_call(rules: &Rules, breach: &CallViolation) -> &'static str {
+    match breach {
+        CallViolation::NoEntry => ", which is not an entry",
+        CallViolation::NotListed => ", which has no routine line",
+        CallViolation::NotLower(..) => ", whose rank {} is not below the caller's rank {}",
+        CallViolation::Writes(_) =>
+            ", which may write {}, a cell that the caller's written set does not contain",
+        CallViolation::EntryNotWritten => ", which the caller's written set does not contain",
+        CallViolation::WritesCaller => ", which may write the caller's entry",
+        CallViolation::NoSite => ", whose routine line does not list this address as a site",
+        CallViolation::TooHigh => match rules {
+            Rules::OfEquations => " from an address above 7767",
+            Rules::OfSums => " from an address above 7776",
+        },
+        CallViolation::Enters(_) => " and continues after the entry: ",
+        CallViolation::Returns(..) => ", which returns with offset ",
     }
 }
 
 /// Adds what a call violates.
-fn push_call<L: MessageWriter>(
-    text: &mut L,
-    rules: &Rules,
-    breach: &CallViolation,
-) -> Result<(), AllocError> {
+fn push_call<L: MessageWriter>(text: &mut L, rules: &Rules, breach: &CallViolation) -> Written {
+    let said = said_of_call(rules, breach);
     match breach {
-        CallViolation::NoEntry => text.push_text(b", which is not an entry"),
-        CallViolation::NotListed => text.push_text(b", which has no routine line"),
-        CallViolation::NotLower(rank, own) => push_pieces(
-            text,
-            &[
-                Text(b", whose rank "),
-                Decimal(*rank),
-                Text(b" is not below the caller's rank "),
-                Decimal(*own),
-            ],
-        ),
-        CallViolation::Writes(cell) => push_around(
-            text,
-            b", which may write ",
-            *cell,
-            b", a cell that the caller's written set does not contain",
-        ),
-        CallViolation::EntryNotWritten => {
-            text.push_text(b", which the caller's written set does not contain")
+        CallViolation::NotLower(rank, own) => {
+            push_sentence(text, said, &[Number(*rank), Number(*own)])
         }
-        CallViolation::WritesCaller => { text.push_text(b", which may write the caller's entry") }
-        CallViolation::NoSite => {
-            text.push_text(b", whose routine line does not list this address as a site")
-        }
-        CallViolation::TooHigh => text.push_text(match rules {
-            Rules::OfEquations => b" from an address above 7767",
-            Rules::OfSums => b" from an address above 7776",
-        }),
+        CallViolation::Writes(cell) => push_sentence(text, said, &[Address(*cell)]),
         CallViolation::Enters(landing) => {
-            text.push_text(b" and continues after the entry: ")?;
+            text.push_text(said.as_bytes())?;
             push_landing(text, landing)
         }
         CallViolation::Returns(offset, index, landing) => {
-            text.push_text(b", which returns with offset ")?;
-            push_exit_line(text, rules, *offset, b", according to exit line ", *index)?;
+            text.push_text(said.as_bytes())?;
+            push_exit_line(text, rules, *offset, ", according to exit line ", *index)?;
             text.push_text(b": ")?;
             push_landing(text, landing)
         }
+        _ => text.push_text(said.as_bytes()),
     }
 }
 
-/// Adds that an offset of the routine of an entry is not declared; of one above 7, which a `skips` line alone declares, with that line.
-fn push_undeclared<L: MessageWriter>(
-    text: &mut L,
-    entry: Word,
-    offset: usize,
-) -> Result<(), AllocError> {
-    text.push_text(b", which is not declared")?;
-    if offset < 8 {
-        return Ok(());
-    }
-    push_pieces(
-        text,
-        &[
-            Text(b": add `skips "),
-            Advised(entry),
-            Text(b" "),
-            Offset(offset),
-            Text(b"`"),
-        ],
-    )
-}
-
-/// Adds what a return through an entry violates.
-fn push_return<L: MessageWriter>(
-    text: &mut L,
-    entry: Word,
-    breach: &ReturnViolation,
-) -> Result<(), AllocError> {
+/// Adds what a return through an entry violates. An offset above 7 is declared by a `skips` line alone.
+fn push_return<L: MessageWriter>(text: &mut L, entry: Word, breach: &ReturnViolation) -> Written {
     match breach {
-        ReturnViolation::OtherRoutine => text.push_text(
-            b", which is not the entry of its own routine",
-        ),
+        ReturnViolation::OtherRoutine => {
+            text.push_text(b", which is not the entry of its own routine")
+        }
         ReturnViolation::NotDeclared(offset) => {
-            push_pieces(text, &[Text(b" with offset "), Offset(*offset)])?;
-            push_undeclared(text, entry, *offset)
+            let template = if *offset < 8 {
+                " with offset {}, which is not declared"
+            } else {
+                " with offset {}, which is not declared: add `skips {} {}`"
+            };
+            push_sentence(
+                text,
+                template,
+                &[Offset(*offset), Advised(entry), Offset(*offset)],
+            )
         }
         ReturnViolation::NotAllowed(offset, landing) => {
-            push_pieces(text, &[Text(b" with offset "), Offset(*offset)])?;
+            push_sentence(text, " with offset {}", &[Offset(*offset)])?;
             push_exit(text, landing)
         }
     }
@@ -127,68 +101,54 @@ pub fn push_denied<L: MessageWriter>(
     text: &mut L,
     subject: &Subject,
     word: Word,
-    line: &[u8],
-) -> Result<(), AllocError> {
-    match subject {
-        Subject::Accumulator => text.push_text(b"AC")?,
-        Subject::Link => text.push_text(b"the link")?,
-        Subject::Mq => text.push_text(b"MQ")?,
-        Subject::Cell(cell) => text.push_address(*cell)?,
+    line: &str,
+) -> Written {
+    let link = if word == Word::ZERO {
+        Link::CLEAR
+    } else {
+        Link::SET
+    };
+    let (name, held) = match subject {
+        Subject::Accumulator => (Text("AC"), Octal(word)),
+        Subject::Link => (Text("the link"), Digit(link)),
+        Subject::Mq => (Text("MQ"), Octal(word)),
+        Subject::Cell(cell) => (Address(*cell), Octal(word)),
+    };
+    push_sentence(
+        text,
+        "{} may be {}, which a `{}` line excludes",
+        &[name, held, Text(line)],
+    )
+}
+
+/// What a word violates, up to the address of which this is said, or up to what is wrong with a call, a return or the
+/// place where the run goes on.
+fn said_of(rules: &Rules, breach: &Violation) -> &'static str {
+    match breach {
+        Violation::NotSupported => "the machine does not implement this word",
+        Violation::WritesUndeclared(_) =>
+            "it may write {}, which is neither a variable nor an entry",
+        Violation::WritesEntry(_) => "it may write {}, which is an entry",
+        Violation::CountsTooFar(_) => match rules {
+            Rules::OfEquations => "it may increment {}, the routine's own entry, past offset 7",
+            Rules::OfSums =>
+                "it may increment {}, the routine's own entry, past offset 77 or past 7777",
+        },
+        Violation::StoresInOwn(_) => "it may write {}, the routine's own entry: add `moves {}`",
+        Violation::MovesTooFar(..) =>
+            "it may store the word {} in {}, but the word there must be the return address of the call at {} plus 0 to 77",
+        Violation::WritesUnlisted(_) =>
+            "it may write {}, which is not in the routine's written set",
+        Violation::HaltsUndeclared => "it halts, and no halt is declared there",
+        Violation::CallsThroughIndex => "it calls through an auto-index cell",
+        Violation::Calls(..) => "the JMS calls {}",
+        Violation::Returns(..) => "it returns through {}",
+        Violation::GoesOn(..) => "the run may continue at {}, and ",
+        Violation::JumpsToMain(_) =>
+            "the run may continue at {}, which is in main's body: add `abandon {}`",
+        Violation::ReadsUnlisted(_) => "it may read {}, which is not on the list of reads",
+        Violation::DeniesAssertion(..) => "",
     }
-    text.push_text(b" may be ")?;
-    match subject {
-        Subject::Link => text.push_text(if word == Word::ZERO { b"0" } else { b"1" })?,
-        _ => text.push_text(&word.to_octal())?,
-    }
-    push_pieces(
-        text,
-        &[Text(b", which a `"), Text(line), Text(b"` line excludes")],
-    )
-}
-
-/// Adds an address, and after it that a line with it is to be added.
-fn push_advised<'a, L: MessageWriter>(
-    text: &mut L,
-    before: &'a [u8],
-    at: Word,
-    line: &'a [u8],
-) -> Result<(), AllocError> {
-    push_pieces(
-        text,
-        &[
-            Text(before),
-            Address(at),
-            Text(line),
-            Advised(at),
-            Text(b"`"),
-        ],
-    )
-}
-
-/// Adds that a DCA may store a word in its routine's own entry that is out of reach of a return address.
-fn push_moving<L: MessageWriter>(
-    text: &mut L,
-    entry: Word,
-    word: Word,
-    site: Word,
-) -> Result<(), AllocError> {
-    push_pieces(
-        text,
-        &[
-            Text(b"it may store the word "),
-            Octal(word),
-            Text(b" in "),
-            Address(entry),
-            Text(b", but the word there must be the return address of the call at "),
-            Address(site),
-            Text(b" plus 0 to 77"),
-        ],
-    )
-}
-
-/// Adds a cell that may be written, and what is wrong with that.
-fn push_write<L: MessageWriter>(text: &mut L, cell: Word, wrong: &[u8]) -> Result<(), AllocError> {
-    push_around(text, b"it may write ", cell, wrong)
 }
 
 /// Adds what a word violates.
@@ -196,56 +156,34 @@ pub fn push_violation<L: MessageWriter>(
     text: &mut L,
     rules: &Rules,
     breach: &Violation,
-) -> Result<(), AllocError> {
+) -> Written {
+    let said = said_of(rules, breach);
     match breach {
-        Violation::NotSupported => text.push_text(b"the machine does not implement this word"),
-        Violation::WritesUndeclared(cell) => {
-            push_write(text, *cell, b", which is neither a variable nor an entry")
+        Violation::NotSupported | Violation::HaltsUndeclared | Violation::CallsThroughIndex => {
+            text.push_text(said.as_bytes())
         }
-        Violation::WritesEntry(cell) => push_write(text, *cell, b", which is an entry"),
-        Violation::CountsTooFar(entry) => {
-            let past: &[u8] = match rules {
-                Rules::OfEquations => b", the routine's own entry, past offset 7",
-                Rules::OfSums => b", the routine's own entry, past offset 77 or past 7777",
-            };
-            push_around(text, b"it may increment ", *entry, past)
+        Violation::WritesUndeclared(at)
+        | Violation::WritesEntry(at)
+        | Violation::CountsTooFar(at)
+        | Violation::StoresInOwn(at)
+        | Violation::WritesUnlisted(at)
+        | Violation::JumpsToMain(at)
+        | Violation::ReadsUnlisted(at) => push_sentence(text, said, &[Address(*at), Advised(*at)]),
+        Violation::MovesTooFar(entry, word, site) => {
+            push_sentence(text, said, &[Octal(*word), Address(*entry), Address(*site)])
         }
-        Violation::StoresInOwn(entry) => push_advised(
-            text,
-            b"it may write ",
-            *entry,
-            b", the routine's own entry: add `moves ",
-        ),
-        Violation::MovesTooFar(entry, word, site) => push_moving(text, *entry, *word, *site),
-        Violation::WritesUnlisted(cell) => {
-            push_write(text, *cell, b", which is not in the routine's written set")
-        }
-        Violation::HaltsUndeclared => { text.push_text(b"it halts, and no halt is declared there") }
-        Violation::CallsThroughIndex => { text.push_text(b"it calls through an auto-index cell") }
         Violation::Calls(entry, call) => {
-            push_text_and_address(text, b"the JMS calls ", *entry)?;
+            push_sentence(text, said, &[Address(*entry)])?;
             push_call(text, rules, call)
         }
         Violation::Returns(entry, back) => {
-            push_text_and_address(text, b"it returns through ", *entry)?;
+            push_sentence(text, said, &[Address(*entry)])?;
             push_return(text, *entry, back)
         }
         Violation::GoesOn(at, landing) => {
-            push_around(text, b"the run may continue at ", *at, b", and ")?;
+            push_sentence(text, said, &[Address(*at)])?;
             push_landing(text, landing)
         }
-        Violation::JumpsToMain(at) => push_advised(
-            text,
-            b"the run may continue at ",
-            *at,
-            b", which is in main's body: add `abandon ",
-        ),
-        Violation::ReadsUnlisted(cell) => push_around(
-            text,
-            b"it may read ",
-            *cell,
-            b", which is not on the list of reads",
-        ),
-        Violation::DeniesAssertion(subject, word) => push_denied(text, subject, *word, b"holds"),
+        Violation::DeniesAssertion(subject, word) => push_denied(text, subject, *word, "holds"),
     }
 }
